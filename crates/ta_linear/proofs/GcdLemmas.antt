@@ -1,0 +1,40 @@
+-- the greatest common divisor as a function, by Euclid's recursion, and what ties it to the relation IsGcd
+use Rattle.std.proofs.Common.{◌≡◌, ℕ, zero, suc, ◌<◌, ◌%◌, arith, refl, sym, ℤ, pos, unsigned_abs}
+use Rattle.std.specs.Int.{IsGcd}
+use Rattle.std.proofs.lemmas.Nat.Gcd.{IsGcd-from_zero, IsGcd-from_mod, same_from_IsGcd}
+use Rattle.std.proofs.lemmas.Nat.{mod_below}
+
+-- the last number that is not 0 of Euclid's remainders, within n steps
+abbrev pub gcd_within : ℕ → ℕ → ℕ → ℕ
+gcd_within zero a b = a
+gcd_within (suc n) a zero = a
+gcd_within (suc n) a (suc b) = gcd_within n (suc b) (a % suc b)
+
+-- the greatest common divisor; that of 0 and 0 is 0
+unfoldable pub gcd_of : ℕ → ℕ → ℕ
+gcd_of a b = gcd_within (suc b) a b
+
+IsGcd-gcd_within : (n a b : ℕ) → b < n → IsGcd a b (gcd_within n a b)
+IsGcd-gcd_within zero a b h = absurd (omega arith)
+IsGcd-gcd_within (suc n) a zero h = IsGcd-from_zero a zero refl
+IsGcd-gcd_within (suc n) a (suc b) h =
+    let below : a % suc b < suc b = mod_below a (suc b) (omega arith) in
+    IsGcd-from_mod a (suc b) (gcd_within n (suc b) (a % suc b)) (IsGcd-gcd_within n (suc b) (a % suc b) (omega arith))
+
+pub IsGcd-gcd_of : (a b : ℕ) → IsGcd a b (gcd_of a b)
+unfolding gcd_of
+IsGcd-gcd_of a b = IsGcd-gcd_within (suc b) a b (omega arith)
+
+-- a number that IsGcd is what the function gives
+pub gcd_of_is : (a b g : ℕ) → IsGcd a b g → g ≡ gcd_of a b
+gcd_of_is a b g h = same_from_IsGcd a b g (gcd_of a b) h (IsGcd-gcd_of a b)
+
+pub gcd_of-mod : (a b : ℕ) → gcd_of b (a % b) ≡ gcd_of a b
+gcd_of-mod a b = gcd_of_is a b (gcd_of b (a % b)) (IsGcd-from_mod a b (gcd_of b (a % b)) (IsGcd-gcd_of b (a % b)))
+
+pub gcd_of-zero : (a b : ℕ) → b ≡ 0 → gcd_of a b ≡ a
+gcd_of-zero a b e = sym (gcd_of_is a b a (IsGcd-from_zero a b e))
+
+-- from natural numbers to whole ones
+pub IsGcd-whole : (a b : ℤ) (x y g : ℕ) (r : ℤ) → x ≡ unsigned_abs a → y ≡ unsigned_abs b → r ≡ pos g → IsGcd x y g → IsGcd (unsigned_abs a) (unsigned_abs b) (unsigned_abs r)
+IsGcd-whole a b x y g r d e f h = rw (← d, ← e, f) h

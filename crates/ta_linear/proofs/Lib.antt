@@ -1,0 +1,11 @@
+pub mod Integers
+pub mod Signs
+pub mod SmallProduct
+pub mod GcdLemmas
+pub mod Floor
+pub mod Divide
+pub mod TermLemmas
+pub mod LeastTerm
+pub mod SumLemmas
+pub mod RangeSum
+pub mod Farkas

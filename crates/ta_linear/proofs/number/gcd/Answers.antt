@@ -1,0 +1,11 @@
+use Rattle.std.proofs.lemmas.Int.{to_z_pos, to_z-of_z}
+use Rattle.std.proofs.Common.{FitsSigned}
+use Rattle.std.specs.Int.{w128}
+use Rattle.ta_linear.proofs.GcdLemmas.{IsGcd-whole}
+use Rattle.ta_linear.proofs.number.gcd.Goals as goal
+
+pub returns-clause-value : goal.returns-clause-value
+returns-clause-value c =
+    let a : FitsSigned w128 c.args.a = c.ranges.a in
+    let b : FitsSigned w128 c.args.b = c.ranges.b in
+    IsGcd-whole c.args.a c.args.b _ _ _ _ (simp to_z-of_z at c.unsigned_abs.ensures.value) (simp to_z-of_z at c.unsigned_abs-2.ensures.value) (to_z_pos w128 c.gcd_natural.result c.gcd_natural.ensures.fits) c.gcd_natural.ensures.value
