@@ -1,0 +1,38 @@
+//! Files by name and sinks of bytes, in memory and real, with counts of what went wrong.
+#![tactic(auto)]
+
+mod disk_shelf;
+mod failing;
+mod fault;
+mod files;
+mod list;
+mod memory_shelf;
+mod memory_sink;
+mod quiet_shelf;
+mod quiet_sink;
+mod reading;
+mod room;
+mod shelf;
+mod sink;
+mod stalls;
+mod std_sink;
+mod text;
+mod writing;
+
+pub use disk_shelf::DiskShelf;
+pub use fault::{Failed, ShelfFault, SinkFault, WholeFault};
+pub use files::are_distinct;
+pub use list::List;
+pub use memory_shelf::MemoryShelf;
+pub use memory_sink::MemorySink;
+pub use quiet_shelf::QuietShelf;
+pub use quiet_sink::QuietSink;
+pub use reading::read_whole;
+pub use shelf::Shelf;
+pub use sink::Sink;
+pub use std_sink::StdSink;
+pub use text::Text;
+pub use writing::write_whole;
+
+#[cfg(test)]
+mod tests;

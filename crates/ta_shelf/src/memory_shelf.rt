@@ -1,0 +1,63 @@
+//! A shelf in memory, some of whose calls fail.
+#![tactic(auto)]
+
+ghost use Rattle.std.specs.Prelude.{◌≡◌, ◌≤◌, ℕ, length, min, IsOk, IfOk, IfSome, Some};
+ghost use Rattle.ta_shelf.specs.Failing.{IsNextListed, next_calls};
+ghost use Rattle.ta_shelf.specs.Files.{AreDistinct, bytes_left, file_named};
+ghost use Rattle.ta_shelf.specs.Shelf.{ReadsAt, CountsFaults, FailsExactly};
+
+use crate::failing::Failing;
+use crate::fault::ShelfFault;
+use crate::list::List;
+use crate::quiet_shelf::QuietShelf;
+use crate::shelf::Shelf;
+use crate::text::Text;
+use std::alloc::AllocError;
+
+/// Files in memory, which are told. The calls whose numbers are listed fail; the first is number 1,
+/// and calls past number 2^64 - 1 never fail.
+#[derive(Drop)]
+pub struct MemoryShelf {
+    shelf: QuietShelf,
+    failing: Failing,
+}
+
+impl MemoryShelf {
+    /// A shelf of these files, with the numbers of the calls that fail. It takes no memory.
+    pub fn new(files: List<(Text, List<u8>)>, failing: List<u64>) -> Result<MemoryShelf, AllocError>
+        requires { AreDistinct files }
+        ensures made { IsOk result }
+        ensures files { IfOk result (λ s. s.shelf.files ≡ files) }
+        ensures listed { IfOk result (λ s. s.failing.listed ≡ failing) }
+        ensures calls { IfOk result (λ s. s.failing.calls ≡ 0) }
+        ensures faults { IfOk result (λ s. s.failing.faults ≡ 0) }
+    {
+        Ok(MemoryShelf {
+            shelf: QuietShelf::new(files)?,
+            failing: Failing::new(failing),
+        })
+    }
+}
+
+impl Shelf for MemoryShelf {
+    ghost files = { λ s. Some (λ name. file_named name s.shelf.files) };
+
+    ghost faults = { λ s. s.failing.faults };
+
+    fn read_at(&mut self, name: &str, at: u64, buf: &mut [u8]) -> Result<usize, ShelfFault>
+        ensures count { IfOk result (λ k. k ≤ length buf.new) }
+        ensures bytes { ReadsAt (file_named name.now self.old.shelf.files) at buf.new result }
+        ensures cause { CountsFaults result self.old.failing.faults self.new.failing.faults }
+        ensures filled { let left = bytes_left (file_named name.now self.old.shelf.files) at in
+            IfOk result (λ k. k ≡ min (length buf.new) left) }
+        ensures kept { self.new.shelf.files ≡ self.old.shelf.files }
+        ensures fails { FailsExactly result (IsNextListed self.old.failing.listed self.old.failing.calls) }
+        ensures listed { self.new.failing.listed ≡ self.old.failing.listed }
+        ensures calls { self.new.failing.calls ≡ next_calls self.old.failing.calls }
+    {
+        if self.failing.fails_next() {
+            return Err(ShelfFault::Failed);
+        }
+        self.shelf.read_at(name, at, buf)
+    }
+}

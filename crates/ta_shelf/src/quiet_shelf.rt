@@ -1,0 +1,65 @@
+//! A shelf in memory that never fails.
+#![tactic(auto)]
+
+ghost use Rattle.std.specs.Prelude.{◌≡◌, ◌≤◌, ℕ, length, min, take, drop, IsOk, IfOk, IfSome, Some};
+ghost use Rattle.ta_shelf.specs.Files.{AreDistinct, bytes_left, file_named};
+ghost use Rattle.ta_shelf.specs.Shelf.{ReadsAt, FailsOnlyFaulted, NeverFails};
+
+use crate::fault::ShelfFault;
+use crate::files::find_file;
+use crate::list::List;
+use crate::shelf::Shelf;
+use crate::text::Text;
+use std::alloc::AllocError;
+
+/// Files in memory, which are told. No call fails.
+#[derive(Drop)]
+pub struct QuietShelf {
+    files: List<(Text, List<u8>)>,
+    pub ghost distinct: { AreDistinct files },
+}
+
+impl QuietShelf {
+    /// A shelf of these files. It takes no memory.
+    pub fn new(files: List<(Text, List<u8>)>) -> Result<QuietShelf, AllocError>
+        requires { AreDistinct files }
+        ensures made { IsOk result }
+        ensures files { IfOk result (λ s. s.files ≡ files) }
+    {
+        Ok(QuietShelf { files })
+    }
+}
+
+impl Shelf for QuietShelf {
+    ghost files = { λ s. Some (λ name. file_named name s.files) };
+
+    ghost faults = { λ s. 0 };
+
+    fn read_at(&mut self, name: &str, at: u64, buf: &mut [u8]) -> Result<usize, ShelfFault>
+        ensures count { IfOk result (λ k. k ≤ length buf.new) }
+        ensures bytes { ReadsAt (file_named name.now self.old.files) at buf.new result }
+        ensures quiet { NeverFails result }
+        ensures filled { let left = bytes_left (file_named name.now self.old.files) at in
+            IfOk result (λ k. k ≡ min (length buf.new) left) }
+        ensures kept { self.new.files ≡ self.old.files }
+    {
+        match find_file(self.files.as_slice(), name) {
+            Some(bytes) => Ok(copy_from(bytes.as_slice(), at, buf)),
+            None => Err(ShelfFault::Missing),
+        }
+    }
+}
+
+/// Copies a file's bytes from an offset on into a buffer, as far as they go.
+fn copy_from(bytes: &[u8], at: u64, buf: &mut [u8]) -> usize
+    ensures count { result ≡ min (length buf.new) (length (drop at bytes.now)) }
+    ensures bytes { take result buf.new ≡ take result (drop at bytes.now) }
+{
+    if at >= bytes.len() as u64 {
+        return 0;
+    }
+    let rest = &bytes[at as usize..];
+    let count = rest.len().min(buf.len());
+    buf[..count].copy_from_slice(&rest[..count]);
+    count
+}

@@ -1,0 +1,31 @@
+//! Files by name.
+#![tactic(auto)]
+
+ghost use Rattle.std.specs.Prelude.{◌≡◌, ◌≤◌, ℕ, List, length, take, IfOk, IfSome};
+ghost use Rattle.std.specs.declared.option.Option.{Option};
+ghost use Rattle.ta_shelf.specs.Shelf.{ReadsAt, FailsOnlyFaulted};
+
+use crate::fault::ShelfFault;
+
+/// Files by name, and a count of the calls that failed.
+///
+/// An implementation may leave untold what its files hold.
+pub trait Shelf {
+    // the bytes of the file of each name; None where they are untold
+    ghost files: { Self → Option (List ℕ → Option (List ℕ)) };
+
+    // how many calls failed
+    ghost faults: { Self → ℕ };
+
+    // a shelf, a name, an offset, the bytes that a call gave, and the shelf after it;
+    // a type may say nothing of them
+    ghost gives: { Self → List ℕ → ℕ → List ℕ → Self → Type 0 } = { λ _ _ _ _ _. Unit {0} };
+
+    /// Reads bytes of a file from the offset `at` on into a buffer, and says how many.
+    fn read_at(&mut self, name: &str, at: u64, buf: &mut [u8]) -> Result<usize, ShelfFault>
+        ensures count { IfOk result (λ k. k ≤ length buf.new) }
+        ensures bytes { IfSome (files self.old) (λ m. ReadsAt (m name.now) at buf.new result) }
+        ensures cause { FailsOnlyFaulted result (faults self.old) (faults self.new) }
+        ensures gives { IfOk result (λ k. gives self.old name.now at (take k buf.new) self.new) }
+        ensures kept { files self.new ≡ files self.old };
+}

@@ -1,0 +1,179 @@
+//! The worked rows of reading and writing, and the adapters over the real thing at work.
+
+use crate::{
+    DiskShelf, List, MemoryShelf, MemorySink, QuietShelf, QuietSink, SinkFault, StdSink, Text,
+    WholeFault, are_distinct, read_whole, write_whole,
+};
+use std::alloc::{AllocError, Global};
+use std::io::{ErrorKind, Write};
+use std::test::Fail;
+use std::{fs, io};
+
+const TEXT: &[u8] = b"automaton first\n";
+
+/// Four files: of 3, 4, no and 20,000 bytes.
+fn four_files(alloc: Global) -> Result<List<(Text, List<u8>)>, AllocError> {
+    let long = vec![in alloc; b'e'; 20_000]?;
+    let mut files = Vec::new(alloc);
+    for (name, bytes) in [
+        ("three", b"abc".as_slice()),
+        ("four", b"abcd"),
+        ("empty", b""),
+        ("long", long.as_slice()),
+    ] {
+        let name = Text::from_string(String::from_str(alloc, name)?);
+        files.push((name, List::from_vec(bytes.to_vec(alloc)?)))?;
+    }
+    Ok(List::from_vec(files))
+}
+
+/// The numbers of calls.
+fn numbers(alloc: Global, numbers: &[u64]) -> Result<List<u64>, AllocError> {
+    Ok(List::from_vec(numbers.to_vec(alloc)?))
+}
+
+/// The length of what was read, or the refusal.
+fn length_of(read: Result<List<u8>, WholeFault>) -> Result<usize, WholeFault> {
+    Ok(read?.as_slice().len())
+}
+
+#[test]
+fn reads_whole_files(rt: HostRuntime) -> Result<(), Fail> {
+    let alloc = rt.alloc();
+    let rows = [
+        (
+            [0].as_slice(),
+            [("three", 3, Ok(3)), ("four", 3, Err(WholeFault::TooLong))],
+        ),
+        (
+            &[0],
+            [("empty", 0, Ok(0)), ("three", 0, Err(WholeFault::TooLong))],
+        ),
+        (
+            &[0],
+            [
+                ("gone", 9, Err(WholeFault::Missing)),
+                ("gone", 9, Err(WholeFault::Missing)),
+            ],
+        ),
+        (
+            &[0],
+            [
+                ("long", 20_000, Ok(20_000)),
+                ("long", 19_999, Err(WholeFault::TooLong)),
+            ],
+        ),
+        (
+            &[1],
+            [("three", 9, Err(WholeFault::Failed)), ("three", 9, Ok(3))],
+        ),
+        (
+            &[2],
+            [("three", 9, Err(WholeFault::Failed)), ("three", 9, Ok(3))],
+        ),
+        (
+            &[3, 9],
+            [("three", 9, Ok(3)), ("gone", 9, Err(WholeFault::Failed))],
+        ),
+    ];
+    for (failing, reads) in rows {
+        let files = four_files(alloc)?;
+        assert!(rt; are_distinct(files.as_slice()));
+        let mut shelf = MemoryShelf::new(files, numbers(alloc, failing)?)?;
+        for (name, limit, want) in reads {
+            let read = length_of(read_whole(alloc, &mut shelf, name, limit));
+            assert_eq!(rt; read, want, "{name} up to {limit}, where {failing:?} fail");
+        }
+    }
+    let files = four_files(alloc)?;
+    assert!(rt; are_distinct(files.as_slice()));
+    let mut shelf = QuietShelf::new(files)?;
+    let read = read_whole(alloc, &mut shelf, "four", 4)?;
+    assert_eq!(rt; read.as_slice(), b"abcd".as_slice());
+    Ok(())
+}
+
+#[test]
+fn writes_whole_texts(rt: HostRuntime) -> Result<(), Fail> {
+    let alloc = rt.alloc();
+    let rows = [
+        (64, 64, 0, Ok(()), 16),
+        (16, 1, 17, Ok(()), 16),
+        (64, 1, 3, Err(SinkFault::Failed), 2),
+        (0, 64, 0, Err(SinkFault::Stuck { at: 0 }), 0),
+        (5, 64, 0, Err(SinkFault::Stuck { at: 5 }), 5),
+        (64, 0, 0, Err(SinkFault::Stuck { at: 0 }), 0),
+    ];
+    for (room, piece, failing, want, length) in rows {
+        let mut sink = MemorySink::new(alloc, room, piece, numbers(alloc, &[failing])?)?;
+        let wrote = write_whole(&mut sink, TEXT);
+        assert_eq!(rt; wrote, want, "room {room}, pieces of {piece}");
+        assert_eq!(rt; sink.as_slice(), &TEXT[..length]);
+    }
+    let mut sink = QuietSink::new(alloc, 5)?;
+    assert_eq!(rt;
+        write_whole(&mut sink, TEXT),
+        Err(SinkFault::Stuck { at: 5 })
+    );
+    assert_eq!(rt; sink.as_slice(), b"autom".as_slice());
+    Ok(())
+}
+
+/// A writer that takes a byte a call, and fails where it has no more room.
+#[derive(Drop)]
+struct Narrow {
+    room: usize,
+}
+
+impl Write for Narrow {
+    fn write(&mut self, bytes: &[u8]) -> io::Result<usize> {
+        if bytes.is_empty() {
+            return Ok(0);
+        }
+        match self.room.checked_sub(1) {
+            Some(room) => {
+                self.room = room;
+                Ok(1)
+            }
+            None => Err(io::Error::from(ErrorKind::BrokenPipe)),
+        }
+    }
+
+    fn flush(&mut self) -> io::Result<()> {
+        Ok(())
+    }
+}
+
+#[test]
+fn hands_texts_to_writers(rt: HostRuntime) -> Result<(), Fail> {
+    let mut bytes = [0u8; 5];
+    let mut short = StdSink::new(bytes.as_mut_slice());
+    assert_eq!(rt;
+        write_whole(&mut short, TEXT),
+        Err(SinkFault::Stuck { at: 5 })
+    );
+    drop(short);
+    assert_eq!(rt; bytes, *b"autom");
+    let mut enough = StdSink::new(Narrow { room: 16 });
+    assert_eq!(rt; write_whole(&mut enough, TEXT), Ok(()));
+    assert_eq!(rt; write_whole(&mut enough, TEXT), Err(SinkFault::Failed));
+    Ok(())
+}
+
+#[test]
+fn reads_real_files(rt: HostRuntime) -> Result<(), Fail> {
+    let name = "ta_shelf_test_file";
+    fs::write(&rt, name, b"abc".as_slice())?;
+    let mut shelf = DiskShelf::new(rt.clone()?);
+    for (name, limit, want) in [
+        (name, 3, Ok(3)),
+        (name, 2, Err(WholeFault::TooLong)),
+        ("ta_shelf_test_no_file", 3, Err(WholeFault::Missing)),
+        (".", 3, Err(WholeFault::Failed)),
+    ] {
+        let read = length_of(read_whole(rt.alloc(), &mut shelf, name, limit));
+        assert_eq!(rt; read, want, "{name} up to {limit}");
+    }
+    fs::remove_file(&rt, name)?;
+    Ok(())
+}
