@@ -1,0 +1,74 @@
+-- White space and comments.
+use Rattle.std.proofs.Common.{◌≡◌, ℕ, Bool, true, false, List, [], ◌∷◌, ◌++◌, length, inl, inr, ⊎_elim, refl, sym, ap, ◌∙◌, append_assoc, arith, ◌<◌, length-append}
+use Rattle.std.specs.List.{AllByRecursion}
+use Rattle.std.proofs.lemmas.List.{append-nil}
+use Rattle.ta_syntax.specs.Tokens.{IsSpace, IsGap, IsLastGap, SkipsComment, SkipsPiece, SkipsGap}
+
+pub record CommentSoFar (bytes rest : List ℕ) : Type 0 where
+  pub text : List ℕ
+  pub free : AllByRecursion (λ b. b ≡ 10 → ⊥) text
+  pub split : bytes ≡ text ++ rest
+
+all-push : (P : ℕ → Type 0) (xs : List ℕ) (x : ℕ) → AllByRecursion P xs → P x → AllByRecursion P (xs ++ x ∷ [])
+all-push P [] x h p = (p, tt)
+all-push P (y ∷ xs) x h p = (h.0, all-push P xs x h.1 p)
+
+pub comment_begins : (bytes : List ℕ) → CommentSoFar bytes bytes
+comment_begins bytes = record { text = []; free = tt; split = refl }
+
+pub comment_goes_on : (bytes rest after : List ℕ) (b : ℕ) → CommentSoFar bytes rest → rest ≡ b ∷ after → (b ≡ 10 → ⊥) → CommentSoFar bytes after
+comment_goes_on bytes rest after b so_far e other = record {
+  text = so_far.text ++ b ∷ [];
+  free = all-push (λ b. b ≡ 10 → ⊥) so_far.text b so_far.free other;
+  split = so_far.split ∙ ap (λ (x : List ℕ). so_far.text ++ x) e ∙ sym (append_assoc so_far.text (b ∷ []) after);
+}
+
+pub comment_ends : (bytes rest after : List ℕ) (b : ℕ) → CommentSoFar bytes rest → rest ≡ b ∷ after → b ≡ 10 → SkipsComment bytes after
+comment_ends bytes rest after b so_far e is = (so_far.text, so_far.free, inl (so_far.split ∙ ap (λ (x : List ℕ). so_far.text ++ x) (e ∙ ap (λ (n : ℕ). n ∷ after) is)))
+
+pub comment_is_last : (bytes rest : List ℕ) → CommentSoFar bytes rest → rest ≡ [] → SkipsComment bytes rest
+comment_is_last bytes rest so_far e = (so_far.text, so_far.free, inr (so_far.split ∙ ap (λ (x : List ℕ). so_far.text ++ x) e ∙ append-nil so_far.text, e))
+
+space-append : (last c : Bool) (a b : List ℕ) → IsSpace false c a → IsSpace last false b → IsSpace last c (a ++ b)
+space-append last true [] b h k = absurd cc
+space-append last false [] b h k = k
+space-append last true (x ∷ a) b (inl h) k = inl (h.0, space-append last false a b h.1 k)
+space-append last true (x ∷ a) b (inr h) k = inr (h.0, space-append last true a b h.1 k)
+space-append last false (x ∷ a) b (inl h) k = inl (h.0, space-append last false a b h.1 k)
+space-append last false (x ∷ a) b (inr h) k = inr (h.0, space-append last true a b h.1 k)
+
+comment_space : (text : List ℕ) → AllByRecursion (λ b. b ≡ 10 → ⊥) text → IsSpace false true (text ++ 10 ∷ [])
+comment_space [] free = inl (refl, tt)
+comment_space (b ∷ text) free = inr (free.0, comment_space text free.1)
+
+comment_last : (text : List ℕ) → AllByRecursion (λ b. b ≡ 10 → ⊥) text → IsSpace true true text
+comment_last [] free = refl
+comment_last (b ∷ text) free = inr (free.0, comment_last text free.1)
+
+pub gap_begins : (bytes : List ℕ) → SkipsGap bytes bytes
+gap_begins bytes = ([], refl, inl tt)
+
+with_piece : (last : Bool) (gap piece : List ℕ) → IsGap gap → IsSpace last false piece → IsSpace last false (gap ++ piece)
+with_piece last gap piece g p = space-append last false gap piece g p
+
+pub gap_goes_on : (bytes rest after : List ℕ) → SkipsGap bytes rest → SkipsPiece rest after → SkipsGap bytes after
+gap_goes_on bytes [] after so_far piece = absurd piece
+gap_goes_on bytes (b ∷ rest) after so_far (inl white) =
+    ⊎_elim
+    (λ (g : IsGap so_far.0). (so_far.0 ++ b ∷ [], so_far.1 ∙ ap (λ (x : List ℕ). so_far.0 ++ b ∷ x) white.1 ∙ sym (append_assoc so_far.0 (b ∷ []) after), inl (with_piece false so_far.0 (b ∷ []) g (inl (white.0, tt)))))
+    (λ (g : IsLastGap so_far.0 × (b ∷ rest ≡ [])). absurd (let e = g.1 in cc))
+    so_far.2
+gap_goes_on bytes (b ∷ rest) after so_far (inr comment) =
+    ⊎_elim
+    (λ (g : IsGap so_far.0). ⊎_elim
+    (λ (e : rest ≡ comment.1.0 ++ 10 ∷ after). (so_far.0 ++ b ∷ (comment.1.0 ++ 10 ∷ []), so_far.1 ∙ ap (λ (x : List ℕ). so_far.0 ++ b ∷ x) (e ∙ sym (append_assoc comment.1.0 (10 ∷ []) after)) ∙ sym (append_assoc so_far.0 (b ∷ (comment.1.0 ++ 10 ∷ [])) after), inl (with_piece false so_far.0 (b ∷ (comment.1.0 ++ 10 ∷ [])) g (inr (comment.0, comment_space comment.1.0 comment.1.1)))))
+    (λ (e : (rest ≡ comment.1.0) × (after ≡ [])). (so_far.0 ++ b ∷ comment.1.0, so_far.1 ∙ ap (λ (x : List ℕ). so_far.0 ++ b ∷ x) (e.0 ∙ sym (append-nil comment.1.0)) ∙ ap (λ (x : List ℕ). so_far.0 ++ b ∷ (comment.1.0 ++ x)) (sym e.1) ∙ sym (append_assoc so_far.0 (b ∷ comment.1.0) after), inr (with_piece true so_far.0 (b ∷ comment.1.0) g (inr (comment.0, comment_last comment.1.0 comment.1.1)), e.1)))
+    comment.1.2)
+    (λ (g : IsLastGap so_far.0 × (b ∷ rest ≡ [])). absurd (let e = g.1 in cc))
+    so_far.2
+
+-- a piece takes at least one byte
+pub piece_shorter : (rest after : List ℕ) → SkipsPiece rest after → length after < length rest
+piece_shorter [] after h = absurd h
+piece_shorter (b ∷ bs) after (inl h) = let e = ap length h.1 in omega arith
+piece_shorter (b ∷ bs) after (inr h) = ⊎_elim (λ (e : bs ≡ h.1.0 ++ 10 ∷ after). omega (arith, ap length e, length-append h.1.0 (10 ∷ after))) (λ (e : (bs ≡ h.1.0) × (after ≡ [])). omega (arith, ap length e.1)) h.1.2

@@ -1,0 +1,111 @@
+-- What the type of a tree keeps, in the words of the grammar and of the limits.
+use Rattle.std.proofs.Common.{◌≡◌, ℕ, suc, ◌≤◌, List, [], ◌∷◌, length, map, refl, ap, arith}
+use Rattle.std.specs.List.{AllByRecursion}
+use Rattle.ta_syntax.specs.Kinds.{IsNameText}
+use Rattle.ta_syntax.specs.Grammar.{IsSome, IsComparison, IsUpdate, IsRule, IsEvent, IsPattern, IsTree}
+use Rattle.ta_syntax.specs.PlainTrees.{plain_name, plain_comparison, plain_location, plain_update, plain_rule, plain_event, plain_pattern, plain_tree}
+use Rattle.ta_syntax.specs.Limits.{at_start, IsShallow, IsRuleWithin, IsEventWithin, IsPatternWithin, IsTreeWithin}
+use Rattle.ta_syntax.specs.Tokens.{AreTokens, ScanStops}
+use Rattle.ta_syntax.specs.Grammar.{FileText}
+use Rattle.ta_syntax.specs.Faults.{Stopped, FirstFault}
+use Rattle.ta_syntax.specs.FileReading.{IsSpelled}
+use Rattle.ta_syntax.specs.TreeOf.{IsTreeOf}
+use Rattle.ta_syntax.specs.declared.names.Spelled.{Spelled}
+use Rattle.ta_syntax.specs.declared.tree.TreeComparison.{TreeComparison}
+use Rattle.ta_syntax.specs.declared.tree.TreeUpdate.{TreeUpdate}
+use Rattle.ta_syntax.specs.declared.tree.TreeRule.{TreeRule}
+use Rattle.ta_syntax.specs.declared.tree.TreeEvent.{TreeEvent}
+use Rattle.ta_syntax.specs.declared.tree.TreePattern.{TreePattern}
+use Rattle.ta_syntax.specs.declared.tree.Tree.{Tree}
+use Rattle.ta_syntax.specs.declared.placed.Token.{Token}
+use Rattle.ta_syntax.specs.declared.fault.FileFault.{FileFault}
+use Rattle.ta_syntax.specs.declared.fault.FileFault.TheVariants as fault
+
+all_map : {A B : Type 0} (P : B → Type 0) (g : A → B) → ((x : A) → P (g x)) → (xs : List A) → AllByRecursion P (map g xs)
+all_map P g each [] = tt
+all_map P g each (x ∷ xs) = (each x, all_map P g each xs)
+
+short_map : {A B : Type 0} (g : A → B) (xs : List A) (n : ℕ) → length xs ≤ n → length (map g xs) ≤ n
+short_map g xs n h = omega (arith, same xs)
+  where
+    same : (ys : List _) → length (map g ys) ≡ length ys
+    same [] = refl
+    same (y ∷ ys) = ap suc (same ys)
+
+some_map : {A B : Type 0} (g : A → B) (xs : List A) → 1 ≤ length xs → IsSome (map g xs)
+some_map g [] h = absurd (omega arith)
+some_map g (x ∷ xs) h = tt
+
+name_legal : (n : Spelled) → IsNameText (plain_name n)
+name_legal n = n.legal
+
+comparison_legal : (x : TreeComparison) → IsComparison (plain_comparison x)
+comparison_legal x = record { left = x.is_left; right = x.is_right }
+
+comparison_shallow : (x : TreeComparison) → IsShallow (plain_comparison x)
+comparison_shallow x = record { left = x.shallow_left; right = x.shallow_right }
+
+update_legal : (u : TreeUpdate) → IsUpdate (plain_update u)
+update_legal u = record { name = u.name.legal; amount = u.amount.legal }
+
+rule_legal : (r : TreeRule) → IsRule (plain_rule r)
+rule_legal r = record { name = r.name.legal; from = r.from.legal; to = r.to.legal; guards = all_map IsComparison plain_comparison comparison_legal r.guards; updates = all_map IsUpdate plain_update update_legal r.updates }
+
+rule_within : (r : TreeRule) → IsRuleWithin (plain_rule r)
+rule_within r = record { guards = short_map plain_comparison r.guards 16 r.few_guards; shallow = all_map IsShallow plain_comparison comparison_shallow r.guards; updates = short_map plain_update r.updates 16 r.few_updates }
+
+event_legal : (e : TreeEvent) → IsEvent (plain_event e)
+event_legal e = record { name = e.name.legal; after = all_map IsNameText plain_name name_legal e.after; some = some_map plain_comparison e.condition e.some; condition = all_map IsComparison plain_comparison comparison_legal e.condition }
+
+event_within : (e : TreeEvent) → IsEventWithin (plain_event e)
+event_within e = record { after = short_map plain_name e.after 8 e.few_after; condition = short_map plain_comparison e.condition 16 e.few; shallow = all_map IsShallow plain_comparison comparison_shallow e.condition }
+
+pattern_legal : (p : TreePattern) → IsPattern (plain_pattern p)
+pattern_legal p = record { name = p.name.legal; start = all_map IsComparison plain_comparison comparison_legal p.start; empty = all_map IsNameText plain_name name_legal p.empty; events = all_map IsEvent plain_event event_legal p.events }
+
+pattern_within : (p : TreePattern) → IsPatternWithin (plain_pattern p)
+pattern_within p = record { start = short_map plain_comparison p.start 16 p.few_start; shallow = all_map IsShallow plain_comparison comparison_shallow p.start; empty = short_map plain_name p.empty 32 p.few_empty; events = short_map plain_event p.events 8 p.few_events; each_event = all_map IsEventWithin plain_event event_within p.events }
+
+pub tree_legal : (t : Tree) → IsTree (plain_tree t)
+tree_legal t = record {
+  name = t.name.legal;
+  parameters = all_map IsNameText plain_name name_legal t.parameters;
+  shared = all_map IsNameText plain_name name_legal t.shared;
+  some = some_map plain_location t.locations t.some_locations;
+  locations = all_map (λ l. IsNameText l.name) plain_location (λ l. l.name.legal) t.locations;
+  processes = t.is_processes;
+  resilience = all_map IsComparison plain_comparison comparison_legal t.resilience;
+  rules = all_map IsRule plain_rule rule_legal t.rules;
+  patterns = all_map IsPattern plain_pattern pattern_legal t.patterns;
+}
+
+pub tree_within : (t : Tree) → IsTreeWithin (plain_tree t)
+tree_within t = record {
+  parameters = short_map plain_name t.parameters 16 t.few_parameters;
+  shared = short_map plain_name t.shared 16 t.few_shared;
+  locations = short_map plain_location t.locations 32 t.few_locations;
+  processes = t.shallow_processes;
+  resilience = short_map plain_comparison t.resilience 16 t.few_resilience;
+  shallow = all_map IsShallow plain_comparison comparison_shallow t.resilience;
+  rules = short_map plain_rule t.rules 128 t.few_rules;
+  each_rule = all_map IsRuleWithin plain_rule rule_within t.rules;
+  patterns = short_map plain_pattern t.patterns 16 t.few_patterns;
+  each_pattern = all_map IsPatternWithin plain_pattern pattern_within t.patterns;
+}
+
+-- ---- reading bytes
+
+pub tree_read : (bytes : List ℕ) (tokens : List Token) (t : Tree) → AreTokens bytes tokens → IsSpelled t tokens → IsTreeOf bytes t
+tree_read bytes tokens t are s = record { tokens = tokens; are = are; spelled = s.spelled; placed = s.placed; legal = tree_legal t; within = tree_within t }
+
+pub scan_fault : (bytes : List ℕ) (e : FileFault) → ScanStops bytes e → FirstFault bytes e
+scan_fault bytes fault.Memory h = tt
+scan_fault bytes (fault.Byte at) h = h
+scan_fault bytes _ h = absurd h
+
+pub file_fault : (bytes : List ℕ) (tokens : List Token) (e : FileFault) → AreTokens bytes tokens → Stopped FileText at_start (length bytes) tokens e → FirstFault bytes e
+file_fault bytes tokens fault.Memory are h = tt
+file_fault bytes tokens (fault.Syntax at) are h = record { tokens = tokens; are = are; stopped = h }
+file_fault bytes tokens (fault.TooDeep at) are h = record { tokens = tokens; are = are; stopped = h }
+file_fault bytes tokens (fault.TooMany at) are h = record { tokens = tokens; are = are; stopped = h }
+file_fault bytes tokens _ are h = absurd h

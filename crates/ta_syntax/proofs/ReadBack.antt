@@ -1,0 +1,13 @@
+-- The printed text of a tree is of the grammar, with that tree.
+use Rattle.ta_syntax.specs.Grammar.{file_kinds}
+use Rattle.ta_syntax.specs.PlainTrees.{plain_tree}
+use Rattle.ta_syntax.specs.Printed.{printed}
+use Rattle.ta_syntax.specs.TreeOf.{IsTextOf}
+use Rattle.ta_syntax.specs.declared.tree.Tree.{Tree}
+use Rattle.ta_syntax.proofs.LegalTrees.{tree_legal}
+use Rattle.ta_syntax.proofs.PrintedTokens.{tokens_printed, file_legal}
+
+pub text_of : (t : Tree) → IsTextOf (printed (file_kinds (plain_tree t))) (plain_tree t)
+text_of t =
+    let p = tokens_printed (file_kinds (plain_tree t)) (file_legal (plain_tree t) (tree_legal t)) in
+    record { tokens = p.0; are = p.1; spelled = p.2; legal = tree_legal t }

@@ -1,0 +1,7 @@
+use Rattle.ta_syntax.specs.Parts.{a_name}
+use Rattle.ta_syntax.specs.Reading.{is_name}
+use Rattle.ta_syntax.proofs.ItemSteps.{start_by, name_begins}
+use Rattle.ta_syntax.proofs.items.SpelledItem.starts.Goals as goal
+
+pub returns : goal.returns
+returns c = start_by is_name a_name c.args.tokens.now c.is_name_next.result name_begins c.is_name_next.ensures

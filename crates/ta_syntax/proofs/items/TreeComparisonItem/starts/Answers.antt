@@ -1,0 +1,7 @@
+use Rattle.ta_syntax.specs.Parts.{comparison_part}
+use Rattle.ta_syntax.specs.Reading.{is_sum_start}
+use Rattle.ta_syntax.proofs.ItemSteps.{start_by, comparison_begins}
+use Rattle.ta_syntax.proofs.items.TreeComparisonItem.starts.Goals as goal
+
+pub returns : goal.returns
+returns c = start_by is_sum_start comparison_part c.args.tokens.now c.is_sum_next.result comparison_begins c.is_sum_next.ensures

@@ -1,0 +1,26 @@
+use Rattle.std.proofs.Common.{◌≡◌, ◌+◌, ◌<◌, ◌∷◌, [], length, drop, refl, sym, ap, subst, ◌∙◌, arith}
+use Rattle.std.proofs.lemmas.List.{drop_more}
+use Rattle.std.proofs.Math.ListN.{drop_of_length-le}
+use Rattle.std.specs.String.{string_bytes}
+use Rattle.ta_syntax.specs.Grammar.{each}
+use Rattle.ta_syntax.proofs.PrintSteps.{Goes, goes_on, goes_to_end}
+use Rattle.ta_syntax.proofs.printing.print_each.Goals as goal
+
+pub items-preserved : goal.items-preserved
+items-preserved g c =
+    let f = g.T.Printed.spelled in
+    let xs = c.args.items.now in
+    let i = c.items.item-index in
+    let x = c.item-item.result in
+    let start = string_bytes c.args.text.now in
+    let now = string_bytes c.items.text in
+    let here : drop i xs ≡ x ∷ drop (i + 1) xs = drop_more xs i x (omega arith) ∙ ap (λ y. y ∷ drop (i + 1) xs) (sym c.item-item.is) in
+    goes_on start now (string_bytes c.print.new.text) (each f xs) (f x) (each f (drop (i + 1) xs)) (subst (λ ys. Goes start now (each f xs) (each f ys)) here c.items.invariant) c.in_ok-print.ensures
+
+pub returns : goal.returns
+returns g c =
+    let f = g.T.Printed.spelled in
+    let xs = c.args.items.now in
+    let start = string_bytes c.args.text.now in
+    let now = string_bytes c.items.text in
+    goes_to_end start now (each f xs) (subst (λ ys. Goes start now (each f xs) (each f ys)) (drop_of_length-le xs c.items-test.false) c.items.invariant)

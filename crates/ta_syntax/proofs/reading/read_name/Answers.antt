@@ -1,0 +1,9 @@
+use Rattle.std.proofs.Common.{ap, sym, List}
+use Rattle.ta_syntax.specs.Faults.{offset_of}
+use Rattle.ta_syntax.specs.declared.placed.Token.{Token}
+use Rattle.ta_syntax.proofs.reading.read_name.Goals as goal
+
+pub returns : goal.returns
+returns c =
+    let split = c.in-Some.ensures.cases.0 in
+    (record { first = c.in-Some.first.now; split = split; is = rw c.in_ok-name.ensures c.in-Name.is }, ap (λ (x : List Token). offset_of c.args.end x) (sym split))

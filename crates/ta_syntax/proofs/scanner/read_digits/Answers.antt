@@ -1,0 +1,15 @@
+use Rattle.std.proofs.Common.{take}
+use Rattle.std.specs.Char.{is_ascii_digit}
+use Rattle.std.specs.List.{prefix_len}
+use Rattle.std.proofs.lemmas.List.Sums.{prefix_len-le-length}
+use Rattle.ta_syntax.proofs.Words.{all_front, digits_ascii, number_from}
+use Rattle.ta_syntax.proofs.scanner.read_digits.Goals as goal
+
+pub split_at-requires : goal.split_at-requires
+split_at-requires c = rw c.digits_len.ensures (prefix_len-le-length is_ascii_digit c.args.bytes.now)
+
+pub ascii_text-requires : goal.ascii_text-requires
+ascii_text-requires c = rw (c.split_at.ensures.front, c.digits_len.ensures) (digits_ascii (take (prefix_len is_ascii_digit c.args.bytes.now) c.args.bytes.now) (all_front is_ascii_digit c.args.bytes.now))
+
+pub returns : goal.returns
+returns c = rw (c.in_ok-ascii_text.ensures, c.split_at.ensures.front, c.split_at.ensures.back, c.digits_len.ensures) (number_from c.args.bytes.now c.requires)

@@ -1,0 +1,19 @@
+use Rattle.std.proofs.Common.{take, ap, ◌∙◌, ◌≡◌, sym, ℕ}
+use Rattle.std.specs.List.{prefix_len}
+use Rattle.std.proofs.lemmas.List.Sums.{prefix_len-le-length}
+use Rattle.ta_syntax.specs.Kinds.{is_word, mark_bytes}
+use Rattle.ta_syntax.specs.declared.tokens.Mark.{Mark}
+use Rattle.ta_syntax.proofs.Words.{all_front, words_ascii, name_from}
+use Rattle.ta_syntax.proofs.scanner.read_word.Goals as goal
+
+pub split_at-requires : goal.split_at-requires
+split_at-requires c = rw c.word_len.ensures (prefix_len-le-length is_word c.args.bytes.now)
+
+pub ascii_text-requires : goal.ascii_text-requires
+ascii_text-requires c = rw (c.split_at.ensures.front, c.word_len.ensures) (words_ascii (take (prefix_len is_word c.args.bytes.now) c.args.bytes.now) (all_front is_word c.args.bytes.now))
+
+pub returns : goal.returns
+returns c =
+    let front = c.split_at.ensures.front ∙ ap (λ (n : ℕ). take n c.args.bytes.now) c.word_len.ensures in
+    let free = λ (m : Mark) (e : mark_bytes m ≡ take (prefix_len is_word c.args.bytes.now) c.args.bytes.now). c.in_default.ensures m (e ∙ sym front) in
+    rw (c.in_ok-ascii_text.ensures, c.split_at.ensures.front, c.split_at.ensures.back, c.word_len.ensures) (name_from c.args.bytes.now c.requires free)

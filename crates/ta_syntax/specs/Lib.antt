@@ -1,0 +1,17 @@
+pub mod Kinds
+pub mod Tokens
+pub mod Grammar
+pub mod PlainSums
+pub mod PlainTrees
+pub mod Stated
+pub mod Limits
+pub mod Parts
+pub mod Faults
+pub mod Reading
+pub mod ListReading
+pub mod BlockReading
+pub mod RuleBodies
+pub mod Printed
+pub mod FileReading
+pub mod TreeOf
+pub mod TokenLaws

@@ -1,0 +1,112 @@
+-- The limits of lists and of depth: as one scan over the tokens, and in plain words over trees.
+use Rattle.std.specs.Prelude.{ℕ, suc, ◌-◌, ◌≤◌, ◌⊎◌, List, [], ◌∷◌, length}
+use Rattle.std.specs.List.{AllByRecursion}
+use Rattle.ta_syntax.specs.Grammar.{PlainComparison, PlainRule, PlainEvent, PlainPattern, PlainTree}
+use Rattle.ta_syntax.specs.PlainSums.{sum_depth}
+use Rattle.ta_syntax.specs.declared.tokens.Kind.{Kind}
+use Rattle.ta_syntax.specs.declared.tokens.Kind.TheVariants as kind
+use Rattle.ta_syntax.specs.declared.tokens.Mark.{Mark}
+use Rattle.ta_syntax.specs.declared.tokens.Mark.TheVariants as mark
+
+-- What was counted so far: open parentheses; the commas of the list that began last, with how many items it may have; rules, patterns, and the events of the last pattern.
+pub record Counts : Type 0 where
+  pub open_now : ℕ
+  pub commas : ℕ
+  pub limit : ℕ
+  pub rules : ℕ
+  pub patterns : ℕ
+  pub events : ℕ
+
+abbrev pub at_start : Counts
+at_start = record { open_now = 0; commas = 0; limit = 1; rules = 0; patterns = 0; events = 0 }
+
+-- a list begins
+abbrev pub begin_list : ℕ → Counts → Counts
+begin_list n c = record { open_now = c.open_now; commas = 0; limit = n; rules = c.rules; patterns = c.patterns; events = c.events }
+
+-- the counts after a sign or a keyword
+abbrev pub after_mark : Counts → Mark → Counts
+after_mark c mark.Open = record { open_now = suc c.open_now; commas = c.commas; limit = c.limit; rules = c.rules; patterns = c.patterns; events = c.events }
+after_mark c mark.Close = record { open_now = c.open_now - 1; commas = c.commas; limit = c.limit; rules = c.rules; patterns = c.patterns; events = c.events }
+after_mark c mark.Comma = record { open_now = c.open_now; commas = suc c.commas; limit = c.limit; rules = c.rules; patterns = c.patterns; events = c.events }
+after_mark c mark.Parameters = begin_list 16 c
+after_mark c mark.Shared = begin_list 16 c
+after_mark c mark.Locations = begin_list 32 c
+after_mark c mark.Resilience = begin_list 16 c
+after_mark c mark.When = begin_list 16 c
+after_mark c mark.Do = begin_list 16 c
+after_mark c mark.Start = begin_list 16 c
+after_mark c mark.Empty = begin_list 32 c
+after_mark c mark.After = begin_list 8 c
+after_mark c mark.Colon = begin_list 16 c
+after_mark c mark.Rule = record { open_now = c.open_now; commas = c.commas; limit = c.limit; rules = suc c.rules; patterns = c.patterns; events = c.events }
+after_mark c mark.Pattern = record { open_now = c.open_now; commas = c.commas; limit = c.limit; rules = c.rules; patterns = suc c.patterns; events = 0 }
+after_mark c mark.Event = record { open_now = c.open_now; commas = c.commas; limit = c.limit; rules = c.rules; patterns = c.patterns; events = suc c.events }
+after_mark c _ = c
+
+-- the counts after a token
+abbrev pub after : Counts → Kind → Counts
+after c (kind.Name n) = c
+after c (kind.Number d) = c
+after c (kind.Fixed m) = after_mark c m
+
+abbrev pub run : Counts → List Kind → Counts
+run c [] = c
+run c (k ∷ ks) = run (after c k) ks
+
+-- an opening parenthesis inside 32 open ones
+abbrev pub IsDeep : Counts → Kind → Type 0
+IsDeep c (kind.Fixed mark.Open) = 32 ≤ c.open_now
+IsDeep c _ = ⊥
+
+-- the keyword of the 129th rule, 17th pattern or 9th event
+abbrev pub IsBlockPast : Counts → Kind → Type 0
+IsBlockPast c (kind.Fixed mark.Rule) = 128 ≤ c.rules
+IsBlockPast c (kind.Fixed mark.Pattern) = 16 ≤ c.patterns
+IsBlockPast c (kind.Fixed mark.Event) = 8 ≤ c.events
+IsBlockPast c _ = ⊥
+
+-- the token with which a list goes past its limit: as many commas as items are allowed stand before it, or it begins a block too many
+abbrev pub IsMany : Counts → Kind → Type 0
+IsMany c k = (c.limit ≤ c.commas) ⊎ IsBlockPast c k
+
+-- no token goes past a limit
+abbrev pub Within : Counts → List Kind → Type 0
+Within c [] = Unit {0}
+Within c (k ∷ ks) = (IsDeep c k → ⊥) × (IsMany c k → ⊥) × Within (after c k) ks
+
+-- ---- the same in plain words
+
+pub record IsShallow (c : PlainComparison) : Type 0 where
+  pub left : sum_depth c.left ≤ 32
+  pub right : sum_depth c.right ≤ 32
+
+pub record IsRuleWithin (r : PlainRule) : Type 0 where
+  pub guards : length r.guards ≤ 16
+  pub shallow : AllByRecursion IsShallow r.guards
+  pub updates : length r.updates ≤ 16
+
+pub record IsEventWithin (e : PlainEvent) : Type 0 where
+  pub after : length e.after ≤ 8
+  pub condition : length e.condition ≤ 16
+  pub shallow : AllByRecursion IsShallow e.condition
+
+pub record IsPatternWithin (p : PlainPattern) : Type 0 where
+  pub start : length p.start ≤ 16
+  pub shallow : AllByRecursion IsShallow p.start
+  pub empty : length p.empty ≤ 32
+  pub events : length p.events ≤ 8
+  pub each_event : AllByRecursion IsEventWithin p.events
+
+-- lists are no longer than they may be, and at most 32 parentheses are open at once
+pub record IsTreeWithin (t : PlainTree) : Type 0 where
+  pub parameters : length t.parameters ≤ 16
+  pub shared : length t.shared ≤ 16
+  pub locations : length t.locations ≤ 32
+  pub processes : sum_depth t.processes ≤ 32
+  pub resilience : length t.resilience ≤ 16
+  pub shallow : AllByRecursion IsShallow t.resilience
+  pub rules : length t.rules ≤ 128
+  pub each_rule : AllByRecursion IsRuleWithin t.rules
+  pub patterns : length t.patterns ≤ 16
+  pub each_pattern : AllByRecursion IsPatternWithin t.patterns

@@ -1,0 +1,90 @@
+-- The grammar cut into parts, so that what may still come after some tokens is a part too. The readers' own contracts speak of parts; that the part of a file has the texts of the grammar's trees is proved.
+use Rattle.std.specs.Prelude.{ℕ, ◌≡◌, ◌⊎◌, List, [], ◌∷◌, ◌++◌}
+use Rattle.std.specs.List.{AllByRecursion}
+use Rattle.ta_syntax.specs.Kinds.{IsNameText, IsDigits}
+use Rattle.ta_syntax.specs.Grammar.{Terms, Term, Factor, sum_kinds, more_kinds, term_kinds, factor_kinds, IsSum, AreTerms, IsTerm, IsFactor, relation_kind}
+use Rattle.ta_syntax.specs.declared.tokens.Kind.{Kind}
+use Rattle.ta_syntax.specs.declared.tokens.Kind.TheVariants as kind
+use Rattle.ta_syntax.specs.declared.tokens.Mark.{Mark}
+use Rattle.ta_syntax.specs.declared.tokens.Mark.TheVariants as mark
+use Rattle.ta_syntax.specs.declared.tokens.Relation.{Relation}
+
+pub data Part : Type 0 where
+  nothing : Part
+  a_mark : Mark → Part
+  a_name : Part
+  a_number : Part
+  a_relation : Part
+  a_sum : Part
+  -- terms after the first, each with its sign before it
+  more_terms : Part
+  a_term : Part
+  a_factor : Part
+  -- one after the other
+  both : Part → Part → Part
+  -- [ mark part ]
+  maybe : Mark → Part → Part
+  -- { mark part }
+  many : Mark → Part → Part
+  -- [ part ] mark
+  upto : Mark → Part → Part
+
+-- pieces, each after the mark
+abbrev pub blocks : Mark → List (List Kind) → List Kind
+blocks m [] = []
+blocks m (x ∷ xs) = kind.Fixed m ∷ (x ++ blocks m xs)
+
+-- the token lists of a part
+abbrev pub Text : Part → List Kind → Type 0
+Text nothing ks = ks ≡ []
+Text (a_mark m) ks = ks ≡ kind.Fixed m ∷ []
+Text a_name ks = (n : List ℕ) × IsNameText n × (ks ≡ kind.Name n ∷ [])
+Text a_number ks = (d : List ℕ) × IsDigits d × (ks ≡ kind.Number d ∷ [])
+Text a_relation ks = (r : Relation) × (ks ≡ relation_kind r ∷ [])
+Text a_sum ks = (ts : Terms) × IsSum ts × (ks ≡ sum_kinds ts)
+Text more_terms ks = (ts : Terms) × AreTerms ts × (ks ≡ more_kinds ts)
+Text a_term ks = (t : Term) × IsTerm t × (ks ≡ term_kinds t)
+Text a_factor ks = (f : Factor) × IsFactor f × (ks ≡ factor_kinds f)
+Text (both p q) ks = (a b : List Kind) × Text p a × Text q b × (ks ≡ a ++ b)
+Text (maybe m p) ks = (ks ≡ []) ⊎ ((a : List Kind) × Text p a × (ks ≡ kind.Fixed m ∷ a))
+Text (many m p) ks = (xs : List (List Kind)) × AllByRecursion (λ x. Text p x) xs × (ks ≡ blocks m xs)
+Text (upto m p) ks = (ks ≡ kind.Fixed m ∷ []) ⊎ ((a : List Kind) × Text p a × (ks ≡ a ++ kind.Fixed m ∷ []))
+
+-- Item { "," Item }
+abbrev pub list_part : Part → Part
+list_part p = both p (many mark.Comma p)
+
+abbrev pub location_part : Part
+location_part = both a_name (maybe mark.Initial nothing)
+
+abbrev pub update_part : Part
+update_part = both a_name (both (a_mark mark.PlusEquals) a_number)
+
+abbrev pub comparison_part : Part
+comparison_part = both a_sum (both a_relation a_sum)
+
+-- a rule behind its keyword
+abbrev pub rule_part : Part
+rule_part = both a_name (both (a_mark mark.Colon) (both a_name (both (a_mark mark.Arrow) (both a_name (both (maybe mark.When (list_part comparison_part)) (both (maybe mark.Do (list_part update_part)) (a_mark mark.Semicolon)))))))
+
+-- an event behind its keyword
+abbrev pub event_part : Part
+event_part = both a_name (both (maybe mark.After (list_part a_name)) (both (a_mark mark.Colon) (both (list_part comparison_part) (a_mark mark.Semicolon))))
+
+-- a pattern behind its keyword
+abbrev pub pattern_part : Part
+pattern_part = both a_name (both (a_mark mark.OpenBrace) (both (maybe mark.Start (both (list_part comparison_part) (a_mark mark.Semicolon))) (both (maybe mark.Empty (both (list_part a_name) (a_mark mark.Semicolon))) (both (many mark.Event event_part) (a_mark mark.CloseBrace)))))
+
+-- rules and patterns
+abbrev pub blocks_part : Part
+blocks_part = both (many mark.Rule rule_part) (many mark.Pattern pattern_part)
+
+abbrev pub file_part : Part
+file_part =
+    both (a_mark mark.Automaton) (both a_name (both (a_mark mark.Semicolon)
+    (both (a_mark mark.Parameters) (both (upto mark.Semicolon (list_part a_name))
+    (both (a_mark mark.Shared) (both (upto mark.Semicolon (list_part a_name))
+    (both (a_mark mark.Locations) (both (list_part location_part) (both (a_mark mark.Semicolon)
+    (both (a_mark mark.Processes) (both a_sum (both (a_mark mark.Semicolon)
+    (both (a_mark mark.Resilience) (both (upto mark.Semicolon (list_part comparison_part))
+    blocks_part))))))))))))))

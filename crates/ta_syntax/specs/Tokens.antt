@@ -1,0 +1,131 @@
+-- The tokens of a text: the longest that fits, with white space and comments between.
+use Rattle.std.specs.Prelude.{ℕ, ◌≡◌, ◌+◌, ◌==◌, ◌||◌, ◌&&◌, ◌⊎◌, Bool, true, false, List, [], ◌∷◌, ◌++◌, length}
+use Rattle.std.specs.Char.{is_ascii_digit}
+use Rattle.std.specs.List.{AllByRecursion}
+use Rattle.std.specs.Prelude.{IsTrue}
+use Rattle.ta_syntax.specs.Kinds.{is_white, is_letter, is_word, is_lone, mark_bytes, kind_bytes, IsKind}
+use Rattle.ta_syntax.specs.declared.tokens.Kind.{Kind}
+use Rattle.ta_syntax.specs.declared.tokens.Kind.TheVariants as kind
+use Rattle.ta_syntax.specs.declared.tokens.Mark.{Mark}
+use Rattle.ta_syntax.specs.declared.tokens.Mark.TheVariants as mark
+use Rattle.ta_syntax.specs.declared.placed.Token.{Token}
+use Rattle.ta_syntax.specs.declared.fault.FileFault.{FileFault}
+use Rattle.ta_syntax.specs.declared.fault.FileFault.TheVariants as fault
+
+-- whether a byte right after the token would make it a longer one
+abbrev pub lengthens : Kind → ℕ → Bool
+lengthens (kind.Name n) b = is_word b
+lengthens (kind.Number d) b = is_ascii_digit b
+lengthens (kind.Fixed mark.Plus) b = b == 61
+lengthens (kind.Fixed mark.Minus) b = b == 62
+lengthens (kind.Fixed mark.Less) b = b == 61
+lengthens (kind.Fixed mark.More) b = b == 61
+lengthens (kind.Fixed mark.Semicolon) b = false
+lengthens (kind.Fixed mark.Comma) b = false
+lengthens (kind.Fixed mark.Colon) b = false
+lengthens (kind.Fixed mark.OpenBrace) b = false
+lengthens (kind.Fixed mark.CloseBrace) b = false
+lengthens (kind.Fixed mark.Open) b = false
+lengthens (kind.Fixed mark.Close) b = false
+lengthens (kind.Fixed mark.Star) b = false
+lengthens (kind.Fixed mark.PlusEquals) b = false
+lengthens (kind.Fixed mark.Arrow) b = false
+lengthens (kind.Fixed mark.AtMost) b = false
+lengthens (kind.Fixed mark.Equal) b = false
+lengthens (kind.Fixed mark.AtLeast) b = false
+lengthens (kind.Fixed _) b = is_word b
+
+abbrev pub IsLongest : Kind → List ℕ → Type 0
+IsLongest k [] = Unit {0}
+IsLongest k (b ∷ bs) = lengthens k b ≡ false
+
+-- White space and comments from here on, inside a comment or not; the last may end inside one.
+abbrev pub IsSpace : Bool → Bool → List ℕ → Type 0
+IsSpace last true [] = IsTrue last
+IsSpace last false [] = Unit {0}
+IsSpace last true (b ∷ bs) = ((b ≡ 10) × IsSpace last false bs) ⊎ ((b ≡ 10 → ⊥) × IsSpace last true bs)
+IsSpace last false (b ∷ bs) = (IsTrue (is_white b) × IsSpace last false bs) ⊎ ((b ≡ 35) × IsSpace last true bs)
+
+abbrev pub IsGap : List ℕ → Type 0
+IsGap = IsSpace false false
+
+abbrev pub IsLastGap : List ℕ → Type 0
+IsLastGap = IsSpace true false
+
+-- The tokens in order, each after a gap and the longest that fits, and what holds of the bytes that are left, with their offset.
+abbrev pub ScansTo : (ℕ → List ℕ → Type 0) → ℕ → List ℕ → List Token → Type 0
+ScansTo end at bytes [] = end at bytes
+ScansTo end at bytes (t ∷ ts) = (gap rest : List ℕ) × IsGap gap × (bytes ≡ gap ++ (kind_bytes t.kind ++ rest)) × (t.at ≡ at + length gap) × IsKind t.kind × IsLongest t.kind rest × ScansTo end (t.at + length (kind_bytes t.kind)) rest ts
+
+-- the tokens of a text
+abbrev pub AreTokens : List ℕ → List Token → Type 0
+AreTokens bytes ts = ScansTo (λ at rest. IsLastGap rest) 0 bytes ts
+
+-- a byte that stands alone or begins a sign, whatever comes after it; a byte 61 begins one only before another
+abbrev pub begins_mark : List ℕ → Bool
+begins_mark [] = false
+begins_mark (b ∷ []) = is_lone b
+begins_mark (b ∷ c ∷ bs) = is_lone b || (b == 61 && c == 61)
+
+-- no token and no gap begins here
+pub record IsRefusedHere (at : ℕ) (bytes : List ℕ) (refused : ℕ) : Type 0 where
+  pub gap : List ℕ
+  pub byte : ℕ
+  pub rest : List ℕ
+  pub split : bytes ≡ gap ++ byte ∷ rest
+  pub is_gap : IsGap gap
+  pub place : refused ≡ at + length gap
+  pub no_gap : (is_white byte ≡ false) × (byte ≡ 35 → ⊥)
+  pub no_token : (is_letter byte ≡ false) × (is_ascii_digit byte ≡ false) × (begins_mark (byte ∷ rest) ≡ false)
+
+-- the first refused byte of a text
+abbrev pub IsRefused : List ℕ → ℕ → Type 0
+IsRefused bytes refused = (ts : List Token) × ScansTo (λ at rest. IsRefusedHere at rest refused) 0 bytes ts
+
+-- the mark stands first, and is the longest that fits
+abbrev pub MarkAt : List ℕ → Mark → List ℕ → Type 0
+MarkAt bytes m rest = (bytes ≡ mark_bytes m ++ rest) × IsLongest (kind.Fixed m) rest
+
+-- no white byte and no comment begins here
+abbrev pub BeginsNoGap : List ℕ → Type 0
+BeginsNoGap [] = Unit {0}
+BeginsNoGap (b ∷ bs) = (is_white b ≡ false) × (b ≡ 35 → ⊥)
+
+-- a comment's bytes up to its line feed, or to the end
+abbrev pub SkipsComment : List ℕ → List ℕ → Type 0
+SkipsComment bytes rest = (text : List ℕ) × AllByRecursion (λ b. b ≡ 10 → ⊥) text × ((bytes ≡ text ++ 10 ∷ rest) ⊎ ((bytes ≡ text) × (rest ≡ [])))
+
+abbrev pub SkipsPiece : List ℕ → List ℕ → Type 0
+SkipsPiece [] rest = ⊥
+SkipsPiece (b ∷ bs) rest = (IsTrue (is_white b) × (bs ≡ rest)) ⊎ ((b ≡ 35) × SkipsComment bs rest)
+
+-- a gap, and nothing but the end after a comment that isn't ended
+abbrev pub SkipsGap : List ℕ → List ℕ → Type 0
+SkipsGap bytes rest = (gap : List ℕ) × (bytes ≡ gap ++ rest) × (IsGap gap ⊎ (IsLastGap gap × (rest ≡ [])))
+
+abbrev pub BeginsByDigit : List ℕ → Type 0
+BeginsByDigit [] = ⊥
+BeginsByDigit (b ∷ bs) = IsTrue (is_ascii_digit b)
+
+-- a token stands first, and is the longest that fits
+pub record TokenFrom (bytes : List ℕ) (k : Kind) (rest : List ℕ) : Type 0 where
+  pub split : bytes ≡ kind_bytes k ++ rest
+  pub is : IsKind k
+  pub longest : IsLongest k rest
+
+-- no token begins here
+abbrev pub NoToken : List ℕ → Type 0
+NoToken [] = Unit {0}
+NoToken (b ∷ bs) = (is_letter b ≡ false) × (is_ascii_digit b ≡ false) × (begins_mark (b ∷ bs) ≡ false)
+
+-- why no token was read
+abbrev pub TokenStops : ℕ → List ℕ → FileFault → Type 0
+TokenStops at bytes fault.Memory = Unit {0}
+TokenStops at bytes (fault.Byte k) = (k ≡ at) × NoToken bytes
+TokenStops at bytes _ = ⊥
+
+-- why a text has no tokens
+abbrev pub ScanStops : List ℕ → FileFault → Type 0
+ScanStops bytes fault.Memory = Unit {0}
+ScanStops bytes (fault.Byte k) = IsRefused bytes k
+ScanStops bytes _ = ⊥

@@ -1,0 +1,118 @@
+//! Reading automaton files.
+#![tactic(auto)]
+
+ghost use Rattle.std.specs.Prelude.{◌≡◌, ◌≤◌, length, IfErr, IfOk, MatchResult};
+ghost use Rattle.ta_syntax.specs.Grammar.{FileText, PlainTree};
+ghost use Rattle.ta_syntax.specs.PlainTrees.{plain_tree};
+ghost use Rattle.ta_syntax.specs.Limits.{at_start, IsTreeWithin};
+ghost use Rattle.ta_syntax.specs.Faults.{Stopped, FirstFault};
+ghost use Rattle.ta_syntax.specs.FileReading.{TookLocations, LocationsStop, TookProcesses, ProcessesStop, IsSpelled};
+ghost use Rattle.ta_syntax.specs.TreeOf.{IsTextOf, IsTreeOf};
+
+use crate::blocks::read_blocks;
+use crate::clauses::{read_declared, read_list_end, read_name_then};
+use crate::fault::FileFault;
+use crate::list::List;
+use crate::names::Spelled;
+use crate::placed::Token;
+use crate::reading::{expect, first_offset, read_sum};
+use crate::scanner::scan;
+use crate::sums::TreeSum;
+use crate::tokens::Mark;
+use crate::tree::{Tree, TreeComparison, TreeLocation, TreePattern, TreeRule};
+use std::alloc::Global;
+
+/// Reads an automaton file.
+pub fn read_tree(alloc: Global, bytes: &[u8]) -> Result<Tree, FileFault>
+    requires { length bytes.now ≤ 1048576 }
+    ensures exact { MatchResult result (λ t. IsTreeOf bytes.now t) (λ e. FirstFault bytes.now e) }
+    ensures alone { IfOk result (λ t. (u : PlainTree) → IsTextOf bytes.now u → u ≡ plain_tree t) }
+    ensures only { (t : PlainTree) → IsTextOf bytes.now t → IsTreeWithin t → IfErr result (λ e. e ≡ FileFault.Memory) }
+{
+    let tokens = scan(alloc, bytes)?;
+    let tree = read_file(alloc, tokens.as_slice(), bytes.len() as u32)?;
+    Ok(tree)
+}
+
+/// Reads the tokens of an automaton file.
+fn read_file(alloc: Global, tokens: &[Token], end: u32) -> Result<Tree, FileFault>
+    ensures { MatchResult result (λ t. IsSpelled t tokens.now) (λ e. Stopped FileText at_start end tokens.now e) }
+{
+    let begun = expect(tokens, end, Mark::Automaton)?;
+    let (name, after_name) = read_name_then(alloc, begun, end, Mark::Semicolon)?;
+    let (parameters, after_parameters) = read_declared::<Spelled>(
+        alloc,
+        after_name,
+        end,
+        Mark::Parameters,
+        16,
+    )?;
+    let (shared, after_shared) = read_declared::<Spelled>(
+        alloc,
+        after_parameters,
+        end,
+        Mark::Shared,
+        16,
+    )?;
+    let (locations_at, locations, after_locations) = read_locations(alloc, after_shared, end)?;
+    let (processes_at, processes, after_processes) = read_processes(alloc, after_locations, end)?;
+    let (resilience, after_resilience) = read_declared::<TreeComparison>(
+        alloc,
+        after_processes,
+        end,
+        Mark::Resilience,
+        16,
+    )?;
+    let (rules, after_rules) = read_blocks::<TreeRule>(
+        alloc,
+        after_resilience,
+        end,
+        Mark::Rule,
+        128,
+    )?;
+    let (patterns, rest) = read_blocks::<TreePattern>(alloc, after_rules, end, Mark::Pattern, 16)?;
+    if let Some((first, _)) = rest.split_first() {
+        return Err(FileFault::Syntax(first.at));
+    }
+    Ok(Tree {
+        name,
+        parameters,
+        shared,
+        locations_at,
+        locations,
+        processes_at,
+        processes,
+        resilience,
+        rules: List::from_vec(rules),
+        patterns: List::from_vec(patterns),
+    })
+}
+
+/// Reads the locations, with the offset of their keyword.
+fn read_locations(
+    alloc: Global,
+    tokens: &[Token],
+    end: u32,
+) -> Result<(u32, List<TreeLocation>, &[Token]), FileFault>
+    ensures { MatchResult result (λ x. TookLocations x.0 x.1 tokens.now x.2.now) (λ e. LocationsStop end tokens.now e) }
+{
+    let at = first_offset(tokens, end);
+    let begun = expect(tokens, end, Mark::Locations)?;
+    let (locations, rest) = read_list_end::<TreeLocation>(alloc, begun, end, 32)?;
+    Ok((at, locations, rest))
+}
+
+/// Reads the number of processes, with the offset of its first token.
+fn read_processes(
+    alloc: Global,
+    tokens: &[Token],
+    end: u32,
+) -> Result<(u32, TreeSum, &[Token]), FileFault>
+    ensures { MatchResult result (λ x. TookProcesses x.0 x.1 tokens.now x.2.now) (λ e. ProcessesStop end tokens.now e) }
+{
+    let begun = expect(tokens, end, Mark::Processes)?;
+    let at = first_offset(begun, end);
+    let (sum, after_sum) = read_sum(alloc, begun, end, 32)?;
+    let rest = expect(after_sum, end, Mark::Semicolon)?;
+    Ok((at, sum, rest))
+}

@@ -1,0 +1,42 @@
+//! Automaton files: tokens, trees, reading and printing.
+#![tactic(auto)]
+
+mod blocks;
+mod clauses;
+mod fault;
+mod file;
+mod items;
+mod laws;
+mod list;
+mod lists;
+mod marks;
+mod names;
+mod placed;
+mod printing;
+mod reading;
+mod reading_back;
+mod relations;
+mod rules;
+mod scanner;
+mod sums;
+mod text;
+mod tokens;
+mod tree;
+
+pub use fault::FileFault;
+pub use file::read_tree;
+pub use laws::{printed_has_tokens, tokens_are_unique};
+pub use list::List;
+pub use names::{Digits, Spelled};
+pub use placed::Token;
+pub use printing::print_tree;
+pub use reading_back::print_then_read;
+pub use sums::{Sign, TreeFactor, TreeSum, TreeTerm};
+pub use text::Text;
+pub use tokens::{Kind, Mark, Relation};
+pub use tree::{Tree, TreeComparison, TreeEvent, TreeLocation, TreePattern, TreeRule, TreeUpdate};
+
+#[cfg(test)]
+mod print_tests;
+#[cfg(test)]
+mod tests;

@@ -1,0 +1,66 @@
+//! Lists with commas.
+#![tactic(auto)]
+
+ghost use Rattle.std.specs.Prelude.{◌≡◌, ◌≤◌, List, ℕ, MatchResult};
+ghost use Rattle.ta_syntax.specs.Parts.{Part};
+ghost use Rattle.ta_syntax.specs.ListReading.{TookItem, ItemStops, IsStart, PastStops, TookList, ListStops};
+ghost use Rattle.ta_syntax.specs.declared.tokens.Kind.{Kind};
+
+use crate::fault::FileFault;
+use crate::placed::Token;
+use crate::reading::{first_offset, skip};
+use crate::tokens::Mark;
+use std::alloc::Global;
+
+/// What a list has, with commas between.
+pub trait Item: Sized + Drop {
+    ghost part: { Part };
+
+    ghost spelled: { Self → List Kind };
+
+    ghost stated: { Self → List (List ℕ) };
+
+    /// Whether an item may begin by the first token.
+    fn starts(tokens: &[Token]) -> bool
+        ensures { IsStart part tokens.now result };
+
+    /// Reads an item.
+    fn read(alloc: Global, tokens: &[Token], end: u32) -> Result<(Self, &[Token]), FileFault>
+        ensures { MatchResult result (λ x. TookItem part (spelled x.0) (stated x.0) tokens.now x.1.now) (λ e. ItemStops part end tokens.now e) };
+}
+
+/// The fault of the first token where as many items as there may be stand before it.
+fn past_limit<T: Item>(tokens: &[Token], end: u32) -> FileFault
+    ensures { PastStops T.part end tokens.now result }
+{
+    let at = first_offset(tokens, end);
+    if T::starts(tokens) {
+        return FileFault::TooMany(at);
+    }
+    FileFault::Syntax(at)
+}
+
+/// Reads at least one item and at most `limit`, with commas between.
+pub fn read_list<T: Item>(
+    alloc: Global,
+    tokens: &[Token],
+    end: u32,
+    limit: usize,
+) -> Result<(Vec<T>, &[Token]), FileFault>
+    requires { 1 ≤ limit }
+    ensures { MatchResult result (λ x. TookList T.part T.spelled T.stated limit x.0.items tokens.now x.1.now) (λ e. ListStops T.part limit end tokens.now e) }
+{
+    let mut items = Vec::new(alloc);
+    let mut rest = tokens;
+    'items: loop {
+        if items.len() == limit {
+            return Err(past_limit::<T>(rest, end));
+        }
+        let (item, after) = T::read(alloc, rest, end)?;
+        items.push(item)?;
+        let Some(after_comma) = skip(after, Mark::Comma) else {
+            return Ok((items, after));
+        };
+        rest = after_comma;
+    }
+}

@@ -1,0 +1,24 @@
+//! Reading what was printed.
+#![tactic(auto)]
+
+ghost use Rattle.std.specs.Prelude.{◌≡◌, ◌≤◌, MatchResult, length};
+ghost use Rattle.ta_syntax.specs.Grammar.{file_kinds};
+ghost use Rattle.ta_syntax.specs.PlainTrees.{plain_tree};
+ghost use Rattle.ta_syntax.specs.Printed.{printed};
+ghost use Rattle.ta_syntax.specs.declared.fault.FileFault.{FileFault};
+
+use crate::fault::FileFault;
+use crate::file::read_tree;
+use crate::printing::print_tree;
+use crate::tree::Tree;
+use std::alloc::Global;
+
+/// Prints a tree and reads its text: the same tree, but for offsets.
+pub fn print_then_read(alloc: Global, tree: &Tree) -> Result<Tree, FileFault>
+    requires { length (printed (file_kinds (plain_tree tree.now))) ≤ 1048576 }
+    ensures { MatchResult result (λ t. plain_tree t ≡ plain_tree tree.now) (λ e. e ≡ FileFault.Memory) }
+{
+    let text = print_tree(alloc, tree)?;
+    let again = read_tree(alloc, text.as_str().as_bytes())?;
+    Ok(again)
+}
