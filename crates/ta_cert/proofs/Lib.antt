@@ -1,0 +1,9 @@
+pub mod Decimals
+pub mod Fields
+pub mod Pairs
+pub mod Standing
+pub mod Writing
+pub mod Unique
+pub mod CertLines
+pub mod Exact
+pub mod Reading

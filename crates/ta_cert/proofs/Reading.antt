@@ -1,0 +1,90 @@
+-- A whole text, read piece by piece.
+use Rattle.std.proofs.Common.{ℕ, ◌+◌, ◌≡◌, List, [], ◌∷◌, ◌++◌, length, Result, Ok, Err, refl, sym, ap, subst, ◌∙◌, append_assoc, append-nil, arith, MatchResult}
+use Rattle.std.proofs.lemmas.Bool.{false≢true}
+use Rattle.ta_cert.specs.Lines.{has_end}
+use Rattle.ta_cert.specs.Streams.{IsRefused, IsComplete, line_number, numbered, StandsAt, StandsFor, Fed, Finished}
+use Rattle.ta_cert.specs.Laws.{WasRead}
+use Rattle.ta_cert.specs.declared.line.Line.{Line}
+use Rattle.ta_cert.specs.declared.fault.CertFault.{CertFault}
+use Rattle.ta_cert.specs.declared.fault.CertFault.TheVariants as fault
+use Rattle.ta_cert.specs.declared.reader.Reader.{Reader}
+use Rattle.ta_cert.proofs.Standing.{refused_more}
+use Rattle.ta_cert.proofs.Unique.{reads_unique, reads_malformed, reads_trailing}
+
+-- the reader stands for the front, whose lines were gathered
+pub record ReadSoFar (text rest : List ℕ) (reader : Reader) (lines : List (ℕ × Line)) : Type 0 where
+  pub front : List ℕ
+  pub ls : List Line
+  pub split : text ≡ front ++ rest
+  pub stands : StandsAt reader front ls
+  pub numbers : lines ≡ numbered 0 ls
+
+-- numbers go on
+numbered-append : (n : ℕ) (ls ms : List Line) → numbered n (ls ++ ms) ≡ numbered n ls ++ numbered (n + length ls) ms
+numbered-append n [] ms = let e : n + 0 ≡ n = omega arith in ap (λ k. numbered k ms) (sym e)
+numbered-append n (l ∷ ls) ms =
+    let e : n + 1 + length ls ≡ n + length (l ∷ ls) = omega arith in
+    ap (λ xs. (line_number n, l) ∷ xs) (numbered-append (n + 1) ls ms ∙ ap (λ k. numbered (n + 1) ls ++ numbered k ms) e)
+
+-- one piece more
+pub goes_on_reading : (text rest piece behind : List ℕ) (reader new : Reader) (lines found : List (ℕ × Line)) → ReadSoFar text rest reader lines → rest ≡ piece ++ behind → ((h : List ℕ) → StandsFor reader h → Fed h piece new (Ok found)) → ReadSoFar text behind new (lines ++ found)
+goes_on_reading text rest piece behind reader new lines found so cut feeds =
+    let gave = feeds so.front (so.ls, so.stands) in
+    let completes = gave.1 in
+    let before = (reads_unique so.front completes.before so.ls completes.old_rest reader.line completes.was so.stands.reads).0 in
+    let after = (reads_unique (so.front ++ piece) (completes.before ++ completes.new) gave.0.0 completes.rest new.line completes.reads gave.0.1.reads).0 in
+    let now : gave.0.0 ≡ so.ls ++ completes.new = sym after ∙ ap (λ ms. ms ++ completes.new) before in
+    record {
+      front = so.front ++ piece;
+      ls = so.ls ++ completes.new;
+      split = so.split ∙ ap (λ xs. so.front ++ xs) cut ∙ sym (append_assoc so.front piece behind);
+      stands = subst (StandsAt new (so.front ++ piece)) now gave.0.1;
+      numbers = ap (λ xs. xs ++ found) so.numbers ∙ ap (λ xs. numbered 0 so.ls ++ xs) (completes.numbers ∙ ap (λ ms. numbered (length ms) completes.new) before) ∙ ap (λ k. numbered 0 so.ls ++ numbered k completes.new) (zero_add (length so.ls)) ∙ sym (numbered-append 0 so.ls completes.new);
+    }
+  where
+    zero_add : (n : ℕ) → n ≡ 0 + n
+    zero_add n = omega arith
+
+-- a refusal is that of the text
+was_refused : (text : List ℕ) (e : CertFault) → IsRefused text e → WasRead text (Err e)
+was_refused text (fault.Truncated n) r = absurd r
+was_refused text (fault.Line n) r = r
+was_refused text (fault.Trailing n) r = r
+was_refused text fault.Memory r = tt
+was_refused text _ r = absurd r
+
+-- a refused piece
+pub stops_reading : (text rest piece behind : List ℕ) (reader new : Reader) (lines : List (ℕ × Line)) (e : CertFault) → ReadSoFar text rest reader lines → rest ≡ piece ++ behind → ((h : List ℕ) → StandsFor reader h → Fed h piece new (Err e)) → WasRead text (Err e)
+stops_reading text rest piece behind reader new lines e so cut feeds =
+    let whole : text ≡ (so.front ++ piece) ++ behind = so.split ∙ ap (λ xs. so.front ++ xs) cut ∙ sym (append_assoc so.front piece behind) in
+    was_refused text e (subst (λ t. IsRefused t e) (sym whole) (refused_more (so.front ++ piece) behind e (feeds so.front (so.ls, so.stands))))
+
+-- at the end the front is the text
+whole_front : (text : List ℕ) (reader : Reader) (lines : List (ℕ × Line)) (so : ReadSoFar text [] reader lines) → so.front ≡ text
+whole_front text reader lines so = sym (so.split ∙ append-nil so.front)
+
+-- a complete end
+pub ends_reading : (text : List ℕ) (reader : Reader) (lines : List (ℕ × Line)) → ReadSoFar text [] reader lines → ((h : List ℕ) → StandsFor reader h → Finished h (Ok tt)) → WasRead text (Ok lines)
+ends_reading text reader lines so finishes =
+    let end = finishes so.front (so.ls, so.stands) in
+    let same = (reads_unique so.front so.ls end.0 reader.line [] so.stands.reads end.1.reads).0 in
+    let complete : IsComplete so.front so.ls = subst (IsComplete so.front) (sym same) end.1 in
+    (so.ls, subst (λ t. IsComplete t so.ls) (whole_front text reader lines so) complete, so.numbers)
+
+-- a fault at the end is that of the text
+was_cut : (text : List ℕ) (e : CertFault) → Finished text (Err e) → WasRead text (Err e)
+was_cut text (fault.Truncated n) r = r
+was_cut text _ r = absurd r
+
+-- an early end
+pub cut_reading : (text : List ℕ) (reader : Reader) (lines : List (ℕ × Line)) (e : CertFault) → ReadSoFar text [] reader lines → ((h : List ℕ) → StandsFor reader h → Finished h (Err e)) → WasRead text (Err e)
+cut_reading text reader lines e so finishes = subst (λ t. WasRead t (Err e)) (whole_front text reader lines so) (was_cut so.front e (finishes so.front (so.ls, so.stands)))
+
+-- the lines of a complete text are read, unless memory runs out
+pub read_complete : (text : List ℕ) (ls : List Line) (answer : Result (List (ℕ × Line)) CertFault) → IsComplete text ls → WasRead text answer → MatchResult answer (λ lines. lines ≡ numbered 0 ls) (λ e. e ≡ fault.Memory)
+read_complete text ls (Ok lines) c w = w.2 ∙ ap (numbered 0) (reads_unique text w.0 ls [] [] w.1.reads c.reads).0
+read_complete text ls (Err (fault.Truncated n)) c w = absurd (false≢true (sym w.going_on ∙ ap has_end (reads_unique text w.ls ls w.rest [] w.reads c.reads).0 ∙ c.ended))
+read_complete text ls (Err (fault.Line n)) c w = absurd (reads_malformed text ls [] n c.reads w)
+read_complete text ls (Err (fault.Trailing n)) c w = absurd (reads_trailing text ls [] n c.reads w)
+read_complete text ls (Err fault.Memory) c w = refl
+read_complete text ls (Err _) c w = absurd w

@@ -1,0 +1,10 @@
+use Rattle.std.proofs.Common.{subst, sym, ◌∙◌}
+use Rattle.ta_cert.specs.Certificates.{cert_lines}
+use Rattle.ta_cert.specs.Streams.{IsComplete}
+use Rattle.ta_cert.proofs.Reading.{read_complete}
+use Rattle.ta_cert.proofs.law.read_again.Goals as goal
+
+pub returns : goal.returns
+returns c = λ writable short.
+    let complete = c.in_ok-text.ensures.again writable short in
+    read_complete _ (cert_lines c.args.proofs.now) c.read_text.result (subst (λ t. IsComplete t (cert_lines c.args.proofs.now)) (sym (c.as_bytes.ensures.value ∙ c.as_str.ensures)) complete) c.read_text.ensures

@@ -1,0 +1,37 @@
+use Rattle.std.proofs.Common.{◌≡◌, ◌++◌, [], List, ℕ, length, take, drop, sym, ap, subst, ◌∙◌, take-append-drop, eqb-true, Ok}
+use Rattle.std.proofs.lemmas.List.{nil_from_length}
+use Rattle.std.proofs.lemmas.Result.{err_from_is_err_and}
+use Rattle.ta_cert.proofs.Reading.{ReadSoFar, goes_on_reading, stops_reading, ends_reading, cut_reading}
+use Rattle.ta_cert.specs.Streams.{Fed}
+use Rattle.ta_cert.specs.declared.line.Line.{Line}
+use Rattle.ta_cert.specs.declared.reader.Reader.{Reader}
+use Rattle.ta_cert.proofs.law.read_text.Goals as goal
+
+halves : (rest piece behind : List ℕ) (n : ℕ) → piece ≡ take n rest → behind ≡ drop n rest → rest ≡ piece ++ behind
+halves rest piece behind n front back = sym (ap (λ p. p ++ behind) front ∙ ap (λ b. take n rest ++ b) back ∙ take-append-drop n rest)
+
+at_end : (text rest : List ℕ) (reader : Reader) (lines : List (ℕ × Line)) → ReadSoFar text rest reader lines → length rest ≡ 0 → ReadSoFar text [] reader lines
+at_end text rest reader lines so empty = subst (λ r. ReadSoFar text r reader lines) (nil_from_length rest empty) so
+
+pub returns-in_err-feed : goal.returns-in_err-feed
+returns-in_err-feed c =
+    let p = err_from_is_err_and c.from_residual.result c.from_residual.ensures.1 in
+    let cut = halves c.pieces.rest.now c.split_at.result.0.now c.split_at.result.1.now c.min.result c.split_at.ensures.front c.split_at.ensures.back in
+    rw (p.1, p.2) (stops_reading c.args.text.now c.pieces.rest.now c.split_at.result.0.now c.split_at.result.1.now c.pieces.reader c.feed.new.self c.pieces.lines.items c.in_err-feed.field-0.0 c.pieces.invariant cut c.in_err-feed.ensures.answer)
+
+pub pieces-preserved : goal.pieces-preserved
+pieces-preserved c =
+    let cut = halves c.pieces.rest.now c.split_at.result.0.now c.split_at.result.1.now c.min.result c.split_at.ensures.front c.split_at.ensures.back in
+    let found = c.into_vec-found.ensures in
+    rw c.in_ok-append.ensures.items (goes_on_reading c.args.text.now c.pieces.rest.now c.split_at.result.0.now c.split_at.result.1.now c.pieces.reader c.feed.new.self c.pieces.lines.items c.into_vec-found.result.items c.pieces.invariant cut (λ h stands. subst (λ ls. Fed h c.split_at.result.0.now c.feed.new.self (Ok ls)) (sym found) (c.in_ok-feed.ensures.answer h stands)))
+
+pub returns-in_err-finish : goal.returns-in_err-finish
+returns-in_err-finish c =
+    let p = err_from_is_err_and c.from_residual-in_err-finish.result c.from_residual-in_err-finish.ensures.1 in
+    let empty = eqb-true (length c.pieces.rest.now) 0 (sym c.pieces-test.ensures) in
+    rw (p.1, p.2) (cut_reading c.args.text.now c.pieces.reader c.pieces.lines.items c.in_err-finish.field-0.0 (at_end c.args.text.now c.pieces.rest.now c.pieces.reader c.pieces.lines.items c.pieces.invariant empty) c.in_err-finish.ensures.answer)
+
+pub returns : goal.returns
+returns c =
+    let empty = eqb-true (length c.pieces.rest.now) 0 (sym c.pieces-test.ensures) in
+    rw c.from_vec.ensures (ends_reading c.args.text.now c.pieces.reader c.pieces.lines.items (at_end c.args.text.now c.pieces.rest.now c.pieces.reader c.pieces.lines.items c.pieces.invariant empty) c.in_ok-finish.ensures.answer)

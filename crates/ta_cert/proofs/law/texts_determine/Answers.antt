@@ -1,0 +1,9 @@
+use Rattle.ta_cert.proofs.CertLines.{one_certificate}
+use Rattle.ta_cert.proofs.Unique.{reads_unique}
+use Rattle.ta_cert.proofs.law.texts_determine.Goals as goal
+
+pub returns-clause-lines : goal.returns-clause-lines
+returns-clause-lines c = reads_unique
+
+pub returns-clause-proofs : goal.returns-clause-proofs
+returns-clause-proofs c = one_certificate

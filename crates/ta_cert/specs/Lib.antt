@@ -1,0 +1,7 @@
+pub mod Tree
+pub mod Lines
+pub mod Numbers
+pub mod Certificates
+pub mod Streams
+pub mod Steps
+pub mod Laws

@@ -1,0 +1,42 @@
+-- The steps of the reader, at each text that it may stand for.
+use Rattle.std.specs.Prelude.{◌≡◌, List, [], ◌∷◌, ◌++◌, ℕ, length, Result, Ok, Err}
+use Rattle.ta_cert.specs.Streams.{IsUnbroken, IsRefused, StandsAt, numbered}
+use Rattle.ta_cert.specs.declared.line.Line.{Line}
+use Rattle.ta_cert.specs.declared.fault.CertFault.{CertFault}
+use Rattle.ta_cert.specs.declared.fault.CertFault.TheVariants as fault
+use Rattle.ta_cert.specs.declared.reader.Reader.{Reader}
+
+-- the bytes before the first line feed, and those after it
+pub record NextLine (bytes front behind : List ℕ) : Type 0 where
+  pub split : bytes ≡ front ++ (10 ∷ behind)
+  pub unbroken : IsUnbroken front
+
+-- a fault of this call, and not of one before
+abbrev pub IsFresh : CertFault → Type 0
+IsFresh fault.Failed = ⊥
+IsFresh _ = Unit {0}
+
+-- a fault that these bytes bring
+pub record IsFaultAt (reader : Reader) (bytes : List ℕ) (e : CertFault) : Type 0 where
+  pub fresh : IsFresh e
+  pub refused : (text : List ℕ) (ls : List Line) → StandsAt reader text ls → IsRefused (text ++ bytes) e
+
+-- bytes of the unfinished line were kept
+abbrev pub IsKept : Reader → List ℕ → Reader → Result (Unit {0}) CertFault → Type 0
+IsKept old bytes new (Ok _) = (text : List ℕ) (ls : List Line) → StandsAt old text ls → StandsAt new (text ++ bytes) ls
+IsKept old bytes new (Err e) = IsFaultAt old bytes e
+
+-- the unfinished line was ended behind these bytes
+abbrev pub IsEnded : Reader → List ℕ → Reader → Result Line CertFault → Type 0
+IsEnded old front new (Ok l) = (text : List ℕ) (ls : List Line) → StandsAt old text ls → StandsAt new (text ++ (front ++ (10 ∷ []))) (ls ++ (l ∷ []))
+IsEnded old front new (Err e) = IsFaultAt old (front ++ (10 ∷ [])) e
+
+-- a piece was taken, which completed these lines
+pub record AreTaken (old : Reader) (piece : List ℕ) (new : Reader) (lines : List (ℕ × Line)) : Type 0 where
+  pub more : List Line
+  pub stands : (text : List ℕ) (ls : List Line) → StandsAt old text ls → StandsAt new (text ++ piece) (ls ++ more)
+  pub numbers : (text : List ℕ) (ls : List Line) → StandsAt old text ls → lines ≡ numbered (length ls) more
+
+abbrev pub IsTaken : Reader → List ℕ → Reader → Result (List (ℕ × Line)) CertFault → Type 0
+IsTaken old piece new (Ok lines) = AreTaken old piece new lines
+IsTaken old piece new (Err e) = IsFaultAt old piece e

@@ -1,0 +1,127 @@
+-- What a text says that comes in pieces, line by line, and its first fault.
+use Rattle.std.specs.Prelude.{ℕ, ◌+◌, ◌-◌, ◌^◌, ◌<◌, ◌≤◌, ◌≡◌, ◌≢◌, ◌⊎◌, min, Bool, true, false, List, [], ◌∷◌, ◌++◌, length, Result, Ok, Err}
+use Rattle.std.specs.List.{AllByRecursion}
+use Rattle.ta_cert.specs.Lines.{line_text, lines_text, IsLine, is_header, is_end, has_end}
+use Rattle.ta_cert.specs.declared.line.Line.{Line}
+use Rattle.ta_cert.specs.declared.fault.CertFault.{CertFault}
+use Rattle.ta_cert.specs.declared.fault.CertFault.TheVariants as fault
+use Rattle.ta_cert.specs.declared.reader.Reader.{Reader}
+
+-- how many bytes a line has at most, its line feed aside
+abbrev pub line_limit : ℕ
+line_limit = 1048576
+
+-- lines behind the first: each of its form and no header, and nothing after the end
+abbrev pub AreLater : List Line → Type 0
+AreLater [] = Unit {0}
+AreLater (l ∷ ls) = IsLine l × (length (line_text l) ≤ line_limit) × (is_header l ≡ false) × (is_end l ≡ true → ls ≡ []) × AreLater ls
+
+-- the header and lines behind it, or nothing
+abbrev pub AreLines : List Line → Type 0
+AreLines [] = Unit {0}
+AreLines (l ∷ ls) = (is_header l ≡ true) × AreLater ls
+
+-- no line feed
+abbrev pub IsUnbroken : List ℕ → Type 0
+IsUnbroken bytes = AllByRecursion (λ b. b ≢ 10) bytes
+
+-- The text has no fault yet: it is these lines, each ended, and then the beginning of a line, which is empty after the end.
+pub record Reads (text : List ℕ) (ls : List Line) (rest : List ℕ) : Type 0 where
+  pub whole : text ≡ lines_text ls ++ rest
+  pub legal : AreLines ls
+  pub unbroken : IsUnbroken rest
+  pub short : length rest ≤ line_limit
+  pub ended : has_end ls ≡ true → rest ≡ []
+
+-- the number of the line behind n lines, as a fault and the reader give it
+abbrev pub line_number : ℕ → ℕ
+line_number n = min (n + 1) (2 ^ 64 - 1)
+
+-- The bytes behind these lines are no line: they are too many, or their line feed came and no line of this text can stand there.
+abbrev pub AreNoLine : List Line → List ℕ → List ℕ → Type 0
+AreNoLine ls bytes after = (line_limit < length bytes) ⊎ ((more : List ℕ) × (after ≡ 10 ∷ more) × ((l : Line) → AreLines (ls ++ l ∷ []) → line_text l ≡ bytes → ⊥))
+
+-- the first fault is a line of another form, or one that is too long
+pub record IsMalformed (text : List ℕ) (number : ℕ) : Type 0 where
+  pub ls : List Line
+  pub bytes : List ℕ
+  pub after : List ℕ
+  pub whole : text ≡ lines_text ls ++ (bytes ++ after)
+  pub legal : AreLines ls
+  pub going_on : has_end ls ≡ false
+  pub unbroken : IsUnbroken bytes
+  pub no_line : AreNoLine ls bytes after
+  pub place : number ≡ line_number (length ls)
+
+-- the first fault is a byte after the end
+pub record IsTrailing (text : List ℕ) (number : ℕ) : Type 0 where
+  pub ls : List Line
+  pub byte : ℕ
+  pub after : List ℕ
+  pub whole : text ≡ lines_text ls ++ (byte ∷ after)
+  pub legal : AreLines ls
+  pub ended : has_end ls ≡ true
+  pub place : number ≡ line_number (length ls)
+
+-- the text has no fault but that it ends too early
+pub record IsTruncated (text : List ℕ) (number : ℕ) : Type 0 where
+  pub ls : List Line
+  pub rest : List ℕ
+  pub reads : Reads text ls rest
+  pub going_on : has_end ls ≡ false
+  pub place : number ≡ line_number (length ls)
+
+-- the text is these lines up to the end, and nothing else
+pub record IsComplete (text : List ℕ) (ls : List Line) : Type 0 where
+  pub reads : Reads text ls []
+  pub ended : has_end ls ≡ true
+
+-- a text that can't go on is refused so, and nothing is said of memory
+abbrev pub IsRefused : List ℕ → CertFault → Type 0
+IsRefused text (fault.Line n) = IsMalformed text n
+IsRefused text (fault.Trailing n) = IsTrailing text n
+IsRefused text fault.Memory = Unit {0}
+IsRefused text _ = ⊥
+
+-- lines with their numbers, from the line behind n lines on
+abbrev pub numbered : ℕ → List Line → List (ℕ × Line)
+numbered n [] = []
+numbered n (l ∷ ls) = (line_number n, l) ∷ numbered (n + 1) ls
+
+-- whether there is a line
+abbrev pub has_line : List Line → Bool
+has_line [] = false
+has_line (l ∷ ls) = true
+
+-- the reader's fields are those of the text, whose ended lines are these
+pub record StandsAt (reader : Reader) (text : List ℕ) (ls : List Line) : Type 0 where
+  pub reads : Reads text ls reader.line
+  pub number : reader.number ≡ line_number (length ls)
+  pub begun : reader.begun ≡ has_line ls
+  pub ended : reader.ended ≡ has_end ls
+  pub failed : reader.failed ≡ false
+
+-- The reader stands for the text: no `feed` was refused, and its fields are those of the text.
+abbrev pub StandsFor : Reader → List ℕ → Type 0
+StandsFor reader text = (ls : List Line) × StandsAt reader text ls
+
+-- the lines that a piece completes behind a text, with their numbers
+pub record Completes (text piece : List ℕ) (lines : List (ℕ × Line)) : Type 0 where
+  pub before : List Line
+  pub new : List Line
+  pub old_rest : List ℕ
+  pub rest : List ℕ
+  pub was : Reads text before old_rest
+  pub reads : Reads (text ++ piece) (before ++ new) rest
+  pub numbers : lines ≡ numbered (length before) new
+
+-- what a reader that stood for a text answers to the next piece, and what it stands for then
+abbrev pub Fed : List ℕ → List ℕ → Reader → Result (List (ℕ × Line)) CertFault → Type 0
+Fed text piece reader (Ok lines) = StandsFor reader (text ++ piece) × Completes text piece lines
+Fed text piece reader (Err e) = IsRefused (text ++ piece) e
+
+-- what a reader that stood for a text answers at its end
+abbrev pub Finished : List ℕ → Result (Unit {0}) CertFault → Type 0
+Finished text (Ok _) = (ls : List Line) × IsComplete text ls
+Finished text (Err (fault.Truncated n)) = IsTruncated text n
+Finished text (Err _) = ⊥

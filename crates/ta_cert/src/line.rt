@@ -1,0 +1,51 @@
+//! What the lines of a certificate say.
+#![tactic(auto)]
+
+ghost use Rattle.std.specs.Prelude.{◌≡◌};
+ghost use Rattle.ta_cert.specs.Lines.{is_header, is_end};
+
+use crate::list::List;
+
+/// A node of a tree of refutations. The nodes of a tree stand in preorder.
+#[derive(Drop)]
+pub enum Node {
+    /// One tree follows for each way to go on with the word.
+    Extend,
+    /// Two trees follow: with the unknown at most the floor, and with it at least the floor and one.
+    Split { unknown: u32, floor: i128 },
+    /// Row numbers of the system, each with its multiplier.
+    Leaf(List<(u32, i128)>),
+}
+
+/// A line of a certificate.
+#[derive(Drop)]
+pub enum Line {
+    Header,
+    /// The proof of the pattern with this number follows.
+    Pattern(u32),
+    Tree(Node),
+    End,
+}
+
+impl Line {
+    /// Whether this is the first line.
+    pub fn is_header(&self) -> bool
+        ensures { result ≡ is_header self.now }
+    {
+        matches!(self, Line::Header)
+    }
+
+    /// Whether this is the last line.
+    pub fn is_end(&self) -> bool
+        ensures { result ≡ is_end self.now }
+    {
+        matches!(self, Line::End)
+    }
+}
+
+/// The trees of a pattern's proof, one for each start set by rising mask, all nodes in preorder.
+#[derive(Drop)]
+pub struct Proof {
+    pub pattern: u32,
+    pub nodes: List<Node>,
+}
