@@ -1,0 +1,98 @@
+-- firing a rule
+use Rattle.std.proofs.Common.{◌≡◌, inl, inr, ℕ, zero, suc, ◌+◌, ◌<◌, ◌≤◌, ℤ, pos, negsuc, ◌+ℤ◌, ◌-ℤ◌, ◌≤ℤ◌, map, length, eqb, cond, false, arith, sym, ap, ◌∙◌, refl, slice_get, get_or, Some}
+use Rattle.std.proofs.lemmas.Int.{ints}
+use Rattle.std.proofs.lemmas.Bool.{cases_lt}
+use Rattle.std.proofs.lemmas.Bool.Decides.{nat_tests, eqb_tells}
+use Rattle.std.proofs.lemmas.List.{length-map, get_or_past}
+use Rattle.ta_linear.specs.Terms.{coefficient}
+use Rattle.ta_automaton.specs.declared.rule.Rule.{Rule}
+use Rattle.ta_automaton.specs.declared.automaton.Automaton.{Automaton}
+use Rattle.ta_automaton.specs.Runs.{Config, Step, MaskedHold}
+use Rattle.ta_automaton.specs.Masks.{numbers_from}
+use Rattle.ta_automaton.specs.Places.{one_if}
+use Rattle.ta_automaton.proofs.Thresholds.{updates_natural, updates_within, from_within, to_within}
+
+-- a whole number as a natural one
+abbrev pub natural : ℤ → ℕ
+natural (pos n) = n
+natural (negsuc n) = 0
+
+pub pos_natural : (z : ℤ) → pos 0 ≤ℤ z → pos (natural z) ≡ z
+pos_natural (pos n) h = refl
+pos_natural (negsuc n) h = absurd (omega (arith, ints))
+
+pub length_numbers : (k n : ℕ) → length (numbers_from k n) ≡ n
+length_numbers k zero = refl
+length_numbers k (suc n) = omega (arith, length_numbers (k + 1) n)
+
+at_number : (f : ℕ → ℕ) (k n i : ℕ) → i < n → get_or (map f (numbers_from k n)) i 0 ≡ f (k + i)
+at_number f k zero i h = absurd (omega arith)
+at_number f k (suc n) zero h = ap f (omega arith)
+at_number f k (suc n) (suc i) h = at_number f (k + 1) n i (omega arith) ∙ ap f (omega arith)
+
+pub at_index : (f : ℕ → ℕ) (n i : ℕ) → i < n → get_or (map f (numbers_from 0 n)) i 0 ≡ f i
+at_index f n i h = at_number f 0 n i h ∙ ap f (omega arith)
+
+pub past_numbers : (f : ℕ → ℕ) (n i : ℕ) → n ≤ i → get_or (map f (numbers_from 0 n)) i 0 ≡ 0
+past_numbers f n i h = get_or_past (map f (numbers_from 0 n)) i 0 (omega (arith, length-map (numbers_from 0 n) f, length_numbers 0 n))
+
+-- a configuration with a value for each place
+pub record Whole (a : Automaton) (c : Config) : Type 0 where
+  pub parameters : length c.parameters ≡ length a.parameters
+  pub shared : length c.shared ≡ length a.shared
+  pub counters : length c.counters ≡ length a.locations
+
+abbrev pub fire : Automaton → Rule → Config → Config
+fire a rule c = record {
+  parameters = c.parameters;
+  shared = map (λ x. natural (pos (get_or c.shared x 0) +ℤ coefficient rule.updates x)) (numbers_from 0 (length a.shared));
+  counters = map (λ l. natural ((pos (get_or c.counters l 0) +ℤ one_if rule.to l) -ℤ one_if rule.from l)) (numbers_from 0 (length a.locations));
+}
+
+pub fire_whole : (a : Automaton) (rule : Rule) (c : Config) → Whole a c → Whole a (fire a rule c)
+fire_whole a rule c w = record {
+  parameters = w.parameters;
+  shared = length-map (numbers_from 0 (length a.shared)) _ ∙ length_numbers 0 (length a.shared);
+  counters = length-map (numbers_from 0 (length a.locations)) _ ∙ length_numbers 0 (length a.locations);
+}
+
+count_after : (b from to l n : ℕ) → 1 ≤ n → (l ≡ from → b ≡ n) → natural ((pos b +ℤ one_if to l) -ℤ one_if from l) + cond (eqb l from) 1 0 ≡ b + cond (eqb l to) 1 0
+count_after b from to l n some h =
+    let e : pos (natural ((pos b +ℤ one_if to l) -ℤ one_if from l)) ≡ ((pos b +ℤ one_if to l) -ℤ one_if from l) = pos_natural _ (elim (eqb_tells from l) [
+      | inl s ↦ (let q = h (sym s.1) in elim (eqb_tells to l) [ inl t ↦ rw (s.0, t.0) (omega (arith, ints)) | inr t ↦ rw (s.0, t.0) (omega (arith, ints)) ])
+      | inr s ↦ elim (eqb_tells to l) [ inl t ↦ rw (s.0, t.0) (omega (arith, ints)) | inr t ↦ rw (s.0, t.0) (omega (arith, ints)) ]
+    ]) in
+    let same : (x y : ℕ) → one_if x y ≡ pos (cond (eqb y x) 1 0) = (λ x y. elim (eqb_tells x y) [ inl s ↦ grind (arith, nat_tests) | inr s ↦ grind (arith, nat_tests) ]) in
+    omega (arith, ints, e, same to l, same from l)
+
+pub fire_step : (a : Automaton) (r : ℕ) (rule : Rule) (c : Config) → slice_get a.rules r ≡ Some rule → Whole a c → MaskedHold rule.rise a.rise c → MaskedHold rule.fall a.fall c → 1 ≤ get_or c.counters rule.from 0 → Step a r c (fire a rule c)
+fire_step a r rule c named w rise fall some = record {
+  rule = rule;
+  named = named;
+  move = record {
+    rise = rise;
+    fall = fall;
+    some = some;
+    moved = λ l. elim (cases_lt l (length a.locations)) [
+      | inl b ↦ ap (λ n. n + cond (eqb l rule.from) 1 0) (at_index (λ k. natural ((pos (get_or c.counters k 0) +ℤ one_if rule.to k) -ℤ one_if rule.from k)) (length a.locations) l b) ∙ count_after (get_or c.counters l 0) rule.from rule.to l (get_or c.counters rule.from 0) some (λ e. ap (λ k. get_or c.counters k 0) e)
+      | inr b ↦ (
+          let here = from_within a r rule named in
+          let there = to_within a r rule named in
+          let f : eqb l rule.from ≡ false = grind (arith, nat_tests) in
+          let t : eqb l rule.to ≡ false = grind (arith, nat_tests) in
+          let was : get_or c.counters l 0 ≡ 0 = get_or_past c.counters l 0 (omega (arith, w.counters)) in
+          let is = past_numbers (λ k. natural ((pos (get_or c.counters k 0) +ℤ one_if rule.to k) -ℤ one_if rule.from k)) (length a.locations) l b in
+          rw (f, t) (omega (arith, was, is)))
+    ];
+    counters_count = (fire_whole a rule c w).counters ∙ sym w.counters;
+    added = λ x. elim (cases_lt x (length a.shared)) [
+      | inl b ↦ ap pos (at_index (λ k. natural (pos (get_or c.shared k 0) +ℤ coefficient rule.updates k)) (length a.shared) x b) ∙ pos_natural _ (omega (arith, ints, updates_natural a r rule named x))
+      | inr b ↦ (
+          let was : get_or c.shared x 0 ≡ 0 = get_or_past c.shared x 0 (omega (arith, w.shared)) in
+          let is = past_numbers (λ k. natural (pos (get_or c.shared k 0) +ℤ coefficient rule.updates k)) (length a.shared) x b in
+          omega (arith, ints, was, is, updates_within a r rule named x b))
+    ];
+    shared_count = (fire_whole a rule c w).shared ∙ sym w.shared;
+    parameters = refl;
+  };
+}

@@ -1,0 +1,10 @@
+pub mod Sums
+pub mod Fired
+pub mod MaskTests
+pub mod Thresholds
+pub mod Moves
+pub mod Fire
+pub mod Trails
+pub mod RunLaws
+pub mod ShortNames
+pub mod Examples

@@ -1,0 +1,184 @@
+-- the laws of runs
+use Rattle.std.proofs.Common.{◌≡◌, inl, inr, ℕ, zero, suc, ◌+◌, ◌<◌, ◌≤◌, ℤ, pos, negsuc, ◌+ℤ◌, ◌≤ℤ◌, ◌<ℤ◌, List, [], ◌∷◌, length, take, sum, count_by, eqb, cond, Bool, true, false, arith, sym, ap, ◌∙◌, refl, subst, slice_get, get_or, Some}
+use Rattle.std.specs.Prelude.{filter}
+use Rattle.std.proofs.lemmas.Int.{ints}
+use Rattle.std.proofs.lemmas.Bool.Decides.{nat_tests, eqb_tells}
+use Rattle.std.proofs.lemmas.Option.{slice_get_within}
+use Rattle.std.proofs.lemmas.List.Sums.{sum_by-cons}
+use Rattle.ta_linear.specs.Terms.{coefficient}
+use Rattle.ta_linear.specs.Values.{value_of}
+use Rattle.ta_automaton.specs.declared.rule.Rule.{Rule}
+use Rattle.ta_automaton.specs.declared.automaton.Automaton.{Automaton}
+use Rattle.ta_automaton.specs.Runs.{Config, Initial, Step, Steps, Run, At, value_at, number_at}
+use Rattle.ta_automaton.specs.Masks.{numbers_from}
+use Rattle.ta_automaton.specs.Sums.{total, times_in}
+use Rattle.ta_automaton.specs.Laws.{CountersAddUp, ParametersStay, SharedNeverFalls, RiseGuardsStayTrue, FallGuardsStayFalse, CountersByFirings, SharedByFirings, leads_into, leads_out_of, update_of}
+use Rattle.ta_automaton.proofs.Thresholds.{Later, updates_natural, stays_true, stays_below, from_within, to_within}
+use Rattle.ta_automaton.proofs.Moves.{Fits, fits_after, step_later}
+use Rattle.ta_automaton.proofs.Fired.{EachOnce, firings, once}
+
+same_config : (x y : Config) → Some x ≡ Some y → x ≡ y
+same_config x y e = cc
+
+-- a relation between configurations that each further step at the front keeps holds between the first and each later one
+pub along : (a : Automaton) (R : List ℕ → Config → Config → Type 0) → ((c : Config) → R [] c c) → ((r : ℕ) (rs : List ℕ) (b c d : Config) → Step a r b c → R rs c d → R (r ∷ rs) b d) → (c : Config) (rules : List ℕ) (later : List Config) → Steps a c rules later → (k : ℕ) (d : Config) → slice_get (c ∷ later) k ≡ Some d → R (take k rules) c d
+along a R here more c [] [] steps zero d at = subst (R [] c) (same_config c d at) (here c)
+along a R here more c (r ∷ rs) (e ∷ es) steps zero d at = subst (R [] c) (same_config c d at) (here c)
+along a R here more c [] [] steps (suc k) d at = absurd (cc)
+along a R here more c [] (e ∷ es) steps k d at = absurd steps
+along a R here more c (r ∷ rs) [] steps k d at = absurd steps
+along a R here more c (r ∷ rs) (e ∷ es) steps (suc k) d at = more r (take k rs) c e d steps.0 (along a R here more e rs es steps.1 k d at)
+
+-- the same between each configuration and each that isn't before it
+pub between : (a : Automaton) (R : Config → Config → Type 0) → ((c : Config) → R c c) → ((r : ℕ) (b c d : Config) → Step a r b c → R c d → R b d) → (c : Config) (rules : List ℕ) (later : List Config) → Steps a c rules later → (j k : ℕ) (b d : Config) → j ≤ k → slice_get (c ∷ later) j ≡ Some b → slice_get (c ∷ later) k ≡ Some d → R b d
+between a R here more c rules later steps zero k b d le at there = subst (λ x. R x d) (same_config c b at) (along a (λ rs x y. R x y) here (λ r rs x y z. more r x y z) c rules later steps k d there)
+between a R here more c rules later steps (suc j) zero b d le at there = absurd (omega arith)
+between a R here more c [] [] steps (suc j) (suc k) b d le at there = absurd (cc)
+between a R here more c [] (e ∷ es) steps (suc j) (suc k) b d le at there = absurd steps
+between a R here more c (r ∷ rs) [] steps (suc j) (suc k) b d le at there = absurd steps
+between a R here more c (r ∷ rs) (e ∷ es) steps (suc j) (suc k) b d le at there = between a R here more e rs es steps.1 j k b d (omega arith) at there
+
+pub parameters_stay : ParametersStay
+parameters_stay a first rules later run k c at =
+    along a (λ rs b d. d.parameters ≡ b.parameters) (λ b. refl) (λ r rs b x d step h. h ∙ step.move.parameters) first rules later run.steps k c at
+
+pub shared_never_falls : SharedNeverFalls
+shared_never_falls a first rules later run j k b c le at there =
+    between a (λ x y. (v : ℕ) → get_or x.shared v 0 ≤ get_or y.shared v 0) (λ x v. omega arith) (λ r x y z step h v. omega (arith, ints, step.move.added v, updates_natural a r step.rule step.named v, h v)) first rules later run.steps j k b c le at there
+
+first_fits : (a : Automaton) (first : Config) → Initial a first → Fits a first
+first_fits a first initial = record { parameters = initial.admissible.count; shared = initial.shared_count }
+
+later_here : (a : Automaton) (c : Config) → Later a (value_at c) (value_at c)
+later_here a c = record { parameters = λ i b. refl; shared = λ i low high. omega (arith, ints) }
+
+later_on : (a : Automaton) (f g h : ℕ → ℤ) → Later a f g → Later a g h → Later a f h
+later_on a f g h l m = record {
+  parameters = λ i b. m.parameters i b ∙ l.parameters i b;
+  shared = λ i low high. omega (arith, ints, l.shared i low high, m.shared i low high);
+}
+
+-- each configuration of a run has a value for each place
+pub fits_at : (a : Automaton) (first : Config) (rules : List ℕ) (later : List Config) → Run a first rules later → (k : ℕ) (c : Config) → At first later k c → Fits a c
+fits_at a first rules later run k c at =
+    along a (λ rs b d. Fits a b → Fits a d) (λ b f. f) (λ r rs b x d step h f. h (fits_after a r b x f step)) first rules later run.steps k c at (first_fits a first run.initial)
+
+pub later_at : (a : Automaton) (first : Config) (rules : List ℕ) (later : List Config) → Run a first rules later → (j k : ℕ) (b c : Config) → j ≤ k → At first later j b → At first later k c → Later a (value_at b) (value_at c)
+later_at a first rules later run j k b c le at there =
+    between a (λ x y. Fits a x → Later a (value_at x) (value_at y)) (λ x f. later_here a x) (λ r x y z step h f. later_on a (value_at x) (value_at y) (value_at z) (step_later a r x y f (fits_after a r x y f step) step) (h (fits_after a r x y f step))) first rules later run.steps j k b c le at there (fits_at a first rules later run j b at)
+
+pub rise_guards_stay_true : RiseGuardsStayTrue
+rise_guards_stay_true a first rules later run j k b c le at there i row named holds =
+    stays_true a (value_at b) (value_at c) (later_at a first rules later run j k b c le at there) i row named holds
+
+not_held : (z : ℤ) → (pos 0 ≤ℤ z → ⊥) → z <ℤ pos 0
+not_held (pos n) h = absurd (h (omega (arith, ints)))
+not_held (negsuc n) h = omega (arith, ints)
+
+pub fall_guards_stay_false : FallGuardsStayFalse
+fall_guards_stay_false a first rules later run j k b c le at there i row named fails holds =
+    let less : value_of (value_at b) row.form <ℤ pos 0 = not_held (value_of (value_at b) row.form) fails in
+    let below = stays_below a (value_at b) (value_at c) (later_at a first rules later run j k b c le at there) i row named less in
+    let above : pos 0 ≤ℤ value_of (value_at c) row.form = holds in
+    absurd (omega (arith, ints))
+
+out_named : (a : Automaton) (l r : ℕ) (rule : Rule) → slice_get a.rules r ≡ Some rule → leads_out_of l (slice_get a.rules r) ≡ eqb rule.from l
+out_named a l r rule e = ap (leads_out_of l) e
+
+into_named : (a : Automaton) (l r : ℕ) (rule : Rule) → slice_get a.rules r ≡ Some rule → leads_into l (slice_get a.rules r) ≡ eqb rule.to l
+into_named a l r rule e = ap (leads_into l) e
+
+turned : (x y : ℕ) → cond {A = ℕ} (eqb x y) 1 0 ≡ cond {A = ℕ} (eqb y x) 1 0
+turned x y = elim (eqb_tells x y) [ inl e ↦ grind (arith, nat_tests) | inr ne ↦ grind (arith, nat_tests) ]
+
+count-cons : (p : ℕ → Bool) (x : ℕ) (xs : List ℕ) → count_by p (x ∷ xs) ≡ cond (p x) 1 0 + count_by p xs
+count-cons p x xs = sum_by-cons (λ y. cond (p y) 1 0) x xs
+
+pub counters_by_firings : CountersByFirings
+counters_by_firings a first rules later run k c at l =
+    along a (λ rs b d. get_or d.counters l 0 + count_by (λ r. leads_out_of l (slice_get a.rules r)) rs ≡ get_or b.counters l 0 + count_by (λ r. leads_into l (slice_get a.rules r)) rs)
+    (λ b. refl)
+    (λ r rs b x d step h.
+    let out = count-cons (λ q. leads_out_of l (slice_get a.rules q)) r rs in
+    let into = count-cons (λ q. leads_into l (slice_get a.rules q)) r rs in
+    let from = ap (λ t. cond t 1 0) (out_named a l r step.rule step.named) ∙ turned step.rule.from l in
+    let to = ap (λ t. cond t 1 0) (into_named a l r step.rule step.named) ∙ turned step.rule.to l in
+    omega (arith, out, into, from, to, step.move.moved l, h))
+    first rules later run.steps k c at
+
+change-named : (a : Automaton) (x r : ℕ) (rule : Rule) → slice_get a.rules r ≡ Some rule → update_of x (slice_get a.rules r) ≡ coefficient rule.updates x
+change-named a x r rule e = ap (update_of x) e
+
+-- a shared variable grows by the updates of the fired rules
+added : (a : Automaton) (x : ℕ) (c : Config) (rules : List ℕ) (later : List Config) → Steps a c rules later → (k : ℕ) (d : Config) → slice_get (c ∷ later) k ≡ Some d → pos (get_or d.shared x 0) ≡ (pos (get_or c.shared x 0) +ℤ total (λ r. update_of x (slice_get a.rules r)) (take k rules))
+unfolding total
+added a x c rules later steps k d at =
+    along a (λ rs b e. pos (get_or e.shared x 0) ≡ (pos (get_or b.shared x 0) +ℤ total (λ r. update_of x (slice_get a.rules r)) rs))
+    (λ b. omega (arith, ints))
+    (λ r rs b e f step h. omega (arith, ints, h, step.move.added x, change-named a x r step.rule step.named))
+    c rules later steps k d at
+
+keeps_all : (xs : List ℕ) → filter (λ r. true) xs ≡ xs
+keeps_all [] = refl
+keeps_all (x ∷ xs) = ap (λ ys. x ∷ ys) (keeps_all xs)
+
+-- each rule of a run is once among the numbers of the rules
+each_once : (a : Automaton) (c : Config) (rules : List ℕ) (later : List Config) → Steps a c rules later → (k : ℕ) (d : Config) → slice_get (c ∷ later) k ≡ Some d → EachOnce (take k rules) (numbers_from 0 (length a.rules))
+each_once a c rules later steps k d at =
+    along a (λ rs b e. EachOnce rs (numbers_from 0 (length a.rules))) (λ b. tt)
+    (λ r rs b e f step h. (
+      ap (times_in r) (sym (keeps_all (numbers_from 0 (length a.rules)))) ∙ once (λ q. true) r 0 (length a.rules) refl (omega arith) (omega (arith, slice_get_within a.rules r step.rule step.named)),
+      h,
+    ))
+    c rules later steps k d at
+
+pub shared_by_firings : SharedByFirings
+shared_by_firings a first rules later run k c at x =
+    let sum = added a x first rules later run.steps k c at in
+    let none = run.initial.shared_zero x in
+    let counts = firings (λ r. update_of x (slice_get a.rules r)) (numbers_from 0 (length a.rules)) (take k rules) (each_once a first rules later run.steps k c at) in
+    omega (arith, ints, sum, none, counts)
+
+-- how often a number is among n numbers from k on
+ones : ℕ → ℕ → ℕ → ℕ
+ones i k zero = 0
+ones i k (suc n) = cond (eqb k i) 1 0 + ones i (k + 1) n
+
+ones-below : (i k n : ℕ) → i < k → ones i k n ≡ 0
+unfolding ones
+ones-below i k zero h = refl
+ones-below i k (suc n) h =
+    let ne : eqb k i ≡ false = grind (arith, nat_tests) in
+    rw ne (omega (arith, ones-below i (k + 1) n (omega arith)))
+
+ones-once : (i k n : ℕ) → k ≤ i → i < k + n → ones i k n ≡ 1
+unfolding ones
+ones-once i k zero h g = absurd (omega arith)
+ones-once i k (suc n) h g = elim (eqb_tells k i) [
+  | inl e ↦ rw e.0 (omega (arith, ones-below i (k + 1) n (let p = e.1 in omega arith)))
+  | inr ne ↦ rw ne.0 (omega (arith, ones-once i (k + 1) n (let p = ne.1 in omega arith) (omega arith)))
+]
+
+-- lists that differ by one taken at one number and added at another
+moved_sum : (xs ys : List ℕ) (k from to : ℕ) → length ys ≡ length xs → ((l : ℕ) → get_or ys l 0 + cond (eqb (k + l) from) 1 0 ≡ get_or xs l 0 + cond (eqb (k + l) to) 1 0) → sum ys + ones from k (length xs) ≡ sum xs + ones to k (length xs)
+unfolding ones
+moved_sum [] [] k from to same h = refl
+moved_sum [] (y ∷ ys) k from to same h = absurd (omega arith)
+moved_sum (x ∷ xs) [] k from to same h = absurd (omega arith)
+moved_sum (x ∷ xs) (y ∷ ys) k from to same h =
+    let first : y + cond (eqb k from) 1 0 ≡ x + cond (eqb k to) 1 0 = let e : k + 0 ≡ k = omega arith in subst (λ n. y + cond (eqb n from) 1 0 ≡ x + cond (eqb n to) 1 0) e (h 0) in
+    let rest = moved_sum xs ys (k + 1) from to (omega arith) (λ l. let e : k + suc l ≡ k + 1 + l = omega arith in subst (λ n. get_or ys l 0 + cond (eqb n from) 1 0 ≡ get_or xs l 0 + cond (eqb n to) 1 0) e (h (suc l))) in
+    omega (arith, first, rest, sum_by-cons (λ n. n) x xs, sum_by-cons (λ n. n) y ys)
+
+same_sum : (a : Automaton) (r : ℕ) (before after : Config) → length before.counters ≡ length a.locations → Step a r before after → sum after.counters ≡ sum before.counters
+same_sum a r before after count step =
+    let moved = moved_sum before.counters after.counters 0 step.rule.from step.rule.to step.move.counters_count (λ l. let e : l ≡ 0 + l = omega arith in subst (λ n. get_or after.counters l 0 + cond (eqb n step.rule.from) 1 0 ≡ get_or before.counters l 0 + cond (eqb n step.rule.to) 1 0) e (step.move.moved l)) in
+    let from = ones-once step.rule.from 0 (length before.counters) (omega arith) (omega (arith, from_within a r step.rule step.named)) in
+    let to = ones-once step.rule.to 0 (length before.counters) (omega arith) (omega (arith, to_within a r step.rule step.named)) in
+    omega (arith, moved, from, to)
+
+pub counters_add_up : CountersAddUp
+counters_add_up a first rules later run k c at =
+    let kept = along a (λ rs b d. length b.counters ≡ length a.locations → sum d.counters ≡ sum b.counters) (λ b e. refl) (λ r rs b x d step h e. h (step.move.counters_count ∙ e) ∙ same_sum a r b x e step) first rules later run.steps k c at run.initial.locations_count in
+    let same = parameters_stay a first rules later run k c at in
+    ap pos kept ∙ run.initial.processes ∙ ap (λ ps. value_of (number_at ps) a.processes) (sym same)

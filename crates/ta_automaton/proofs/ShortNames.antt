@@ -1,0 +1,58 @@
+-- names of one letter
+use Rattle.std.proofs.Common.{◌≡◌, ℕ, [], ◌∷◌, false, arith, sym, ap, ◌∙◌, refl, IsTrue, eqb}
+use Rattle.std.proofs.lemmas.Bool.{false≢true, eq-eqb}
+use Rattle.ta_syntax.specs.declared.tokens.Mark.{Mark}
+use Rattle.ta_syntax.specs.declared.tokens.Mark.TheVariants as mark
+use Rattle.ta_syntax.specs.Kinds.{is_letter, is_word, mark_bytes}
+use Rattle.ta_automaton.specs.Names.{Name}
+
+no_sign : (b c : ℕ) → IsTrue (is_letter b) → is_letter c ≡ false → (c ∷ []) ≡ (b ∷ []) → ⊥
+no_sign b c letter other e = let same : c ≡ b = cc in false≢true (sym other ∙ ap is_letter same ∙ letter)
+
+no_mark : (b : ℕ) → IsTrue (is_letter b) → (m : Mark) → mark_bytes m ≡ (b ∷ []) → ⊥
+no_mark b l mark.Semicolon e = no_sign b 59 l refl e
+no_mark b l mark.Comma e = no_sign b 44 l refl e
+no_mark b l mark.Colon e = no_sign b 58 l refl e
+no_mark b l mark.OpenBrace e = no_sign b 123 l refl e
+no_mark b l mark.CloseBrace e = no_sign b 125 l refl e
+no_mark b l mark.Open e = no_sign b 40 l refl e
+no_mark b l mark.Close e = no_sign b 41 l refl e
+no_mark b l mark.Star e = no_sign b 42 l refl e
+no_mark b l mark.Plus e = no_sign b 43 l refl e
+no_mark b l mark.Minus e = no_sign b 45 l refl e
+no_mark b l mark.Less e = no_sign b 60 l refl e
+no_mark b l mark.More e = no_sign b 62 l refl e
+no_mark b l mark.PlusEquals e = cc
+no_mark b l mark.Arrow e = cc
+no_mark b l mark.AtMost e = cc
+no_mark b l mark.Equal e = cc
+no_mark b l mark.AtLeast e = cc
+no_mark b l mark.Automaton e = cc
+no_mark b l mark.Parameters e = cc
+no_mark b l mark.Shared e = cc
+no_mark b l mark.Locations e = cc
+no_mark b l mark.Initial e = cc
+no_mark b l mark.Processes e = cc
+no_mark b l mark.Resilience e = cc
+no_mark b l mark.Rule e = cc
+no_mark b l mark.When e = cc
+no_mark b l mark.Do e = cc
+no_mark b l mark.Pattern e = cc
+no_mark b l mark.Start e = cc
+no_mark b l mark.Empty e = cc
+no_mark b l mark.Event e = cc
+no_mark b l mark.After e = cc
+
+word_letter : (b : ℕ) → IsTrue (is_letter b) → IsTrue (is_word b)
+word_letter b l = rw l refl
+
+-- a letter is a name
+pub letter_name : (b : ℕ) → IsTrue (is_letter b) → Name (b ∷ [])
+letter_name b l = record {
+  spelled = record { first = l; each = (word_letter b l, tt); free = no_mark b l };
+  limit = omega arith;
+}
+
+-- two letters are distinct names
+pub letters_apart : (b c : ℕ) → eqb b c ≡ false → (b ∷ []) ≡ (c ∷ []) → ⊥
+letters_apart b c test e = let same : b ≡ c = cc in false≢true (sym test ∙ eq-eqb b c same)

@@ -1,0 +1,87 @@
+use Rattle.std.proofs.Common.{◌≡◌, ◌≢◌, ◌⊎◌, inl, inr, ℕ, zero, suc, ◌+◌, ◌<◌, ◌≤◌, ℤ, pos, ◌+ℤ◌, ◌-ℤ◌, ◌*ℤ◌, List, [], ◌∷◌, ◌++◌, map, arith, sym, ap, ◌∙◌, refl}
+use Rattle.std.proofs.lemmas.Int.{ints}
+use Rattle.std.proofs.lemmas.Bool.Decides.{eqb_tells}
+use Rattle.std.proofs.Math.IntN.{zero-*ℤ, *ℤ-zero, *ℤ_comm, *ℤ-one, one}
+use Rattle.ta_linear.proofs.Integers.{distributes, distributes_right, times_assoc}
+use Rattle.ta_linear.specs.Values.{terms_value}
+use Rattle.ta_automaton.specs.Masks.{numbers_from}
+use Rattle.ta_automaton.specs.Sums.{total}
+use Rattle.ta_automaton.specs.Places.{one_if}
+
+pub total-append : {X : Type 0} (f : X → ℤ) (xs ys : List X) → total f (xs ++ ys) ≡ (total f xs +ℤ total f ys)
+unfolding total
+total-append f [] ys = omega (arith, ints)
+total-append f (x ∷ xs) ys = omega (arith, ints, total-append f xs ys)
+
+pub total-map : {X Y : Type 0} (f : Y → ℤ) (g : X → Y) (xs : List X) → total f (map g xs) ≡ total (λ x. f (g x)) xs
+unfolding total
+total-map f g [] = refl
+total-map f g (x ∷ xs) = ap (λ z. f (g x) +ℤ z) (total-map f g xs)
+
+pub total-same : {X : Type 0} (f g : X → ℤ) (xs : List X) → ((x : X) → f x ≡ g x) → total f xs ≡ total g xs
+unfolding total
+total-same f g [] h = refl
+total-same f g (x ∷ xs) h = omega (arith, ints, h x, total-same f g xs h)
+
+pub total-add : {X : Type 0} (f g : X → ℤ) (xs : List X) → total (λ x. f x +ℤ g x) xs ≡ (total f xs +ℤ total g xs)
+unfolding total
+total-add f g [] = omega (arith, ints)
+total-add f g (x ∷ xs) = omega (arith, ints, total-add f g xs)
+
+pub total-minus : {X : Type 0} (f g : X → ℤ) (xs : List X) → total (λ x. f x -ℤ g x) xs ≡ (total f xs -ℤ total g xs)
+unfolding total
+total-minus f g [] = omega (arith, ints)
+total-minus f g (x ∷ xs) = omega (arith, ints, total-minus f g xs)
+
+pub total-zero : {X : Type 0} (f : X → ℤ) (xs : List X) → ((x : X) → f x ≡ pos 0) → total f xs ≡ pos 0
+unfolding total
+total-zero f [] h = refl
+total-zero f (x ∷ xs) h = omega (arith, ints, h x, total-zero f xs h)
+
+pub total-times : {X : Type 0} (k : ℤ) (f : X → ℤ) (xs : List X) → total (λ x. k *ℤ f x) xs ≡ (k *ℤ total f xs)
+unfolding total
+total-times k f [] = sym (*ℤ-zero k)
+total-times k f (x ∷ xs) = omega (arith, ints, total-times k f xs, distributes k (f x) (total f xs))
+
+pub total-swap : {X Y : Type 0} (f : X → Y → ℤ) (xs : List X) (ys : List Y) → total (λ x. total (f x) ys) xs ≡ total (λ y. total (λ x. f x y) xs) ys
+unfolding total
+total-swap f [] ys = sym (total-zero (λ y. pos 0) ys (λ y. refl))
+total-swap f (x ∷ xs) ys = omega (arith, ints, total-swap f xs ys, total-add (f x) (λ y. total (λ z. f z y) xs) ys)
+
+pub one_times : (z : ℤ) → (pos 1 *ℤ z) ≡ z
+unfolding one
+one_times z = *ℤ_comm (pos 1) z ∙ *ℤ-one z
+
+pub one_if-same : (x : ℕ) (z : ℤ) → (one_if x x *ℤ z) ≡ z
+one_if-same x z = elim (eqb_tells x x) [ inl e ↦ rw e.0 (one_times z) | inr ne ↦ absurd (ne.1 refl) ]
+
+pub one_if-other : (x y : ℕ) (z : ℤ) → x ≢ y → (one_if x y *ℤ z) ≡ pos 0
+one_if-other x y z h = elim (eqb_tells x y) [ inl e ↦ absurd (h e.1) | inr ne ↦ rw ne.0 (zero-*ℤ z) ]
+
+-- a sum over numbers in a row, all of whose parts but one are 0
+pub one_outside : (f : ℕ → ℤ) (k n i : ℕ) → (i < k) ⊎ (k + n ≤ i) → total (λ j. one_if j i *ℤ f j) (numbers_from k n) ≡ pos 0
+unfolding total
+one_outside f k zero i h = refl
+one_outside f k (suc n) i h =
+    let ne : k ≢ i = λ e. elim h [ inl a ↦ omega arith | inr b ↦ omega arith ] in
+    let rest : (i < k + 1) ⊎ (k + 1 + n ≤ i) = elim h [ inl a ↦ inl (omega arith) | inr b ↦ inr (omega arith) ] in
+    omega (arith, ints, one_if-other k i (f k) ne, one_outside f (k + 1) n i rest)
+
+pub one_inside : (f : ℕ → ℤ) (k n i : ℕ) → k ≤ i → i < k + n → total (λ j. one_if j i *ℤ f j) (numbers_from k n) ≡ f i
+unfolding total
+one_inside f k zero i h g = absurd (omega arith)
+one_inside f k (suc n) i h g = elim (eqb_tells k i) [
+  | inl e ↦ omega (arith, ints, one_outside f (k + 1) n i (inl (let p = e.1 in omega arith)), ap (λ z. one_if k z *ℤ f k) (sym e.1), one_if-same k (f k), ap f e.1)
+  | inr ne ↦ omega (arith, ints, one_if-other k i (f k) ne.1, one_inside f (k + 1) n i (let p = ne.1 in omega arith) (omega arith))
+]
+
+-- terms at a point that is itself a sum
+pub terms_value-total : {X : Type 0} (f : X → ℕ → ℤ) (v : X → ℤ) (xs : List X) (ts : List (ℕ × ℤ)) → terms_value (λ i. total (λ x. f x i *ℤ v x) xs) ts ≡ total (λ x. terms_value (f x) ts *ℤ v x) xs
+terms_value-total f v xs [] = sym (total-zero _ xs (λ x. zero-*ℤ (v x)))
+terms_value-total f v xs (t ∷ ts) =
+    let rest = terms_value-total f v xs ts in
+    let first = total-times t.1 (λ x. f x t.0 *ℤ v x) xs in
+    let assoc = total-same (λ x. t.1 *ℤ (f x t.0 *ℤ v x)) (λ x. (t.1 *ℤ f x t.0) *ℤ v x) xs (λ x. sym (times_assoc t.1 (f x t.0) (v x))) in
+    let both = total-add (λ x. (t.1 *ℤ f x t.0) *ℤ v x) (λ x. terms_value (f x) ts *ℤ v x) xs in
+    let whole = total-same (λ x. ((t.1 *ℤ f x t.0) *ℤ v x) +ℤ (terms_value (f x) ts *ℤ v x)) (λ x. terms_value (f x) (t ∷ ts) *ℤ v x) xs (λ x. sym (distributes_right (t.1 *ℤ f x t.0) (terms_value (f x) ts) (v x))) in
+    omega (arith, ints, rest, first, assoc, both, whole)

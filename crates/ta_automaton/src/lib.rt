@@ -1,0 +1,22 @@
+//! Threshold automata: rules, guards and patterns, and the definitions of their runs.
+#![tactic(auto)]
+
+mod automaton;
+mod condition;
+mod file;
+mod first;
+mod law;
+mod list;
+mod pattern;
+mod rule;
+mod text;
+
+pub use automaton::Automaton;
+pub use condition::{Comparison, Condition};
+pub use file::File;
+pub use first::is_first;
+pub use law::laws;
+pub use list::List;
+pub use pattern::{Event, Pattern};
+pub use rule::Rule;
+pub use text::Text;

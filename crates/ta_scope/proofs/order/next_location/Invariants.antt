@@ -1,0 +1,7 @@
+use Rattle.std.proofs.Common.{ℕ, ◌<◌}
+use Rattle.ta_scope.specs.Order.{Ready}
+use Rattle.ta_scope.proofs.order.next_location.Given as goal
+
+-- no earlier location is ready
+abbrev pub invariant-loop-location : goal.invariant-loop-location
+invariant-loop-location l = (m : ℕ) → m < l.location → ¬ Ready l.automaton l.placed m

@@ -1,0 +1,23 @@
+use Rattle.std.proofs.Common.{arith, length-append, sym, ap, subst, length, ◌++◌, ◌∷◌, [], List, ℕ}
+use Rattle.ta_scope.specs.Order.{Built, Next, Ready}
+use Rattle.ta_scope.proofs.OrderLaws.{built_push, built_length, order_done}
+use Rattle.ta_scope.proofs.order.order_of.Goals as goal
+
+pub loop-location-smaller : goal.loop-location-smaller
+loop-location-smaller c =
+    let a = c.args.automaton.now in
+    let next : Next a c.loop-location.order.items c.in-Some.location = subst (λ (xs : List ℕ). Next a xs c.in-Some.location) c.as_slice.ensures.value c.in-Some.ensures.some in
+    let short = built_length a (c.loop-location.order.items ++ c.in-Some.location ∷ []) (built_push a c.loop-location.order.items c.in-Some.location c.loop-location.invariant next) in
+    let longer = ap (λ (xs : List ℕ). length xs) c.in_ok-push.ensures.items in
+    omega (arith, length-append c.loop-location.order.items (c.in-Some.location ∷ []))
+
+pub loop-location-preserved : goal.loop-location-preserved
+loop-location-preserved c =
+    let a = c.args.automaton.now in
+    let next : Next a c.loop-location.order.items c.in-Some.location = subst (λ (xs : List ℕ). Next a xs c.in-Some.location) c.as_slice.ensures.value c.in-Some.ensures.some in
+    subst (Built a) (sym c.in_ok-push.ensures.items) (built_push a c.loop-location.order.items c.in-Some.location c.loop-location.invariant next)
+
+pub returns : goal.returns
+returns c =
+    let a = c.args.automaton.now in
+    order_done a c.loop-location.order.items c.requires c.loop-location.invariant (λ l b ready. c.in_default.ensures.none l b (subst (λ (xs : List ℕ). Ready a xs l) (sym c.as_slice.ensures.value) ready))
