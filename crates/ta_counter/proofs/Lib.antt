@@ -1,0 +1,11 @@
+pub mod Passing
+pub mod Rows
+pub mod Models
+pub mod Starting
+pub mod Adding
+pub mod Filling
+pub mod Firing
+pub mod Updating
+pub mod Moving
+pub mod Guarding
+pub mod Stepping

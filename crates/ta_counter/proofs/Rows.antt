@@ -1,0 +1,34 @@
+-- what the tests of rows and conditions say
+use Rattle.std.proofs.Common.{◌≡◌, ℕ, ℤ, Bool, true, false, List, subst, slice_get, Some, All, Ok}
+use Rattle.std.proofs.lemmas.Option.{slice_get_within, slice_get-get_or, get_or_from_slice_get}
+use Rattle.ta_linear.specs.Values.{RowHolds}
+use Rattle.ta_linear.specs.declared.row.Row.{Row}
+use Rattle.ta_automaton.specs.declared.condition.Comparison.{Comparison}
+use Rattle.ta_automaton.specs.declared.condition.Condition.{Condition}
+use Rattle.ta_automaton.specs.Runs.{HoldsAt}
+use Rattle.ta_counter.specs.Checks.{RowPasses, RowFails, RowAnswer, RowsAnswer, RowsPass, RowsStop, ConditionPasses, ConditionStopsAt}
+
+pub row_passes : (point : ℕ → ℤ) (row : Row) (b : Bool) → RowAnswer point row (Ok b) → b ≡ true → RowPasses point row
+row_passes point row b told is = subst (λ (x : Bool). RowAnswer point row (Ok x)) is told
+
+pub row_fails : (point : ℕ → ℤ) (row : Row) (b : Bool) → RowAnswer point row (Ok b) → b ≡ false → RowFails point row
+row_fails point row b told is = subst (λ (x : Bool). RowAnswer point row (Ok x)) is told
+
+pub rows_pass : (point : ℕ → ℤ) (rows : List Row) (b : Bool) → RowsAnswer point rows (Ok b) → b ≡ true → RowsPass point rows
+rows_pass point rows b told is = subst (λ (x : Bool). RowsAnswer point rows (Ok x)) is told
+
+pub rows_fail : (point : ℕ → ℤ) (rows : List Row) (b : Bool) → RowsAnswer point rows (Ok b) → b ≡ false → RowsStop point (RowFails point) rows
+rows_fail point rows b told is = subst (λ (x : Bool). RowsAnswer point rows (Ok x)) is told
+
+pub all_at : {X : Type 0} (P : X → Type 0) (xs : List X) (i : ℕ) (x : X) → All P xs → slice_get xs i ≡ Some x → P x
+all_at P xs i x all at = subst P (get_or_from_slice_get xs i x x at) (all i x (slice_get_within xs i x at))
+
+pub holds_from : (point : ℕ → ℤ) (condition : Condition) → ConditionPasses point condition → HoldsAt point condition
+holds_from point condition passes k d b i e c =
+    (passes k _ (slice_get-get_or condition.comparisons k d b) i _ (slice_get-get_or _ i e c)).holds
+
+pub fails_from : (point : ℕ → ℤ) (condition : Condition) (k : ℕ) → ConditionStopsAt point (RowFails point) condition k → HoldsAt point condition → ⊥
+fails_from point condition k stop all =
+    let inner = stop.bad.1 in
+    let rows = all_at (λ (comparison : Comparison). All (RowHolds point) comparison.rows) condition.comparisons k stop.item all stop.at in
+    inner.bad.fails (all_at (RowHolds point) stop.item.rows stop.bad.0 inner.item rows inner.at)

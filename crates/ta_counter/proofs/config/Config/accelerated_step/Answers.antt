@@ -1,0 +1,50 @@
+use Rattle.std.proofs.Common.{◌≡◌, ◌<◌, ◌∙◌, sym, ap, subst, length, List, arith, FitsSigned}
+use Rattle.std.proofs.lemmas.Int.{to_z-of_z}
+use Rattle.std.proofs.lemmas.Option.{same_Some}
+use Rattle.std.proofs.lemmas.Result.{err_from_is_err_and}
+use Rattle.std.specs.Int.{w128}
+use Rattle.ta_automaton.specs.declared.rule.Rule.{Rule}
+use Rattle.ta_counter.specs.Steps.{StepFails, Taken}
+use Rattle.ta_counter.proofs.Passing.{read_at}
+use Rattle.ta_counter.proofs.Stepping.{taken_fires, no_steps}
+use Rattle.ta_counter.proofs.config.Config.accelerated_step.Goals as goal
+
+pub returns-in_err-after-clause-no_steps : goal.returns-in_err-after-clause-no_steps
+returns-in_err-after-clause-no_steps c =
+    let a = c.args.automaton.now in
+    let rule = c.index-as_slice-rule.result in
+    let count = ap (λ (rs : List Rule). length rs) c.as_slice.ensures in
+    let exists : c.args.rule < length c.as_slice.result.now = (let e = c.requires.exists in omega arith) in
+    let named = read_at a.rules c.as_slice.result.now c.args.rule rule c.as_slice.ensures exists c.index-as_slice-rule.is in
+    let factor : FitsSigned w128 c.args.factor = c.ranges.factor in
+    let fails = simp to_z-of_z at c.in_err-after.ensures.fails in
+    let p = err_from_is_err_and c.from_residual.result c.from_residual.ensures.1 in
+    rw (p.1, p.2)
+    (no_steps a c.args.rule rule c.args.factor c.args.self.now _ named c.requires.factor c.requires.is_of (subst (λ vs. StepFails a rule c.args.factor vs c.in_err-after.field-0.0) c.as_slice-2.ensures.value fails))
+
+pub returns-clause-answer : goal.returns-clause-answer
+returns-clause-answer c =
+    let a = c.args.automaton.now in
+    let rule = c.index-as_slice-rule.result in
+    let count = ap (λ (rs : List Rule). length rs) c.as_slice.ensures in
+    let exists : c.args.rule < length c.as_slice.result.now = (let e = c.requires.exists in omega arith) in
+    let named = read_at a.rules c.as_slice.result.now c.args.rule rule c.as_slice.ensures exists c.index-as_slice-rule.is in
+    let factor : FitsSigned w128 c.args.factor = c.ranges.factor in
+    let told = simp to_z-of_z at c.in_ok-after.ensures.ok in
+    let from = subst (λ vs. Taken a rule c.args.factor vs c.in_ok-after.after.items) c.as_slice-2.ensures.value told in
+    let items : c.copy_from_slice.new.self.items ≡ c.in_ok-after.after.items = c.copy_from_slice.ensures.items ∙ c.as_slice-3.ensures.value in
+    let whole = subst (λ vs. Taken a rule c.args.factor c.args.self.now.values.items vs) (sym items) from in
+    λ other at. subst (λ (q : Rule). Taken a q c.args.factor c.args.self.now.values.items c.copy_from_slice.new.self.items) (same_Some rule other (sym named ∙ at)) whole
+
+pub returns-clause-steps : goal.returns-clause-steps
+returns-clause-steps c =
+    let a = c.args.automaton.now in
+    let rule = c.index-as_slice-rule.result in
+    let count = ap (λ (rs : List Rule). length rs) c.as_slice.ensures in
+    let exists : c.args.rule < length c.as_slice.result.now = (let e = c.requires.exists in omega arith) in
+    let named = read_at a.rules c.as_slice.result.now c.args.rule rule c.as_slice.ensures exists c.index-as_slice-rule.is in
+    let factor : FitsSigned w128 c.args.factor = c.ranges.factor in
+    let told = simp to_z-of_z at c.in_ok-after.ensures.ok in
+    let from = subst (λ vs. Taken a rule c.args.factor vs c.in_ok-after.after.items) c.as_slice-2.ensures.value told in
+    let items : c.copy_from_slice.new.self.items ≡ c.in_ok-after.after.items = c.copy_from_slice.ensures.items ∙ c.as_slice-3.ensures.value in
+    rw items (taken_fires a c.args.rule rule c.args.factor c.args.self.now.values.items c.in_ok-after.after.items named c.requires.factor c.args.self.now.natural c.requires.is_of c.in_ok-after.ensures.natural from)

@@ -1,0 +1,6 @@
+pub mod Checks
+pub mod Values
+pub mod Configs
+pub mod Starts
+pub mod Guards
+pub mod Steps

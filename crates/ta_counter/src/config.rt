@@ -1,0 +1,23 @@
+//! Configurations.
+#![tactic(auto)]
+
+ghost use Rattle.ta_automaton.specs.Lists.{Each, Each-prop};
+ghost use Rattle.ta_counter.specs.Values.{Value, Value-prop};
+
+/// The values of the places: parameters, then shared variables, then counters of the locations.
+#[derive(Drop)]
+pub struct Config {
+    pub(crate) values: Vec<i128>,
+    pub ghost natural: { Each Value values.items } by { Each-prop Value Value-prop values.items },
+}
+
+impl Config {
+    ghost use Rattle.std.specs.Prelude.{◌≡◌};
+
+    /// The values by place number.
+    pub fn values(&self) -> &[i128]
+        ensures { result.now ≡ self.now.values.items }
+    {
+        self.values.as_slice()
+    }
+}

@@ -1,0 +1,14 @@
+//! Configurations of a threshold automaton in 128 bits: where they start, and their steps.
+#![tactic(auto)]
+
+mod condition;
+mod config;
+mod fault;
+mod guards;
+mod start;
+mod step;
+mod updates;
+
+pub use condition::first_false;
+pub use config::Config;
+pub use fault::{StartFault, StepFault};
