@@ -1,0 +1,110 @@
+-- leaves and solutions of a system of the code are those of the word
+use Rattle.std.proofs.Common.{◌≡◌, ℕ, zero, suc, ℤ, pos, ◌*ℤ◌, ◌≤ℤ◌, ◌<ℤ◌, List, [], ◌∷◌, map, length, slice_get, get_or, Option, arith, sym, ap, ◌∙◌, refl, subst}
+use Rattle.std.specs.List.{All}
+use Rattle.std.proofs.lemmas.Int.{ints}
+use Rattle.ta_linear.specs.Terms.{coefficient, IsNormal}
+use Rattle.ta_linear.specs.Rows.{AllBelow}
+use Rattle.ta_linear.specs.Values.{value_of, RowHolds, Solves}
+use Rattle.ta_linear.specs.Leaf.{weighted, AreMultipliers, LeafOf, coefficient_in as code_coefficient, constant_in as code_constant}
+use Rattle.ta_linear.specs.declared.row.Row.{Row}
+use Rattle.ta_linear.specs.declared.row.System.{System}
+use Rattle.ta_linear.proofs.RangeSum.{range_sum-same, terms_value-sum}
+use Rattle.ta_automaton.specs.declared.automaton.Automaton.{Automaton}
+use Rattle.ta_automaton.specs.declared.pattern.Pattern.{Pattern}
+use Rattle.ta_words.specs.declared.element.Element.{Element}
+use Rattle.ta_encode.specs.System.{LinearRow, Bound, bound_row, word_rows, system_rows, row_value, AllHold, SolvesWord}
+use Rattle.ta_encode.specs.Refutes.{coefficient_in, constant_in, LeafOfRows}
+use Rattle.ta_encode.specs.Code.{RowOf, RowsOf, SystemOf}
+use Rattle.ta_encode.proofs.Moments.{AllHold-append, AllHold-left}
+use Rattle.ta_encode.proofs.RowSums.{value_at, combine-range}
+
+coefficient_same : (u : ℕ) (ls : List LinearRow) (rs : List Row) (k : ℕ) → RowsOf ls rs → code_coefficient u (slice_get rs k) ≡ coefficient_in u (slice_get ls k)
+coefficient_same u [] [] k h = refl
+coefficient_same u (l ∷ ls) (r ∷ rs) zero h = h.0.coefficients u
+coefficient_same u (l ∷ ls) (r ∷ rs) (suc k) h = coefficient_same u ls rs k h.1
+coefficient_same u [] (r ∷ rs) k h = absurd h
+coefficient_same u (l ∷ ls) [] k h = absurd h
+
+constant_same : (ls : List LinearRow) (rs : List Row) (k : ℕ) → RowsOf ls rs → code_constant (slice_get rs k) ≡ constant_in (slice_get ls k)
+constant_same [] [] k h = refl
+constant_same (l ∷ ls) (r ∷ rs) zero h = h.0.constant
+constant_same (l ∷ ls) (r ∷ rs) (suc k) h = constant_same ls rs k h.1
+constant_same [] (r ∷ rs) k h = absurd h
+constant_same (l ∷ ls) [] k h = absurd h
+
+-- as many rows
+pub rows_count : (ls : List LinearRow) (rs : List Row) → RowsOf ls rs → length rs ≡ length ls
+rows_count [] [] h = refl
+rows_count (l ∷ ls) (r ∷ rs) h = ap suc (rows_count ls rs h.1)
+rows_count [] (r ∷ rs) h = absurd h
+rows_count (l ∷ ls) [] h = absurd h
+
+weighted_same : {R S : Type 0} (f : Option R → ℤ) (g : Option S → ℤ) (rs : List R) (ls : List S) (ts : List (ℕ × ℤ)) → ((k : ℕ) → f (slice_get rs k) ≡ g (slice_get ls k)) → weighted f rs ts ≡ weighted g ls ts
+unfolding weighted
+weighted_same f g rs ls [] h = refl
+weighted_same f g rs ls (t ∷ ts) h = omega (arith, ints, ap (λ z. t.1 *ℤ z) (h t.0), weighted_same f g rs ls ts h)
+
+-- a leaf of the code's system is one of the word's rows
+pub leaf_of : (a : Automaton) (p : Pattern) (start : ℕ) (past : List Element) (bounds : List Bound) (system : System) (ts : List (ℕ × ℤ)) → SystemOf a p start past bounds system → LeafOf system ts → LeafOfRows (system_rows a p start past bounds) ts
+leaf_of a p start past bounds system ts is leaf =
+    let ls = system_rows a p start past bounds in
+    record {
+      multipliers = subst (λ (n : ℕ). AreMultipliers 0 n ts) (rows_count ls system.rows is.rows) leaf.multipliers;
+      none_positive = λ u. subst (λ (z : ℤ). z ≤ℤ pos 0) (weighted_same (code_coefficient u) (coefficient_in u) system.rows ls ts (λ k. coefficient_same u ls system.rows k is.rows)) (leaf.none_positive u);
+      negative = subst (λ (z : ℤ). z <ℤ pos 0) (weighted_same code_constant constant_in system.rows ls ts (λ k. constant_same ls system.rows k is.rows)) leaf.negative;
+    }
+
+-- a leaf of the word's rows is one of the code's system
+pub leaf_back : (a : Automaton) (p : Pattern) (start : ℕ) (past : List Element) (bounds : List Bound) (system : System) (ts : List (ℕ × ℤ)) → SystemOf a p start past bounds system → LeafOfRows (system_rows a p start past bounds) ts → LeafOf system ts
+leaf_back a p start past bounds system ts is leaf =
+    let ls = system_rows a p start past bounds in
+    record {
+      multipliers = subst (λ (n : ℕ). AreMultipliers 0 n ts) (sym (rows_count ls system.rows is.rows)) leaf.multipliers;
+      none_positive = λ u. subst (λ (z : ℤ). z ≤ℤ pos 0) (sym (weighted_same (code_coefficient u) (coefficient_in u) system.rows ls ts (λ k. coefficient_same u ls system.rows k is.rows))) (leaf.none_positive u);
+      negative = subst (λ (z : ℤ). z <ℤ pos 0) (sym (weighted_same code_constant constant_in system.rows ls ts (λ k. constant_same ls system.rows k is.rows))) leaf.negative;
+    }
+
+row_same : (vs : List ℕ) (l : LinearRow) (r : Row) → IsNormal 0 (length vs) r.form.terms → RowOf l r → row_value vs l ≡ value_of (value_at vs) r.form
+row_same vs l r n is =
+    let each = range_sum-same (λ u. get_or l.coefficients u (pos 0) *ℤ value_at vs u) (λ u. coefficient r.form.terms u *ℤ value_at vs u) (length vs) (λ u b. ap (λ z. z *ℤ value_at vs u) (sym (is.coefficients u))) in
+    omega (arith, ints, combine-range l.coefficients vs, each, terms_value-sum (value_at vs) 0 (length vs) r.form.terms n, is.constant)
+
+rows_hold : (vs : List ℕ) (n : ℕ) (ls : List LinearRow) (rs : List Row) → n ≡ length vs → AllBelow n rs → RowsOf ls rs → All (RowHolds (value_at vs)) rs → AllHold vs ls
+rows_hold vs n [] [] e b is h = tt
+rows_hold vs n (l ∷ ls) (r ∷ rs) e b is h =
+    let first : pos 0 ≤ℤ value_of (value_at vs) r.form = h 0 r (omega arith) in
+    let normal : IsNormal 0 (length vs) r.form.terms = subst (λ (k : ℕ). IsNormal 0 k r.form.terms) e b.0 in
+    (omega (arith, ints, row_same vs l r normal is.0, first), rows_hold vs n ls rs e b.1 is.1 (λ k d c. h (suc k) d (omega arith)))
+rows_hold vs n [] (r ∷ rs) e b is h = absurd is
+rows_hold vs n (l ∷ ls) [] e b is h = absurd is
+
+rows_back : (vs : List ℕ) (n : ℕ) (ls : List LinearRow) (rs : List Row) → n ≡ length vs → AllBelow n rs → RowsOf ls rs → AllHold vs ls → All (RowHolds (value_at vs)) rs
+rows_back vs n [] [] e b is h k d c = absurd (omega arith)
+rows_back vs n (l ∷ ls) (r ∷ rs) e b is h zero d c =
+    let first : pos 0 ≤ℤ row_value vs l = h.0 in
+    let normal : IsNormal 0 (length vs) r.form.terms = subst (λ (k : ℕ). IsNormal 0 k r.form.terms) e b.0 in
+    omega (arith, ints, row_same vs l r normal is.0, first)
+rows_back vs n (l ∷ ls) (r ∷ rs) e b is h (suc k) d c = rows_back vs n ls rs e b.1 is.1 h.1 k d (omega arith)
+rows_back vs n [] (r ∷ rs) e b is h k d c = absurd is
+rows_back vs n (l ∷ ls) [] e b is h k d c = absurd is
+
+-- a solution of the code's system is one of the word
+pub solution_of : (a : Automaton) (p : Pattern) (start : ℕ) (past : List Element) (bounds : List Bound) (system : System) (vs : List ℕ) → SystemOf a p start past bounds system → Solves system vs → SolvesWord a p start past bounds vs
+solution_of a p start past bounds system vs is s = record {
+  count = s.count ∙ is.unknowns;
+  rows_hold = rows_hold vs system.unknowns (system_rows a p start past bounds) system.rows (sym s.count) system.within is.rows s.rows_hold;
+}
+
+-- a solution of the word is one of the code's system
+pub solution_back : (a : Automaton) (p : Pattern) (start : ℕ) (past : List Element) (bounds : List Bound) (system : System) (vs : List ℕ) → SystemOf a p start past bounds system → SolvesWord a p start past bounds vs → Solves system vs
+solution_back a p start past bounds system vs is s = record {
+  count = s.count ∙ sym is.unknowns;
+  rows_hold = rows_back vs system.unknowns (system_rows a p start past bounds) system.rows (sym (s.count ∙ sym is.unknowns)) system.within is.rows s.rows_hold;
+}
+
+-- a solution with bounds is one without
+pub unbounded : (a : Automaton) (p : Pattern) (start : ℕ) (past : List Element) (bounds : List Bound) (vs : List ℕ) → SolvesWord a p start past bounds vs → SolvesWord a p start past [] vs
+unbounded a p start past bounds vs s = record {
+  count = s.count;
+  rows_hold = AllHold-append vs (word_rows a p start past) [] (AllHold-left vs (word_rows a p start past) (map bound_row bounds) s.rows_hold) tt;
+}

@@ -1,0 +1,59 @@
+-- how many unknowns a word has
+use Rattle.std.proofs.Common.{◌≡◌, ℕ, ◌+◌, ◌*◌, ◌<◌, ◌≤◌, List, [], ◌∷◌, ◌++◌, length, map, take, get_or, Bool, true, false, not, slice_get, arith, ap, ◌∙◌, length-append}
+use Rattle.std.specs.Prelude.{filter}
+use Rattle.std.proofs.lemmas.List.{length-map}
+use Rattle.ta_automaton.specs.Masks.{has_bit, numbers_from}
+use Rattle.ta_automaton.specs.declared.automaton.Automaton.{Automaton}
+use Rattle.ta_automaton.specs.declared.pattern.Pattern.{Pattern}
+use Rattle.ta_automaton.proofs.Fire.{length_numbers}
+use Rattle.ta_words.specs.declared.element.Element.{Element}
+use Rattle.ta_words.specs.declared.element.Element.TheVariants.{Event, Rise, Fall}
+use Rattle.ta_words.specs.Words.{may_fire, allowed_rules}
+use Rattle.ta_encode.specs.Unknowns.{Parameter, Start, Count, Single, meanings, start_meanings, start_locations, counts_after, singles_after}
+use Rattle.ta_encode.proofs.Masked.{passed_one, passed_none, item_one, item_none}
+use Rattle.ta_encode.proofs.Drafts.{filter_same, filter_shorter}
+
+pub count_one : (test : ℕ → Bool) (n : ℕ) → test n ≡ true → length (filter test (numbers_from 0 (n + 1))) ≡ length (filter test (numbers_from 0 n)) + 1
+count_one test n t =
+    let f : ℕ → ℕ = λ k. k in
+    omega (arith, ap length (passed_one f test n t), length-append (map f (filter test (numbers_from 0 n))) (n ∷ []), length-map (filter test (numbers_from 0 n)) f, length-map (filter test (numbers_from 0 (n + 1))) f)
+
+pub count_none : (test : ℕ → Bool) (n : ℕ) → test n ≡ false → length (filter test (numbers_from 0 (n + 1))) ≡ length (filter test (numbers_from 0 n))
+count_none test n t =
+    let f : ℕ → ℕ = λ k. k in
+    omega (arith, ap length (passed_none f test n t), length-map (filter test (numbers_from 0 n)) f, length-map (filter test (numbers_from 0 (n + 1))) f)
+
+pub count_few : (test : ℕ → Bool) (n : ℕ) → length (filter test (numbers_from 0 n)) ≤ n
+count_few test n = omega (arith, filter_shorter test (numbers_from 0 n), length_numbers 0 n)
+
+pub items_one : (test : ℕ → Bool) (xs : List ℕ) (i d : ℕ) → i < length xs → test (get_or xs i d) ≡ true → length (filter test (take (i + 1) xs)) ≡ length (filter test (take i xs)) + 1
+items_one test xs i d b t =
+    let f : ℕ → ℕ = λ k. k in
+    omega (arith, ap length (item_one f test xs i d b t), length-append (map f (filter test (take i xs))) (get_or xs i d ∷ []), length-map (filter test (take i xs)) f, length-map (filter test (take (i + 1) xs)) f)
+
+pub items_none : (test : ℕ → Bool) (xs : List ℕ) (i d : ℕ) → i < length xs → test (get_or xs i d) ≡ false → length (filter test (take (i + 1) xs)) ≡ length (filter test (take i xs))
+items_none test xs i d b t =
+    let f : ℕ → ℕ = λ k. k in
+    omega (arith, ap length (item_none f test xs i d b t), length-map (filter test (take i xs)) f, length-map (filter test (take (i + 1) xs)) f)
+
+pub start_length : (a : Automaton) (p : Pattern) → length (start_meanings a p) ≡ length a.parameters + length (filter (λ l. not (has_bit p.empty l)) a.initial)
+unfolding start_meanings
+start_length a p = omega (arith, length-append (map Parameter (numbers_from 0 (length a.parameters))) (map Start (start_locations a p)), length-map (numbers_from 0 (length a.parameters)) Parameter, length-map (start_locations a p) Start, length_numbers 0 (length a.parameters))
+
+allowed_length : (a : Automaton) (p : Pattern) (start : ℕ) (past : List Element) (allowed rules count : ℕ) → ((r : ℕ) → has_bit allowed r ≡ may_fire a p start past (slice_get a.rules r)) → rules ≡ length a.rules → count ≡ length (filter (has_bit allowed) (numbers_from 0 rules)) → count ≡ length (allowed_rules a p start past)
+unfolding allowed_rules
+allowed_length a p start past allowed rules count h e f =
+    f ∙ ap (λ n. length (filter (has_bit allowed) (numbers_from 0 n))) e ∙ ap length (filter_same (has_bit allowed) (λ r. may_fire a p start past (slice_get a.rules r)) (numbers_from 0 (length a.rules)) h)
+
+pub event_length : (a : Automaton) (p : Pattern) (start : ℕ) (past : List Element) (x allowed rules count : ℕ) → ((r : ℕ) → has_bit allowed r ≡ may_fire a p start past (slice_get a.rules r)) → rules ≡ length a.rules → count ≡ length (filter (has_bit allowed) (numbers_from 0 rules)) → length (meanings a p start (Event x ∷ past)) ≡ length (meanings a p start past) + count
+unfolding meanings
+event_length a p start past x allowed rules count h e f = omega (arith, length-append (meanings a p start past) (counts_after a p start past), length-map (allowed_rules a p start past) (λ r. Count (length past) r), allowed_length a p start past allowed rules count h e f)
+
+pub rise_length : (a : Automaton) (p : Pattern) (start : ℕ) (past : List Element) (x allowed rules count : ℕ) → ((r : ℕ) → has_bit allowed r ≡ may_fire a p start past (slice_get a.rules r)) → rules ≡ length a.rules → count ≡ length (filter (has_bit allowed) (numbers_from 0 rules)) → length (meanings a p start (Rise x ∷ past)) ≡ length (meanings a p start past) + count
+unfolding meanings
+rise_length a p start past x allowed rules count h e f = omega (arith, length-append (meanings a p start past) (counts_after a p start past), length-map (allowed_rules a p start past) (λ r. Count (length past) r), allowed_length a p start past allowed rules count h e f)
+
+pub fall_length : (a : Automaton) (p : Pattern) (start : ℕ) (past : List Element) (x allowed rules count : ℕ) → ((r : ℕ) → has_bit allowed r ≡ may_fire a p start past (slice_get a.rules r)) → rules ≡ length a.rules → count ≡ length (filter (has_bit allowed) (numbers_from 0 rules)) → length (meanings a p start (Fall x ∷ past)) ≡ length (meanings a p start past) + 2 * count
+unfolding meanings
+fall_length a p start past x allowed rules count h e f =
+    omega (arith, length-append (meanings a p start past ++ counts_after a p start past) (singles_after a p start past), length-append (meanings a p start past) (counts_after a p start past), length-map (allowed_rules a p start past) (λ r. Count (length past) r), length-map (allowed_rules a p start past) (λ r. Single (length past) r), allowed_length a p start past allowed rules count h e f)

@@ -1,0 +1,224 @@
+-- the empty word at the start of a run
+use Rattle.std.proofs.Common.{◌≡◌, inl, inr, ℕ, zero, suc, ◌+◌, ◌<◌, ◌≤◌, ℤ, pos, negsuc, ◌+ℤ◌, ◌-ℤ◌, ◌*ℤ◌, ◌≤ℤ◌, ◌<ℤ◌, List, [], ◌∷◌, ◌++◌, map, length, cond, Bool, true, false, not, arith, sym, ap, ◌∙◌, refl, subst, slice_get, get_or, Some, None, Option, Contains, length-append, zero-add, sum}
+use Rattle.std.specs.List.{filter}
+use Rattle.std.proofs.lemmas.List.{length-map}
+use Rattle.std.proofs.lemmas.List.Sums.{sum_by-cons}
+use Rattle.std.proofs.lemmas.Int.{ints}
+use Rattle.std.proofs.lemmas.Bool.{false≢true, true≢false, cases_Bool}
+use Rattle.std.proofs.lemmas.Bool.Decides.{nat_tests, eqb_tells}
+use Rattle.std.proofs.lemmas.Option.{slice_get_within}
+use Rattle.std.proofs.Math.IntN.{zero-*ℤ}
+use Rattle.ta_linear.specs.Values.{terms_value, value_of, RowHolds}
+use Rattle.ta_linear.specs.declared.row.Row.{Row}
+use Rattle.ta_automaton.specs.declared.automaton.Automaton.{Automaton}
+use Rattle.ta_automaton.specs.declared.pattern.Pattern.{Pattern}
+use Rattle.ta_automaton.specs.Runs.{Config, value_at, Holds, Initial}
+use Rattle.ta_automaton.specs.Lists.{Rises}
+use Rattle.ta_automaton.specs.Masks.{has_bit, numbers_from, In}
+use Rattle.ta_words.specs.Words.{has_fallen}
+use Rattle.ta_encode.specs.Unknowns.{Meaning, Parameter, Start, start_locations, start_meanings, meanings, place_coefficient}
+use Rattle.ta_automaton.specs.Places.{one_if, location_place}
+use Rattle.ta_encode.specs.System.{opposite, processes_row, start_coefficient, condition_rows, start_guard_rows, start_rows, word_rows, combine, row_value, AllHold}
+use Rattle.ta_automaton.specs.Sums.{total}
+use Rattle.ta_automaton.proofs.Sums.{total-zero, total-same, total-swap, one_times, one_inside, one_outside, one_if-same, one_if-other}
+use Rattle.ta_encode.proofs.Combine.{combine-append, combine-extra, combine-map, combine-minus, combine-terms, terms_value-same}
+use Rattle.ta_encode.proofs.Moments.{Moment, RowFails, AllHold-append, condition_holds, start_guards, opposite_value}
+use Rattle.ta_automaton.proofs.Moves.{Fits, place_cases, value_at-parameter, value_at-shared, value_at-location, one_if-ne, one_if-shift}
+use Rattle.ta_automaton.proofs.MaskTests.{In-filter, not_true, mask_of, mask_of-bit}
+use Rattle.ta_automaton.proofs.Thresholds.{processes_value as processes_at, resilience_holds}
+use Rattle.ta_encode.proofs.State.{State}
+
+-- whether a number is negative
+abbrev pub is_negative : ℤ → Bool
+is_negative (pos n) = false
+is_negative (negsuc n) = true
+
+pub negative_true : (z : ℤ) → is_negative z ≡ true → z <ℤ pos 0
+negative_true (pos n) e = absurd (false≢true e)
+negative_true (negsuc n) e = omega (arith, ints)
+
+pub negative_false : (z : ℤ) → is_negative z ≡ false → pos 0 ≤ℤ z
+negative_false (pos n) e = omega (arith, ints)
+negative_false (negsuc n) e = absurd (true≢false e)
+
+-- whether a guard fails in a configuration
+abbrev pub row_fails : Config → Option Row → Bool
+row_fails c None = false
+row_fails c (Some row) = is_negative (value_of (value_at c) row.form)
+
+rises_lower : (low low' high : ℕ) (xs : List ℕ) → low' ≤ low → Rises low high xs → Rises low' high xs
+rises_lower low low' high [] h r = tt
+rises_lower low low' high (x ∷ xs) h r = (let q = r.0 in omega arith, r.1, r.2)
+
+cond_rises : (b : Bool) (low high x : ℕ) (xs : List ℕ) → low ≤ x → x < high → Rises (x + 1) high xs → Rises low high (cond b (x ∷ xs) xs)
+cond_rises true low high x xs h g r = (h, g, r)
+cond_rises false low high x xs h g r = rises_lower (x + 1) low high xs (omega arith) r
+
+rises_filter : (ok : ℕ → Bool) (low high : ℕ) (xs : List ℕ) → Rises low high xs → Rises low high (filter ok xs)
+rises_filter ok low high [] r = tt
+rises_filter ok low high (x ∷ xs) r = cond_rises (ok x) low high x (filter ok xs) r.0 r.1 (rises_filter ok (x + 1) high xs r.2)
+
+in_of : (xs : List ℕ) (l : ℕ) → Contains xs l → In l xs
+in_of [] l w = absurd (let b = w.1 in omega arith)
+in_of (x ∷ xs) l (zero, b, e) = inl (sym e)
+in_of (x ∷ xs) l (suc k, b, e) = inr (in_of xs l (k, omega arith, e))
+
+sum_above : (f : ℕ → ℤ) (low high : ℕ) (xs : List ℕ) (l : ℕ) → Rises low high xs → l < low → total (λ j. one_if j l *ℤ f j) xs ≡ pos 0
+unfolding total
+sum_above f low high [] l h b = refl
+sum_above f low high (x ∷ xs) l h b =
+    let least : low ≤ x = h.0 in
+    omega (arith, ints, one_if-other x l (f x) (λ e. omega arith), sum_above f (x + 1) high xs l h.2 (omega arith))
+
+-- a sum over rising numbers, all of whose parts but one are 0
+start_sum : (f : ℕ → ℤ) (low high : ℕ) (xs : List ℕ) (l : ℕ) → Rises low high xs → ((In l xs → ⊥) → f l ≡ pos 0) → total (λ j. one_if j l *ℤ f j) xs ≡ f l
+unfolding total
+start_sum f low high [] l h out = sym (out (λ w. w))
+start_sum f low high (x ∷ xs) l h out = elim (eqb_tells x l) [
+  | inl e ↦ omega (arith, ints, sum_above f (x + 1) high xs l h.2 (let p = e.1 in omega arith), ap (λ z. one_if x z *ℤ f x) (sym e.1), one_if-same x (f x), ap f e.1)
+  | inr ne ↦ omega (arith, ints, one_if-other x l (f x) ne.1, start_sum f (x + 1) high xs l h.2 (λ w. out (λ v. elim v [ inl e ↦ ne.1 (sym e) | inr g ↦ w g ])))
+]
+
+shift : (f : ℕ → ℤ) (k n : ℕ) → total f (numbers_from (k + 1) n) ≡ total (λ x. f (x + 1)) (numbers_from k n)
+unfolding total
+shift f k zero = refl
+shift f k (suc n) = ap (λ z. f (k + 1) +ℤ z) (shift f (k + 1) n)
+
+pub sum_total : (xs : List ℕ) → total (λ l. pos (get_or xs l 0)) (numbers_from 0 (length xs)) ≡ pos (sum xs)
+unfolding total
+sum_total [] = refl
+sum_total (x ∷ xs) =
+    let more = shift (λ l. pos (get_or (x ∷ xs) l 0)) 0 (length xs) in
+    let same = total-same (λ l. pos (get_or (x ∷ xs) (l + 1) 0)) (λ l. pos (get_or xs l 0)) (numbers_from 0 (length xs)) (λ l. grind arith) in
+    omega (arith, ints, sum_total xs, more, same, sum_by-cons (λ y. y) x xs)
+
+pub one_if_comm : (x y : ℕ) → one_if x y ≡ one_if y x
+one_if_comm x y = elim (eqb_tells x y) [ inl e ↦ rw e.1 refl | inr ne ↦ grind (arith, nat_tests) ]
+
+each_once : (f : ℕ → ℤ) (low high : ℕ) (xs : List ℕ) → Rises low high xs → total (λ j. total (λ l. one_if j l *ℤ f j) (numbers_from 0 high)) xs ≡ total f xs
+unfolding total
+each_once f low high [] h = refl
+each_once f low high (x ∷ xs) h =
+    let flip = total-same (λ l. one_if x l *ℤ f x) (λ l. one_if l x *ℤ f x) (numbers_from 0 high) (λ l. ap (λ z. z *ℤ f x) (one_if_comm x l)) in
+    omega (arith, ints, flip, one_inside (λ _. f x) 0 high x (omega arith) (omega (arith, h.1)), each_once f (x + 1) high xs h.2)
+
+-- the locations that are kept empty have no process at the start
+abbrev pub StartsEmpty : Pattern → Config → Type 0
+StartsEmpty p c = (l : ℕ) → has_bit p.empty l ≡ true → get_or c.counters l 0 ≡ 0
+
+pub start_rises : (a : Automaton) (p : Pattern) → Rises 0 (length a.locations) (start_locations a p)
+start_rises a p = rises_filter (λ l. not (has_bit p.empty l)) 0 (length a.locations) a.initial a.shape.initial_rises
+
+out_of_start : (a : Automaton) (p : Pattern) (c : Config) → Initial a c → StartsEmpty p c → (l : ℕ) → (In l (start_locations a p) → ⊥) → pos (get_or c.counters l 0) ≡ pos 0
+out_of_start a p c start empty l out = elim (cases_Bool (has_bit p.empty l)) [
+  | inl t ↦ ap pos (empty l t)
+  | inr f ↦ ap pos (start.others_empty l (λ w. out (In-filter (λ k. not (has_bit p.empty k)) l a.initial (not_true _ f) (in_of a.initial l w))))
+]
+
+-- the start counts add up to all counters
+starts_total : (a : Automaton) (p : Pattern) (c : Config) → Initial a c → StartsEmpty p c → total (λ l. pos (get_or c.counters l 0)) (start_locations a p) ≡ pos (sum c.counters)
+starts_total a p c start empty =
+    let f : ℕ → ℤ = λ l. pos (get_or c.counters l 0) in
+    let n = length a.locations in
+    let once = each_once f 0 n (start_locations a p) (start_rises a p) in
+    let swap = total-swap (λ j l. one_if j l *ℤ f j) (start_locations a p) (numbers_from 0 n) in
+    let each = total-same (λ l. total (λ j. one_if j l *ℤ f j) (start_locations a p)) f (numbers_from 0 n) (λ l. start_sum f 0 n (start_locations a p) l (start_rises a p) (out_of_start a p c start empty l)) in
+    let all = subst (λ (k : ℕ). total f (numbers_from 0 k) ≡ pos (sum c.counters)) start.locations_count (sum_total c.counters) in
+    omega (arith, ints, once, swap, each, all)
+
+abbrev pub parameter_values : Automaton → Config → List ℕ
+parameter_values a c = map (λ j. get_or c.parameters j 0) (numbers_from 0 (length a.parameters))
+
+abbrev pub start_counts : Automaton → Pattern → Config → List ℕ
+start_counts a p c = map (λ l. get_or c.counters l 0) (start_locations a p)
+
+same_length : {X Y Z : Type 0} (f : X → Y) (g : X → Z) (xs : List X) → length (map f xs) ≡ length (map g xs)
+same_length f g xs = omega (arith, length-map xs f, length-map xs g)
+
+pub start_moment : (a : Automaton) (p : Pattern) (c : Config) → Fits a c → Initial a c → StartsEmpty p c → Moment a (start_meanings a p) (parameter_values a c ++ start_counts a p c) c
+unfolding start_meanings
+start_moment a p c fits start empty =
+    let nums = numbers_from 0 (length a.parameters) in
+    let locs = start_locations a p in
+    let first : length (parameter_values a c) ≡ length (map Parameter nums) = same_length (λ j. get_or c.parameters j 0) Parameter nums in
+    let second : length (start_counts a p c) ≡ length (map Start locs) = same_length (λ l. get_or c.counters l 0) Start locs in
+    record {
+      count = omega (arith, first, second, length-append (parameter_values a c) (start_counts a p c), length-append (map Parameter nums) (map Start locs));
+      places = λ i.
+          let g : Meaning → ℤ = λ m. place_coefficient a m i in
+          let both = combine-append g (map Parameter nums) (map Start locs) (parameter_values a c) (start_counts a p c) first in
+          let ps = combine-map g Parameter (λ j. get_or c.parameters j 0) nums in
+          let ls = combine-map g Start (λ l. get_or c.counters l 0) locs in
+          elim (place_cases a i) [
+            | inl h ↦ (
+                let mine = one_inside (λ j. pos (get_or c.parameters j 0)) 0 (length a.parameters) i (omega arith) (omega arith) in
+                let starts = total-zero (λ l. one_if (location_place a l) i *ℤ pos (get_or c.counters l 0)) locs (λ l. ap (λ z. z *ℤ pos (get_or c.counters l 0)) (one_if-ne (location_place a l) i (omega arith)) ∙ zero-*ℤ (pos (get_or c.counters l 0))) in
+                omega (arith, ints, both, ps, ls, mine, starts, value_at-parameter a c i fits h))
+            | inr (inl w) ↦ (
+                let mine = one_outside (λ j. pos (get_or c.parameters j 0)) 0 (length a.parameters) i (inr (let q = w.2 in omega arith)) in
+                let starts = total-zero (λ l. one_if (location_place a l) i *ℤ pos (get_or c.counters l 0)) locs (λ l. ap (λ z. z *ℤ pos (get_or c.counters l 0)) (one_if-ne (location_place a l) i (let q = w.2 in let b = w.1 in omega arith)) ∙ zero-*ℤ (pos (get_or c.counters l 0))) in
+                let here = ap (value_at c) w.2 ∙ value_at-shared a c w.0 fits w.1 ∙ ap pos (start.shared_zero w.0) in
+                omega (arith, ints, both, ps, ls, mine, starts, here))
+            | inr (inr w) ↦ (
+                let n = length a.parameters + length a.shared in
+                let mine = one_outside (λ j. pos (get_or c.parameters j 0)) 0 (length a.parameters) i (inr (let q = w.1 in omega arith)) in
+                let moved = total-same (λ l. one_if (location_place a l) i *ℤ pos (get_or c.counters l 0)) (λ l. one_if l w.0 *ℤ pos (get_or c.counters l 0)) locs (λ l. rw w.1 (ap (λ z. z *ℤ pos (get_or c.counters l 0)) (one_if-shift n l w.0))) in
+                let starts = start_sum (λ l. pos (get_or c.counters l 0)) 0 (length a.locations) locs w.0 (start_rises a p) (out_of_start a p c start empty w.0) in
+                let here = ap (value_at c) w.1 ∙ value_at-location a c w.0 fits in
+                omega (arith, ints, both, ps, ls, mine, moved, starts, here))
+          ];
+    }
+
+processes_value : (a : Automaton) (p : Pattern) (c : Config) → Fits a c → Initial a c → StartsEmpty p c → (more : List ℕ) → row_value ((parameter_values a c ++ start_counts a p c) ++ more) (processes_row a (start_meanings a p)) ≡ pos 0
+unfolding start_meanings
+processes_value a p c fits start empty more =
+    let m = start_moment a p c fits start empty in
+    let vs = parameter_values a c ++ start_counts a p c in
+    let ms = start_meanings a p in
+    let nums = numbers_from 0 (length a.parameters) in
+    let locs = start_locations a p in
+    let ts = a.processes.terms in
+    let extra = combine-extra (λ k. terms_value (place_coefficient a k) ts -ℤ start_coefficient k) ms vs more m.count in
+    let minus = combine-minus (λ k. terms_value (place_coefficient a k) ts) start_coefficient ms vs in
+    let terms = combine-terms (place_coefficient a) ms vs ts in
+    let same = terms_value-same ts (λ i. combine (map (λ k. place_coefficient a k i) ms) vs) (value_at c) m.places in
+    let first : length (parameter_values a c) ≡ length (map Parameter nums) = same_length (λ j. get_or c.parameters j 0) Parameter nums in
+    let both = combine-append start_coefficient (map Parameter nums) (map Start locs) (parameter_values a c) (start_counts a p c) first in
+    let ps = combine-map start_coefficient Parameter (λ j. get_or c.parameters j 0) nums in
+    let ls = combine-map start_coefficient Start (λ l. get_or c.counters l 0) locs in
+    let none = total-zero (λ j. pos 0 *ℤ pos (get_or c.parameters j 0)) nums (λ j. zero-*ℤ (pos (get_or c.parameters j 0))) in
+    let ones = total-same (λ l. pos 1 *ℤ pos (get_or c.counters l 0)) (λ l. pos (get_or c.counters l 0)) locs (λ l. one_times (pos (get_or c.counters l 0))) in
+    omega (arith, ints, extra, minus, terms, same, both, ps, ls, none, ones, starts_total a p c start empty, start.processes, processes_at a c start.admissible.count)
+
+-- the start set of a configuration: the fall guards that fail there
+abbrev pub start_set : Automaton → Config → ℕ
+start_set a c = mask_of (λ j. row_fails c (slice_get a.fall j)) (length a.fall)
+
+start_bit : (a : Automaton) (c : Config) (j : ℕ) (row : Row) → slice_get a.fall j ≡ Some row → has_bit (start_set a c) j ≡ is_negative (value_of (value_at c) row.form)
+start_bit a c j row at = mask_of-bit (λ k. row_fails c (slice_get a.fall k)) (length a.fall) j (slice_get_within _ _ _ at) ∙ ap (row_fails c) at
+
+pub start_state : (a : Automaton) (p : Pattern) (c : Config) → Fits a c → Initial a c → StartsEmpty p c → Holds p.start c → State a p (start_set a c) [] (parameter_values a c ++ start_counts a p c) [] c
+unfolding meanings total word_rows start_rows has_fallen
+start_state a p c fits start empty holds =
+    let m = start_moment a p c fits start empty in
+    let vs = parameter_values a c ++ start_counts a p c in
+    let ms = start_meanings a p in
+    let fails : (j : ℕ) (row : Row) → slice_get a.fall j ≡ Some row → has_bit (start_set a c) j ≡ true → RowFails (value_at c) row = (λ j row at t. negative_true _ (sym (start_bit a c j row at) ∙ t)) in
+    let stands : (j : ℕ) (row : Row) → slice_get a.fall j ≡ Some row → has_bit (start_set a c) j ≡ false → RowHolds (value_at c) row = (λ j row at t. negative_false _ (sym (start_bit a c j row at) ∙ t)) in
+    record {
+      legal = tt;
+      fits = fits;
+      count = m.count;
+      places = λ i. omega (arith, ints, m.places i);
+      once = tt;
+      solved = λ more.
+          let value = processes_value a p c fits start empty more in
+          let v = vs ++ more in
+          let pair : AllHold v (processes_row a ms ∷ opposite (processes_row a ms) ∷ []) = (omega (arith, ints, value), (omega (arith, ints, value, opposite_value v (processes_row a ms)), tt)) in
+          let guards : AllHold v (start_guard_rows a ms (start_set a c) 0 a.fall) = start_guards a ms vs c m more (start_set a c) 0 a.fall (λ j row at. (λ t. fails j row at (ap (has_bit (start_set a c)) (sym (zero-add j)) ∙ t), λ t. stands j row at (ap (has_bit (start_set a c)) (sym (zero-add j)) ∙ t))) in
+          let three = AllHold-append v (condition_rows a ms p.start.comparisons) (start_guard_rows a ms (start_set a c) 0 a.fall) (condition_holds a ms vs c m more p.start.comparisons holds) guards in
+          let two = AllHold-append v (processes_row a ms ∷ opposite (processes_row a ms) ∷ []) (condition_rows a ms p.start.comparisons ++ start_guard_rows a ms (start_set a c) 0 a.fall) pair three in
+          AllHold-append v (condition_rows a ms a.resilience.comparisons) ((processes_row a ms ∷ opposite (processes_row a ms) ∷ []) ++ (condition_rows a ms p.start.comparisons ++ start_guard_rows a ms (start_set a c) 0 a.fall)) (condition_holds a ms vs c m more a.resilience.comparisons (resilience_holds a c start.admissible.count start.admissible.resilience)) two;
+      fallen = fails;
+      standing = stands;
+    }

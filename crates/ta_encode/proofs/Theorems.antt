@@ -1,0 +1,89 @@
+-- the laws of words, systems, refutations and runs
+use Rattle.std.proofs.Common.{◌≡◌, ◌≤◌, ℕ, zero, suc, ◌+◌, List, [], ◌∷◌, ◌++◌, map, get_or, take, length, length-append, arith, refl, reverse, sym, ap, ◌∙◌, subst, slice_get, Some}
+use Rattle.std.proofs.lemmas.List.{reverse-reverse, length-map}
+use Rattle.ta_automaton.specs.declared.automaton.Automaton.{Automaton}
+use Rattle.ta_automaton.specs.declared.pattern.Pattern.{Pattern}
+use Rattle.ta_automaton.specs.declared.file.File.{File}
+use Rattle.ta_automaton.specs.Runs.{Config}
+use Rattle.ta_automaton.specs.Masks.{numbers_from}
+use Rattle.ta_automaton.proofs.Thresholds.{pattern_within, after_earlier}
+use Rattle.ta_words.specs.declared.element.Element.{Element}
+use Rattle.ta_words.specs.Words.{Legal, is_complete}
+use Rattle.ta_encode.specs.Unknowns.{Parameter, Start, start_locations, start_meanings, meanings}
+use Rattle.ta_encode.specs.System.{word_rows, SolvesWord}
+use Rattle.ta_encode.specs.Laws.{start_values, RunsReorder, ProofsShowSafety, ProofsLeaveNoSolution, SolutionsBecomeRuns}
+use Rattle.ta_encode.proofs.Moments.{AllHold-left}
+use Rattle.ta_encode.proofs.Start.{parameter_values, start_counts}
+use Rattle.ta_encode.proofs.Switch.{Begins}
+use Rattle.ta_encode.proofs.Reorder.{AfterEarlier, describe}
+use Rattle.ta_encode.proofs.Safety.{take_apart, none_solves, proof_safe}
+use Rattle.ta_encode.proofs.Prefixes.{prefix_fewer, prefix_solves}
+use Rattle.ta_encode.proofs.Realize.{solution_runs}
+
+earlier : (file : File) (n : ℕ) (p : Pattern) → slice_get file.patterns n ≡ Some p → AfterEarlier p
+earlier file n p at = after_earlier (length file.automaton.parameters + length file.automaton.shared + length file.automaton.locations) (length file.automaton.locations) p (pattern_within file n p at)
+
+shift : (f : ℕ → ℕ) (k n : ℕ) → map f (numbers_from (k + 1) n) ≡ map (λ x. f (x + 1)) (numbers_from k n)
+shift f k zero = refl
+shift f k (suc n) = ap (λ (xs : List ℕ). f (k + 1) ∷ xs) (shift f (k + 1) n)
+
+map_same : (f g : ℕ → ℕ) (xs : List ℕ) → ((x : ℕ) → f x ≡ g x) → map f xs ≡ map g xs
+map_same f g [] h = refl
+map_same f g (x ∷ xs) h = let first = h x in let rest = map_same f g xs h in cc
+
+each_index : (xs : List ℕ) → map (λ j. get_or xs j 0) (numbers_from 0 (length xs)) ≡ xs
+each_index [] = refl
+each_index (x ∷ xs) =
+    ap (λ (ys : List ℕ). x ∷ ys) (shift (λ j. get_or (x ∷ xs) j 0) 0 (length xs) ∙ map_same (λ j. get_or (x ∷ xs) (j + 1) 0) (λ j. get_or xs j 0) (numbers_from 0 (length xs)) (λ j. grind arith) ∙ each_index xs)
+
+take_first : (xs ys : List ℕ) (n : ℕ) → length xs ≡ n → take n (xs ++ ys) ≡ xs
+take_first [] ys zero e = refl
+take_first [] ys (suc n) e = absurd (omega arith)
+take_first (x ∷ xs) ys zero e = absurd (omega arith)
+take_first (x ∷ xs) ys (suc n) e = ap (λ (zs : List ℕ). x ∷ zs) (take_first xs ys n (omega arith))
+
+begins_with : (a : Automaton) (p : Pattern) (first : Config) (vs : List ℕ) → length first.parameters ≡ length a.parameters → Begins (parameter_values a first ++ start_counts a p first) vs → start_values a p first ≡ take (length (start_meanings a p)) vs
+unfolding start_meanings
+begins_with a p first vs count b =
+    let origin = parameter_values a first ++ start_counts a p first in
+    let nums = numbers_from 0 (length a.parameters) in
+    let locs = start_locations a p in
+    let many : length origin ≡ length (start_meanings a p) = omega (arith, length-append (parameter_values a first) (start_counts a p first), length-append (map Parameter nums) (map Start locs), length-map nums (λ j. get_or first.parameters j 0), length-map nums Parameter, length-map locs (λ l. get_or first.counters l 0), length-map locs Start) in
+    let parameters : parameter_values a first ≡ first.parameters = subst (λ (n : ℕ). map (λ j. get_or first.parameters j 0) (numbers_from 0 n) ≡ first.parameters) count (each_index first.parameters) in
+    sym (ap (λ (xs : List ℕ). take (length (start_meanings a p)) xs) b.1 ∙ take_first origin b.0 (length (start_meanings a p)) many ∙ ap (λ (xs : List ℕ). xs ++ start_counts a p first) parameters)
+
+pub reorder : RunsReorder
+reorder file n p at loops first rules occurs =
+    let a = file.automaton in
+    let d = describe a p loops (earlier file n p at) first rules occurs in
+    let word = reverse d.past in
+    let back : d.past ≡ reverse word = sym (reverse-reverse d.past) in
+    let solves = subst (λ (q : List Element). SolvesWord a p d.start q [] d.values) back d.solves in
+    record {
+      start = d.start;
+      is_start = d.is_start;
+      word = word;
+      values = d.values;
+      begins = begins_with a p first d.values occurs.run.initial.admissible.count d.begins;
+      solved = record {
+        legal = subst (Legal a p d.start) back d.legal;
+        complete = ap (is_complete p) (sym back) ∙ d.complete;
+        solves = solves;
+      };
+      prefix_solved = prefix_solves a p d.start word d.values solves;
+    }
+
+pub safety : ProofsShowSafety
+safety file n p at loops trees proof = proof_safe file.automaton p loops (earlier file n p at) trees proof
+
+pub no_solution : ProofsLeaveNoSolution
+no_solution a p trees proof start b word vs s =
+    none_solves a p trees proof start b (reverse word) vs s.legal s.complete (AllHold-left vs (word_rows a p start (reverse word)) [] s.solves.rows_hold)
+
+pub runs : SolutionsBecomeRuns
+unfolding meanings
+runs file n p at rank forward start word vs s =
+    let a = file.automaton in
+    let f = take_apart (reverse word) [] in
+    let fewer : length (start_meanings a p) ≤ length (meanings a p start (reverse word)) = subst (λ (q : List Element). length (start_meanings a p) ≤ length (meanings a p start q)) f.1 (prefix_fewer a p start [] f.0) in
+    solution_runs a p (earlier file n p at) rank forward start (reverse word) vs s.legal s.complete (AllHold-left vs (word_rows a p start (reverse word)) [] s.solves.rows_hold) (omega (arith, s.solves.count))

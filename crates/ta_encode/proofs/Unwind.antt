@@ -1,0 +1,265 @@
+-- the run of a word's solution, element by element
+use Rattle.std.proofs.Common.{◌≡◌, ◌≢◌, ◌⊎◌, inl, inr, ℕ, ◌+◌, ◌<◌, ◌≤◌, ℤ, pos, ◌+ℤ◌, ◌≤ℤ◌, List, [], ◌∷◌, ◌++◌, map, length, drop, eqb, cond, true, false, not, ◌||◌, arith, sym, ap, ◌∙◌, refl, subst, slice_get, get_or, Some, Option, IsBitSet, zero-add}
+use Rattle.std.proofs.lemmas.List.{length-map}
+use Rattle.std.proofs.lemmas.Int.{ints}
+use Rattle.std.proofs.lemmas.Bool.{false≢true, cases_Bool, and_parts, eqb-true, or_cases}
+use Rattle.std.proofs.lemmas.Bool.Decides.{nat_tests, eqb_tells}
+use Rattle.ta_linear.specs.Values.{value_of, RowHolds}
+use Rattle.ta_linear.specs.declared.row.Row.{Row}
+use Rattle.ta_automaton.specs.declared.rule.Rule.{Rule}
+use Rattle.ta_automaton.specs.declared.automaton.Automaton.{Automaton}
+use Rattle.ta_automaton.specs.declared.pattern.Event.{Event as PatternEvent}
+use Rattle.ta_automaton.specs.declared.pattern.Pattern.{Pattern}
+use Rattle.ta_automaton.specs.Runs.{Config, value_at, Holds}
+use Rattle.ta_automaton.specs.Masks.{has_bit, implies, In}
+use Rattle.ta_words.specs.declared.element.Element.{Element}
+use Rattle.ta_words.specs.declared.element.Element.TheVariants.{Event, Rise, Fall}
+use Rattle.ta_words.specs.Words.{has_event, has_rise, has_fallen, follows, children, Legal, allowed_rules, may_fire}
+use Rattle.ta_automaton.specs.Places.{one_if, location_place}
+use Rattle.ta_encode.specs.Unknowns.{Meaning, Count, Single, meanings, counts_after, singles_after, place_coefficient}
+use Rattle.ta_encode.specs.System.{opposite, negated, counter_rows, guard_rows, standing_rows, singles_row, event_rows, rise_rows, happening_rows, fall_rows, word_rows, combine, AllHold}
+use Rattle.ta_encode.specs.Laws.{Forward}
+use Rattle.ta_automaton.specs.Sums.{total}
+use Rattle.ta_encode.proofs.Combine.{terms_value-same, combine-zero}
+use Rattle.ta_encode.proofs.Moments.{opposite_value}
+use Rattle.ta_automaton.proofs.Moves.{move_at, value_at-location, one_if-ne}
+use Rattle.ta_automaton.proofs.MaskTests.{all_below-at, implies-at, not_true, true_not, or_right, bit_true}
+use Rattle.ta_encode.proofs.State.{change_of}
+use Rattle.ta_encode.proofs.Switch.{KeptEmpty}
+use Rattle.ta_automaton.proofs.Thresholds.{falls as falls_rows, rises as rises_rows, from_within}
+use Rattle.ta_automaton.proofs.Fire.{Whole}
+use Rattle.ta_automaton.proofs.Trails.{Trail, trail_push}
+use Rattle.ta_encode.proofs.Segment.{Segment, Fired, EachMay, later_total, fire_all, fire_one, fits_whole, may_parts, change_location}
+use Rattle.ta_automaton.proofs.Thresholds.{fall_back, rise_on}
+use Rattle.ta_encode.proofs.Values.{place_value, counter_natural, guard_holds, condition_back, AllHold-right, left_part, combine-split, unfolded, unfolded-total, unfolded-count, unfolded-may, allowed_may, event_ready}
+
+-- a run for a word, whose end has the values of a moment
+pub record At (a : Automaton) (p : Pattern) (start : ℕ) (past : List Element) (vs : List ℕ) (ms : List Meaning) (first : Config) : Type 0 where
+  pub config : Config
+  pub trail : Trail a (KeptEmpty p) first config
+  pub whole : Whole a config
+  pub values : (i : ℕ) → value_at config i ≡ place_value a ms vs i
+  pub rises : (i : ℕ) (row : Row) → slice_get a.rise i ≡ Some row → has_rise past i ≡ true → RowHolds (value_at config) row
+  pub position : ℕ → ℕ
+  pub happened : (e : ℕ) (event : PatternEvent) → has_event past e ≡ true → slice_get p.events e ≡ Some event → (c : Config) × (slice_get (first ∷ trail.later) (position e) ≡ Some c) × Holds event.condition c
+  pub bounded : (e : ℕ) → has_event past e ≡ true → position e ≤ length trail.rules
+  pub ordered : (e f : ℕ) (event : PatternEvent) → has_event past e ≡ true → slice_get p.events e ≡ Some event → IsBitSet event.after f → f < length p.events → (has_event past f ≡ true) × (position f ≤ position e)
+
+-- the run goes on to another moment
+go_on : (a : Automaton) (p : Pattern) (start : ℕ) (past : List Element) (vs : List ℕ) (ms : List Meaning) (first : Config) → (t : At a p start past vs ms first) → (os : List ℕ) → EachMay a p start past os → (f : Fired a p first t.config t.trail os) → (ns : List Meaning) → ((i : ℕ) → (place_value a ms vs i +ℤ total (change_of a i) os) ≡ place_value a ns vs i) → At a p start past vs ns first
+go_on a p start past vs ms first t os may f ns same = record {
+  config = f.end;
+  trail = f.trail;
+  whole = f.whole;
+  values = λ i. omega (arith, ints, f.values i, t.values i, same i);
+  rises = λ i row at h.
+      let was : pos 0 ≤ℤ value_of (value_at t.config) row.form = t.rises i row at h in
+      omega (arith, ints, was, rise_on a (value_at t.config) (λ k. value_at t.config k +ℤ total (change_of a k) os) (later_total a p start past os (value_at t.config) may) row.form.terms (rises_rows a i row at), terms_value-same row.form.terms (value_at f.end) (λ k. value_at t.config k +ℤ total (change_of a k) os) f.values);
+  position = t.position;
+  happened = λ e event h at. let w = t.happened e event h at in (w.0, f.grows.kept (t.position e) w.0 w.1, w.2);
+  bounded = λ e h. omega (arith, t.bounded e h, f.grows.longer);
+  ordered = t.ordered;
+}
+
+counts_move : (a : Automaton) (p : Pattern) (start : ℕ) (past : List Element) (vs : List ℕ) (ms : List Meaning) (i : ℕ) → (place_value a ms vs i +ℤ total (change_of a i) (unfolded (allowed_rules a p start past) (drop (length ms) vs))) ≡ place_value a (ms ++ counts_after a p start past) vs i
+counts_move a p start past vs ms i =
+    omega (arith, ints, combine-split (λ m. place_coefficient a m i) ms (counts_after a p start past) vs, unfolded-total (λ m. place_coefficient a m i) (Count (length past)) (allowed_rules a p start past) (drop (length ms) vs))
+
+singles_move : (a : Automaton) (p : Pattern) (start : ℕ) (past : List Element) (vs : List ℕ) (ms : List Meaning) (i : ℕ) → (place_value a ms vs i +ℤ total (change_of a i) (unfolded (allowed_rules a p start past) (drop (length ms) vs))) ≡ place_value a (ms ++ singles_after a p start past) vs i
+singles_move a p start past vs ms i =
+    omega (arith, ints, combine-split (λ m. place_coefficient a m i) ms (singles_after a p start past) vs, unfolded-total (λ m. place_coefficient a m i) (Single (length past)) (allowed_rules a p start past) (drop (length ms) vs))
+
+trail_empty : (a : Automaton) (p : Pattern) (first d : Config) (t : Trail a (KeptEmpty p) first d) → KeptEmpty p d
+trail_empty a p first d t = t.all_good (length t.rules) d t.last
+
+-- the Counts of an element
+do_counts : (a : Automaton) (p : Pattern) (start : ℕ) (past : List Element) (vs : List ℕ) (first : Config) → (rank : ℕ → ℕ) → Forward a rank → At a p start past vs (meanings a p start past) first → AllHold vs (counter_rows a p (meanings a p start past ++ counts_after a p start past)) → ((j : ℕ) (row : Row) → slice_get a.fall j ≡ Some row → has_fallen start past j ≡ false → pos 0 ≤ℤ value_of (place_value a (meanings a p start past ++ counts_after a p start past) vs) row.form) → At a p start past vs (meanings a p start past ++ counts_after a p start past) first
+do_counts a p start past vs first rank forward t counters falls =
+    let ms = meanings a p start past in
+    let os = unfolded (allowed_rules a p start past) (drop (length ms) vs) in
+    let may : EachMay a p start past os = unfolded-may a p start past (allowed_rules a p start past) (drop (length ms) vs) (allowed_may a p start past) in
+    let same : (i : ℕ) → (value_at t.config i +ℤ total (change_of a i) os) ≡ place_value a (ms ++ counts_after a p start past) vs i = (λ i. omega (arith, ints, t.values i, counts_move a p start past vs ms i)) in
+    let s : Segment a p start past t.config os = record {
+      whole = t.whole;
+      may = may;
+      rises = t.rises;
+      falls = λ j row at f. omega (arith, ints, falls j row at f, terms_value-same row.form.terms (λ i. value_at t.config i +ℤ total (change_of a i) os) (place_value a (ms ++ counts_after a p start past) vs) same);
+      ends = λ l b e. omega (arith, ints, same (location_place a l), counter_natural a p (ms ++ counts_after a p start past) vs counters l b e);
+      empty = trail_empty a p first t.config t.trail;
+    } in
+    go_on a p start past vs ms first t os may (fire_all a p start past first rank forward (length os) os t.config t.trail refl s) (ms ++ counts_after a p start past) (counts_move a p start past vs ms)
+
+stand : (a : Automaton) (start : ℕ) (past : List Element) (ms : List Meaning) (vs : List ℕ) → AllHold vs (standing_rows a start past ms) → (j : ℕ) (row : Row) → slice_get a.fall j ≡ Some row → has_fallen start past j ≡ false → pos 0 ≤ℤ value_of (place_value a ms vs) row.form
+stand a start past ms vs h j row at f =
+    guard_holds a ms vs (λ k. not (has_fallen start past k)) 0 a.fall h j row at (not_true _ (ap (has_fallen start past) (zero-add j) ∙ f))
+
+do_rise : (a : Automaton) (p : Pattern) (start : ℕ) (past : List Element) (vs : List ℕ) (first : Config) (i : ℕ) → (rank : ℕ → ℕ) → Forward a rank → At a p start past vs (meanings a p start past) first → AllHold vs (rise_rows a p start past (meanings a p start (Rise i ∷ past)) i) → At a p start (Rise i ∷ past) vs (meanings a p start (Rise i ∷ past)) first
+unfolding meanings rise_rows has_rise has_event
+do_rise a p start past vs first i rank forward t h =
+    let ms = meanings a p start past ++ counts_after a p start past in
+    let counters = left_part vs (counter_rows a p ms) (guard_rows a ms (λ k. eqb k i) 0 a.rise ++ standing_rows a start past ms) h in
+    let others = AllHold-right vs (counter_rows a p ms) (guard_rows a ms (λ k. eqb k i) 0 a.rise ++ standing_rows a start past ms) h in
+    let guard = left_part vs (guard_rows a ms (λ k. eqb k i) 0 a.rise) (standing_rows a start past ms) others in
+    let standing = AllHold-right vs (guard_rows a ms (λ k. eqb k i) 0 a.rise) (standing_rows a start past ms) others in
+    let u = do_counts a p start past vs first rank forward t counters (stand a start past ms vs standing) in
+    record {
+      config = u.config;
+      trail = u.trail;
+      whole = u.whole;
+      values = u.values;
+      rises = λ k row at f. elim (or_cases (eqb i k) (has_rise past k) f) [
+        | inl e ↦ (
+            let test : eqb (0 + k) i ≡ true = (let s : i ≡ k = eqb-true i k e in grind (arith, nat_tests)) in
+            omega (arith, ints, guard_holds a ms vs (λ x. eqb x i) 0 a.rise guard k row at test, terms_value-same row.form.terms (value_at u.config) (place_value a ms vs) u.values))
+        | inr g ↦ u.rises k row at g
+      ];
+      position = u.position;
+      happened = u.happened;
+      bounded = u.bounded;
+      ordered = u.ordered;
+    }
+
+position_here : (x e n m : ℕ) → x ≡ e → cond (eqb x e) n m ≡ n
+position_here x e n m q = let s : eqb x e ≡ true = grind (arith, nat_tests) in rw s refl
+
+position_other : (x e n m : ℕ) → x ≢ e → cond (eqb x e) n m ≡ m
+position_other x e n m q = let s : eqb x e ≡ false = grind (arith, nat_tests) in rw s refl
+
+do_event : (a : Automaton) (p : Pattern) (start : ℕ) (past : List Element) (vs : List ℕ) (first : Config) (e : ℕ) → (rank : ℕ → ℕ) → Forward a rank → In (Event e) (children a p start past) → At a p start past vs (meanings a p start past) first → AllHold vs (happening_rows a p start past (meanings a p start (Event e ∷ past)) e) → At a p start (Event e ∷ past) vs (meanings a p start (Event e ∷ past)) first
+unfolding meanings happening_rows has_rise has_event
+do_event a p start past vs first e rank forward child t h =
+    let ms = meanings a p start past ++ counts_after a p start past in
+    let rows = event_rows a ms (slice_get p.events e) in
+    let counters = left_part vs (counter_rows a p ms) (rows ++ standing_rows a start past ms) h in
+    let others = AllHold-right vs (counter_rows a p ms) (rows ++ standing_rows a start past ms) h in
+    let mine = left_part vs rows (standing_rows a start past ms) others in
+    let standing = AllHold-right vs rows (standing_rows a start past ms) others in
+    let u = do_counts a p start past vs first rank forward t counters (stand a start past ms vs standing) in
+    let n = length u.trail.rules in
+    let ready = and_parts (not (has_event past e)) (follows p past (slice_get p.events e)) (event_ready a p start past e child) in
+    let new = true_not (has_event past e) ready.0 in
+    let place : ℕ → ℕ = (λ x. cond (eqb x e) n (u.position x)) in
+    let old_not : (x : ℕ) → has_event past x ≡ true → x ≢ e = (λ x y q. false≢true (sym new ∙ ap (has_event past) (sym q) ∙ y)) in
+    let old_or : (x : ℕ) → has_event (Event e ∷ past) x ≡ true → (x ≡ e) ⊎ (has_event past x ≡ true) = (λ x y. elim (or_cases (eqb e x) (has_event past x) y) [ inl q ↦ inl (sym (eqb-true e x q)) | inr q ↦ inr q ]) in
+    record {
+      config = u.config;
+      trail = u.trail;
+      whole = u.whole;
+      values = u.values;
+      rises = u.rises;
+      position = place;
+      happened = λ x event y at. elim (old_or x y) [
+        | inl q ↦ (
+          u.config,
+          subst (λ (k : ℕ). slice_get (first ∷ u.trail.later) k ≡ Some u.config) {y = place x} (sym {a = place x} (position_here x e n (u.position x) q)) u.trail.last,
+          condition_back a ms vs u.config u.values event.condition.comparisons (subst (λ (o : Option PatternEvent). AllHold vs (event_rows a ms o)) (ap (slice_get p.events) (sym q) ∙ at) mine),
+        )
+        | inr q ↦ (let w = u.happened x event q at in (w.0, subst (λ (k : ℕ). slice_get (first ∷ u.trail.later) k ≡ Some w.0) {y = place x} (sym {a = place x} (position_other x e n (u.position x) (old_not x q))) w.1, w.2))
+      ];
+      bounded = λ x y. elim (old_or x y) [
+        | inl q ↦ omega (arith, position_here x e n (u.position x) q)
+        | inr q ↦ omega (arith, position_other x e n (u.position x) (old_not x q), u.bounded x q)
+      ];
+      ordered = λ x f event y at set b. elim (old_or x y) [
+        | inl q ↦ (
+            let done : has_event past f ≡ true = implies-at (has_bit event.after f) (has_event past f) (all_below-at (length p.events) (λ k. implies (has_bit event.after k) (has_event past k)) (ap (follows p past) (sym at ∙ ap (slice_get p.events) q) ∙ ready.1) f b) (bit_true event.after f set) in
+            (or_right (eqb e f) (has_event past f) done, omega (arith, position_here x e n (u.position x) q, position_other f e n (u.position f) (old_not f done), u.bounded f done)))
+        | inr q ↦ (
+            let w = u.ordered x f event q at set b in
+            (or_right (eqb e f) (has_event past f) w.0, (let z = w.1 in omega (arith, position_other x e n (u.position x) (old_not x q), position_other f e n (u.position f) (old_not f w.0)))))
+      ];
+    }
+
+combine-cut : (cs ds : List ℤ) (vs : List ℕ) → combine (cs ++ ds) vs ≡ (combine cs vs +ℤ combine ds (drop (length cs) vs))
+unfolding combine
+combine-cut [] ds vs = omega (arith, ints)
+combine-cut (c ∷ cs) [] [] = omega (arith, ints)
+combine-cut (c ∷ cs) (d ∷ ds) [] = omega (arith, ints)
+combine-cut (c ∷ cs) ds (v ∷ vs) = omega (arith, ints, combine-cut cs ds vs)
+
+only_item : (xs : List ℕ) → length xs ≡ 1 → (x : ℕ) × (xs ≡ x ∷ [])
+only_item [] e = absurd (omega arith)
+only_item (x ∷ []) e = (x, refl)
+only_item (x ∷ y ∷ xs) e = absurd (omega arith)
+
+one_single : (before : List Meaning) (al vs : List ℕ) → AllHold vs (singles_row before al ∷ opposite (singles_row before al) ∷ []) → length (unfolded al (drop (length before) vs)) ≡ 1
+one_single before al vs h =
+    let cut = combine-cut (map (λ (m : Meaning). pos 0) before) (map (λ (r : ℕ). pos 1) al) vs in
+    let len = ap (λ n. combine (map (λ (r : ℕ). pos 1) al) (drop n vs)) (length-map before (λ (m : Meaning). pos 0)) in
+    let sum : pos (length (unfolded al (drop (length before) vs))) ≡ pos 1 = omega (arith, ints, cut, len, combine-zero before vs, unfolded-count al (drop (length before) vs), h.0, h.1.0, opposite_value vs (singles_row before al)) in
+    omega (arith, ints, sum)
+
+do_fall : (a : Automaton) (p : Pattern) (start : ℕ) (past : List Element) (vs : List ℕ) (first : Config) (mask : ℕ) → (rank : ℕ → ℕ) → Forward a rank → At a p start past vs (meanings a p start past) first → AllHold vs (fall_rows a p start past (meanings a p start past ++ counts_after a p start past) (meanings a p start (Fall mask ∷ past)) mask) → At a p start (Fall mask ∷ past) vs (meanings a p start (Fall mask ∷ past)) first
+unfolding meanings fall_rows has_rise has_event has_fallen total
+do_fall a p start past vs first mask rank forward t h =
+    let al = allowed_rules a p start past in
+    let before = meanings a p start past ++ counts_after a p start past in
+    let end = before ++ singles_after a p start past in
+    let e = counter_rows a p end in
+    let n = map negated (guard_rows a end (has_bit mask) 0 a.fall) in
+    let s = standing_rows a start (Fall mask ∷ past) end in
+    let pair = singles_row before al ∷ opposite (singles_row before al) ∷ [] in
+    let chosen = guard_rows a before (has_bit mask) 0 a.fall in
+    let h1 = left_part vs (counter_rows a p before) (chosen ++ (pair ++ (e ++ (n ++ s)))) h in
+    let r1 = AllHold-right vs (counter_rows a p before) (chosen ++ (pair ++ (e ++ (n ++ s)))) h in
+    let h2 = left_part vs chosen (pair ++ (e ++ (n ++ s))) r1 in
+    let r2 = AllHold-right vs chosen (pair ++ (e ++ (n ++ s))) r1 in
+    let h3 = left_part vs pair (e ++ (n ++ s)) r2 in
+    let r3 = AllHold-right vs pair (e ++ (n ++ s)) r2 in
+    let h4 = left_part vs e (n ++ s) r3 in
+    let h5 = AllHold-right vs n s (AllHold-right vs e (n ++ s) r3) in
+    let os = unfolded al (drop (length before) vs) in
+    let may : EachMay a p start past os = unfolded-may a p start past al (drop (length before) vs) (allowed_may a p start past) in
+    let falls : (j : ℕ) (row : Row) → slice_get a.fall j ≡ Some row → has_fallen start past j ≡ false → pos 0 ≤ℤ value_of (place_value a before vs) row.form = (λ j row at f. elim (cases_Bool (has_bit mask j)) [
+      | inl b ↦ guard_holds a before vs (has_bit mask) 0 a.fall h2 j row at (ap (has_bit mask) (zero-add j) ∙ b)
+      | inr b ↦ (
+          let neither : (has_bit mask j || has_fallen start past j) ≡ false = ap (λ x. x || has_fallen start past j) b ∙ f in
+          omega (
+            arith,
+            ints,
+            stand a start (Fall mask ∷ past) end vs h5 j row at neither,
+            terms_value-same row.form.terms (λ i. place_value a before vs i +ℤ total (change_of a i) os) (place_value a end vs) (singles_move a p start past vs before),
+            fall_back a (place_value a before vs) (λ i. place_value a before vs i +ℤ total (change_of a i) os) (later_total a p start past os (place_value a before vs) may) row.form.terms (falls_rows a j row at),
+          ))
+    ]) in
+    let u = do_counts a p start past vs first rank forward t h1 falls in
+    let one = only_item os (one_single before al vs h3) in
+    let r = one.0 in
+    let can : may_fire a p start past (slice_get a.rules r) ≡ true = (subst (EachMay a p start past) one.1 may).0 in
+    let moves : (i : ℕ) → (place_value a before vs i +ℤ total (change_of a i) (r ∷ [])) ≡ place_value a end vs i = (λ i. ap (λ (xs : List ℕ). place_value a before vs i +ℤ total (change_of a i) xs) (sym one.1) ∙ singles_move a p start past vs before i) in
+    let fits = fits_whole a u.config u.whole in
+    let some : (rule : Rule) → slice_get a.rules r ≡ Some rule → 1 ≤ get_or u.config.counters rule.from 0 = (λ rule named.
+    let m = may_parts a p start past rule (ap (may_fire a p start past) (sym named) ∙ can) in
+    let b = from_within a r rule named in
+    let l = rule.from in
+    let natural_end = counter_natural a p end vs h4 l b m.from in
+    let mine : one_if rule.from l ≡ pos 1 = elim (eqb_tells l l) [ inl q ↦ rw q.0 refl | inr ne ↦ absurd (ne.1 refl) ] in
+    let none : one_if rule.to l ≡ pos 0 = one_if-ne rule.to l (λ q. m.apart (sym q)) in
+    omega (arith, ints, natural_end, mine, none, moves (location_place a l), u.values (location_place a l), change_location a l r rule named, value_at-location a u.config l fits)) in
+    let holds : (j : ℕ) (row : Row) → slice_get a.fall j ≡ Some row → has_fallen start past j ≡ false → RowHolds (value_at u.config) row = (λ j row at f. omega (arith, ints, falls j row at f, terms_value-same row.form.terms (value_at u.config) (place_value a before vs) u.values)) in
+    let f = fire_one a p start past u.config r u.whole can u.rises holds (trail_empty a p first u.config u.trail) some in
+    let moved = move_at a r u.config f.0 fits (fits_whole a f.0 f.2) f.1 in
+    let pushed = trail_push a (KeptEmpty p) first u.config u.trail r f.0 f.1 f.3 in
+    let v = go_on a p start past vs before first u (r ∷ []) (can, tt) (record { end = f.0; trail = pushed.0; grows = pushed.1; whole = f.2; values = λ i. omega (arith, ints, moved i) }) end moves in
+    record {
+      config = v.config;
+      trail = v.trail;
+      whole = v.whole;
+      values = v.values;
+      rises = v.rises;
+      position = v.position;
+      happened = v.happened;
+      bounded = v.bounded;
+      ordered = v.ordered;
+    }
+
+-- the run of a legal word with a solution
+pub unwind : (a : Automaton) (p : Pattern) (start : ℕ) (past : List Element) (vs : List ℕ) (first : Config) → (rank : ℕ → ℕ) → Forward a rank → At a p start [] vs (meanings a p start []) first → Legal a p start past → AllHold vs (word_rows a p start past) → At a p start past vs (meanings a p start past) first
+unfolding word_rows
+unwind a p start [] vs first rank forward begin legal h = begin
+unwind a p start (Event e ∷ past) vs first rank forward begin legal h =
+    do_event a p start past vs first e rank forward legal.0 (unwind a p start past vs first rank forward begin legal.1 (left_part vs (word_rows a p start past) _ h)) (AllHold-right vs (word_rows a p start past) _ h)
+unwind a p start (Rise i ∷ past) vs first rank forward begin legal h =
+    do_rise a p start past vs first i rank forward (unwind a p start past vs first rank forward begin legal.1 (left_part vs (word_rows a p start past) _ h)) (AllHold-right vs (word_rows a p start past) _ h)
+unwind a p start (Fall mask ∷ past) vs first rank forward begin legal h =
+    do_fall a p start past vs first mask rank forward (unwind a p start past vs first rank forward begin legal.1 (left_part vs (word_rows a p start past) _ h)) (AllHold-right vs (word_rows a p start past) _ h)

@@ -1,0 +1,190 @@
+use Rattle.std.proofs.Common.{◌≡◌, pos, negsuc, ◌<◌, ◌++◌, ◌∷◌, [], List, length, reverse, arith, refl, sym, ap, ◌∙◌, subst}
+use Rattle.std.proofs.lemmas.List.{length-reverse}
+use Rattle.ta_words.specs.declared.element.Element.{Element}
+use Rattle.ta_words.specs.declared.element.Element.TheVariants.{Event, Rise, Fall}
+use Rattle.ta_words.proofs.Lists.{pattern_at, of_pattern}
+use Rattle.ta_encode.specs.Unknowns.{Meaning, counts_after, singles_after}
+use Rattle.ta_encode.specs.Lines.{Adds, block_row}
+use Rattle.ta_encode.specs.Draft.{Drafted}
+use Rattle.ta_encode.specs.declared.line.Sense.TheVariants.{Same, Opposite}
+use Rattle.ta_encode.proofs.Drafts.{counted, singled, step_few, fall_few, fallen_more, events_small, rise_drafted, event_drafted, fall_drafted}
+use Rattle.ta_encode.proofs.draft.push_element.Goals as goal
+
+pub push_rise-requires : goal.push_rise-requires
+push_rise-requires c =
+    let file = c.args.file.now in
+    let a = file.automaton in
+    let p = c.index-as_slice-pattern.result in
+    let start = c.args.start_mask in
+    let past = reverse c.args.before.now in
+    let at = pattern_at file c.as_slice.result.now c.args.pattern p c.as_slice.ensures c.requires.exists c.index-as_slice-pattern.is in
+    let ms = c.args.meanings.now.items in
+    let rows = c.args.rows.now.items in
+    let drafted = c.requires.drafted p at in
+    let below : length past < 30 = (let same = length-reverse c.args.before.now in let few = c.requires.few in omega arith) in
+    let allowed = c.allowed_after-allowed.ensures p at in
+    let counts : c.push_firings.new.meanings.items ≡ ms ++ counts_after a p start past = c.in_ok-push_firings.ensures ∙ ap (λ xs. ms ++ xs) (counted a p start c.args.before.now c.allowed_after-allowed.result (length c.as_slice-rules.result.now) (length c.args.before.now) allowed (ap length c.as_slice-rules.ensures) refl) in
+    let ns = c.as_slice-unknowns.result.now in
+    let grown : ns ≡ ms ++ counts_after a p start past = c.as_slice-unknowns.ensures.value ∙ counts in
+    let most = step_few a p start past ms ns rows drafted below grown in
+    omega arith
+
+pub push_event-requires-clause-numbers : goal.push_event-requires-clause-numbers
+push_event-requires-clause-numbers c =
+    let file = c.args.file.now in
+    let a = file.automaton in
+    let p = c.index-as_slice-pattern.result in
+    let start = c.args.start_mask in
+    let past = reverse c.args.before.now in
+    let at = pattern_at file c.as_slice.result.now c.args.pattern p c.as_slice.ensures c.requires.exists c.index-as_slice-pattern.is in
+    let ms = c.args.meanings.now.items in
+    let rows = c.args.rows.now.items in
+    let drafted = c.requires.drafted p at in
+    let below : length past < 30 = (let same = length-reverse c.args.before.now in let few = c.requires.few in omega arith) in
+    let allowed = c.allowed_after-allowed.ensures p at in
+    let counts : c.push_firings.new.meanings.items ≡ ms ++ counts_after a p start past = c.in_ok-push_firings.ensures ∙ ap (λ xs. ms ++ xs) (counted a p start c.args.before.now c.allowed_after-allowed.result (length c.as_slice-rules.result.now) (length c.args.before.now) allowed (ap length c.as_slice-rules.ensures) refl) in
+    let ns = c.as_slice-unknowns-in-Event.result.now in
+    let grown : ns ≡ ms ++ counts_after a p start past = c.as_slice-unknowns-in-Event.ensures.value ∙ counts in
+    let most = step_few a p start past ms ns rows drafted below grown in
+    omega arith
+
+pub push_event-requires-clause-small : goal.push_event-requires-clause-small
+push_event-requires-clause-small c =
+    let file = c.args.file.now in
+    let p = c.index-as_slice-pattern.result in
+    events_small file c.args.pattern p (pattern_at file c.as_slice.result.now c.args.pattern p c.as_slice.ensures c.requires.exists c.index-as_slice-pattern.is)
+
+pub push_falling-requires : goal.push_falling-requires
+push_falling-requires c =
+    let file = c.args.file.now in
+    let a = file.automaton in
+    let p = c.index-as_slice-pattern.result in
+    let start = c.args.start_mask in
+    let past = reverse c.args.before.now in
+    let at = pattern_at file c.as_slice.result.now c.args.pattern p c.as_slice.ensures c.requires.exists c.index-as_slice-pattern.is in
+    let ms = c.args.meanings.now.items in
+    let rows = c.args.rows.now.items in
+    let drafted = c.requires.drafted p at in
+    let below : length past < 30 = (let same = length-reverse c.args.before.now in let few = c.requires.few in omega arith) in
+    let allowed = c.allowed_after-allowed.ensures p at in
+    let counts : c.push_firings.new.meanings.items ≡ ms ++ counts_after a p start past = c.in_ok-push_firings.ensures ∙ ap (λ xs. ms ++ xs) (counted a p start c.args.before.now c.allowed_after-allowed.result (length c.as_slice-rules.result.now) (length c.args.before.now) allowed (ap length c.as_slice-rules.ensures) refl) in
+    let ns = c.as_slice-in-Fall.result.now in
+    let grown : ns ≡ ms ++ counts_after a p start past = c.as_slice-in-Fall.ensures.value ∙ counts in
+    let most = step_few a p start past ms ns rows drafted below grown in
+    omega arith
+
+pub push_singles-requires-clause-numbers : goal.push_singles-requires-clause-numbers
+push_singles-requires-clause-numbers c =
+    let file = c.args.file.now in
+    let a = file.automaton in
+    let p = c.index-as_slice-pattern.result in
+    let start = c.args.start_mask in
+    let past = reverse c.args.before.now in
+    let at = pattern_at file c.as_slice.result.now c.args.pattern p c.as_slice.ensures c.requires.exists c.index-as_slice-pattern.is in
+    let ms = c.args.meanings.now.items in
+    let rows = c.args.rows.now.items in
+    let drafted = c.requires.drafted p at in
+    let below : length past < 30 = (let same = length-reverse c.args.before.now in let few = c.requires.few in omega arith) in
+    let allowed = c.allowed_after-allowed.ensures p at in
+    let counts : c.push_firings.new.meanings.items ≡ ms ++ counts_after a p start past = c.in_ok-push_firings.ensures ∙ ap (λ xs. ms ++ xs) (counted a p start c.args.before.now c.allowed_after-allowed.result (length c.as_slice-rules.result.now) (length c.args.before.now) allowed (ap length c.as_slice-rules.ensures) refl) in
+    let singles : c.push_firings-in-Fall.new.meanings.items ≡ c.push_firings.new.meanings.items ++ singles_after a p start past = c.in_ok-push_firings-in-Fall.ensures ∙ ap (λ xs. c.push_firings.new.meanings.items ++ xs) (singled a p start c.args.before.now c.allowed_after-allowed.result (length c.as_slice-rules.result.now) (length c.args.before.now) allowed (ap length c.as_slice-rules.ensures) refl) in
+    let most = step_few a p start past ms c.push_firings.new.meanings.items rows drafted below counts in
+    let all = fall_few a p start past c.push_firings.new.meanings.items c.push_firings-in-Fall.new.meanings.items most singles in
+    let count : c.len.result ≡ length c.push_firings-in-Fall.new.meanings.items = c.len.ensures ∙ c.push_firings-in-Fall.new.meanings.ok.0 in
+    omega arith
+
+pub push_fallen-requires : goal.push_fallen-requires
+push_fallen-requires c =
+    let file = c.args.file.now in
+    let a = file.automaton in
+    let p = c.index-as_slice-pattern.result in
+    let start = c.args.start_mask in
+    let past = reverse c.args.before.now in
+    let at = pattern_at file c.as_slice.result.now c.args.pattern p c.as_slice.ensures c.requires.exists c.index-as_slice-pattern.is in
+    let ms = c.args.meanings.now.items in
+    let rows = c.args.rows.now.items in
+    let drafted = c.requires.drafted p at in
+    let below : length past < 30 = (let same = length-reverse c.args.before.now in let few = c.requires.few in omega arith) in
+    let allowed = c.allowed_after-allowed.ensures p at in
+    let counts : c.push_firings.new.meanings.items ≡ ms ++ counts_after a p start past = c.in_ok-push_firings.ensures ∙ ap (λ xs. ms ++ xs) (counted a p start c.args.before.now c.allowed_after-allowed.result (length c.as_slice-rules.result.now) (length c.args.before.now) allowed (ap length c.as_slice-rules.ensures) refl) in
+    let singles : c.push_firings-in-Fall.new.meanings.items ≡ c.push_firings.new.meanings.items ++ singles_after a p start past = c.in_ok-push_firings-in-Fall.ensures ∙ ap (λ xs. c.push_firings.new.meanings.items ++ xs) (singled a p start c.args.before.now c.allowed_after-allowed.result (length c.as_slice-rules.result.now) (length c.args.before.now) allowed (ap length c.as_slice-rules.ensures) refl) in
+    let most = step_few a p start past ms c.push_firings.new.meanings.items rows drafted below counts in
+    let all = fall_few a p start past c.push_firings.new.meanings.items c.push_firings-in-Fall.new.meanings.items most singles in
+    let same = ap length c.as_slice-in-Fall-2.ensures.value in
+    omega arith
+
+pub returns-in_ok-push_rise-in-Rise : goal.returns-in_ok-push_rise-in-Rise
+returns-in_ok-push_rise-in-Rise c =
+    let file = c.args.file.now in
+    let a = file.automaton in
+    let p = c.index-as_slice-pattern.result in
+    let start = c.args.start_mask in
+    let past = reverse c.args.before.now in
+    let at = pattern_at file c.as_slice.result.now c.args.pattern p c.as_slice.ensures c.requires.exists c.index-as_slice-pattern.is in
+    let ms = c.args.meanings.now.items in
+    let rows = c.args.rows.now.items in
+    let drafted = c.requires.drafted p at in
+    let below : length past < 30 = (let same = length-reverse c.args.before.now in let few = c.requires.few in omega arith) in
+    let allowed = c.allowed_after-allowed.ensures p at in
+    let counts : c.push_firings.new.meanings.items ≡ ms ++ counts_after a p start past = c.in_ok-push_firings.ensures ∙ ap (λ xs. ms ++ xs) (counted a p start c.args.before.now c.allowed_after-allowed.result (length c.as_slice-rules.result.now) (length c.args.before.now) allowed (ap length c.as_slice-rules.ensures) refl) in
+    let ns = c.as_slice-unknowns.result.now in
+    let grown : ns ≡ ms ++ counts_after a p start past = c.as_slice-unknowns.ensures.value ∙ counts in
+    let most = step_few a p start past ms ns rows drafted below grown in
+    let last = c.push_rise.new.rows.items in
+    let done = rise_drafted a p start past c.in-Rise.rise c.fallen_after-fallen.result ms ns rows last drafted grown c.fallen_after-fallen.ensures c.in_ok-push_rise-in-Rise.ensures in
+    of_pattern file c.args.pattern p (λ q. Drafted a q start (c.args.element ∷ past) c.push_firings.new.meanings.items last) at
+    (subst (λ (e : Element). Drafted a p start (e ∷ past) c.push_firings.new.meanings.items last) (sym c.in-Rise.is) (subst (λ (us : List Meaning). Drafted a p start (Rise c.in-Rise.rise ∷ past) us last) c.as_slice-unknowns.ensures.value done))
+
+pub returns-in_ok-push_event-in-Event : goal.returns-in_ok-push_event-in-Event
+returns-in_ok-push_event-in-Event c =
+    let file = c.args.file.now in
+    let a = file.automaton in
+    let p = c.index-as_slice-pattern.result in
+    let start = c.args.start_mask in
+    let past = reverse c.args.before.now in
+    let at = pattern_at file c.as_slice.result.now c.args.pattern p c.as_slice.ensures c.requires.exists c.index-as_slice-pattern.is in
+    let ms = c.args.meanings.now.items in
+    let rows = c.args.rows.now.items in
+    let drafted = c.requires.drafted p at in
+    let below : length past < 30 = (let same = length-reverse c.args.before.now in let few = c.requires.few in omega arith) in
+    let allowed = c.allowed_after-allowed.ensures p at in
+    let counts : c.push_firings.new.meanings.items ≡ ms ++ counts_after a p start past = c.in_ok-push_firings.ensures ∙ ap (λ xs. ms ++ xs) (counted a p start c.args.before.now c.allowed_after-allowed.result (length c.as_slice-rules.result.now) (length c.args.before.now) allowed (ap length c.as_slice-rules.ensures) refl) in
+    let ns = c.as_slice-unknowns-in-Event.result.now in
+    let grown : ns ≡ ms ++ counts_after a p start past = c.as_slice-unknowns-in-Event.ensures.value ∙ counts in
+    let most = step_few a p start past ms ns rows drafted below grown in
+    let last = c.push_event.new.rows.items in
+    let done = event_drafted a p start past c.in-Event.event c.fallen_after-fallen.result ms ns rows last drafted grown c.fallen_after-fallen.ensures c.in_ok-push_event-in-Event.ensures in
+    of_pattern file c.args.pattern p (λ q. Drafted a q start (c.args.element ∷ past) c.push_firings.new.meanings.items last) at
+    (subst (λ (e : Element). Drafted a p start (e ∷ past) c.push_firings.new.meanings.items last) (sym c.in-Event.is) (subst (λ (us : List Meaning). Drafted a p start (Event c.in-Event.event ∷ past) us last) c.as_slice-unknowns-in-Event.ensures.value done))
+
+pub returns-in_ok-push_fallen-in-Fall : goal.returns-in_ok-push_fallen-in-Fall
+returns-in_ok-push_fallen-in-Fall c =
+    let file = c.args.file.now in
+    let a = file.automaton in
+    let p = c.index-as_slice-pattern.result in
+    let start = c.args.start_mask in
+    let past = reverse c.args.before.now in
+    let at = pattern_at file c.as_slice.result.now c.args.pattern p c.as_slice.ensures c.requires.exists c.index-as_slice-pattern.is in
+    let ms = c.args.meanings.now.items in
+    let rows = c.args.rows.now.items in
+    let drafted = c.requires.drafted p at in
+    let below : length past < 30 = (let same = length-reverse c.args.before.now in let few = c.requires.few in omega arith) in
+    let allowed = c.allowed_after-allowed.ensures p at in
+    let counts : c.push_firings.new.meanings.items ≡ ms ++ counts_after a p start past = c.in_ok-push_firings.ensures ∙ ap (λ xs. ms ++ xs) (counted a p start c.args.before.now c.allowed_after-allowed.result (length c.as_slice-rules.result.now) (length c.args.before.now) allowed (ap length c.as_slice-rules.ensures) refl) in
+    let singles : c.push_firings-in-Fall.new.meanings.items ≡ c.push_firings.new.meanings.items ++ singles_after a p start past = c.in_ok-push_firings-in-Fall.ensures ∙ ap (λ xs. c.push_firings.new.meanings.items ++ xs) (singled a p start c.args.before.now c.allowed_after-allowed.result (length c.as_slice-rules.result.now) (length c.args.before.now) allowed (ap length c.as_slice-rules.ensures) refl) in
+    let ns = c.as_slice-in-Fall.result.now in
+    let us = c.as_slice-in-Fall-2.result.now in
+    let grown : ns ≡ ms ++ counts_after a p start past = c.as_slice-in-Fall.ensures.value ∙ counts in
+    let all : us ≡ ns ++ singles_after a p start past = c.as_slice-in-Fall-2.ensures.value ∙ singles ∙ ap (λ xs. xs ++ singles_after a p start past) (sym c.as_slice-in-Fall.ensures.value) in
+    let falls = c.in-Fall.falls in
+    let first = c.push_falling.new.rows.items in
+    let second = c.push_singles.new.rows.items in
+    let last = c.push_fallen.new.rows.items in
+    let from : c.len-from.result ≡ length ns = c.len-from.ensures ∙ c.push_firings.new.meanings.ok.0 ∙ ap length (sym c.as_slice-in-Fall.ensures.value) in
+    let to : c.len.result ≡ length us = c.len.ensures ∙ c.push_firings-in-Fall.new.meanings.ok.0 ∙ ap length (sym c.as_slice-in-Fall-2.ensures.value) in
+    let block : Adds (block_row (negsuc 0) (length ns) (length us) Same ∷ block_row (pos 1) (length ns) (length us) Opposite ∷ []) (length us) first second =
+    subst (λ t. Adds (block_row (negsuc 0) (length ns) t Same ∷ block_row (pos 1) (length ns) t Opposite ∷ []) t first second) to
+    (subst (λ s. Adds (block_row (negsuc 0) s c.len.result Same ∷ block_row (pos 1) s c.len.result Opposite ∷ []) c.len.result first second) from c.in_ok-push_singles-in-Fall.ensures) in
+    let done = fall_drafted a p start past falls _ ms ns us rows first second last drafted grown all (fallen_more start past c.fallen_after-fallen.result falls c.from.result c.from.ensures c.fallen_after-fallen.ensures) c.in_ok-push_falling-in-Fall.ensures block c.in_ok-push_fallen-in-Fall.ensures in
+    of_pattern file c.args.pattern p (λ q. Drafted a q start (c.args.element ∷ past) c.push_firings-in-Fall.new.meanings.items last) at
+    (subst (λ (e : Element). Drafted a p start (e ∷ past) c.push_firings-in-Fall.new.meanings.items last) (sym c.in-Fall.is) (subst (λ (xs : List Meaning). Drafted a p start (Fall falls ∷ past) xs last) c.as_slice-in-Fall-2.ensures.value done))

@@ -1,0 +1,22 @@
+use Rattle.std.proofs.Common.{◌<◌, ◌++◌, ◌∷◌, [], map, arith, ap, ◌∙◌, append_assoc}
+use Rattle.std.specs.Prelude.{filter}
+use Rattle.ta_automaton.specs.Masks.{has_bit, numbers_from}
+use Rattle.ta_encode.specs.Firings.{firing}
+use Rattle.ta_encode.proofs.Masked.{bit_on, bit_off, passed_one, passed_none}
+use Rattle.ta_encode.proofs.unknowns.push_firings.Goals as goal
+use Rattle.ta_encode.proofs.unknowns.push_firings.Goals.{then-allowed-rule-ne0+in_ok-push, else-allowed-rule-ne0}
+
+pub loop-rule-preserved : goal.loop-rule-preserved
+loop-rule-preserved c =
+    let r = c.loop-rule.rule in
+    let f = firing c.args.single c.args.element in
+    let before = c.args.meanings.now.items in
+    let done = map f (filter (has_bit c.args.allowed) (numbers_from 0 r)) in
+    let within : r < 128 = (let b = c.loop-rule-test.true in let most = c.requires in omega arith) in
+    elim c.if-allowed-rule-ne0.branch [
+      | then-allowed-rule-ne0+in_ok-push w ↦
+          ap (λ v. v.items) w.meanings-is ∙ w.in_ok-push.ensures.items ∙ ap (λ m. c.loop-rule.meanings.items ++ m ∷ []) w.firing.ensures ∙ ap (λ ms. ms ++ f r ∷ []) c.loop-rule.invariant
+          ∙ append_assoc before done (f r ∷ []) ∙ ap (λ ms. before ++ ms) (passed_one f (has_bit c.args.allowed) r (bit_on 128 c.args.allowed r within w.if-allowed-rule-ne0.true))
+      | else-allowed-rule-ne0 w ↦
+          ap (λ v. v.items) w.meanings-is ∙ c.loop-rule.invariant ∙ ap (λ ms. before ++ ms) (passed_none f (has_bit c.args.allowed) r (bit_off 128 c.args.allowed r within w.if-allowed-rule-ne0.false))
+    ]

@@ -1,0 +1,14 @@
+use Rattle.std.proofs.Common.{◌≡◌, ◌+◌, ◌++◌, ◌∷◌, [], map, arith, sym, ap, ◌∙◌, append_assoc}
+use Rattle.std.proofs.lemmas.List.{map-append}
+use Rattle.ta_automaton.specs.Masks.{numbers_from}
+use Rattle.ta_words.proofs.Pushes.{numbers_more}
+use Rattle.ta_encode.specs.Unknowns.{Parameter}
+use Rattle.ta_encode.proofs.unknowns.push_parameters.Goals as goal
+
+pub loop-parameter-preserved : goal.loop-parameter-preserved
+loop-parameter-preserved c =
+    let i = c.loop-parameter.parameter in
+    let before = c.args.meanings.now.items in
+    let done = map Parameter (numbers_from 0 i) in
+    c.in_ok-push.ensures.items ∙ ap (λ ms. ms ++ Parameter i ∷ []) c.loop-parameter.invariant ∙ append_assoc before done (Parameter i ∷ [])
+    ∙ ap (λ ms. before ++ ms) (sym (ap (map Parameter) (numbers_more 0 i ∙ ap (λ k. numbers_from 0 i ++ k ∷ []) (let e : 0 + i ≡ i = omega arith in e)) ∙ map-append Parameter (numbers_from 0 i) (i ∷ [])))

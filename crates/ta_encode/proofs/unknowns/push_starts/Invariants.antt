@@ -1,0 +1,8 @@
+use Rattle.std.proofs.Common.{◌≡◌, ◌++◌, map, not, take}
+use Rattle.std.specs.Prelude.{filter}
+use Rattle.ta_automaton.specs.Masks.{has_bit}
+use Rattle.ta_encode.specs.Unknowns.{Start}
+use Rattle.ta_encode.proofs.unknowns.push_starts.Given as goal
+
+abbrev pub invariant-loop-location : goal.invariant-loop-location
+invariant-loop-location l = l.meanings.items ≡ l.fn.meanings.items ++ map Start (filter (λ k. not (has_bit l.empty k)) (take l.location-index l.location-items))

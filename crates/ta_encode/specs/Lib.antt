@@ -1,0 +1,9 @@
+pub mod Unknowns
+pub mod System
+pub mod Refutes
+pub mod Laws
+pub mod Code
+pub mod Lines
+pub mod Firings
+pub mod Draft
+pub mod InPreorder

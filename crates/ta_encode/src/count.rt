@@ -1,0 +1,76 @@
+//! How many unknowns a word has.
+#![tactic(auto)]
+
+ghost use Rattle.std.specs.Prelude.{ℕ, ◌+◌, ◌≡◌, ◌≤◌, ◌<◌, ◌∷◌, filter, length, not, reverse};
+ghost use Rattle.ta_automaton.specs.Masks.{has_bit, numbers_from};
+ghost use Rattle.ta_words.specs.Calls.{OfPattern};
+ghost use Rattle.ta_words.specs.Words.{Legal};
+ghost use Rattle.ta_encode.specs.Unknowns.{meanings, start_meanings};
+
+use ta_automaton::{Automaton, File, Pattern};
+use ta_words::{Element, Word, allowed_after};
+
+/// How many unknowns the system of a word has. It takes no memory.
+pub fn unknown_count(file: &File, pattern: u32, start_mask: u8, word: &Word) -> u32
+    requires exists { pattern < length file.now.patterns }
+    requires legal { OfPattern file.now pattern (λ p. Legal file.now.automaton p start_mask (reverse word.now)) }
+    ensures { OfPattern file.now pattern (λ p. result ≡ length (meanings file.now.automaton p start_mask (reverse word.now))) }
+{
+    let item = &file.patterns.as_slice()[pattern as usize];
+    let elements = word.elements();
+    let mut count = start_count(&file.automaton, item);
+    for (number, element) in elements.iter().enumerate() {
+        count += element_count(file, pattern, start_mask, &elements[..number], *element);
+    }
+    count
+}
+
+/// How many unknowns there are at the start.
+fn start_count(automaton: &Automaton, pattern: &Pattern) -> u32
+    ensures value { result ≡ length (start_meanings automaton.now pattern.now) }
+    ensures few { result ≤ 48 }
+{
+    let mut count = automaton.parameters.as_slice().len() as u32;
+    for location in automaton.initial.as_slice() {
+        if pattern.empty & (1 << *location) == 0 {
+            count += 1;
+        }
+    }
+    count
+}
+
+/// How many unknowns an element adds.
+fn element_count(
+    file: &File,
+    pattern: u32,
+    start_mask: u8,
+    before: &[Element],
+    element: Element,
+) -> u32
+    requires { pattern < length file.now.patterns }
+    ensures value { OfPattern file.now pattern (λ p. length (meanings file.now.automaton p start_mask (element ∷ reverse before.now)) ≡ length (meanings file.now.automaton p start_mask (reverse before.now)) + result) }
+    ensures few { result ≤ 256 }
+{
+    let rules = file.automaton.rules.as_slice().len();
+    let allowed = firing_count(rules, allowed_after(file, pattern, start_mask, before));
+    match element {
+        Element::Event(_) => allowed,
+        Element::Rise(_) => allowed,
+        Element::Fall(_) => 2 * allowed,
+    }
+}
+
+/// How many rules are in a set.
+fn firing_count(rules: usize, allowed: u128) -> u32
+    requires { rules ≤ 128 }
+    ensures value { result ≡ length (filter (has_bit allowed) (numbers_from 0 rules)) }
+    ensures few { result ≤ 128 }
+{
+    let mut count = 0;
+    for rule in 0..rules {
+        if allowed & (1 << rule) != 0 {
+            count += 1;
+        }
+    }
+    count
+}

@@ -1,0 +1,83 @@
+//! Systems of words.
+#![tactic(auto)]
+
+ghost use Rattle.std.specs.Prelude.{◌≡◌, ◌<◌, IfOk, length, reverse};
+ghost use Rattle.ta_words.specs.Calls.{OfPattern};
+ghost use Rattle.ta_words.specs.Words.{Legal};
+ghost use Rattle.ta_encode.specs.Code.{SystemOf};
+ghost use Rattle.ta_encode.specs.Lines.{BoundsWithin};
+ghost use Rattle.ta_encode.specs.Unknowns.{meanings};
+
+use crate::draft::{push_elements, push_start};
+use crate::meaning::{Bound, Meaning};
+use crate::rows::push_bounds;
+use crate::unknowns::start_meanings;
+use std::alloc::{AllocError, Global};
+use ta_automaton::File;
+use ta_linear::{List, System};
+use ta_words::Word;
+
+/// The system of a word, and what its unknowns mean.
+#[derive(Drop)]
+pub struct Encoded {
+    pub system: System,
+    pub meanings: List<Meaning>,
+}
+
+/// A complete word of a pattern and a start set, and a value for each unknown of its system.
+#[derive(Drop)]
+pub struct Solution {
+    pub pattern: u32,
+    pub start_mask: u8,
+    pub word: Word,
+    pub values: List<i128>,
+}
+
+/// The system of a word with bounds. Only want of memory is an error: by the limits of automaton
+/// files no number leaves the range.
+pub fn encode(
+    alloc: Global,
+    file: &File,
+    pattern: u32,
+    start_mask: u8,
+    word: &Word,
+    bounds: &[Bound],
+) -> Result<Encoded, AllocError>
+    requires exists { pattern < length file.now.patterns }
+    requires legal { OfPattern file.now pattern (λ p. Legal file.now.automaton p start_mask (reverse word.now)) }
+    requires bounds { OfPattern file.now pattern (λ p. BoundsWithin (length (meanings file.now.automaton p start_mask (reverse word.now))) bounds.now) }
+    ensures system { IfOk result (λ encoded. OfPattern file.now pattern (λ p. SystemOf file.now.automaton p start_mask (reverse word.now) bounds.now encoded.system)) }
+    ensures meanings { IfOk result (λ encoded. OfPattern file.now pattern (λ p. encoded.meanings ≡ meanings file.now.automaton p start_mask (reverse word.now))) }
+{
+    let automaton = &file.automaton;
+    let item = &file.patterns.as_slice()[pattern as usize];
+    let elements = word.elements();
+    let mut meanings = start_meanings(alloc, automaton, item)?;
+    let mut rows = Vec::new(alloc);
+    push_start(
+        alloc,
+        automaton,
+        meanings.as_slice(),
+        item,
+        start_mask,
+        &mut rows,
+    )?;
+    push_elements(
+        alloc,
+        file,
+        pattern,
+        start_mask,
+        elements,
+        &mut meanings,
+        &mut rows,
+    )?;
+    let unknowns = meanings.as_slice().len();
+    push_bounds(alloc, unknowns, bounds, &mut rows)?;
+    Ok(Encoded {
+        system: System {
+            unknowns: unknowns as u32,
+            rows: List::from_vec(rows),
+        },
+        meanings: List::from_vec(meanings),
+    })
+}

@@ -1,0 +1,32 @@
+//! What words, their systems and their refutations say of runs. The functions do nothing: their
+//! contracts state the laws.
+#![tactic(auto)]
+
+ghost use Rattle.ta_encode.specs.InPreorder.{ProofsAreDetermined, ProofsReadInOrder};
+ghost use Rattle.ta_encode.specs.Laws.{ProofsLeaveNoSolution, ProofsShowSafety, RunsReorder, SolutionsBecomeRuns};
+
+/// Every run in which a pattern occurs is described by a word whose system it solves.
+pub fn runs_reorder()
+    ensures { RunsReorder }
+{}
+
+/// A pattern that has a proof occurs in no run.
+pub fn proofs_show_safety()
+    ensures { ProofsShowSafety }
+{}
+
+/// Where a pattern has a proof, no complete legal word has a natural solution.
+pub fn proofs_leave_no_solution()
+    ensures { ProofsLeaveNoSolution }
+{}
+
+/// A complete legal word with a natural solution gives a run in which the pattern occurs.
+pub fn solutions_become_runs()
+    ensures { SolutionsBecomeRuns }
+{}
+
+/// A proof may be judged node by node, and a list of nodes is that of at most one proof.
+pub fn proofs_read_in_order()
+    ensures in_order { ProofsReadInOrder }
+    ensures determined { ProofsAreDetermined }
+{}

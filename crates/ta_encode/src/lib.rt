@@ -1,0 +1,21 @@
+//! Systems of words, and the laws that words, systems and refutations keep.
+#![tactic(auto)]
+
+mod count;
+mod draft;
+mod elements;
+mod encoded;
+mod laws;
+mod line;
+mod meaning;
+mod place;
+mod rows;
+mod unknowns;
+
+pub use count::unknown_count;
+pub use encoded::{Encoded, Solution, encode};
+pub use laws::{
+    proofs_leave_no_solution, proofs_read_in_order, proofs_show_safety, runs_reorder,
+    solutions_become_runs,
+};
+pub use meaning::{Bound, Meaning, Side};

@@ -1,0 +1,108 @@
+//! Rows from terms over places.
+#![tactic(auto)]
+
+ghost use Rattle.std.specs.Prelude.{ℕ, pos, ◌*◌, ◌^◌, ◌≡◌, ◌≤◌, ◌<◌, IfOk, if◌then◌else◌, length, unsigned_abs};
+ghost use Rattle.ta_linear.specs.Numbers.{InRange};
+ghost use Rattle.ta_linear.specs.Terms.{IsNormal};
+ghost use Rattle.ta_linear.specs.Values.{terms_value};
+ghost use Rattle.ta_encode.specs.Code.{RowOf};
+ghost use Rattle.ta_encode.specs.Lines.{SmallTerms, line_coefficient, line_row, turned};
+ghost use Rattle.ta_encode.specs.System.{start_coefficient};
+ghost use Rattle.ta_encode.specs.Unknowns.{place_coefficient};
+
+use crate::meaning::Meaning;
+use crate::place::place_coefficient;
+use std::alloc::{AllocError, Global};
+use ta_automaton::Automaton;
+use ta_linear::{Form, List, Row};
+
+/// Whether coefficients are written as they are, or their opposites.
+#[derive(Clone, Copy)]
+pub(crate) enum Sense {
+    Same,
+    Opposite,
+}
+
+/// The row of `constant` and of terms over places, less the start counts if these are wanted, at
+/// the moment whose unknowns are given.
+pub(crate) fn line(
+    alloc: Global,
+    automaton: &Automaton,
+    meanings: &[Meaning],
+    terms: &[(u32, i128)],
+    less_starts: bool,
+    sense: Sense,
+    constant: i128,
+) -> Result<Row, AllocError>
+    requires small { SmallTerms terms.now }
+    requires fits { InRange constant }
+    requires numbers { length meanings.now < 2 ^ 32 }
+    ensures row { IfOk result (RowOf (line_row automaton.now meanings.now terms.now less_starts sense constant)) }
+    ensures below { IfOk result (λ row. IsNormal 0 (length meanings.now) row.form.terms) }
+{
+    let mut written = Vec::new(alloc);
+    for (unknown, meaning) in meanings.iter().enumerate() {
+        let coefficient = line_coefficient(automaton, *meaning, terms, less_starts, sense);
+        if coefficient != 0 {
+            written.push((unknown as u32, coefficient))?;
+        }
+    }
+    Ok(Row {
+        form: Form {
+            constant,
+            terms: List::from_vec(written),
+        },
+    })
+}
+
+fn line_coefficient(
+    automaton: &Automaton,
+    meaning: Meaning,
+    terms: &[(u32, i128)],
+    less_starts: bool,
+    sense: Sense,
+) -> i128
+    requires { SmallTerms terms.now }
+    ensures value { result ≡ line_coefficient automaton.now terms.now less_starts sense meaning }
+    ensures fits { InRange result }
+{
+    turn(
+        sense,
+        value_in(automaton, meaning, terms) - starts_in(meaning, less_starts),
+    )
+}
+
+pub(crate) fn turn(sense: Sense, value: i128) -> i128
+    requires { unsigned_abs value ≤ 2 ^ 126 }
+    ensures value { result ≡ turned sense value }
+    ensures small { unsigned_abs result ≤ 2 ^ 126 }
+{
+    match sense {
+        Sense::Same => value,
+        Sense::Opposite => -value,
+    }
+}
+
+/// 1 for a start count, if these are wanted.
+fn starts_in(meaning: Meaning, wanted: bool) -> i128
+    ensures value { result ≡ (if wanted then start_coefficient meaning else pos 0) }
+    ensures small { unsigned_abs result ≤ 1 }
+{
+    match meaning {
+        Meaning::Start(_) if wanted => 1,
+        _ => 0,
+    }
+}
+
+/// The value of terms over places where each place has the unknown's coefficient.
+fn value_in(automaton: &Automaton, meaning: Meaning, terms: &[(u32, i128)]) -> i128
+    requires { SmallTerms terms.now }
+    ensures value { result ≡ terms_value (place_coefficient automaton.now meaning) terms.now }
+    ensures small { unsigned_abs result ≤ 64 * 17000000000000000000 }
+{
+    let mut total = 0;
+    for (place, coefficient) in terms {
+        total += *coefficient * place_coefficient(automaton, meaning, *place);
+    }
+    total
+}

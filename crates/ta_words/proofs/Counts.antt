@@ -1,0 +1,161 @@
+-- a legal word has at most as many elements as there are events and guards
+use Rattle.std.proofs.Common.{◌≡◌, ◌⊎◌, inl, inr, ℕ, zero, suc, ◌+◌, ◌-◌, ◌^◌, ◌<◌, ◌≤◌, List, [], ◌∷◌, ◌++◌, length, map, cond, Bool, true, false, not, slice_get, Some, arith, sym, ap, ◌∙◌, refl, subst, reverse}
+use Rattle.std.specs.Prelude.{filter, ◌==◌}
+use Rattle.std.proofs.lemmas.List.{length-reverse}
+use Rattle.std.proofs.lemmas.Option.{slice_get_cases}
+use Rattle.std.proofs.lemmas.Bool.{false≢true, true≢false, and_parts, eq-eqb}
+use Rattle.std.proofs.lemmas.Bool.Decides.{eqb_tells}
+use Rattle.ta_automaton.specs.Masks.{has_bit, implies, numbers_from, In}
+use Rattle.ta_automaton.proofs.MaskTests.{all_below-at, implies-at, true_not, or_left, or_right}
+use Rattle.ta_automaton.specs.declared.automaton.Automaton.{Automaton}
+use Rattle.ta_automaton.specs.declared.pattern.Pattern.{Pattern}
+use Rattle.ta_automaton.specs.declared.file.File.{File}
+use Rattle.ta_words.specs.Calls.{OfPattern}
+use Rattle.ta_words.specs.Words.{has_event, has_rise, has_fallen, is_complete, is_ready, is_standing, children, Legal}
+use Rattle.ta_words.specs.declared.element.Element.{Element}
+use Rattle.ta_words.specs.declared.element.Element.TheVariants.{Event, Rise, Fall}
+use Rattle.ta_words.proofs.Bits.{some_bit}
+use Rattle.ta_words.proofs.Lists.{events_named}
+
+-- how many numbers below another pass
+unfoldable pub count : (ℕ → Bool) → ℕ → ℕ
+count test zero = 0
+count test (suc n) = count test n + cond (test n) 1 0
+
+one_most : (b : Bool) → cond b 1 0 ≤ 1
+one_most true = omega arith
+one_most false = omega arith
+
+pub count_most : (test : ℕ → Bool) (n : ℕ) → count test n ≤ n
+unfolding count
+count_most test zero = omega arith
+count_most test (suc n) = omega (arith, count_most test n, one_most (test n))
+
+both : (x y : Bool) → (x ≡ true → y ≡ true) → cond x 1 0 ≤ cond y 1 0
+both true true h = omega arith
+both true false h = absurd (false≢true (h refl))
+both false true h = omega arith
+both false false h = omega arith
+
+strictly : (x y : Bool) → x ≡ false → y ≡ true → cond x 1 0 + 1 ≤ cond y 1 0
+strictly false true e f = omega arith
+strictly true y e f = absurd (true≢false e)
+strictly false false e f = absurd (false≢true f)
+
+pub count_more : (f g : ℕ → Bool) (n : ℕ) → ((k : ℕ) → f k ≡ true → g k ≡ true) → count f n ≤ count g n
+unfolding count
+count_more f g zero h = omega arith
+count_more f g (suc n) h = omega (arith, count_more f g n h, both (f n) (g n) (h n))
+
+pub count_new : (f g : ℕ → Bool) (n k : ℕ) → ((j : ℕ) → f j ≡ true → g j ≡ true) → k < n → f k ≡ false → g k ≡ true → count f n + 1 ≤ count g n
+unfolding count
+count_new f g zero k h b e t = absurd (omega arith)
+count_new f g (suc n) k h b e t = elim (eqb_tells k n) [
+  | inl q ↦ omega (arith, count_more f g n h, strictly (f n) (g n) (ap f (sym q.1) ∙ e) (ap g (sym q.1) ∙ t))
+  | inr ne ↦ (let q = ne.1 in omega (arith, count_new f g n k h (omega arith) e t, both (f n) (g n) (h n)))
+]
+
+-- what an item of a list is
+in_append : {X : Type 0} (x : X) (xs ys : List X) → In x (xs ++ ys) → In x xs ⊎ In x ys
+in_append x [] ys h = inr h
+in_append x (y ∷ xs) ys (inl e) = inl (inl e)
+in_append x (y ∷ xs) ys (inr h) = elim (in_append x xs ys h) [ inl g ↦ inl (inr g) | inr g ↦ inr g ]
+
+in_map : {X Y : Type 0} (f : X → Y) (y : Y) (xs : List X) → In y (map f xs) → (x : X) × In x xs × (y ≡ f x)
+in_map f y [] h = absurd h
+in_map f y (x ∷ xs) (inl e) = (x, inl refl, e)
+in_map f y (x ∷ xs) (inr h) = let g = in_map f y xs h in (g.0, inr g.1, g.2)
+
+in_kept : {X : Type 0} (ok : X → Bool) (x y : X) (b : Bool) (ys : List X) → ok y ≡ b → (In x ys → In x ys) → In x (cond b (y ∷ ys) ys) → ((x ≡ y) × (ok y ≡ true)) ⊎ In x ys
+in_kept ok x y true ys e same (inl q) = inl (q, e)
+in_kept ok x y true ys e same (inr h) = inr h
+in_kept ok x y false ys e same h = inr h
+
+in_filter : {X : Type 0} (ok : X → Bool) (x : X) (xs : List X) → In x (filter ok xs) → (ok x ≡ true) × In x xs
+in_filter ok x [] h = absurd h
+in_filter ok x (y ∷ xs) h = elim (in_kept ok x y (ok y) (filter ok xs) refl (λ g. g) h) [
+  | inl q ↦ (ap ok q.0 ∙ q.1, inl q.0)
+  | inr g ↦ (let rest = in_filter ok x xs g in (rest.0, inr rest.1))
+]
+
+in_numbers : (x k n : ℕ) → In x (numbers_from k n) → (k ≤ x) × (x < k + n)
+in_numbers x k zero h = absurd h
+in_numbers x k (suc n) (inl e) = (omega arith, omega arith)
+in_numbers x k (suc n) (inr h) = let g = in_numbers x (k + 1) n h in (omega (arith, g.0), omega (arith, g.1))
+
+in_more : {X : Type 0} (x : X) (b : Bool) (xs : List X) → In x (cond b [] xs) → In x xs
+in_more x true xs h = absurd h
+in_more x false xs h = h
+
+-- a number that passes, among n numbers from k on
+in_passed : (f : ℕ → Element) (test : ℕ → Bool) (k n : ℕ) (e : Element) → In e (map f (filter test (numbers_from k n))) → (x : ℕ) × (e ≡ f x) × (test x ≡ true) × (k ≤ x) × (x < k + n)
+in_passed f test k n e h =
+    let mapped = in_map f e (filter test (numbers_from k n)) h in
+    let kept = in_filter test mapped.0 (numbers_from k n) mapped.1 in
+    let within = in_numbers mapped.0 k n kept.1 in
+    (mapped.0, mapped.2, kept.0, within.0, within.1)
+
+-- a child is an event that is ready, a rise guard that is not in the word, or a set of standing fall guards
+in_children : (a : Automaton) (p : Pattern) (start : ℕ) (past : List Element) (e : Element) → In e (children a p start past)
+    → ((x : ℕ) × (e ≡ Event x) × (is_ready p past x ≡ true) × (0 ≤ x) × (x < 0 + length p.events))
+    ⊎ (((x : ℕ) × (e ≡ Rise x) × (not (has_rise past x) ≡ true) × (0 ≤ x) × (x < 0 + length a.rise))
+    ⊎ ((x : ℕ) × (e ≡ Fall x) × (is_standing a start past x ≡ true) × (1 ≤ x) × (x < 1 + (2 ^ length a.fall - 1))))
+unfolding children
+in_children a p start past e h =
+    let events = map Event (filter (is_ready p past) (numbers_from 0 (length p.events))) in
+    let rises = map Rise (filter (λ i. not (has_rise past i)) (numbers_from 0 (length a.rise))) in
+    let falls = map Fall (filter (is_standing a start past) (numbers_from 1 (2 ^ length a.fall - 1))) in
+    elim (in_append e events (rises ++ falls) (in_more e (is_complete p past) (events ++ (rises ++ falls)) h)) [
+      | inl g ↦ inl (in_passed Event (is_ready p past) 0 (length p.events) e g)
+      | inr g ↦ elim (in_append e rises falls g) [
+        | inl r ↦ inr (inl (in_passed Rise (λ i. not (has_rise past i)) 0 (length a.rise) e r))
+        | inr r ↦ inr (inr (in_passed Fall (is_standing a start past) 1 (2 ^ length a.fall - 1) e r))
+      ]
+    ]
+
+-- how much of the events and guards a word has
+abbrev weight : Automaton → Pattern → ℕ → List Element → ℕ
+weight a p start past = count (has_event past) (length p.events) + (count (has_rise past) (length a.rise) + count (has_fallen start past) (length a.fall))
+
+event_weighs : (a : Automaton) (p : Pattern) (start : ℕ) (past : List Element) (x : ℕ) → is_ready p past x ≡ true → x < length p.events → weight a p start past + 1 ≤ weight a p start (Event x ∷ past)
+unfolding has_event has_rise has_fallen
+event_weighs a p start past x ready b =
+    omega (arith, count_new (has_event past) (has_event (Event x ∷ past)) (length p.events) x (λ j t. or_right (x == j) (has_event past j) t) b (true_not (has_event past x) (and_parts _ _ ready).0) (or_left (x == x) (has_event past x) (eq-eqb x x refl)))
+
+rise_weighs : (a : Automaton) (p : Pattern) (start : ℕ) (past : List Element) (x : ℕ) → not (has_rise past x) ≡ true → x < length a.rise → weight a p start past + 1 ≤ weight a p start (Rise x ∷ past)
+unfolding has_event has_rise has_fallen
+rise_weighs a p start past x new b =
+    omega (arith, count_new (has_rise past) (has_rise (Rise x ∷ past)) (length a.rise) x (λ j t. or_right (x == j) (has_rise past j) t) b (true_not (has_rise past x) new) (or_left (x == x) (has_rise past x) (eq-eqb x x refl)))
+
+fall_weighs : (a : Automaton) (p : Pattern) (start : ℕ) (past : List Element) (x : ℕ) → is_standing a start past x ≡ true → 1 ≤ x → x < 2 ^ length a.fall → weight a p start past + 1 ≤ weight a p start (Fall x ∷ past)
+unfolding has_event has_rise has_fallen
+fall_weighs a p start past x standing least most =
+    let bit = some_bit x (length a.fall) least most in
+    let left = implies-at (has_bit x bit.0) (not (has_fallen start past bit.0)) (all_below-at (length a.fall) (λ j. implies (has_bit x j) (not (has_fallen start past j))) standing bit.0 bit.1) bit.2 in
+    omega (arith, count_new (has_fallen start past) (has_fallen start (Fall x ∷ past)) (length a.fall) bit.0 (λ j t. or_right (has_bit x j) (has_fallen start past j) t) bit.1 (true_not (has_fallen start past bit.0) left) (or_left (has_bit x bit.0) (has_fallen start past bit.0) bit.2))
+
+pub legal_weight : (a : Automaton) (p : Pattern) (start : ℕ) (past : List Element) → Legal a p start past → length past ≤ weight a p start past
+legal_weight a p start [] h = omega arith
+legal_weight a p start (e ∷ past) h =
+    let rest = legal_weight a p start past h.1 in
+    elim (in_children a p start past e h.0) [
+      | inl c ↦ (let b : c.0 < length p.events = (let q = c.4 in omega arith) in let same = ap (λ x. weight a p start (x ∷ past)) c.1 in omega (arith, same, event_weighs a p start past c.0 c.2 b))
+      | inr (inl c) ↦ (let b : c.0 < length a.rise = (let q = c.4 in omega arith) in let same = ap (λ x. weight a p start (x ∷ past)) c.1 in omega (arith, same, rise_weighs a p start past c.0 c.2 b))
+      | inr (inr c) ↦ (let b : c.0 < 2 ^ length a.fall = (let q = c.4 in let low = c.3 in omega arith) in let same = ap (λ x. weight a p start (x ∷ past)) c.1 in omega (arith, same, fall_weighs a p start past c.0 c.2 c.3 b))
+    ]
+
+-- at most 8 events, 16 rise guards and 6 fall guards: 30 elements
+pub legal_length : (a : Automaton) (p : Pattern) (start : ℕ) (past : List Element) → length p.events ≤ 8 → Legal a p start past → length past ≤ 30
+legal_length a p start past few h =
+    omega (arith, legal_weight a p start past h, few, a.shape.limits.rise_limit, a.shape.limits.fall_limit, count_most (has_event past) (length p.events), count_most (has_rise past) (length a.rise), count_most (has_fallen start past) (length a.fall))
+
+pattern_exists : (file : File) (k : ℕ) → k < length file.patterns → (p : Pattern) × (slice_get file.patterns k ≡ Some p)
+pattern_exists file k b = elim ((slice_get_cases file.patterns k).1) [ inl found ↦ (found.0, found.2) | inr past ↦ absurd (let q = past.0 in omega arith) ]
+
+-- there is room for a child of a legal word
+pub room : (file : File) (k start : ℕ) (word listed : List Element) (e : Element) → k < length file.patterns → OfPattern file k (λ p. Legal file.automaton p start (reverse word)) → OfPattern file k (λ p. listed ≡ children file.automaton p start (reverse word)) → In e listed → length word < 30
+room file k start word listed e b legal is h =
+    let found = pattern_exists file k b in
+    let p = found.0 in
+    let child : In e (children file.automaton p start (reverse word)) = subst (In e) (is p found.1) h in
+    omega (arith, legal_length file.automaton p start (e ∷ reverse word) (events_named file k p found.1).limit (child, legal p found.1), length-reverse word)

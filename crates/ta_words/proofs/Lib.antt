@@ -1,0 +1,7 @@
+pub mod Listed
+pub mod Bits
+pub mod Past
+pub mod Pushes
+pub mod Items
+pub mod Lists
+pub mod Counts

@@ -1,0 +1,89 @@
+-- what follows a word, and how long words and lists of children get
+use Rattle.std.proofs.Common.{◌≡◌, ℕ, zero, suc, ◌+◌, ◌-◌, ◌^◌, ◌<◌, ◌≤◌, List, [], ◌∷◌, ◌++◌, length, map, cond, Bool, true, false, not, get_or, slice_get, Some, arith, sym, ap, ◌∙◌, refl, subst, append_assoc, length-append}
+use Rattle.std.specs.Prelude.{filter}
+use Rattle.std.proofs.Math.Nat.{pow-le-pow_right}
+use Rattle.std.proofs.lemmas.Bool.{false≢true, true≢false}
+use Rattle.std.proofs.lemmas.List.{length-map}
+use Rattle.std.proofs.lemmas.Option.{slice_get_read, slice_get_within, get_or_from_slice_get}
+use Rattle.ta_automaton.specs.Masks.{numbers_from}
+use Rattle.ta_automaton.specs.Patterns.{EventWithin}
+use Rattle.ta_automaton.specs.declared.automaton.Automaton.{Automaton}
+use Rattle.ta_automaton.specs.declared.file.File.{File}
+use Rattle.ta_automaton.specs.declared.pattern.Pattern.{Pattern}
+use Rattle.ta_automaton.proofs.Thresholds.{pattern_within, each_from_at}
+use Rattle.ta_words.specs.Calls.{OfPattern}
+use Rattle.ta_words.specs.Seen.{EventsNamed}
+use Rattle.ta_words.specs.Words.{has_rise, is_complete, is_ready, is_standing, children}
+use Rattle.ta_words.specs.declared.element.Element.{Element}
+use Rattle.ta_words.specs.declared.element.Element.TheVariants.{Event, Rise, Fall}
+
+-- the pattern that a call reads is the pattern with its number
+pub pattern_at : (file : File) (items : List Pattern) (k : ℕ) (p : Pattern) → items ≡ file.patterns → k < length file.patterns → p ≡ get_or items k p → slice_get file.patterns k ≡ Some p
+pattern_at file items k p same within is = subst (λ (ps : List Pattern). slice_get ps k ≡ Some p) same (slice_get_read items (length items) k p refl (let e = ap length same in omega arith) is)
+
+pub same_pattern : (file : File) (k : ℕ) (p q : Pattern) → slice_get file.patterns k ≡ Some p → slice_get file.patterns k ≡ Some q → p ≡ q
+same_pattern file k p q at named = sym (get_or_from_slice_get file.patterns k p p at) ∙ get_or_from_slice_get file.patterns k q p named
+
+pub of_pattern : (file : File) (k : ℕ) (p : Pattern) (P : Pattern → Type 0) → slice_get file.patterns k ≡ Some p → P p → OfPattern file k P
+of_pattern file k p P at h = λ q named. subst P (same_pattern file k p q at named) h
+
+pub events_named : (file : File) (k : ℕ) (p : Pattern) → slice_get file.patterns k ≡ Some p → EventsNamed p
+events_named file k p at =
+    let within = pattern_within file k p at in
+    let places = length file.automaton.parameters + length file.automaton.shared + length file.automaton.locations in
+    record {
+      limit = within.events_limit;
+      after = λ e event here.
+          let before = each_from_at (EventWithin places) 0 p.events e event within.events here in
+          let below = before.after in
+          let inside = slice_get_within p.events e event here in
+          let two : 0 < 2 = omega arith in
+          let number : 0 + e ≤ length p.events = omega arith in
+          let more : 2 ^ (0 + e) ≤ 2 ^ length p.events = pow-le-pow_right two number in
+          omega arith;
+    }
+
+filter_shorter : (test : ℕ → Bool) (xs : List ℕ) → length (filter test xs) ≤ length xs
+filter_shorter test [] = omega arith
+filter_shorter test (x ∷ xs) = kept_shorter (test x) x (filter test xs) (length xs) (filter_shorter test xs)
+  where
+    kept_shorter : (b : Bool) (y : ℕ) (ys : List ℕ) (n : ℕ) → length ys ≤ n → length (cond b (y ∷ ys) ys) ≤ suc n
+    kept_shorter true y ys n h = omega arith
+    kept_shorter false y ys n h = omega arith
+
+length_numbers : (k n : ℕ) → length (numbers_from k n) ≡ n
+length_numbers k zero = refl
+length_numbers k (suc n) = omega (arith, length_numbers (k + 1) n)
+
+pub passed_length : (f : ℕ → Element) (test : ℕ → Bool) (k n : ℕ) → length (map f (filter test (numbers_from k n))) ≤ n
+passed_length f test k n = omega (arith, length-map (filter test (numbers_from k n)) f, filter_shorter test (numbers_from k n), length_numbers k n)
+
+pub passed_most : (f : ℕ → Element) (test : ℕ → Bool) (before now : List Element) (k n : ℕ) → now ≡ before ++ map f (filter test (numbers_from k n)) → length now ≤ length before + n
+passed_most f test before now k n e = omega (arith, ap length e, length-append before (map f (filter test (numbers_from k n))), passed_length f test k n)
+
+cond_true : {X : Type 0} (b : Bool) (x y : X) → b ≡ true → cond b x y ≡ x
+cond_true true x y e = refl
+cond_true false x y e = absurd (false≢true e)
+
+cond_false : {X : Type 0} (b : Bool) (x y : X) → b ≡ false → cond b x y ≡ y
+cond_false true x y e = absurd (true≢false e)
+cond_false false x y e = refl
+
+abbrev event_children : Pattern → List Element → List Element
+event_children p past = map Event (filter (is_ready p past) (numbers_from 0 (length p.events)))
+
+abbrev rise_children : Automaton → List Element → List Element
+rise_children a past = map Rise (filter (λ i. not (has_rise past i)) (numbers_from 0 (length a.rise)))
+
+abbrev fall_children : Automaton → ℕ → List Element → List Element
+fall_children a start past = map Fall (filter (is_standing a start past) (numbers_from 1 (2 ^ length a.fall - 1)))
+
+pub children_listed : (a : Automaton) (p : Pattern) (start : ℕ) (past first second third fourth : List Element) → is_complete p past ≡ false → first ≡ [] → second ≡ first ++ event_children p past → third ≡ second ++ rise_children a past → fourth ≡ third ++ fall_children a start past → fourth ≡ children a p start past
+unfolding children
+children_listed a p start past first second third fourth more e f g h =
+    h ∙ ap (λ xs. xs ++ fall_children a start past) (g ∙ ap (λ xs. xs ++ rise_children a past) (f ∙ ap (λ xs. xs ++ event_children p past) e))
+    ∙ append_assoc (event_children p past) (rise_children a past) (fall_children a start past) ∙ sym (cond_false (is_complete p past) [] (event_children p past ++ (rise_children a past ++ fall_children a start past)) more)
+
+pub no_children : (a : Automaton) (p : Pattern) (start : ℕ) (past none : List Element) → is_complete p past ≡ true → none ≡ [] → none ≡ children a p start past
+unfolding children
+no_children a p start past none done e = e ∙ sym (cond_true (is_complete p past) [] (event_children p past ++ (rise_children a past ++ fall_children a start past)) done)

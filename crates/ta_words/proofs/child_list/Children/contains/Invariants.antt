@@ -1,0 +1,6 @@
+use Rattle.std.proofs.Common.{take}
+use Rattle.ta_automaton.specs.Masks.{In}
+use Rattle.ta_words.proofs.child_list.Children.contains.Given as goal
+
+abbrev pub invariant-loop-child : goal.invariant-loop-child
+invariant-loop-child l = ¬ In l.element (take l.child-index l.child-items)

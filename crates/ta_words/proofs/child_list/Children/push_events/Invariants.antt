@@ -1,0 +1,7 @@
+use Rattle.ta_words.specs.Words.{is_ready}
+use Rattle.ta_words.specs.declared.element.Element.TheVariants.{Event}
+use Rattle.ta_words.proofs.Pushes.{Pushed}
+use Rattle.ta_words.proofs.child_list.Children.push_events.Given as goal
+
+abbrev pub invariant-loop-number : goal.invariant-loop-number
+invariant-loop-number l = Pushed Event (λ start past. is_ready l.pattern past) l.seen l.fn.self l.self 0 l.number

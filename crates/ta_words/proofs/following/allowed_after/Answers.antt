@@ -1,0 +1,42 @@
+use Rattle.std.proofs.Common.{◌≡◌, inl, inr, ℕ, ◌+◌, ◌<◌, List, refl, Bool, length, reverse, slice_get, Some, arith, sym, ap, ◌∙◌, subst}
+use Rattle.std.proofs.lemmas.Option.{slice_get_read, slice_get_past}
+use Rattle.ta_automaton.specs.Masks.{has_bit}
+use Rattle.ta_automaton.specs.declared.rule.Rule.{Rule}
+use Rattle.ta_words.specs.Words.{may_fire}
+use Rattle.ta_words.proofs.Bits.{Told, none_told, one_told, not_told, in_or_above}
+use Rattle.ta_words.proofs.Lists.{pattern_at, of_pattern}
+use Rattle.ta_words.proofs.following.allowed_after.Goals as goal
+use Rattle.ta_words.proofs.following.allowed_after.Goals.{then-may_fire, else-may_fire}
+
+pub loop-number-init : goal.loop-number-init
+loop-number-init c = none_told (λ r. may_fire c.args.file.now.automaton c.index-as_slice-pattern.result c.args.start_mask (reverse c.args.elements.now) (slice_get c.args.file.now.automaton.rules r))
+
+pub loop-number-preserved : goal.loop-number-preserved
+loop-number-preserved c =
+    let a = c.args.file.now.automaton in
+    let p = c.index-as_slice-pattern.result in
+    let start = c.args.start_mask in
+    let test : ℕ → Bool = λ r. may_fire a p start (reverse c.args.elements.now) (slice_get a.rules r) in
+    let number = c.loop-number.number in
+    let rule = c.rule-item.result in
+    let at : slice_get a.rules number ≡ Some rule = subst (λ (rs : List Rule). slice_get rs number ≡ Some rule) c.as_slice-rule-items.ensures (slice_get_read c.as_slice-rule-items.result.now (length c.as_slice-rule-items.result.now) number rule refl c.loop-number-test.true c.rule-item.is) in
+    let told : c.may_fire.result ≡ test number = c.may_fire.ensures start (reverse c.args.elements.now) c.of-seen.ensures ∙ ap (may_fire a p start (reverse c.args.elements.now)) (sym at) in
+    let within : number < 128 = (let limit = a.shape.limits.rules_limit in let below = c.loop-number-test.true in let same = ap length c.as_slice-rule-items.ensures in omega arith) in
+    elim c.if-may_fire.branch [
+      | then-may_fire w ↦ one_told test 128 c.loop-number.allowed c.if-may_fire.allowed number c.loop-number.invariant within (sym told ∙ w.if-may_fire.true) w.allowed-is
+      | else-may_fire w ↦ subst (λ m. Told test m (number + 1)) (sym w.allowed-is) (not_told test c.loop-number.allowed number c.loop-number.invariant (sym told ∙ w.if-may_fire.false))
+    ]
+
+pub returns : goal.returns
+returns c =
+    let a = c.args.file.now.automaton in
+    let p = c.index-as_slice-pattern.result in
+    let start = c.args.start_mask in
+    let past = reverse c.args.elements.now in
+    let at = pattern_at c.args.file.now c.as_slice.result.now c.args.pattern p c.as_slice.ensures c.requires c.index-as_slice-pattern.is in
+    let all : length a.rules ≡ c.loop-number.number = (let same = ap length c.as_slice-rule-items.ensures in let low = c.loop-number-test.false in let high = c.loop-number.auto.number-end in omega arith) in
+    of_pattern c.args.file.now c.args.pattern p (λ q. (r : ℕ) → has_bit c.loop-number.allowed r ≡ may_fire a q start past (slice_get a.rules r)) at
+    (λ r. elim (in_or_above (length a.rules) r) [
+      | inl below ↦ c.loop-number.invariant.below r (omega arith)
+      | inr above ↦ c.loop-number.invariant.above r (omega arith) ∙ sym (ap (may_fire a p start past) (slice_get_past a.rules r above))
+    ])

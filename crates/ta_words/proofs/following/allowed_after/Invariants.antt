@@ -1,0 +1,8 @@
+use Rattle.std.proofs.Common.{reverse, slice_get}
+use Rattle.ta_words.specs.Words.{may_fire}
+use Rattle.ta_words.proofs.Bits.{Told}
+use Rattle.ta_words.proofs.following.allowed_after.Given as goal
+
+abbrev pub invariant-loop-number : goal.invariant-loop-number
+invariant-loop-number l =
+    Told (λ r. may_fire l.file.automaton l.pattern l.start_mask (reverse l.elements) (slice_get l.file.automaton.rules r)) l.allowed l.number

@@ -1,0 +1,5 @@
+use Rattle.ta_words.proofs.Bits.{disjoint}
+use Rattle.ta_words.proofs.mask.is_disjoint.Goals as goal
+
+pub returns : goal.returns
+returns c = disjoint c.args.part c.args.other

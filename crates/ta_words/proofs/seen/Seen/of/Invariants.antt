@@ -1,0 +1,6 @@
+use Rattle.std.proofs.Common.{take, reverse}
+use Rattle.ta_words.specs.Seen.{IsSeen}
+use Rattle.ta_words.proofs.seen.Seen.of.Given as goal
+
+abbrev pub invariant-loop-element : goal.invariant-loop-element
+invariant-loop-element l = IsSeen l.seen l.start_mask (reverse (take l.element-index l.word))

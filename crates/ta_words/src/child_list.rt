@@ -1,0 +1,103 @@
+//! Lists of elements that may follow a word.
+#![tactic(auto)]
+
+ghost use Rattle.std.specs.Prelude.{ℕ, ◌+◌, ◌-◌, ◌≡◌, ◌≤◌, ◌<◌, ◌^◌, ◌++◌, ◌∷◌, ◌↔◌, IsTrue, List, [], filter, length, map, not, reverse};
+ghost use Rattle.ta_words.specs.declared.element.Element.TheVariants.{Event, Fall, Rise};
+ghost use Rattle.ta_automaton.specs.Masks.{In, numbers_from};
+ghost use Rattle.ta_words.specs.Seen.{EventsNamed, IsSeen};
+ghost use Rattle.ta_words.specs.Words.{has_rise, is_ready, is_standing};
+
+use crate::element::Element;
+use crate::mask;
+use crate::seen::Seen;
+use arrayvec::ArrayVec;
+use std::marker::Model;
+use ta_automaton::{Automaton, Pattern};
+
+/// A list of at most 87 elements: 8 events, 16 rise guards and 63 sets of fall guards. Contracts
+/// see it as that list.
+#[derive(Drop)]
+pub struct Children {
+    elements: ArrayVec<Element, 87>,
+}
+
+impl Model for Children {
+    ghost use Rattle.std.specs.Prelude.{List};
+    ghost use Rattle.ta_words.specs.declared.element.Element.{Element};
+
+    ghost Value = { List Element };
+
+    ghost view = { λ s. s.elements.items };
+}
+
+impl Children {
+    /// The elements, in order.
+    pub fn elements(&self) -> &[Element]
+        ensures { result.now ≡ self.now }
+    {
+        self.elements.as_slice()
+    }
+
+    pub(crate) fn contains(&self, element: Element) -> bool
+        ensures { IsTrue result ↔ In element self.now }
+    {
+        for child in self.elements() {
+            if child.is(element) {
+                return true;
+            }
+        }
+        false
+    }
+
+    pub(crate) fn new() -> Children
+        ensures { result ≡ [] }
+    {
+        Children {
+            elements: ArrayVec::new(),
+        }
+    }
+
+    fn push(&mut self, element: Element)
+        requires { length self.old < 87 }
+        ensures { self.new ≡ self.old ++ element ∷ [] }
+    {
+        self.elements.push(element);
+    }
+
+    pub(crate) fn push_events(&mut self, pattern: &Pattern, seen: Seen)
+        requires named { EventsNamed pattern.now }
+        requires room { length self.old + 8 ≤ 87 }
+        ensures { (start : ℕ) (past : List Element) → IsSeen seen start past
+            → self.new ≡ self.old ++ map Event (filter (is_ready pattern.now past) (numbers_from 0 (length pattern.now.events))) }
+    {
+        for (number, event) in pattern.events.as_slice().iter().enumerate() {
+            if seen.is_ready(number as u32, event.after) {
+                self.push(Element::Event(number as u32));
+            }
+        }
+    }
+
+    pub(crate) fn push_rises(&mut self, automaton: &Automaton, seen: Seen)
+        requires { length self.old + 16 ≤ 87 }
+        ensures { (start : ℕ) (past : List Element) → IsSeen seen start past
+            → self.new ≡ self.old ++ map Rise (filter (λ i. not (has_rise past i)) (numbers_from 0 (length automaton.now.rise))) }
+    {
+        for rise in 0..automaton.rise.as_slice().len() {
+            if !mask::contains(seen.rises, rise as u32) {
+                self.push(Element::Rise(rise as u32));
+            }
+        }
+    }
+
+    pub(crate) fn push_falls(&mut self, automaton: &Automaton, seen: Seen)
+        requires { length self.old + 63 ≤ 87 }
+        ensures { (start : ℕ) (past : List Element) → IsSeen seen start past
+            → self.new ≡ self.old ++ map Fall (filter (is_standing automaton.now start past) (numbers_from 1 (2 ^ length automaton.now.fall - 1))) }
+    {
+        for falls in 1..1u8 << automaton.fall.as_slice().len() {
+            if seen.is_standing(automaton, falls) {
+                self.push(Element::Fall(falls));
+            }
+        }
+    }
+}

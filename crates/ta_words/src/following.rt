@@ -1,0 +1,69 @@
+//! What may follow a word.
+#![tactic(auto)]
+
+ghost use Rattle.std.specs.Prelude.{ℕ, ◌≡◌, ◌<◌, length, reverse, slice_get};
+ghost use Rattle.ta_automaton.specs.Masks.{has_bit};
+ghost use Rattle.ta_words.specs.Calls.{OfPattern};
+ghost use Rattle.ta_words.specs.Words.{children, has_fallen, is_complete, may_fire};
+
+use crate::child_list::Children;
+use crate::element::Element;
+use crate::seen::Seen;
+use crate::word::Word;
+use ta_automaton::File;
+
+/// The elements that may follow a word, in order; a complete word has none.
+pub fn children(file: &File, pattern: u32, start_mask: u8, word: &Word) -> Children
+    requires { pattern < length file.now.patterns }
+    ensures { OfPattern file.now pattern (λ p. result ≡ children file.now.automaton p start_mask (reverse word.now)) }
+{
+    let pattern = &file.patterns.as_slice()[pattern as usize];
+    let seen = Seen::of(start_mask, word.elements());
+    let mut children = Children::new();
+    if !seen.is_complete(pattern) {
+        children.push_events(pattern, seen);
+        children.push_rises(&file.automaton, seen);
+        children.push_falls(&file.automaton, seen);
+    }
+    children
+}
+
+/// Whether each event of the pattern is in a word.
+pub fn is_complete(file: &File, pattern: u32, word: &Word) -> bool
+    requires { pattern < length file.now.patterns }
+    ensures { OfPattern file.now pattern (λ p. result ≡ is_complete p (reverse word.now)) }
+{
+    let pattern = &file.patterns.as_slice()[pattern as usize];
+    Seen::of(0, word.elements()).is_complete(pattern)
+}
+
+/// The rules that are allowed after a word: bit r for rule r.
+pub fn allowed_rules(file: &File, pattern: u32, start_mask: u8, word: &Word) -> u128
+    requires { pattern < length file.now.patterns }
+    ensures { OfPattern file.now pattern (λ p. (r : ℕ) → has_bit result r ≡ may_fire file.now.automaton p start_mask (reverse word.now) (slice_get file.now.automaton.rules r)) }
+{
+    allowed_after(file, pattern, start_mask, word.elements())
+}
+
+/// The rules that are allowed after some elements: bit r for rule r.
+pub fn allowed_after(file: &File, pattern: u32, start_mask: u8, elements: &[Element]) -> u128
+    requires { pattern < length file.now.patterns }
+    ensures { OfPattern file.now pattern (λ p. (r : ℕ) → has_bit result r ≡ may_fire file.now.automaton p start_mask (reverse elements.now) (slice_get file.now.automaton.rules r)) }
+{
+    let pattern = &file.patterns.as_slice()[pattern as usize];
+    let seen = Seen::of(start_mask, elements);
+    let mut allowed = 0u128;
+    for (number, rule) in file.automaton.rules.as_slice().iter().enumerate() {
+        if seen.may_fire(&file.automaton, pattern, rule) {
+            allowed |= 1 << number;
+        }
+    }
+    allowed
+}
+
+/// The fall guards that are in the start set or have fallen in some elements: bit j for fall guard j.
+pub fn fallen_after(start_mask: u8, elements: &[Element]) -> u32
+    ensures { (j : ℕ) → has_bit result j ≡ has_fallen start_mask (reverse elements.now) j }
+{
+    Seen::of(start_mask, elements).fallen
+}

@@ -1,0 +1,14 @@
+//! Words of events and guard switches, their children, and the rules that are allowed after them.
+#![tactic(auto)]
+
+mod child_list;
+mod element;
+mod following;
+mod mask;
+mod seen;
+mod word;
+
+pub use child_list::Children;
+pub use element::Element;
+pub use following::{allowed_after, allowed_rules, children, fallen_after, is_complete};
+pub use word::Word;

@@ -1,0 +1,113 @@
+//! What a word says of events and guards.
+#![tactic(auto)]
+
+ghost use Rattle.std.specs.Prelude.{ℕ, ◌<◌, ◌≤◌, ◌^◌, ◌≡◌, ◌∷◌, ◌==◌, ◌&&◌, List, Some, length, not, reverse};
+ghost use Rattle.ta_automaton.specs.Shape.{RuleWithin};
+ghost use Rattle.ta_automaton.specs.Masks.{all_below, has_bit, implies};
+ghost use Rattle.ta_words.specs.Seen.{EventsNamed, IsSeen};
+ghost use Rattle.ta_words.specs.Words.{has_event, has_fallen, has_rise, is_complete, is_standing, may_fire};
+
+use crate::element::Element;
+use crate::mask;
+use ta_automaton::{Automaton, Pattern, Rule};
+
+/// The masks of a word's events and rise guards, and of the fall guards that are in the start set or have fallen.
+#[derive(Clone, Copy)]
+pub(crate) struct Seen {
+    pub(crate) events: u32,
+    pub(crate) rises: u32,
+    pub(crate) fallen: u32,
+}
+
+impl Seen {
+    /// The masks of a word.
+    pub(crate) fn of(start_mask: u8, word: &[Element]) -> Seen
+        ensures { IsSeen result start_mask (reverse word.now) }
+    {
+        let mut seen = Seen {
+            events: 0,
+            rises: 0,
+            fallen: u32::from(start_mask),
+        };
+        for element in word {
+            seen = seen.with(*element);
+        }
+        seen
+    }
+
+    fn with(self, element: Element) -> Seen
+        ensures { (start : ℕ) (past : List Element) → IsSeen self start past → IsSeen result start (element ∷ past) }
+    {
+        match element {
+            Element::Event(event) => Seen {
+                events: mask::with(self.events, event),
+                ..self
+            },
+            Element::Rise(rise) => Seen {
+                rises: mask::with(self.rises, rise),
+                ..self
+            },
+            Element::Fall(fall) => Seen {
+                fallen: mask::union(self.fallen, u32::from(fall)),
+                ..self
+            },
+        }
+    }
+
+    /// Whether the word has each event of a pattern.
+    pub(crate) fn is_complete(self, pattern: &Pattern) -> bool
+        requires { length pattern.now.events ≤ 8 }
+        ensures { (start : ℕ) (past : List Element) → IsSeen self start past → result ≡ is_complete pattern.now past }
+    {
+        let all = (1u32 << pattern.events.as_slice().len()) - 1;
+        mask::is_subset(all, self.events)
+    }
+
+    /// Whether an event is not in the word, and those that it comes after are.
+    pub(crate) fn is_ready(self, event: u32, after: u8) -> bool
+        requires { event < 32 }
+        ensures { (start : ℕ) (past : List Element) (n : ℕ) → IsSeen self start past → after < 2 ^ n → n ≤ 32
+            → result ≡ (not (has_event past event) && all_below n (λ f. implies (has_bit after f) (has_event past f))) }
+    {
+        !mask::contains(self.events, event) && mask::is_subset(u32::from(after), self.events)
+    }
+
+    /// Whether no fall guard of a set is in the start set or has fallen.
+    pub(crate) fn is_standing(self, automaton: &Automaton, falls: u8) -> bool
+        requires { falls < 2 ^ length automaton.now.fall }
+        ensures { (start : ℕ) (past : List Element) → IsSeen self start past → result ≡ is_standing automaton.now start past falls }
+    {
+        mask::is_disjoint(u32::from(falls), self.fallen)
+    }
+
+    /// Whether a rule is allowed after the word.
+    pub(crate) fn may_fire(self, automaton: &Automaton, pattern: &Pattern, rule: &Rule) -> bool
+        requires { RuleWithin (length automaton.now.shared) (length automaton.now.locations) (length automaton.now.rise) (length automaton.now.fall) rule.now }
+        ensures { (start : ℕ) (past : List Element) → IsSeen self start past → result ≡ may_fire automaton.now pattern.now start past (Some rule.now) }
+    {
+        moves_outside(rule, pattern.empty) && self.is_unlocked(automaton, rule)
+    }
+
+    /// Whether the rise guards of a rule are in the word, and none of its fall guards has fallen.
+    fn is_unlocked(self, automaton: &Automaton, rule: &Rule) -> bool
+        requires { RuleWithin (length automaton.now.shared) (length automaton.now.locations) (length automaton.now.rise) (length automaton.now.fall) rule.now }
+        ensures { (start : ℕ) (past : List Element) → IsSeen self start past
+            → result ≡ (all_below (length automaton.now.rise) (λ i. implies (has_bit rule.now.rise i) (has_rise past i))
+            && all_below (length automaton.now.fall) (λ j. implies (has_bit rule.now.fall j) (not (has_fallen start past j)))) }
+    {
+        mask::is_subset(u32::from(rule.rise), self.rises)
+            && mask::is_disjoint(u32::from(rule.fall), self.fallen)
+    }
+}
+
+/// Whether a rule leads to another location, and neither is in a set.
+fn moves_outside(rule: &Rule, locations: u32) -> bool
+    requires from { rule.now.from < 32 }
+    requires to { rule.now.to < 32 }
+    ensures { result ≡ (not (rule.now.from == rule.now.to) && (not (has_bit locations rule.now.from) && not (has_bit locations rule.now.to))) }
+{
+    if rule.from == rule.to {
+        return false;
+    }
+    !mask::contains(locations, rule.from) && !mask::contains(locations, rule.to)
+}

@@ -1,0 +1,71 @@
+//! Words.
+#![tactic(auto)]
+
+ghost use Rattle.std.specs.Prelude.{◌≡◌, ◌≤◌, ◌<◌, ◌++◌, ◌∷◌, ◌↔◌, IsTrue, [], if◌then◌else◌, length as list_length, reverse, take};
+ghost use Rattle.ta_words.specs.Calls.{OfPattern};
+ghost use Rattle.ta_automaton.specs.Masks.{In};
+ghost use Rattle.ta_words.specs.Words.{Legal, children};
+
+use crate::element::Element;
+use crate::following::children;
+use arrayvec::ArrayVec;
+use std::marker::Model;
+use ta_automaton::File;
+
+/// A list of at most 30 elements, which contracts see as that list. It is legal for a pattern and
+/// a start set if each element is a child of the elements before it.
+#[derive(Drop)]
+pub struct Word {
+    elements: ArrayVec<Element, 30>,
+}
+
+impl Model for Word {
+    ghost use Rattle.std.specs.Prelude.{List, ◌≤◌, length};
+    ghost use Rattle.ta_words.specs.declared.element.Element.{Element};
+
+    ghost Value = { List Element };
+
+    ghost view = { λ s. s.elements.items };
+
+    ghost invariant = { λ s. length s.elements.items ≤ 30 };
+}
+
+impl Word {
+    /// The empty word.
+    pub fn new() -> Word
+        ensures { result ≡ [] }
+    {
+        Word {
+            elements: ArrayVec::new(),
+        }
+    }
+
+    /// The elements, in order.
+    pub fn elements(&self) -> &[Element]
+        ensures { result.now ≡ self.now }
+    {
+        self.elements.as_slice()
+    }
+
+    /// Keeps the first `length` elements.
+    pub fn cut(&mut self, length: usize)
+        requires { length ≤ list_length self.old }
+        ensures { self.new ≡ take length self.old }
+    {
+        self.elements.truncate(length);
+    }
+
+    /// Appends an element if it is a child of the word, and says whether it is.
+    pub fn push(&mut self, file: &File, pattern: u32, start_mask: u8, element: Element) -> bool
+        requires exists { pattern < list_length file.now.patterns }
+        requires legal { OfPattern file.now pattern (λ p. Legal file.now.automaton p start_mask (reverse self.old)) }
+        ensures child { OfPattern file.now pattern (λ p. IsTrue result ↔ In element (children file.now.automaton p start_mask (reverse self.old))) }
+        ensures word { self.new ≡ (if result then self.old ++ element ∷ [] else self.old) }
+    {
+        let is_child = children(file, pattern, start_mask, self).contains(element);
+        if is_child {
+            self.elements.push(element);
+        }
+        is_child
+    }
+}
