@@ -1,0 +1,118 @@
+use Rattle.std.proofs.Common.{◌≡◌, ◌≢◌, ℕ, zero, suc, ◌+◌, ◌*◌, ◌/◌, ◌%◌, ◌<◌, List, [], ◌∷◌, length, get_or, arith, refl, sym, ap, ◌∙◌, subst, ℤ, pos, negsuc, ◌+ℤ◌, ◌*ℤ◌, ◌<ℤ◌}
+use Rattle.std.specs.Prelude.{unsigned_abs}
+use Rattle.std.specs.Int.{◌∣◌}
+use Rattle.std.proofs.lemmas.Int.{ints, unsigned_abs-mul}
+use Rattle.std.proofs.lemmas.List.{ext_get_or}
+use Rattle.std.proofs.lemmas.Nat.{div-add-mod'}
+use Rattle.std.proofs.lemmas.Nat.Gcd.{dvd_antisymm}
+use Rattle.std.proofs.Math.Nat.{dvd-mul_right, dvd-mul_right_of_dvd, dvd-add_iff_right}
+use Rattle.ta_linear.proofs.Integers.{expand, mul_comm}
+use Rattle.ta_dense.specs.Tableau.{TableauRow, Tableau, non_basic_of, gcd_with}
+use Rattle.ta_dense.specs.Valid.{IsDictionaryRow, dot, IsDictionary}
+use Rattle.ta_dense.proofs.Single.{single, single-at, single-elsewhere}
+use Rattle.ta_dense.proofs.Dot.{dot-change, dot-scaled}
+use Rattle.ta_dense.proofs.Primitive.{primitive_divisor}
+use Rattle.ta_linear.proofs.Divide.{mul_cancel}
+use Rattle.ta_dense.proofs.Divide.{cancel_positive}
+use Rattle.ta_dense.proofs.RowFacts.{record_same}
+use Rattle.ta_linear.proofs.GcdLemmas.{gcd_within, gcd_of}
+
+-- what divides the products with two numbers divides that with their greatest common divisor
+dvd-gcd_within : (k x n a b : ℕ) → k ∣ x * a → k ∣ x * b → k ∣ x * gcd_within n a b
+dvd-gcd_within k x zero a b p q = p
+dvd-gcd_within k x (suc n) a zero p q = p
+dvd-gcd_within k x (suc n) a (suc b) p q =
+    let e : x * a ≡ x * suc b * (a / suc b) + x * (a % suc b) = omega (arith, ap (λ (m : ℕ). x * m) (div-add-mod' a (suc b))) in
+    dvd-gcd_within k x n (suc b) (a % suc b) q ((dvd-add_iff_right k (dvd-mul_right_of_dvd k q (a / suc b))).1 (subst (λ (m : ℕ). k ∣ m) e p))
+
+dvd-gcd_of : (k x a b : ℕ) → k ∣ x * a → k ∣ x * b → k ∣ x * gcd_of a b
+unfolding gcd_of
+dvd-gcd_of k x a b p q = dvd-gcd_within k x (suc b) a b p q
+
+dvd-gcd_with : (k x g : ℕ) (zs : List ℤ) → k ∣ x * g → ((i : ℕ) → i < length zs → k ∣ x * unsigned_abs (get_or zs i (pos 0))) → k ∣ x * gcd_with g zs
+dvd-gcd_with k x g [] p all = p
+dvd-gcd_with k x g (z ∷ zs) p all = dvd-gcd_with k x (gcd_of g (unsigned_abs z)) zs (dvd-gcd_of k x g (unsigned_abs z) p (all 0 (omega arith))) (λ i h. all (suc i) (omega arith))
+
+cross_arith : (d d' v m q b b' s s' : ℤ) → d *ℤ v ≡ (m *ℤ q) *ℤ b +ℤ m *ℤ s → d' *ℤ v ≡ (m *ℤ q) *ℤ b' +ℤ m *ℤ s' → m *ℤ (d' *ℤ (q *ℤ b +ℤ s)) ≡ m *ℤ (d *ℤ (q *ℤ b' +ℤ s'))
+cross_arith d d' v m q b b' s s' h k =
+    let x = simp expand at (ap (λ (z : ℤ). d' *ℤ z) h) in
+    let y = simp expand at (ap (λ (z : ℤ). d *ℤ z) k) in
+    simp expand (omega (arith, ints, x, y))
+
+-- two rows of one basic variable agree after multiplication by the other's denominator
+cross : (A : ℤ → (ℕ → ℤ) → Type 0) (n : ℕ) (t : Tableau) (r r' : TableauRow) → IsDictionary A n t → IsDictionaryRow A t.non_basic r → IsDictionaryRow A t.non_basic r' → r.basic ≡ r'.basic → (q : ℤ) (want : ℕ → ℤ) →
+    r'.denominator *ℤ (q *ℤ r.constant +ℤ dot r.cells t.non_basic want) ≡ r.denominator *ℤ (q *ℤ r'.constant +ℤ dot r'.cells t.non_basic want)
+cross A n t r r' d p p' same q want =
+    let f = d.free q want in
+    let h = p.holds (pos f.0 *ℤ q) f.1 f.3 ∙ ap (λ (z : ℤ). (pos f.0 *ℤ q) *ℤ r.constant +ℤ z) (dot-scaled r.cells t.non_basic f.1 want (pos f.0) f.4) in
+    let h' = p'.holds (pos f.0 *ℤ q) f.1 f.3 ∙ ap (λ (z : ℤ). (pos f.0 *ℤ q) *ℤ r'.constant +ℤ z) (dot-scaled r'.cells t.non_basic f.1 want (pos f.0) f.4) in
+    let k = rw (← same) at h' in
+    mul_cancel f.0 _ _ f.2 (cross_arith r.denominator r'.denominator (f.1 r.basic) (pos f.0) q r.constant r'.constant (dot r.cells t.non_basic want) (dot r'.cells t.non_basic want) h k)
+
+dot-nothing : (cs : List ℤ) (us : List ℕ) → dot cs us (λ _. pos 0) ≡ pos 0
+dot-nothing [] us = refl
+dot-nothing (c ∷ cs) [] = refl
+dot-nothing (c ∷ cs) (u ∷ us) = omega (arith, ints, dot-nothing cs us)
+
+dot-one : (cs : List ℤ) (us : List ℕ) (j : ℕ) → j < length us → length cs ≡ length us → ((i : ℕ) → i < length us → i ≢ j → get_or us j 0 ≢ get_or us i 0) → dot cs us (single (get_or us j 0) (pos 1)) ≡ get_or cs j (pos 0)
+dot-one cs us j h e apart =
+    let k = dot-change cs us (single (get_or us j 0) (pos 1)) (λ _. pos 0) j h e (λ i inside ne. single-elsewhere (get_or us j 0) (get_or us i 0) (pos 1) (apart i inside ne)) in
+    let m = rw (single-at (get_or us j 0) (get_or us j 0) (pos 1) refl, dot-nothing cs us) at k in
+    omega (arith, ints, m)
+
+constant_cross : (A : ℤ → (ℕ → ℤ) → Type 0) (n : ℕ) (t : Tableau) (r r' : TableauRow) → IsDictionary A n t → IsDictionaryRow A t.non_basic r → IsDictionaryRow A t.non_basic r' → r.basic ≡ r'.basic →
+    r'.denominator *ℤ r.constant ≡ r.denominator *ℤ r'.constant
+constant_cross A n t r r' d p p' same =
+    let k = rw (dot-nothing r.cells t.non_basic, dot-nothing r'.cells t.non_basic) at (cross A n t r r' d p p' same (pos 1) (λ _. pos 0)) in
+    ap (λ (z : ℤ). r'.denominator *ℤ z) (one r.constant) ∙ k ∙ ap (λ (z : ℤ). r.denominator *ℤ z) (sym (one r'.constant))
+  where
+    one : (z : ℤ) → z ≡ pos 1 *ℤ z +ℤ pos 0
+    one z = omega (arith, ints)
+
+cell_cross : (A : ℤ → (ℕ → ℤ) → Type 0) (n : ℕ) (t : Tableau) (r r' : TableauRow) → IsDictionary A n t → IsDictionaryRow A t.non_basic r → IsDictionaryRow A t.non_basic r' → r.basic ≡ r'.basic → (j : ℕ) → j < length t.non_basic →
+    r'.denominator *ℤ get_or r.cells j (pos 0) ≡ r.denominator *ℤ get_or r'.cells j (pos 0)
+cell_cross A n t r r' d p p' same j h =
+    let apart = λ (i : ℕ) (inside : i < length t.non_basic) (ne : i ≢ j) (e : non_basic_of t j ≡ non_basic_of t i). ne (d.basis.non_basic_once i j inside h (sym e)) in
+    let k = rw (dot-one r.cells t.non_basic j h p.long apart, dot-one r'.cells t.non_basic j h p'.long apart) at (cross A n t r r' d p p' same (pos 0) (single (non_basic_of t j) (pos 1))) in
+    ap (λ (z : ℤ). r'.denominator *ℤ z) (nought r.constant (get_or r.cells j (pos 0))) ∙ k ∙ ap (λ (z : ℤ). r.denominator *ℤ z) (sym (nought r'.constant (get_or r'.cells j (pos 0))))
+  where
+    nought : (b z : ℤ) → z ≡ pos 0 *ℤ b +ℤ z
+    nought b z = omega (arith, ints)
+
+dvd_cross : (d d' x x' : ℤ) → d' *ℤ x ≡ d *ℤ x' → unsigned_abs d ∣ unsigned_abs d' * unsigned_abs x
+dvd_cross d d' x x' e =
+    let k : unsigned_abs d * unsigned_abs x' ≡ unsigned_abs d' * unsigned_abs x = sym (unsigned_abs-mul d x') ∙ ap unsigned_abs (sym e) ∙ unsigned_abs-mul d' x in
+    subst (λ (m : ℕ). unsigned_abs d ∣ m) k (dvd-mul_right (unsigned_abs d) (unsigned_abs x'))
+
+dvd_denominator : (A : ℤ → (ℕ → ℤ) → Type 0) (n : ℕ) (t : Tableau) (r r' : TableauRow) → IsDictionary A n t → IsDictionaryRow A t.non_basic r → IsDictionaryRow A t.non_basic r' → r.basic ≡ r'.basic →
+    unsigned_abs r.denominator ∣ unsigned_abs r'.denominator
+dvd_denominator A n t r r' d p p' same =
+    let all = dvd-gcd_with (unsigned_abs r.denominator) (unsigned_abs r'.denominator) (unsigned_abs r.denominator) (r.constant ∷ r.cells)
+    (dvd_cross r.denominator r'.denominator r.denominator r'.denominator (swapped r'.denominator r.denominator))
+    (each (constant_cross A n t r r' d p p' same) (λ j h. cell_cross A n t r r' d p p' same j (let e = p.long in omega arith))) in
+    let P : ℕ → Type 0 = λ m. unsigned_abs r.denominator ∣ unsigned_abs r'.denominator * m in
+    let one = subst P (primitive_divisor r p.primitive) all in
+    let e : unsigned_abs r'.denominator * 1 ≡ unsigned_abs r'.denominator = omega arith in
+    subst (λ (m : ℕ). unsigned_abs r.denominator ∣ m) e one
+  where
+    swapped : (a b : ℤ) → a *ℤ b ≡ b *ℤ a
+    swapped a b = mul_comm a b
+
+    each : r'.denominator *ℤ r.constant ≡ r.denominator *ℤ r'.constant → ((j : ℕ) → j < length r.cells → r'.denominator *ℤ get_or r.cells j (pos 0) ≡ r.denominator *ℤ get_or r'.cells j (pos 0)) →
+        (i : ℕ) → i < length (r.constant ∷ r.cells) → unsigned_abs r.denominator ∣ unsigned_abs r'.denominator * unsigned_abs (get_or (r.constant ∷ r.cells) i (pos 0))
+    each first cells zero h = dvd_cross r.denominator r'.denominator r.constant r'.constant first
+    each first cells (suc i) h = dvd_cross r.denominator r'.denominator (get_or r.cells i (pos 0)) (get_or r'.cells i (pos 0)) (cells i (omega arith))
+
+same_positive : (a b : ℤ) → pos 0 <ℤ a → pos 0 <ℤ b → unsigned_abs a ≡ unsigned_abs b → a ≡ b
+same_positive (pos a) (pos b) h k e = ap pos e
+same_positive (pos a) (negsuc b) h k e = absurd (omega (arith, ints, k))
+same_positive (negsuc a) b h k e = absurd (omega (arith, ints, h))
+
+-- for a basis that pivots reach, the numbers of a basic variable's row are unique
+pub unique_row : (A : ℤ → (ℕ → ℤ) → Type 0) (n : ℕ) (t : Tableau) (r r' : TableauRow) → IsDictionary A n t → IsDictionaryRow A t.non_basic r → IsDictionaryRow A t.non_basic r' → r.basic ≡ r'.basic → r ≡ r'
+unique_row A n t r r' d p p' same =
+    let e : r.denominator ≡ r'.denominator = same_positive r.denominator r'.denominator p.positive p'.positive (dvd_antisymm (dvd_denominator A n t r r' d p p' same) (dvd_denominator A n t r' r d p' p (sym same))) in
+    let b : r.constant ≡ r'.constant = cancel_positive r'.denominator r.constant r'.constant p'.positive (constant_cross A n t r r' d p p' same ∙ ap (λ (z : ℤ). z *ℤ r'.constant) e) in
+    let cs : r.cells ≡ r'.cells = ext_get_or (pos 0) r.cells r'.cells (p.long ∙ sym p'.long)
+    (λ j h. cancel_positive r'.denominator (get_or r.cells j (pos 0)) (get_or r'.cells j (pos 0)) p'.positive (cell_cross A n t r r' d p p' same j (let l = p.long in omega arith) ∙ ap (λ (z : ℤ). z *ℤ get_or r'.cells j (pos 0)) e)) in
+    record_same r r' same e b cs

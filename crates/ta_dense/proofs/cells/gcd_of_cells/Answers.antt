@@ -1,0 +1,19 @@
+use Rattle.std.proofs.Common.{ap, ◌∙◌, sym, pos, get_or, rules}
+use Rattle.std.proofs.lemmas.Int.{to_z-of_z}
+use Rattle.std.proofs.lemmas.List.{at_drop_more}
+use mir.Val.{SFits}
+use mir.Syntax.{w128}
+use Rattle.ta_linear.proofs.GcdLemmas.{gcd_of_is}
+use Rattle.ta_dense.proofs.cells.gcd_of_cells.Goals as goal
+use Rattle.ta_linear.proofs.GcdLemmas.{gcd_of}
+use Rattle.ta_dense.specs.Tableau.{gcd_with}
+
+pub loop-cell-preserved : goal.loop-cell-preserved
+loop-cell-preserved c =
+    let fx : SFits w128 (get_or c.args.cells.now c.loop-cell.cell-index (pos 0)) = search rules in
+    let u = simp to_z-of_z at c.unsigned_abs.ensures.value in
+    let v = gcd_of_is _ _ _ c.gcd_natural-divisor.ensures.value ∙ ap (gcd_of c.loop-cell.divisor) u in
+    record {
+      bound = c.gcd_natural-divisor.ensures.fits;
+      rest = rw v (sym (at_drop_more (gcd_with c.loop-cell.divisor) c.args.cells.now c.loop-cell.cell-index (pos 0) c.loop-cell-test.true) ∙ c.loop-cell.invariant.rest);
+    }

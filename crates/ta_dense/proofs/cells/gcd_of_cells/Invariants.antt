@@ -1,0 +1,9 @@
+use Rattle.std.proofs.Common.{◌≡◌, drop, ◌<◌, ◌^◌}
+use Rattle.ta_dense.proofs.cells.gcd_of_cells.Given as goal
+use Rattle.ta_dense.specs.Tableau.{gcd_with}
+
+abbrev pub invariant-loop-cell : goal.invariant-loop-cell
+invariant-loop-cell l = record {
+  bound : l.divisor < 2 ^ 127;
+  rest : gcd_with l.divisor (drop l.cell-index l.cells) ≡ gcd_with l.start l.cells;
+}

@@ -1,0 +1,38 @@
+use Rattle.std.proofs.Common.{◌<ℤ◌, arith, sym, ◌∙◌, ap, subst, List, length, rules, ℕ, pos}
+use Rattle.std.proofs.lemmas.List.{length-map, with_items_is, length-set}
+use Rattle.std.specs.Vec.{with_items}
+use Rattle.ta_dense.specs.Tableau.{Tableau, cell_of, row_of}
+use Rattle.ta_dense.specs.Merge.{AllMergeInRange}
+use Rattle.ta_dense.specs.Rows.{row_view, AreProper}
+use Rattle.ta_dense.specs.declared.rows.DenseRow.{DenseRow}
+use Rattle.ta_dense.proofs.DenseFacts.{proper_after_pivot, others_of_views}
+use Rattle.ta_dense.proofs.dense.DenseDictionaryDictionary.pivot.Goals as goal
+
+pub invariant_of-result : goal.invariant_of-result
+invariant_of-result c =
+    let rows = ap (λ (t : Tableau). length t.rows) c.self.view_is in
+    let columns = ap (λ (t : Tableau). length t.non_basic) c.self.view_is in
+    let l = length-map c.self.inside.rows.items row_view in
+    let r = c.requires.row in
+    let k = c.requires.column in
+    let P : Tableau → Type 0 = λ t. pos 0 <ℤ cell_of (row_of t c.args.row) c.args.column in
+    let positive = subst P (sym c.self.view_is) c.requires.positive in
+    let value = rw c.deref_mut.ensures.value at c.in_default.ensures.value in
+    let others = rw c.deref_mut.ensures.value at c.in_default.ensures.in_range in
+    let auto = c.pivot_rows.auto.rows ∙ ap (λ (xs : List DenseRow). length xs) c.deref_mut.ensures.value in
+    let items = with_items_is c.self.inside.rows c.pivot_rows.new.rows (auto ∙ search rules) in
+    let proper = proper_after_pivot (length c.self.inside.non_basic.items) c.args.row c.args.column c.index-entering.result.now c.self.inside.rows.items c.pivot_rows.new.rows c.self.invariant.proper (omega arith) (omega arith) positive others value auto in
+    let wide = length-set c.self.inside.non_basic.items c.args.column c.index.result.now.basic in
+    let fit = c.self.invariant.rows_fit in
+    let Q : ℕ → List DenseRow → Type 0 = AreProper in
+    let long = ap (λ (xs : List DenseRow). length xs) items in
+    record {
+      proper = subst (λ (n : ℕ). Q n (with_items c.self.inside.rows c.pivot_rows.new.rows).items) (sym wide) (subst (Q (length c.self.inside.non_basic.items)) (sym items) proper);
+      rows_fit = omega arith;
+      columns_fit = let narrow = c.self.invariant.columns_fit in omega arith;
+    }
+
+pub returns-clause-in_range : goal.returns-clause-in_range
+returns-clause-in_range c =
+    let others = rw c.deref_mut.ensures.value at c.in_default.ensures.in_range in
+    subst (λ (t : Tableau). AllMergeInRange t c.args.row c.args.column) c.self.view_is (others_of_views c.args.row c.args.column c.self.inside.rows.items others)

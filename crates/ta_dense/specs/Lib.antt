@@ -1,0 +1,9 @@
+pub mod Tableau
+pub mod Valid
+pub mod Slack
+pub mod Entering
+pub mod Merge
+pub mod Fault
+pub mod Rows
+pub mod Dense
+pub mod Laws

@@ -1,0 +1,15 @@
+pub mod Basic
+pub mod Search
+pub mod LeastSoFar
+pub mod Bland
+pub mod Pigeon
+pub mod Moments
+pub mod Choose
+pub mod Ends
+pub mod LeafLaws
+pub mod RunLemmas
+pub mod VertexLemmas
+pub mod SlotLemmas
+pub mod ValueLemmas
+pub mod LeafLemmas
+pub mod WholeLemmas

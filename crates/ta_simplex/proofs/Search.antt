@@ -1,0 +1,62 @@
+use Rattle.std.proofs.Common.{◌≡◌, ◌⊎◌, inl, inr, ℕ, zero, suc, ◌+◌, ◌<◌, ◌≤◌, Bool, true, false, arith, refl, sym, ap, ◌∙◌, subst}
+use Rattle.std.proofs.lemmas.Bool.{cases_lt, cases_eq}
+
+pub same_or_not : (a b : Bool) → (a ≡ b) ⊎ (a ≡ b → ⊥)
+same_or_not true true = inl refl
+same_or_not true false = inr (λ e. cc)
+same_or_not false true = inr (λ e. cc)
+same_or_not false false = inl refl
+
+pub true_or_false : (b : Bool) → (b ≡ true) ⊎ (b ≡ false)
+true_or_false true = inl refl
+true_or_false false = inr refl
+
+-- a test that has one value at one moment and the other at a later one switches between them
+pub switches : (f : ℕ → Bool) (v w : Bool) (s t : ℕ) → (v ≡ w → ⊥) → ((i : ℕ) → (f i ≡ v) ⊎ (f i ≡ w)) → s ≤ t → f s ≡ v → f t ≡ w → (i : ℕ) × (s ≤ i) × (i < t) × (f i ≡ v) × (f (i + 1) ≡ w)
+switches f v w s zero apart either h p q = let e : s ≡ zero = omega arith in absurd (apart (sym p ∙ ap f e ∙ q))
+switches f v w s (suc t) apart either h p q =
+    elim (cases_lt s (suc t)) [
+      | inl below ↦ elim (either t) [
+        | inl here ↦ let e : t + 1 ≡ suc t = omega arith in (t, omega arith, omega arith, here, ap f e ∙ q)
+        | inr later ↦
+            let found = switches f v w s t apart either (omega arith) p later in
+            (found.0, found.1, omega arith, found.3, found.4)
+      ]
+      | inr above ↦ let e : s ≡ suc t = omega arith in absurd (apart (sym p ∙ ap f e ∙ q))
+    ]
+
+-- between two moments the test moves away from its first value, or it stays
+abbrev pub Moves : (ℕ → Bool) → ℕ → ℕ → Type 0
+Moves f s t = (i : ℕ) × (s ≤ i) × (i ≤ t) × (f i ≡ f s → ⊥)
+
+abbrev pub Stays : (ℕ → Bool) → ℕ → ℕ → Type 0
+Stays f s t = (i : ℕ) → s ≤ i → i ≤ t → f i ≡ f s
+
+pub moves_or_stays : (f : ℕ → Bool) (s t : ℕ) → Moves f s t ⊎ Stays f s t
+moves_or_stays f s zero = inr (λ i low high. ap f (omega arith))
+moves_or_stays f s (suc t) =
+    elim (moves_or_stays f s t) [
+      | inl m ↦ inl (m.0, m.1, omega arith, m.3)
+      | inr still ↦ elim (same_or_not (f (suc t)) (f s)) [
+        | inl e ↦ inr (λ i low high. elim (cases_eq i (suc t)) [ inl last ↦ ap f last ∙ e | inr other ↦ still i low (omega arith) ])
+        | inr ne ↦ elim (cases_lt (suc t) s) [
+          | inl before ↦ inr (λ i low high. absurd (omega arith))
+          | inr after ↦ inl (suc t, omega arith, omega arith, ne)
+        ]
+      ]
+    ]
+
+-- the greatest number below n at which P holds, or it holds at none
+abbrev pub Greatest : (ℕ → Type 0) → (ℕ → Type 0) → ℕ → Type 0
+Greatest P Q n = (x : ℕ) × (x < n) × P x × ((y : ℕ) → x < y → y < n → Q y)
+
+pub greatest_or_none : (P Q : ℕ → Type 0) (n : ℕ) → ((x : ℕ) → P x ⊎ Q x) → Greatest P Q n ⊎ ((y : ℕ) → y < n → Q y)
+greatest_or_none P Q zero either = inr (λ y h. absurd (omega arith))
+greatest_or_none P Q (suc n) either =
+    elim (either n) [
+      | inl here ↦ inl (n, omega arith, here, λ y low high. absurd (omega arith))
+      | inr not_here ↦ elim (greatest_or_none P Q n either) [
+        | inl g ↦ inl (g.0, omega arith, g.2, λ y low high. elim (cases_eq y n) [ inl e ↦ subst Q (sym e) not_here | inr ne ↦ g.3 y low (omega arith) ])
+        | inr none ↦ inr (λ y high. elim (cases_eq y n) [ inl e ↦ subst Q (sym e) not_here | inr ne ↦ none y (omega arith) ])
+      ]
+    ]

@@ -1,0 +1,5 @@
+use Rattle.ta_simplex.specs.Vertex.{AreZeros}
+use Rattle.ta_simplex.proofs.vertex.zeros.Given as goal
+
+abbrev pub invariant-loop-unknown : goal.invariant-loop-unknown
+invariant-loop-unknown l = AreZeros l._unknown l.values.items

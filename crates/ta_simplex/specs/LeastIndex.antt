@@ -1,0 +1,55 @@
+-- The least-index rule (Bland's rule, in its form for feasibility)
+use Rattle.std.specs.Prelude.{ℕ, zero, suc, ◌-◌, ◌^◌, ◌<◌, pos, ◌<ℤ◌, ◌≤ℤ◌, ◌≡◌, ◌⊎◌, length, min}
+use Rattle.ta_dense.specs.Tableau.{Tableau, row_of, basic_of, pivoted}
+use Rattle.ta_dense.specs.Entering.{Enters, NoneEnters}
+use Rattle.ta_dense.specs.Merge.{AllMergeInRange, FirstOverflow}
+
+-- the least basic variable with a negative constant leaves
+pub record Leaves (t : Tableau) (row : ℕ) : Type 0 where
+  pub below : row < length t.rows
+  pub negative : (row_of t row).constant <ℤ pos 0
+  pub least : (i : ℕ) → i < length t.rows → basic_of t i < basic_of t row → pos 0 ≤ℤ (row_of t i).constant
+
+-- no constant is negative
+abbrev pub NoneLeaves : Tableau → Type 0
+NoneLeaves t = (i : ℕ) → i < length t.rows → pos 0 ≤ℤ (row_of t i).constant
+
+-- one step: the least variable leaves that can, the least that can then enters, and the pivot stays in range
+pub record LeastStep (t t' : Tableau) : Type 0 where
+  pub row : ℕ
+  pub column : ℕ
+  pub leaves : Leaves t row
+  pub enters : Enters t row column
+  pub in_range : AllMergeInRange t row column
+  pub next : t' ≡ pivoted t row column
+
+-- a tableau after k steps
+abbrev pub Reached : Tableau → ℕ → Tableau → Type 0
+Reached start zero t = t ≡ start
+Reached start (suc k) t = (s : Tableau) × Reached start k s × LeastStep s t
+
+-- nothing can enter for the variable of a row
+pub record Stuck (t : Tableau) (row : ℕ) : Type 0 where
+  pub leaves : Leaves t row
+  pub none_enters : NoneEnters t row
+
+-- a count, which stands still at its type's end
+abbrev pub IsCount : ℕ → ℕ → Type 0
+IsCount k count = count ≡ min k (2 ^ 64 - 1)
+
+-- the pivot of this count leaves the range, and those before stay in it
+pub record OverflowsAt (start : Tableau) (count : ℕ) : Type 0 where
+  pub steps : ℕ
+  pub counted : IsCount (suc steps) count
+  pub tableau : Tableau
+  pub reached : Reached start steps tableau
+  pub row : ℕ
+  pub column : ℕ
+  pub leaves : Leaves tableau row
+  pub enters : Enters tableau row column
+  pub at : ℕ
+  pub overflow : FirstOverflow tableau row column at
+
+-- the rule ends at a tableau: nothing leaves, or nothing can enter for what leaves
+abbrev pub Ended : Tableau → Type 0
+Ended t = NoneLeaves t ⊎ ((row : ℕ) × Stuck t row)

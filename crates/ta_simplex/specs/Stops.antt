@@ -1,0 +1,8 @@
+use Rattle.std.specs.Prelude.{ℕ, Option, Some, None}
+use Rattle.ta_dense.specs.Tableau.{Tableau}
+use Rattle.ta_simplex.specs.LeastIndex.{NoneLeaves, Stuck}
+
+-- no variable leaves, or a row's leaves and none can enter
+abbrev pub StopsAt : Tableau → Option ℕ → Type 0
+StopsAt t None = NoneLeaves t
+StopsAt t (Some row) = Stuck t row

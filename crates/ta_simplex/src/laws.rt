@@ -1,0 +1,14 @@
+//! Laws of the least-index rule, each the contract of a function that does nothing.
+#![tactic(auto)]
+
+ghost use Rattle.ta_simplex.specs.Laws.{RunsAreDetermined, WholeVerticesSolve};
+
+/// The rule leaves no choice: a system has one list of bases and at most one end.
+pub fn runs_are_determined()
+    ensures { RunsAreDetermined }
+{}
+
+/// A vertex whose values are all whole is a solution.
+pub fn whole_vertices_solve()
+    ensures { WholeVerticesSolve }
+{}
