@@ -1,0 +1,85 @@
+//! Prints how long 200 pivots on a dictionary of 200 rows and 400 columns take, where a word asks
+//! for it.
+#![tactic(auto)]
+
+ghost use Rattle.std.specs.Prelude.{◌≤◌, ◌<◌, ◌^◌, IfOk};
+ghost use Rattle.ta_dense.specs.Slack.{variables};
+ghost use Rattle.ta_linear.specs.Terms.{IsNormal};
+
+use std::alloc::{AllocError, Global};
+use std::time::Instant;
+use std::{env, io};
+use ta_dense::{DenseDictionary, Dictionary};
+use ta_linear::{Form, List, Row, System};
+
+const ROWS: u32 = 200;
+
+const COLUMNS: u32 = 400;
+
+fn main(rt: HostRuntime) -> io::Result<()> {
+    if env::args(&rt)?.count() < 2 {
+        println!(rt; "time_pivots: any word prints a time")?;
+        return Ok(());
+    }
+    let system = intervals(rt.alloc())?;
+    let dictionary = DenseDictionary::from_system(rt.alloc(), &system)?;
+    let start = Instant::now(&rt)?;
+    let done = pivots(rt.alloc(), dictionary);
+    let taken = start.elapsed(&rt)?.as_micros();
+    println!(rt; "{done} pivots on {ROWS} rows and {COLUMNS} columns in {taken} us")
+}
+
+/// Makes one pivot in each row, the last row first, and says in how many. Each changes all rows
+/// before its own.
+fn pivots(alloc: Global, dictionary: DenseDictionary) -> u32 {
+    let mut now = dictionary;
+    let mut done = 0;
+    while done < ROWS {
+        let Some(next) = pivot_in(alloc, now, ROWS - 1 - done) else {
+            return done;
+        };
+        now = next;
+        done += 1;
+    }
+    done
+}
+
+/// The dictionary after the least variable that can has entered in a row.
+fn pivot_in(alloc: Global, dictionary: DenseDictionary, row: u32) -> Option<DenseDictionary> {
+    if row >= dictionary.rows() {
+        return None;
+    }
+    let column = dictionary.entering(row)?;
+    dictionary.pivot(alloc, row, column).ok()
+}
+
+/// Rows whose coefficients are 1 in 200 columns, each beginning one column later.
+fn intervals(alloc: Global) -> Result<System, AllocError>
+    ensures { IfOk result (λ system. variables system < 2 ^ 32) }
+{
+    let mut rows = Vec::new(alloc);
+    for first in 0..ROWS {
+        let row = interval(alloc, first)?;
+        rows.push(row)?;
+    }
+    Ok(System {
+        unknowns: COLUMNS,
+        rows: List::from_vec(rows),
+    })
+}
+
+/// A row whose coefficients are 1 in the columns from `first` on.
+fn interval(alloc: Global, first: u32) -> Result<Row, AllocError>
+    requires { first ≤ 200 }
+    ensures { IfOk result (λ row. IsNormal 0 400 row.form.terms) }
+{
+    let mut terms = Vec::new(alloc);
+    for column in first..first + 200 {
+        terms.push((column, 1))?;
+    }
+    let form = Form {
+        constant: 0,
+        terms: List::from_vec(terms),
+    };
+    Ok(Row { form })
+}
