@@ -11,7 +11,7 @@ use Rattle.ta_automaton.specs.declared.automaton.Automaton.{Automaton}
 use Rattle.ta_automaton.specs.declared.pattern.Event.{Event}
 use Rattle.ta_automaton.specs.declared.pattern.Pattern.{Pattern}
 
--- the number at an index of a list
+-- the number at an index of a list (this project's profile)
 abbrev pub number_at : List ℕ → ℕ → ℤ
 number_at values i = pos (slice_index values i)
 
@@ -30,11 +30,11 @@ pub record Config : Type 0 where
   pub shared : List ℕ
   pub counters : List ℕ
 
--- the value at a place number: parameters first, then shared variables, then locations
+-- the value at a place number: parameters first, then shared variables, then locations (this project's profile)
 abbrev pub value_at : Config → ℕ → ℤ
 value_at c = number_at (c.parameters ++ c.shared ++ c.counters)
 
--- a condition holds in a configuration
+-- a condition holds in a configuration (POPL 2017, guards in configurations)
 abbrev pub Holds : Condition → Config → Type 0
 Holds condition c = HoldsAt (value_at c) condition
 
@@ -47,7 +47,7 @@ pub record Initial (a : Automaton) (c : Config) : Type 0 where
   pub processes : pos (sum c.counters) ≡ value_of (number_at c.parameters) a.processes
   pub shared_zero : (x : ℕ) → slice_index c.shared x ≡ 0
 
--- the guards that a mask names hold
+-- the guards that a mask names hold (POPL 2017, enabled rules; masks are this project's profile)
 abbrev pub MaskedHold : ℕ → List Row → Config → Type 0
 MaskedHold mask rows c = (i : ℕ) (row : Row) → slice_get rows i ≡ Some row → IsBitSet mask i → RowHolds (value_at c) row
 
@@ -62,13 +62,13 @@ pub record Move (a : Automaton) (rule : Rule) (before after : Config) : Type 0 w
   pub shared_count : length after.shared ≡ length before.shared
   pub parameters : after.parameters ≡ before.parameters
 
--- a unit step of a rule, by its number
+-- a unit step of a rule, by its number (POPL 2017, transitions without acceleration)
 pub record Step (a : Automaton) (r : ℕ) (before after : Config) : Type 0 where
   pub rule : Rule
   pub named : slice_get a.rules r ≡ Some rule
   pub move : Move a rule before after
 
--- rule numbers that are, one after another, steps from a configuration through the later ones
+-- rule numbers that are, one after another, steps from a configuration through the later ones (POPL 2017, schedules)
 abbrev pub Steps : Automaton → Config → List ℕ → List Config → Type 0
 Steps a c [] [] = Unit {0}
 Steps a c (r ∷ rs) (d ∷ ds) = Step a r c d × Steps a d rs ds
@@ -80,11 +80,11 @@ pub record Run (a : Automaton) (first : Config) (rules : List ℕ) (later : List
   pub initial : Initial a first
   pub steps : Steps a first rules later
 
--- the configuration after k steps
+-- the configuration after k steps (POPL 2017, paths)
 abbrev pub At : Config → List Config → ℕ → Config → Type 0
 At first later k c = slice_get (first ∷ later) k ≡ Some c
 
--- an event's condition holds at its position, which is not beyond the run's length
+-- an event's condition holds at its position, which is not beyond the run's length (this project's patterns)
 abbrev pub HappensAt : Config → List Config → Event → ℕ → Type 0
 HappensAt first later event k = (c : Config) × At first later k c × Holds event.condition c
 
@@ -99,16 +99,16 @@ pub record Occurs (a : Automaton) (p : Pattern) (first : Config) (rules : List �
   pub happens : (e : ℕ) (event : Event) (k : ℕ) → slice_get p.events e ≡ Some event → slice_get positions e ≡ Some k → HappensAt first later event k
   pub in_order : (e f : ℕ) (event : Event) → slice_get p.events e ≡ Some event → IsBitSet event.after f → slice_index positions f ≤ slice_index positions e
 
--- the pattern occurs in no run, for any admissible parameters and any number of steps
+-- the pattern occurs in no run, for any admissible parameters and any number of steps (POPL 2017, parameterised safety)
 abbrev pub Safe : Automaton → Pattern → Type 0
 Safe a p = (first : Config) (rules : List ℕ) → Occurs a p first rules → ⊥
 
--- rules lead from one location to another
+-- rules lead from one location to another (this project's profile)
 abbrev pub Walk : Automaton → ℕ → List ℕ → ℕ → Type 0
 Walk a x [] y = x ≡ y
 Walk a x (r ∷ rs) y = (rule : Rule) × (slice_get a.rules r ≡ Some rule) × (rule.from ≡ x) × Walk a rule.to rs y
 
--- a self-loop has no update
+-- a self-loop has no update (this project's profile)
 abbrev pub LoopsPure : Automaton → Type 0
 LoopsPure a = (r : ℕ) (rule : Rule) → slice_get a.rules r ≡ Some rule → rule.from ≡ rule.to → (x : ℕ) → coefficient rule.updates x ≡ pos 0
 
