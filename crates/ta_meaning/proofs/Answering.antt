@@ -1,0 +1,99 @@
+-- How the faults of parts make those of the whole: the first of them, or none.
+use Rattle.std.proofs.Common.{◌≡◌, Bool, true, false, List, [], ◌∷◌, ◌++◌, Result, Ok, Err, inl, inr, refl, sym, ap, subst, ◌∙◌}
+use Rattle.ta_syntax.specs.declared.fault.FileFault.{FileFault}
+use Rattle.ta_syntax.specs.declared.fault.FileFault.TheVariants as fault
+use Rattle.ta_meaning.specs.Faults.{where_, else_, FirstOrMemory, Answers}
+
+-- ---- where there are none
+
+pub where-false : (test : Bool) (f : FileFault) → test ≡ false → where_ test f ≡ []
+where-false false f e = refl
+where-false true f e = cc
+
+pub where-true : (test : Bool) (f : FileFault) → test ≡ true → where_ test f ≡ f ∷ []
+where-true true f e = refl
+where-true false f e = cc
+
+pub else-left-none : (a b : List FileFault) → a ≡ [] → else_ a b ≡ b
+else-left-none [] b e = refl
+else-left-none (f ∷ a) b e = cc
+
+pub append-left-none : (a b : List FileFault) → a ≡ [] → a ++ b ≡ b
+append-left-none [] b e = refl
+append-left-none (f ∷ a) b e = cc
+
+pub else-none : (a b : List FileFault) → a ≡ [] → b ≡ [] → else_ a b ≡ []
+else-none a b e g = else-left-none a b e ∙ g
+
+pub append-none : (a b : List FileFault) → a ≡ [] → b ≡ [] → a ++ b ≡ []
+append-none a b e g = append-left-none a b e ∙ g
+
+-- where the whole has none, no part has one
+
+pub not-where : (test : Bool) (f : FileFault) → where_ test f ≡ [] → test ≡ false
+not-where false f e = refl
+not-where true f e = cc
+
+pub none-else-left : (a b : List FileFault) → else_ a b ≡ [] → a ≡ []
+none-else-left [] b e = refl
+none-else-left (f ∷ a) b e = cc
+
+pub none-else-right : (a b : List FileFault) → else_ a b ≡ [] → b ≡ []
+none-else-right [] b e = e
+none-else-right (f ∷ a) b e = cc
+
+pub none-append-left : (a b : List FileFault) → a ++ b ≡ [] → a ≡ []
+none-append-left [] b e = refl
+none-append-left (f ∷ a) b e = cc
+
+pub none-append-right : (a b : List FileFault) → a ++ b ≡ [] → b ≡ []
+none-append-right [] b e = e
+none-append-right (f ∷ a) b e = cc
+
+-- ---- the first of them
+
+pub memory-first : (faults : List FileFault) (e : FileFault) → e ≡ fault.Memory → FirstOrMemory faults e
+memory-first faults e m = inl m
+
+pub where-first : (test : Bool) (f : FileFault) → test ≡ true → FirstOrMemory (where_ test f) f
+where-first true f e = inr ([], refl)
+where-first false f e = cc
+
+-- a fault of the left part is the first of the whole
+pub else-left-first : (a b : List FileFault) (e : FileFault) → FirstOrMemory a e → FirstOrMemory (else_ a b) e
+else-left-first a b e (inl m) = inl m
+else-left-first [] b e (inr w) = let h = w.1 in cc
+else-left-first (f ∷ a) b e (inr w) = inr w
+
+pub append-left-first : (a b : List FileFault) (e : FileFault) → FirstOrMemory a e → FirstOrMemory (a ++ b) e
+append-left-first a b e (inl m) = inl m
+append-left-first a b e (inr w) = inr (w.0 ++ b, ap (λ (fs : List FileFault). fs ++ b) w.1)
+
+-- where the left part has none, the first of the right part is the first of the whole
+pub else-right-first : (a b : List FileFault) (e : FileFault) → a ≡ [] → FirstOrMemory b e → FirstOrMemory (else_ a b) e
+else-right-first a b e none h = subst (λ (fs : List FileFault). FirstOrMemory fs e) (sym (else-left-none a b none)) h
+
+pub append-right-first : (a b : List FileFault) (e : FileFault) → a ≡ [] → FirstOrMemory b e → FirstOrMemory (a ++ b) e
+append-right-first a b e none h = subst (λ (fs : List FileFault). FirstOrMemory fs e) (sym (append-left-none a b none)) h
+
+-- ---- answers
+
+-- an answer to some faults is one to the same faults written otherwise
+pub answers-along : {X : Type 0} (a b : List FileFault) (IsRight : X → Type 0) (r : Result X FileFault) → a ≡ b → Answers a IsRight r → Answers b IsRight r
+answers-along a b IsRight r e h = subst (λ (fs : List FileFault). Answers fs IsRight r) e h
+
+-- what is right in one sense is right in another
+pub answers-with : {X : Type 0} (faults : List FileFault) (P Q : X → Type 0) (r : Result X FileFault) → ((x : X) → P x → Q x) → Answers faults P r → Answers faults Q r
+answers-with faults P Q (Ok x) f h = (h.0, f x h.1)
+answers-with faults P Q (Err e) f h = h
+
+pub answers-knowing : {X : Type 0} (faults : List FileFault) (P Q : X → Type 0) (r : Result X FileFault) → ((x : X) → faults ≡ [] → P x → Q x) → Answers faults P r → Answers faults Q r
+answers-knowing faults P Q (Ok x) f h = (h.0, f x h.0 h.1)
+answers-knowing faults P Q (Err e) f h = h
+
+-- the last part answers for the whole where those before it have no fault
+pub answers-after : {X : Type 0} (a b : List FileFault) (IsRight : X → Type 0) (r : Result X FileFault) → a ≡ [] → Answers b IsRight r → Answers (a ++ b) IsRight r
+answers-after a b IsRight r none h = answers-along b (a ++ b) IsRight r (sym (append-left-none a b none)) h
+
+pub answers-otherwise : {X : Type 0} (a b : List FileFault) (IsRight : X → Type 0) (r : Result X FileFault) → a ≡ [] → Answers b IsRight r → Answers (else_ a b) IsRight r
+answers-otherwise a b IsRight r none h = answers-along b (else_ a b) IsRight r (sym (else-left-none a b none)) h

@@ -1,0 +1,138 @@
+-- the guards of one rule, numbered one after another
+use Rattle.std.proofs.Common.{◌≡◌, ◌⊎◌, inl, inr, ℕ, List, [], ◌∷◌, ◌++◌, map, length, true, false, arith, sym, ap, ◌∙◌, refl, subst}
+use Rattle.std.proofs.lemmas.List.{append-nil, append_assoc, length-map}
+use Rattle.std.proofs.lemmas.Option.{slice_get_within}
+use Rattle.std.proofs.lemmas.Bool.{true≢false}
+use Rattle.ta_syntax.specs.Grammar.{PlainComparison}
+use Rattle.ta_syntax.specs.PlainTrees.{plain_comparison}
+use Rattle.ta_syntax.specs.declared.tree.TreeComparison.{TreeComparison}
+use Rattle.ta_syntax.specs.declared.fault.FileFault.{FileFault}
+use Rattle.ta_automaton.specs.Lists.{Each}
+use Rattle.ta_automaton.proofs.Thresholds.{each_at}
+use Rattle.ta_meaning.specs.Names.{Names, guard_names}
+use Rattle.ta_meaning.specs.Linear.{Linear, comparison_rows, UsesNames}
+use Rattle.ta_meaning.specs.Guards.{Guards, falls, with_row, with_guard, with_guards, rows_of, NamesGuards}
+use Rattle.ta_meaning.specs.Faults.{FirstOrMemory, in_guards, guard_faults, guards_faults}
+use Rattle.ta_meaning.specs.Numbering.{guards_so_far, GuardsKept, GuardNumbered, GuardsNumbered, AmongGuards, WithNumber, NumberFits, linear_of}
+use Rattle.ta_meaning.specs.declared.guards.GuardList.{GuardList}
+use Rattle.ta_meaning.specs.declared.guards.GuardMasks.{GuardMasks}
+use Rattle.ta_meaning.specs.declared.guards.GuardNumber.{GuardNumber}
+use Rattle.ta_meaning.specs.declared.guards.GuardNumber.TheVariants as number
+use Rattle.ta_meaning.proofs.ListItems.{each_push, each_with}
+use Rattle.ta_meaning.proofs.Answering.{append-left-none, append-left-first}
+use Rattle.ta_meaning.proofs.GuardSteps.{Extends, with_row_cases, guard_falls, guard_rises, extends_guard, guards_append, rows_append, rows_one, among_extends, among_number, mask_kind, mask_other, no_rows}
+
+-- a guard's number fits its mask
+pub number_fits : (ns : Names) (before after : GuardList) (c : PlainComparison) (n : GuardNumber) → GuardNumbered ns before c after n → NumberFits n
+number_fits ns before after c (number.Rise n) h =
+    let within = slice_get_within (guards_so_far ns after).rise n h.row h.numbered.1 in
+    let count = length-map after.rise.items (linear_of (length (guard_names ns))) in
+    let limit = h.kept.rise_limit in
+    omega arith
+number_fits ns before after c (number.Fall n) h =
+    let within = slice_get_within (guards_so_far ns after).fall n h.row h.numbered.1 in
+    let count = length-map after.fall.items (linear_of (length (guard_names ns))) in
+    let limit = h.kept.fall_limit in
+    omega arith
+
+-- the masks of one more row
+masks_more : (ns : Names) (before after : GuardList) (c : PlainComparison) (rows : List Linear) (masks more : GuardMasks) (n : GuardNumber) (h : GuardNumbered ns before c after n) → WithNumber masks n more
+    → NamesGuards (guards_so_far ns before).rise rows masks.rise → NamesGuards (guards_so_far ns before).fall rows masks.fall
+    → NamesGuards (guards_so_far ns after).rise (rows ++ h.row ∷ []) more.rise × NamesGuards (guards_so_far ns after).fall (rows ++ h.row ∷ []) more.fall
+masks_more ns before after c rows masks more (number.Rise n) h bits rise fall =
+    let parameters = length ns.parameters in
+    let g = guards_so_far ns before in
+    let k = guards_so_far ns after in
+    let grown : k ≡ record { rise = with_row g.rise h.row; fall = g.fall } = h.guards ∙ guard_rises parameters g h.row h.numbered.0 in
+    let rise_grown : (k.rise ≡ g.rise) ⊎ (k.rise ≡ g.rise ++ h.row ∷ []) = elim (with_row_cases g.rise h.row) [
+      | inl e ↦ inl (ap (λ (z : Guards). z.rise) grown ∙ e)
+      | inr e ↦ inr (ap (λ (z : Guards). z.rise) grown ∙ e)
+    ] in
+    let fall_same : k.fall ≡ g.fall = ap (λ (z : Guards). z.fall) grown in (
+      mask_kind g.rise k.rise rows h.row masks.rise n more.rise rise_grown h.kept.rise_distinct h.numbered.1 rise bits.0,
+      subst (λ (m : ℕ). NamesGuards k.fall (rows ++ h.row ∷ []) m) (sym bits.1)
+          (mask_other k.fall rows h.row masks.fall (λ i e. true≢false (sym (each_at (λ (r : Linear). falls parameters r ≡ true) k.fall i h.row h.kept.fall_kind e) ∙ h.numbered.0))
+          (subst (λ (zs : List Linear). NamesGuards zs rows masks.fall) (sym fall_same) fall)),
+    )
+masks_more ns before after c rows masks more (number.Fall n) h bits rise fall =
+    let parameters = length ns.parameters in
+    let g = guards_so_far ns before in
+    let k = guards_so_far ns after in
+    let grown : k ≡ record { rise = g.rise; fall = with_row g.fall h.row } = h.guards ∙ guard_falls parameters g h.row h.numbered.0 in
+    let fall_grown : (k.fall ≡ g.fall) ⊎ (k.fall ≡ g.fall ++ h.row ∷ []) = elim (with_row_cases g.fall h.row) [
+      | inl e ↦ inl (ap (λ (z : Guards). z.fall) grown ∙ e)
+      | inr e ↦ inr (ap (λ (z : Guards). z.fall) grown ∙ e)
+    ] in
+    let rise_same : k.rise ≡ g.rise = ap (λ (z : Guards). z.rise) grown in (
+      subst (λ (m : ℕ). NamesGuards k.rise (rows ++ h.row ∷ []) m) (sym bits.0)
+          (mask_other k.rise rows h.row masks.rise (λ i e. true≢false (sym h.numbered.0 ∙ each_at (λ (r : Linear). falls parameters r ≡ false) k.rise i h.row h.kept.rise_kind e))
+          (subst (λ (zs : List Linear). NamesGuards zs rows masks.rise) (sym rise_same) rise)),
+      mask_kind g.fall k.fall rows h.row masks.fall n more.fall fall_grown h.kept.fall_distinct h.numbered.1 fall bits.1,
+    )
+
+pub numbered_none : (ns : Names) (guards : GuardList) → GuardsKept ns guards → GuardsNumbered ns guards [] guards (record { rise = 0; fall = 0 })
+numbered_none ns guards kept = record {
+  kept = kept;
+  guards = refl;
+  known = tt;
+  rise = no_rows (guards_so_far ns guards).rise;
+  fall = no_rows (guards_so_far ns guards).fall;
+  among = tt;
+}
+
+numbered_more : (ns : Names) (first before after : GuardList) (cs : List PlainComparison) (c : PlainComparison) (masks more : GuardMasks) (n : GuardNumber) → GuardsNumbered ns first cs before masks → GuardNumbered ns before c after n → WithNumber masks n more → GuardsNumbered ns first (cs ++ c ∷ []) after more
+numbered_more ns first before after cs c masks more n all h bits =
+    let parameters = length ns.parameters in
+    let names = guard_names ns in
+    let rows : rows_of names (cs ++ c ∷ []) ≡ rows_of names cs ++ h.row ∷ [] =
+    rows_append names cs (c ∷ []) ∙ ap (λ (zs : List Linear). rows_of names cs ++ zs) (rows_one names c ∙ h.one_row) in
+    let g = guards_so_far ns before in
+    let k = guards_so_far ns after in
+    let masks_now = masks_more ns before after c (rows_of names cs) masks more n h bits all.rise all.fall in
+    let old = each_with (AmongGuards parameters g) (AmongGuards parameters k) (rows_of names cs) (λ r a. among_extends parameters g k r (subst (λ (z : Guards). Extends g z) (sym h.guards) (extends_guard parameters g h.row)) a) all.among in
+    record {
+      kept = h.kept;
+      guards = h.guards ∙ ap (λ (z : Guards). with_guard parameters z h.row) all.guards ∙ sym (ap (with_guards parameters (guards_so_far ns first)) rows ∙ guards_append parameters (guards_so_far ns first) (rows_of names cs) (h.row ∷ []));
+      known = each_push (UsesNames names) cs c all.known h.known;
+      rise = subst (λ (zs : List Linear). NamesGuards k.rise zs more.rise) (sym rows) masks_now.0;
+      fall = subst (λ (zs : List Linear). NamesGuards k.fall zs more.fall) (sym rows) masks_now.1;
+      among = subst (λ (zs : List Linear). Each (AmongGuards parameters k) zs) (sym rows) (each_push (AmongGuards parameters k) (rows_of names cs) h.row old (among_number parameters k h.row n h.numbered));
+    }
+
+-- the comparisons so far are numbered, and the faults of all are those of the comparisons left
+pub record GuardsReading (ns : Names) (first now : GuardList) (all left : List TreeComparison) (masks : GuardMasks) : Type 0 where
+  pub done : List PlainComparison
+  pub split : map plain_comparison all ≡ done ++ map plain_comparison left
+  pub numbered : GuardsNumbered ns first done now masks
+  pub faults : guards_faults (length ns.parameters) (in_guards ns) (guards_so_far ns first) all ≡ guards_faults (length ns.parameters) (in_guards ns) (guards_so_far ns now) left
+
+pub reading_begins : (ns : Names) (guards : GuardList) (all : List TreeComparison) → GuardsKept ns guards → GuardsReading ns guards guards all all (record { rise = 0; fall = 0 })
+reading_begins ns guards all kept = record { done = []; split = refl; numbered = numbered_none ns guards kept; faults = refl }
+
+pub reading_more : (ns : Names) (first before after : GuardList) (all left : List TreeComparison) (c : TreeComparison) (masks more : GuardMasks) (n : GuardNumber) → GuardsReading ns first before all (c ∷ left) masks
+    → guard_faults (length ns.parameters) (in_guards ns) (guards_so_far ns before) c ≡ [] → GuardNumbered ns before (plain_comparison c) after n → WithNumber masks n more → GuardsReading ns first after all left more
+reading_more ns first before after all left c masks more n reading none h bits =
+    let parameters = length ns.parameters in
+    let g = guards_so_far ns before in
+    record {
+      done = reading.done ++ plain_comparison c ∷ [];
+      split = reading.split ∙ sym (append_assoc reading.done (plain_comparison c ∷ []) (map plain_comparison left));
+      numbered = numbered_more ns first before after reading.done (plain_comparison c) masks more n reading.numbered h bits;
+      faults = reading.faults
+          ∙ append-left-none (guard_faults parameters (in_guards ns) g c) (guards_faults parameters (in_guards ns) (with_guards parameters g (comparison_rows (guard_names ns) (plain_comparison c))) left) none
+          ∙ ap (λ (rows : List Linear). guards_faults parameters (in_guards ns) (with_guards parameters g rows) left) h.one_row
+          ∙ ap (λ (z : Guards). guards_faults parameters (in_guards ns) z left) (sym h.guards);
+    }
+
+pub reading_stops : (ns : Names) (first before : GuardList) (all left : List TreeComparison) (c : TreeComparison) (masks : GuardMasks) (e : FileFault) → GuardsReading ns first before all (c ∷ left) masks
+    → FirstOrMemory (guard_faults (length ns.parameters) (in_guards ns) (guards_so_far ns before) c) e → FirstOrMemory (guards_faults (length ns.parameters) (in_guards ns) (guards_so_far ns first) all) e
+reading_stops ns first before all left c masks e reading h =
+    subst (λ (fs : List FileFault). FirstOrMemory fs e) (sym reading.faults) (append-left-first (guard_faults (length ns.parameters) (in_guards ns) (guards_so_far ns before) c) _ e h)
+
+pub reading_ends : (ns : Names) (first now : GuardList) (all left : List TreeComparison) (masks : GuardMasks) → left ≡ [] → GuardsReading ns first now all left masks
+    → (guards_faults (length ns.parameters) (in_guards ns) (guards_so_far ns first) all ≡ []) × GuardsNumbered ns first (map plain_comparison all) now masks
+reading_ends ns first now all left masks none reading =
+    let r = subst (λ (cs : List TreeComparison). GuardsReading ns first now all cs masks) none reading in (
+      r.faults,
+      subst (λ (cs : List PlainComparison). GuardsNumbered ns first cs now masks) (sym (r.split ∙ append-nil r.done)) r.numbered,
+    )

@@ -1,0 +1,55 @@
+-- rows as numbers: when two are the same, and which are among others
+use Rattle.std.proofs.Common.{◌≡◌, ◌⊎◌, inl, inr, ℕ, ℤ, pos, negsuc, zero, suc, List, [], ◌∷◌, ◌++◌, length, true, ◌&&◌, eqb, slice_get, Some, Decides, ap, refl}
+use Rattle.std.proofs.lemmas.Bool.{false≢true, or_cases, or_left, or_right}
+use Rattle.std.proofs.lemmas.Bool.Decides.{Decides-eqb, Decides-and, Decides-like}
+use Rattle.std.proofs.lemmas.Option.{same_Some}
+use Rattle.ta_automaton.proofs.Trails.{get_left}
+use Rattle.ta_meaning.specs.Linear.{Linear}
+use Rattle.ta_meaning.specs.Guards.{same_number, same_numbers, same_row, has_row}
+use Rattle.ta_meaning.proofs.ListItems.{get_last, get_push}
+use Rattle.ta_meaning.proofs.NormalTerms.{linear_same}
+
+-- ---- numbers
+
+pub number_decides : (a b : ℤ) → Decides (same_number a b) (a ≡ b)
+number_decides (pos m) (pos n) = Decides-like (eqb m n) (λ e. ap pos e) (λ e. let q : m ≡ n = cc in q) (Decides-eqb m n)
+number_decides (negsuc m) (negsuc n) = Decides-like (eqb m n) (λ e. ap negsuc e) (λ e. let q : m ≡ n = cc in q) (Decides-eqb m n)
+number_decides (pos m) (negsuc n) = (λ t. absurd (false≢true t), λ e. absurd (cc))
+number_decides (negsuc m) (pos n) = (λ t. absurd (false≢true t), λ e. absurd (cc))
+
+pub numbers_decides : (a b : List ℤ) → Decides (same_numbers a b) (a ≡ b)
+numbers_decides [] [] = (λ t. refl, λ e. refl)
+numbers_decides [] (y ∷ b) = (λ t. absurd (false≢true t), λ e. absurd (cc))
+numbers_decides (x ∷ a) [] = (λ t. absurd (false≢true t), λ e. absurd (cc))
+numbers_decides (x ∷ a) (y ∷ b) = Decides-like (same_number x y && same_numbers a b) (λ w. let p = w.0 in let q = w.1 in cc) (λ e. (let p : x ≡ y = cc in p, let q : a ≡ b = cc in q)) (Decides-and (same_number x y) (same_numbers a b) (number_decides x y) (numbers_decides a b))
+
+pub row_decides : (a b : Linear) → Decides (same_row a b) (a ≡ b)
+row_decides a b =
+    Decides-like (same_number a.constant b.constant && same_numbers a.coefficients b.coefficients) (λ w. linear_same a b w.0 w.1) (λ e. (ap (λ (l : Linear). l.constant) e, ap (λ (l : Linear). l.coefficients) e))
+    (Decides-and (same_number a.constant b.constant) (same_numbers a.coefficients b.coefficients) (number_decides a.constant b.constant) (numbers_decides a.coefficients b.coefficients))
+
+-- ---- rows among rows
+
+pub has_at : (rows : List Linear) (i : ℕ) (r : Linear) → slice_get rows i ≡ Some r → has_row rows r ≡ true
+has_at [] i r e = absurd (cc)
+has_at (q ∷ rows) zero r e = or_left (same_row q r) (has_row rows r) ((row_decides q r).1 (same_Some q r e))
+has_at (q ∷ rows) (suc i) r e = or_right (same_row q r) (has_row rows r) (has_at rows i r e)
+
+pub at_has : (rows : List Linear) (r : Linear) → has_row rows r ≡ true → (i : ℕ) × (slice_get rows i ≡ Some r)
+at_has [] r e = absurd (false≢true e)
+at_has (q ∷ rows) r e = elim (or_cases (same_row q r) (has_row rows r) e) [
+  | inl t ↦ (0, ap Some ((row_decides q r).0 t))
+  | inr t ↦ (let w = at_has rows r t in (suc w.0, w.1))
+]
+
+pub has_left : (a b : List Linear) (r : Linear) → has_row a r ≡ true → has_row (a ++ b) r ≡ true
+has_left a b r t = let w = at_has a r t in has_at (a ++ b) w.0 r (get_left a b w.0 r w.1)
+
+-- a row that is among rows with one more is the last or was there before
+pub has_push : (rows : List Linear) (q r : Linear) → has_row (rows ++ q ∷ []) r ≡ true → (has_row rows r ≡ true) ⊎ (r ≡ q)
+has_push rows q r t =
+    let w = at_has (rows ++ q ∷ []) r t in
+    elim (get_push rows q w.0 r w.1) [ inl e ↦ inl (has_at rows w.0 r e) | inr h ↦ inr h.1 ]
+
+pub has_last : (rows : List Linear) (q : Linear) → has_row (rows ++ q ∷ []) q ≡ true
+has_last rows q = has_at (rows ++ q ∷ []) (length rows) q (get_last rows q)

@@ -1,0 +1,160 @@
+-- Listing names one after another: the mask so far, and what is left.
+use Rattle.std.proofs.Common.{◌≡◌, ℕ, zero, suc, ◌-◌, ◌*◌, ◌%◌, ◌^◌, ◌<◌, ◌≤◌, ◌⊎◌, inl, inr, false, ◌||◌, List, [], ◌∷◌, ◌++◌, length, map, take, drop, Decides, Contains, slice_get, Some, IsBitSet, bit_or, w32, refl, sym, ap, subst, ◌∙◌, arith}
+use Rattle.std.specs.Str.{bytes_eq}
+use Rattle.std.proofs.Math.Nat.{mod-eq_of_lt}
+use Rattle.std.proofs.lemmas.Bool.{false≢true, false_from_ne_true}
+use Rattle.std.proofs.lemmas.Bool.Decides.{eqb_tells, Decides-like, Decides-or}
+use Rattle.std.proofs.lemmas.Nat.{or_lt, pow_below, pow_pos}
+use Rattle.std.proofs.lemmas.Nat.Bits.{bit_at_set_same, bit_at_set_other}
+use Rattle.std.proofs.lemmas.List.{append_assoc, append-nil, take-append-drop, length-take-le, length-drop}
+use Rattle.std.proofs.lemmas.List.Elements.{Contains-append_left, Contains-append_right, Contains-push, Contains-push_cases}
+use Rattle.std.proofs.lemmas.Option.{slice_get_within, slice_get-get_or, same_Some}
+use Rattle.std.proofs.lemmas.Slice.Eq.{bytes_eq-Decides}
+use Rattle.ta_syntax.specs.PlainTrees.{plain_name}
+use Rattle.ta_syntax.specs.declared.names.Spelled.{Spelled}
+use Rattle.ta_syntax.specs.declared.fault.FileFault.{FileFault}
+use Rattle.ta_syntax.specs.declared.fault.FileFault.TheVariants as fault
+use Rattle.ta_automaton.specs.Lists.{Each, Distinct}
+use Rattle.ta_automaton.proofs.Thresholds.{each_at}
+use Rattle.ta_scope.proofs.Reaching.{set_at, at_set}
+use Rattle.ta_meaning.specs.Sums.{has_name}
+use Rattle.ta_meaning.specs.Listed.{between, ListedMask}
+use Rattle.ta_meaning.specs.Faults.{where_, else_, FirstOrMemory, used_faults, listed_faults}
+use Rattle.ta_meaning.proofs.GuardMasks.{none_set}
+use Rattle.ta_meaning.proofs.DistinctItems.{distinct_take, distinct_drop, distinct_at}
+use Rattle.ta_meaning.proofs.ListItems.{contains_at, each_append}
+use Rattle.ta_meaning.proofs.Answering.{where-false, append-left-none, append-left-first, else-left-first, else-right-first, else-none, where-first}
+use Rattle.ta_meaning.proofs.UsedNames.{rightly_used}
+
+-- ---- names among names
+
+pub contains-later : {X : Type 0} (y x : X) (xs : List X) → Contains xs x → Contains (y ∷ xs) x
+contains-later y x xs c = (suc c.0, (let b = c.1 in omega arith), c.2)
+
+-- the test decides the relation
+pub has_name-Decides : (names : List (List ℕ)) (n : List ℕ) → Decides (has_name names n) (Contains names n)
+has_name-Decides [] n = ((λ e. absurd (false≢true e)), λ c. absurd (let b = c.1 in omega arith))
+has_name-Decides (m ∷ names) n =
+    Decides-like (bytes_eq m n || has_name names n) (here_or_later m n names) (cases m n names) (Decides-or (bytes_eq m n) (has_name names n) (bytes_eq-Decides m n) (has_name-Decides names n))
+  where
+    here_or_later : (m n : List ℕ) (names : List (List ℕ)) → (m ≡ n) ⊎ Contains names n → Contains (m ∷ names) n
+    here_or_later m n names (inl e) = (0, omega arith, e)
+    here_or_later m n names (inr c) = contains-later m n names c
+
+    cases : (m n : List ℕ) (names : List (List ℕ)) → Contains (m ∷ names) n → (m ≡ n) ⊎ Contains names n
+    cases m n names (zero, b, e) = inl e
+    cases m n names (suc k, b, e) = inr (k, omega arith, e)
+
+each_contains : {X : Type 0} (P : X → Type 0) (xs : List X) (x : X) → Each P xs → Contains xs x → P x
+each_contains P xs x each c = each_at P xs c.0 x each (slice_get-get_or xs c.0 x c.1 ∙ ap Some c.2)
+
+-- ---- the names between two numbers
+
+pub between-distinct : (from to : ℕ) (names : List (List ℕ)) → Distinct names → Distinct (between from to names)
+between-distinct from to names d = distinct_take (to - from) (drop from names) (distinct_drop from names d)
+
+pub between-within : (from to : ℕ) (names : List (List ℕ)) (n : List ℕ) → Contains (between from to names) n → Contains names n
+between-within from to names n c =
+    let rest : Contains (drop from names) n = subst (λ (z : List (List ℕ)). Contains z n) (take-append-drop (to - from) (drop from names)) (Contains-append_left (between from to names) _ n c) in
+    subst (λ (z : List (List ℕ)). Contains z n) (take-append-drop from names) (Contains-append_right (take from names) _ n rest)
+
+pub between-length : (from to : ℕ) (names : List (List ℕ)) → to ≤ length names → length (between from to names) ≡ to - from
+between-length from to names within = length-take-le (to - from) (drop from names) (let e = length-drop from names in omega arith)
+
+-- ---- masks
+
+-- the bit of a number, as the code computes it
+abbrev bit_of : ℕ → ℕ
+bit_of i = 1 * 2 ^ i % 4294967296
+
+pub no_mask : (names : List (List ℕ)) → ListedMask names [] 0
+no_mask names = record {
+  bits = record {
+    known = tt;
+    bits = λ i. ((λ b. absurd (none_set i b)), λ w. absurd (let c = (w.2).1 in omega arith));
+  };
+  below = pow_pos (length names);
+}
+
+module _ (names before : List (List ℕ)) (mask i : ℕ) (n : List ℕ) (distinct : Distinct names) (few : length names ≤ 32) (old : ListedMask names before mask) (named : slice_get names i ≡ Some n) where
+  within : i < length names
+  within = slice_get_within names i n named
+
+  set_here : IsBitSet (bit_or mask (bit_of i)) i
+  set_here = at_set _ i (bit_at_set_same w32 mask i (let b = within in omega arith))
+
+  still_set : (j : ℕ) → IsBitSet mask j → IsBitSet (bit_or mask (bit_of i)) j
+  still_set j b = elim (eqb_tells j i) [
+    | inl e ↦ subst (λ k. IsBitSet (bit_or mask (bit_of i)) k) (sym e.1) set_here
+    | inr ne ↦ at_set _ j (bit_at_set_other w32 mask i (let b = within in omega arith) j ne.1 ∙ set_at mask j b)
+  ]
+
+  names_bit : (j : ℕ) → IsBitSet (bit_or mask (bit_of i)) j → (m : List ℕ) × (slice_get names j ≡ Some m) × Contains (before ++ n ∷ []) m
+  names_bit j b = elim (eqb_tells j i) [
+    | inl e ↦ (n, ap (slice_get names) e.1 ∙ named, Contains-push before n)
+    | inr ne ↦ (
+        let w = (old.bits.bits j).0 (at_set mask j (sym (bit_at_set_other w32 mask i (let b = within in omega arith) j ne.1) ∙ set_at _ j b)) in
+        (w.0, w.1, Contains-append_left before (n ∷ []) w.0 w.2))
+  ]
+
+  bit_named : (j : ℕ) (m : List ℕ) → slice_get names j ≡ Some m → Contains (before ++ n ∷ []) m → IsBitSet (bit_or mask (bit_of i)) j
+  bit_named j m at c = elim (Contains-push_cases before n m c) [
+    | inl earlier ↦ still_set j ((old.bits.bits j).1 (m, at, earlier))
+    | inr e ↦ subst (λ k. IsBitSet (bit_or mask (bit_of i)) k) (sym (distinct_at names j i m distinct at (named ∙ ap Some e))) set_here
+  ]
+
+  -- a mask with the bit of one more name
+  pub one_more_name : ListedMask names (before ++ n ∷ []) (bit_or mask (bit_of i))
+  one_more_name = record {
+    bits = record {
+      known = each_append (Contains names) before (n ∷ []) old.bits.known (contains_at names i n named, tt);
+      bits = λ j. (names_bit j, λ w. bit_named j w.0 w.1 w.2);
+    };
+    below = or_lt (length names) mask (bit_of i) old.below (let b = within in let small : 2 ^ i < 2 ^ length names = pow_below i (length names) b in let fits : 2 ^ i < 2 ^ 32 = pow_below i 32 (omega arith) in let is : 2 ^ i % 4294967296 ≡ 2 ^ i = mod-eq_of_lt fits in omega arith);
+  }
+
+-- ---- listing
+
+-- names are listed, each of which is known, and the rest of them is left
+pub record ListedTo (declared allowed : List (List ℕ)) (all rest : List Spelled) (mask : ℕ) : Type 0 where
+  pub before : List (List ℕ)
+  pub faults : listed_faults declared allowed [] all ≡ listed_faults declared allowed before rest
+  pub names_are : map plain_name all ≡ before ++ map plain_name rest
+  pub mask_is : ListedMask allowed before mask
+
+pub listing_begins : (declared allowed : List (List ℕ)) (all : List Spelled) → ListedTo declared allowed all all 0
+listing_begins declared allowed all = record { before = []; faults = refl; names_are = refl; mask_is = no_mask allowed }
+
+module _ (declared allowed : List (List ℕ)) (all : List Spelled) (n : Spelled) (rest : List Spelled) (mask : ℕ) (to : ListedTo declared allowed all (n ∷ rest) mask) where
+  -- a name at fault by itself was not listed before
+  not_listed : (e : FileFault) (later : List FileFault) → ((m : List ℕ) → Contains allowed m → Contains declared m) → used_faults declared allowed n ≡ e ∷ later → has_name to.before n.name ≡ false
+  not_listed e later sub is = false_from_ne_true (has_name to.before n.name) (λ t.
+      let known : Contains allowed n.name = each_contains (Contains allowed) to.before n.name to.mask_is.bits.known ((has_name-Decides to.before n.name).0 t) in
+      let none = rightly_used declared allowed n ((has_name-Decides declared n.name).1 (sub n.name known)) ((has_name-Decides allowed n.name).1 known) in
+      absurd (cc))
+
+  first_used : (e : FileFault) → ((m : List ℕ) → Contains allowed m → Contains declared m) → FirstOrMemory (used_faults declared allowed n) e → FirstOrMemory (else_ (where_ (has_name to.before n.name) (fault.Duplicate n.at)) (used_faults declared allowed n)) e
+  first_used e sub (inl m) = inl m
+  first_used e sub (inr w) = else-right-first _ _ e (where-false (has_name to.before n.name) (fault.Duplicate n.at) (not_listed e w.0 sub w.1)) (inr w)
+
+  pub listing_stops : (e : FileFault) → ((m : List ℕ) → Contains allowed m → Contains declared m) → FirstOrMemory (used_faults declared allowed n) e → FirstOrMemory (listed_faults declared allowed [] all) e
+  listing_stops e sub first = rw to.faults (append-left-first _ _ e (first_used e sub first))
+
+  pub listing_repeats : (i : ℕ) → slice_get allowed i ≡ Some n.name → IsBitSet mask i → FirstOrMemory (listed_faults declared allowed [] all) (fault.Duplicate n.at)
+  listing_repeats i named b =
+      let w = (to.mask_is.bits.bits i).0 b in
+      let again : Contains to.before n.name = subst (Contains to.before) (same_Some w.0 n.name (sym w.1 ∙ named)) w.2 in
+      rw to.faults (append-left-first _ _ _ (else-left-first _ _ _ (where-first (has_name to.before n.name) (fault.Duplicate n.at) ((has_name-Decides to.before n.name).1 again))))
+
+  pub listing_goes_on : (i : ℕ) → Distinct allowed → length allowed ≤ 32 → used_faults declared allowed n ≡ [] → slice_get allowed i ≡ Some n.name → (IsBitSet mask i → ⊥) → ListedTo declared allowed all rest (bit_or mask (1 * 2 ^ i % 4294967296))
+  listing_goes_on i distinct few none named new =
+      let fresh : has_name to.before n.name ≡ false = false_from_ne_true (has_name to.before n.name) (λ t. new ((to.mask_is.bits.bits i).1 (n.name, named, (has_name-Decides to.before n.name).0 t))) in
+      record {
+        before = to.before ++ n.name ∷ [];
+        faults = to.faults ∙ append-left-none _ _ (else-none _ _ (where-false (has_name to.before n.name) (fault.Duplicate n.at) fresh) none);
+        names_are = to.names_are ∙ sym (append_assoc to.before (n.name ∷ []) (map plain_name rest));
+        mask_is = one_more_name allowed to.before mask i n.name distinct few to.mask_is named;
+      }
+
+pub listing_ends : (declared allowed : List (List ℕ)) (all : List Spelled) (mask : ℕ) → ListedTo declared allowed all [] mask → (listed_faults declared allowed [] all ≡ []) × ListedMask allowed (map plain_name all) mask
+listing_ends declared allowed all mask to = (to.faults, subst (λ (z : List (List ℕ)). ListedMask allowed z mask) (sym (to.names_are ∙ append-nil to.before)) to.mask_is)

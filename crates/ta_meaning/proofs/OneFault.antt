@@ -1,0 +1,226 @@
+-- A text has at most one first fault.
+use Rattle.std.proofs.Common.{◌≡◌, ℕ, List, [], ◌∷◌, ◌++◌, length, ◌⊎◌, inl, inr, ⊎_elim, Some, slice_get, ◌<◌, refl, sym, ap, subst, ◌∙◌, append_assoc, arith}
+use Rattle.std.proofs.lemmas.Option.{same_Some}
+use Rattle.ta_syntax.specs.Grammar.{FileText}
+use Rattle.ta_syntax.specs.Limits.{Counts, at_start, run, after, Within, IsDeep, IsMany}
+use Rattle.ta_syntax.specs.Faults.{kinds, SameStart, Begins, offset_of, IsWrong, IsPast, Stopped, FaultOfTokens}
+use Rattle.ta_syntax.specs.Tokens.{AreTokens, IsRefused}
+use Rattle.ta_syntax.specs.declared.tokens.Kind.{Kind}
+use Rattle.ta_syntax.specs.declared.placed.Token.{Token}
+use Rattle.ta_syntax.specs.declared.fault.FileFault.{FileFault}
+use Rattle.ta_syntax.specs.declared.fault.FileFault.TheVariants as fault
+use Rattle.ta_syntax.proofs.Steps.{kinds-append}
+use Rattle.ta_syntax.proofs.UniqueTokens.{tokens_unique, refused_unique, refused_no_tokens}
+use Rattle.ta_automaton.specs.declared.rule.Rule.{Rule}
+use Rattle.ta_automaton.specs.declared.automaton.Automaton.{Automaton}
+use Rattle.ta_automaton.specs.declared.file.File.{File}
+use Rattle.ta_scope.specs.Faults as scope
+use Rattle.ta_scope.specs.declared.fault.ScopeFault.{ScopeFault}
+use Rattle.ta_scope.specs.declared.fault.ScopeFault.TheVariants as scope_fault
+use Rattle.ta_meaning.specs.Meaning.{Means}
+use Rattle.ta_meaning.specs.FirstFault as first
+use Rattle.ta_meaning.specs.FirstFault.{OfText, OfMeaning, OfScope, FirstFault}
+use Rattle.ta_meaning.proofs.SameOffsets.{heads}
+use Rattle.ta_meaning.proofs.OneTree.{one_meaning, one_meant}
+use Rattle.ta_meaning.proofs.OneReading.{no-text, no-meaning, at-fault}
+use Rattle.ta_meaning.proofs.CommasOutside.{not-both}
+
+-- ---- two places in one list
+
+-- one of two splits of a list is behind the other
+pub record Behind (front bad later rest : List Token) : Type 0 where
+  pub first : Token
+  pub middle : List Token
+  pub front_is : later ≡ front ++ first ∷ middle
+  pub bad_is : bad ≡ first ∷ (middle ++ rest)
+
+-- the splits are the same
+pub record Level (front bad later rest : List Token) : Type 0 where
+  pub front_is : later ≡ front
+  pub bad_is : bad ≡ rest
+
+two-splits : (front bad later rest : List Token) → front ++ bad ≡ later ++ rest → Level front bad later rest ⊎ (Behind front bad later rest ⊎ Behind later rest front bad)
+two-splits [] bad [] rest e = inl (record { front_is = refl; bad_is = e })
+two-splits [] bad (t ∷ later) rest e = inr (inl (record { first = t; middle = later; front_is = refl; bad_is = e }))
+two-splits (t ∷ front) bad [] rest e = inr (inr (record { first = t; middle = front; front_is = refl; bad_is = sym e }))
+two-splits (t ∷ front) bad (u ∷ later) rest e =
+    let same : t ≡ u = cc in
+    let r = two-splits front bad later rest (let h : front ++ bad ≡ later ++ rest = cc in h) in
+    ⊎_elim (λ (l : Level front bad later rest). inl (record { front_is = ap (λ (z : List Token). u ∷ z) l.front_is ∙ ap (λ (z : Token). z ∷ front) (sym same); bad_is = l.bad_is }))
+    (⊎_elim (λ (b : Behind front bad later rest). inr (inl (record { first = b.first; middle = b.middle; front_is = ap (λ (z : List Token). u ∷ z) b.front_is ∙ ap (λ (z : Token). z ∷ (front ++ b.first ∷ b.middle)) (sym same); bad_is = b.bad_is })))
+    (λ (b : Behind later rest front bad). inr (inr (record { first = b.first; middle = b.middle; front_is = ap (λ (z : List Token). t ∷ z) b.front_is ∙ ap (λ (z : Token). z ∷ (later ++ b.first ∷ b.middle)) same; bad_is = b.bad_is }))))
+    r
+
+-- ---- a wrong token, and a text that goes on with it
+
+begins-less : (L : List Kind → Type 0) (a b : List Kind) → Begins L (a ++ b) → Begins L a
+begins-less L a b h = (b ++ h.0, subst L (append_assoc a b h.0) h.1)
+
+-- no text begins with what stands before a wrong token and that token
+wrong-ends : (L : List Kind → Type 0) (c : Counts) (end at : ℕ) (ts : List Token) (w : IsWrong L c end ts at) (first : Token) (others : List Token) → w.bad ≡ first ∷ others → Begins L (kinds w.front ++ first.kind ∷ []) → ⊥
+wrong-ends L c end at ts w first others e h =
+    w.refused (first.kind ∷ h.0) (subst (λ (bad : List Token). SameStart (kinds bad) (first.kind ∷ h.0)) (sym e) (h.0, refl)) (subst L (append_assoc (kinds w.front) (first.kind ∷ []) h.0) h.1)
+
+-- so what stands before it begins no text past it
+wrong-before : (L : List Kind → Type 0) (c : Counts) (end at : ℕ) (ts : List Token) (w : IsWrong L c end ts at) (later rest : List Token) → Behind w.front w.bad later rest → Begins L (kinds later) → ⊥
+wrong-before L c end at ts w later rest b h =
+    let whole : kinds later ≡ (kinds w.front ++ b.first.kind ∷ []) ++ kinds b.middle = ap kinds b.front_is ∙ kinds-append w.front (b.first ∷ b.middle) ∙ sym (append_assoc (kinds w.front) (b.first.kind ∷ []) (kinds b.middle)) in
+    wrong-ends L c end at ts w b.first (b.middle ++ rest) b.bad_is (begins-less L (kinds w.front ++ b.first.kind ∷ []) (kinds b.middle) (subst (Begins L) whole h))
+
+wrong-wrong : (L : List Kind → Type 0) (c : Counts) (end a b : ℕ) (ts : List Token) → IsWrong L c end ts a → IsWrong L c end ts b → a ≡ b
+wrong-wrong L c end a b ts w v =
+    ⊎_elim (λ (l : Level w.front w.bad v.front v.bad). w.place ∙ ap (offset_of end) l.bad_is ∙ sym v.place)
+    (⊎_elim (λ (h : Behind w.front w.bad v.front v.bad). absurd (wrong-before L c end a ts w v.front v.bad h v.begins))
+    (λ (h : Behind v.front v.bad w.front w.bad). absurd (wrong-before L c end b ts v w.front w.bad h w.begins)))
+    (two-splits w.front w.bad v.front v.bad (sym w.split ∙ v.split))
+
+-- ---- a token past a limit
+
+-- such tokens are none within the limits
+pub record IsOver (over : Counts → Kind → Type 0) : Type 0 where
+  pub none : (c : Counts) (k : Kind) (ks : List Kind) → Within c (k ∷ ks) → over c k → ⊥
+
+over-within : (over : Counts → Kind → Type 0) → IsOver over → (c : Counts) (front : List Kind) (k : Kind) (rest : List Kind) → Within c (front ++ k ∷ rest) → over (run c front) k → ⊥
+over-within over o c [] k rest w h = o.none c k rest w h
+over-within over o c (x ∷ front) k rest w h = over-within over o (after c x) front k rest w.2 h
+
+deep-over : IsOver IsDeep
+deep-over = record { none = λ c k ks w h. w.0 h }
+
+many-over : IsOver IsMany
+many-over = record { none = λ c k ks w h. w.1 h }
+
+-- no token past a limit stands in what is within the limits
+past-before : (over : Counts → Kind → Type 0) → IsOver over → (L : List Kind → Type 0) (c : Counts) (ts : List Token) (at : ℕ) (p : IsPast over L c ts at) (later rest : List Token) → Behind p.front (p.first ∷ p.bad) later rest → Within c (kinds later) → ⊥
+past-before over o L c ts at p later rest b w =
+    let whole : kinds later ≡ kinds p.front ++ b.first.kind ∷ kinds b.middle = ap kinds b.front_is ∙ kinds-append p.front (b.first ∷ b.middle) in
+    let same : p.first ≡ b.first = let h = b.bad_is in cc in
+    over-within over o c (kinds p.front) b.first.kind (kinds b.middle) (subst (Within c) whole w) (subst (λ (t : Token). over (run c (kinds p.front)) t.kind) same p.past)
+
+wrong-past : (over : Counts → Kind → Type 0) → IsOver over → (L : List Kind → Type 0) (c : Counts) (end a b : ℕ) (ts : List Token) → IsWrong L c end ts a → IsPast over L c ts b → ⊥
+wrong-past over o L c end a b ts w p =
+    ⊎_elim (λ (l : Level w.front w.bad p.front (p.first ∷ p.bad)). wrong-ends L c end a ts w p.first p.bad l.bad_is (subst (λ (z : List Token). Begins L (kinds z ++ p.first.kind ∷ [])) l.front_is p.begins))
+    (⊎_elim (λ (h : Behind w.front w.bad p.front (p.first ∷ p.bad)). wrong-before L c end a ts w p.front (p.first ∷ p.bad) h (begins-less L (kinds p.front) (p.first.kind ∷ []) p.begins))
+    (λ (h : Behind p.front (p.first ∷ p.bad) w.front w.bad). past-before over o L c ts b p w.front w.bad h w.within))
+    (two-splits w.front w.bad p.front (p.first ∷ p.bad) (sym w.split ∙ p.split))
+
+-- two tokens past limits are one
+past-level : (over other : Counts → Kind → Type 0) → IsOver over → IsOver other → (L : List Kind → Type 0) (c : Counts) (a b : ℕ) (ts : List Token) (p : IsPast over L c ts a) (q : IsPast other L c ts b) → Level p.front (p.first ∷ p.bad) q.front (q.first ∷ q.bad)
+past-level over other o u L c a b ts p q =
+    ⊎_elim (λ (l : Level p.front (p.first ∷ p.bad) q.front (q.first ∷ q.bad)). l)
+    (⊎_elim (λ (h : Behind p.front (p.first ∷ p.bad) q.front (q.first ∷ q.bad)). absurd (past-before over o L c ts a p q.front (q.first ∷ q.bad) h q.within))
+    (λ (h : Behind q.front (q.first ∷ q.bad) p.front (p.first ∷ p.bad)). absurd (past-before other u L c ts b q p.front (p.first ∷ p.bad) h p.within)))
+    (two-splits p.front (p.first ∷ p.bad) q.front (q.first ∷ q.bad) (sym p.split ∙ q.split))
+
+past-past : (over : Counts → Kind → Type 0) → IsOver over → (L : List Kind → Type 0) (c : Counts) (a b : ℕ) (ts : List Token) → IsPast over L c ts a → IsPast over L c ts b → a ≡ b
+past-past over o L c a b ts p q =
+    let l = past-level over over o o L c a b ts p q in
+    p.place ∙ ap (λ (t : Token). t.at) (heads p.first q.first p.bad q.bad l.bad_is) ∙ sym q.place
+
+deep-many : (a b : ℕ) (ts : List Token) → IsPast IsDeep FileText at_start ts a → IsPast IsMany FileText at_start ts b → ⊥
+deep-many a b ts p q =
+    let l = past-level IsDeep IsMany deep-over many-over FileText at_start a b ts p q in
+    let same = heads p.first q.first p.bad q.bad l.bad_is in
+    let many = subst (λ (z : List Token). IsMany (run at_start (kinds z)) q.first.kind) l.front_is q.past in
+    let many' = subst (λ (t : Token). IsMany (run at_start (kinds p.front)) t.kind) (sym same) many in
+    let text = p.begins.1 in
+    not-both (kinds p.front) p.first.kind p.begins.0 text.0 (text.2 ∙ append_assoc (kinds p.front) (p.first.kind ∷ []) p.begins.0) p.within p.past many'
+
+-- ---- texts
+
+on-same : (bytes : List ℕ) (e : FileFault) (ts : List Token) → AreTokens bytes ts → FaultOfTokens bytes e → Stopped FileText at_start (length bytes) ts e
+on-same bytes e ts are f = subst (λ (z : List Token). Stopped FileText at_start (length bytes) z e) (tokens_unique bytes f.tokens ts f.are are) f.stopped
+
+-- two faults of one list of tokens, none of them want of memory
+abbrev IsOfTokens : FileFault → Type 0
+IsOfTokens fault.Memory = ⊥
+IsOfTokens e = Unit {0}
+
+stopped-once : (end : ℕ) (ts : List Token) (e d : FileFault) → IsOfTokens e → IsOfTokens d → Stopped FileText at_start end ts e → Stopped FileText at_start end ts d → e ≡ d
+stopped-once end ts (fault.Syntax a) (fault.Syntax b) i j h k = ap fault.Syntax (wrong-wrong FileText at_start end a b ts h k)
+stopped-once end ts (fault.Syntax a) (fault.TooDeep b) i j h k = absurd (wrong-past IsDeep deep-over FileText at_start end a b ts h k)
+stopped-once end ts (fault.Syntax a) (fault.TooMany b) i j h k = absurd (wrong-past IsMany many-over FileText at_start end a b ts h k)
+stopped-once end ts (fault.TooDeep a) (fault.Syntax b) i j h k = absurd (wrong-past IsDeep deep-over FileText at_start end b a ts k h)
+stopped-once end ts (fault.TooDeep a) (fault.TooDeep b) i j h k = ap fault.TooDeep (past-past IsDeep deep-over FileText at_start a b ts h k)
+stopped-once end ts (fault.TooDeep a) (fault.TooMany b) i j h k = absurd (deep-many a b ts h k)
+stopped-once end ts (fault.TooMany a) (fault.Syntax b) i j h k = absurd (wrong-past IsMany many-over FileText at_start end b a ts k h)
+stopped-once end ts (fault.TooMany a) (fault.TooDeep b) i j h k = absurd (deep-many b a ts k h)
+stopped-once end ts (fault.TooMany a) (fault.TooMany b) i j h k = ap fault.TooMany (past-past IsMany many-over FileText at_start a b ts h k)
+stopped-once end ts fault.Memory d i j h k = absurd i
+stopped-once end ts e fault.Memory i j h k = absurd j
+stopped-once end ts (fault.Syntax a) _ i j h k = absurd k
+stopped-once end ts (fault.TooDeep a) _ i j h k = absurd k
+stopped-once end ts (fault.TooMany a) _ i j h k = absurd k
+stopped-once end ts _ d i j h k = absurd h
+
+-- a refused byte, or a fault of tokens
+abbrev AtByte : List ℕ → FileFault → Type 0
+AtByte bytes e = (a : ℕ) × (e ≡ fault.Byte a) × IsRefused bytes a
+
+text-cases : (bytes : List ℕ) (e : FileFault) → OfText bytes e → AtByte bytes e ⊎ (IsOfTokens e × FaultOfTokens bytes e)
+text-cases bytes (fault.Byte a) h = inl (a, refl, h)
+text-cases bytes (fault.Syntax a) h = inr (tt, h)
+text-cases bytes (fault.TooDeep a) h = inr (tt, h)
+text-cases bytes (fault.TooMany a) h = inr (tt, h)
+text-cases bytes fault.Memory h = absurd h
+text-cases bytes _ h = absurd h
+
+text-once : (bytes : List ℕ) (e d : FileFault) → OfText bytes e → OfText bytes d → e ≡ d
+text-once bytes e d h k = both (text-cases bytes e h) (text-cases bytes d k)
+  where
+    both : AtByte bytes e ⊎ (IsOfTokens e × FaultOfTokens bytes e) → AtByte bytes d ⊎ (IsOfTokens d × FaultOfTokens bytes d) → e ≡ d
+    both (inl x) (inl y) = x.1 ∙ ap fault.Byte (refused_unique bytes x.0 y.0 x.2 y.2) ∙ sym y.1
+    both (inl x) (inr y) = let f = y.1 in absurd (refused_no_tokens bytes x.0 f.tokens x.2 f.are)
+    both (inr x) (inl y) = let f = x.1 in absurd (refused_no_tokens bytes y.0 f.tokens y.2 f.are)
+    both (inr x) (inr y) = let f = x.1 in stopped-once (length bytes) f.tokens e d x.0 y.0 f.stopped (on-same bytes d f.tokens f.are y.1)
+
+-- ---- rules
+
+-- the first rule at fault is one
+first-number : (a : Automaton) (f g : ScopeFault) (p : scope.FirstFault a f) (q : scope.FirstFault a g) → p.number ≡ q.number
+first-number a f g p q =
+    let not-less : ¬ (p.number < q.number) = λ less. q.first p.number p.rule less p.named (at-fault a p.number p.rule f p.at_fault) in
+    let not-more : ¬ (q.number < p.number) = λ less. p.first q.number q.rule less q.named (at-fault a q.number q.rule g q.at_fault) in
+    omega arith
+
+first-rule : (a : Automaton) (f g : ScopeFault) (p : scope.FirstFault a f) (q : scope.FirstFault a g) → p.rule ≡ q.rule
+first-rule a f g p q =
+    let there = subst (λ (n : ℕ). slice_get a.rules n ≡ Some q.rule) (sym (first-number a f g p q)) q.named in
+    same_Some p.rule q.rule (sym p.named ∙ there)
+
+loop-or-cycle : (a : Automaton) (r s : ℕ) → scope.FirstFault a (scope_fault.LoopUpdates r) → scope.FirstFault a (scope_fault.Cycle s) → ⊥
+loop-or-cycle a r s p q =
+    let same = first-rule a (scope_fault.LoopUpdates r) (scope_fault.Cycle s) p q in
+    let loop = subst (λ (rule : Rule). rule.from ≡ rule.to) same p.at_fault.1.loop in
+    q.at_fault.1.apart loop
+
+scope-once : (a : Automaton) (e d : FileFault) → first.ScopeFault a e → first.ScopeFault a d → e ≡ d
+scope-once a (fault.LoopUpdates r) (fault.LoopUpdates s) p q = ap fault.LoopUpdates (p.at_fault.0 ∙ first-number a (scope_fault.LoopUpdates r) (scope_fault.LoopUpdates s) p q ∙ sym q.at_fault.0)
+scope-once a (fault.LoopUpdates r) (fault.Cycle s) p q = absurd (loop-or-cycle a r s p q)
+scope-once a (fault.Cycle r) (fault.LoopUpdates s) p q = absurd (loop-or-cycle a s r q p)
+scope-once a (fault.Cycle r) (fault.Cycle s) p q = ap fault.Cycle (p.at_fault.0 ∙ first-number a (scope_fault.Cycle r) (scope_fault.Cycle s) p q ∙ sym q.at_fault.0)
+scope-once a (fault.LoopUpdates r) _ p q = absurd q
+scope-once a (fault.Cycle r) _ p q = absurd q
+scope-once a _ d p q = absurd p
+
+-- ---- files
+
+meaning-once : (bytes : List ℕ) (e d : FileFault) → OfMeaning bytes e → OfMeaning bytes d → e ≡ d
+meaning-once bytes e d h k = heads e d h.later k.later (sym h.first ∙ one_meaning bytes h.tree k.tree h.is_tree k.is_tree ∙ k.first)
+
+file-once : (bytes : List ℕ) (e d : FileFault) → OfScope bytes e → OfScope bytes d → e ≡ d
+file-once bytes e d h k =
+    let left : Means bytes h.file = record { tree = h.tree; is_tree = h.is_tree; means = h.means } in
+    let right : Means bytes k.file = record { tree = k.tree; is_tree = k.is_tree; means = k.means } in
+    scope-once k.file.automaton e d (subst (λ (f : File). first.ScopeFault f.automaton e) (one_meant bytes h.file k.file left right) h.fault) k.fault
+
+pub one_fault : (bytes : List ℕ) (e d : FileFault) → FirstFault bytes e → FirstFault bytes d → e ≡ d
+one_fault bytes e d (inl h) (inl k) = text-once bytes e d h k
+one_fault bytes e d (inl h) (inr (inl k)) = absurd (no-text bytes k.tree e k.is_tree h)
+one_fault bytes e d (inl h) (inr (inr k)) = absurd (no-text bytes k.tree e k.is_tree h)
+one_fault bytes e d (inr (inl h)) (inl k) = absurd (no-text bytes h.tree d h.is_tree k)
+one_fault bytes e d (inr (inr h)) (inl k) = absurd (no-text bytes h.tree d h.is_tree k)
+one_fault bytes e d (inr (inl h)) (inr (inl k)) = meaning-once bytes e d h k
+one_fault bytes e d (inr (inl h)) (inr (inr k)) = absurd (no-meaning bytes k.tree e k.is_tree k.none_of_meaning h)
+one_fault bytes e d (inr (inr h)) (inr (inl k)) = absurd (no-meaning bytes h.tree d h.is_tree h.none_of_meaning k)
+one_fault bytes e d (inr (inr h)) (inr (inr k)) = file-once bytes e d h k

@@ -1,0 +1,75 @@
+-- What is read of a text: the file that it means where nothing is at fault, or its first fault.
+use Rattle.std.proofs.Common.{◌≡◌, ℕ, List, [], ◌⊎◌, inl, inr, ⊎_elim, refl, sym, subst}
+use Rattle.ta_syntax.specs.PlainTrees.{plain_tree}
+use Rattle.ta_syntax.specs.TreeOf.{IsTreeOf}
+use Rattle.ta_syntax.specs.declared.tree.Tree.{Tree}
+use Rattle.ta_syntax.specs.declared.fault.FileFault.{FileFault}
+use Rattle.ta_syntax.specs.declared.fault.FileFault.TheVariants as fault
+use Rattle.ta_automaton.specs.Runs.{InScope}
+use Rattle.ta_automaton.specs.declared.rule.Rule.{Rule}
+use Rattle.ta_automaton.specs.declared.automaton.Automaton.{Automaton}
+use Rattle.ta_automaton.specs.declared.file.File.{File}
+use Rattle.ta_scope.specs.Faults as scope
+use Rattle.ta_scope.specs.declared.fault.ScopeFault.{ScopeFault}
+use Rattle.ta_scope.specs.declared.fault.ScopeFault.TheVariants as scope_fault
+use Rattle.ta_scope.specs.declared.scoped.ScopedFile.{ScopedFile}
+use Rattle.ta_scope.proofs.Judging.{fault_out}
+use Rattle.ta_meaning.specs.Meaning.{MeansTree, Means}
+use Rattle.ta_meaning.specs.Faults.{meaning_faults, FirstOrMemory}
+use Rattle.ta_meaning.specs.FirstFault as first
+use Rattle.ta_meaning.specs.FirstFault.{OfText, OfMeaning, OfScope, FirstFault}
+use Rattle.ta_meaning.specs.Reading.{Legal, file_fault}
+use Rattle.ta_meaning.proofs.OneTree.{one_meaning, no_text_fault, one_meant}
+
+-- ---- the first fault
+
+pub meaning-fault : (bytes : List ℕ) (t : Tree) (e : FileFault) → IsTreeOf bytes t → FirstOrMemory (meaning_faults t) e → (e ≡ fault.Memory) ⊎ FirstFault bytes e
+meaning-fault bytes t e is (inl m) = inl m
+meaning-fault bytes t e is (inr h) = inr (inr (inl (record { tree = t; is_tree = is; later = h.0; first = h.1 })))
+
+of_scope : (a : Automaton) (f : ScopeFault) → scope.ScopeFaultOf a f → (file_fault f ≡ fault.Memory) ⊎ first.ScopeFault a (file_fault f)
+of_scope a (scope_fault.LoopUpdates r) h = inr h
+of_scope a (scope_fault.Cycle r) h = inr h
+of_scope a scope_fault.Memory h = inl refl
+
+pub scope-fault : (bytes : List ℕ) (t : Tree) (file : File) (f : ScopeFault) → IsTreeOf bytes t → meaning_faults t ≡ [] → MeansTree (plain_tree t) file → scope.ScopeFaultOf file.automaton f → (file_fault f ≡ fault.Memory) ⊎ FirstFault bytes (file_fault f)
+scope-fault bytes t file f is none means h =
+    ⊎_elim (λ (m : file_fault f ≡ fault.Memory). inl m)
+    (λ (s : first.ScopeFault file.automaton (file_fault f)). inr (inr (inr (record { tree = t; is_tree = is; none_of_meaning = none; file = file; means = means; fault = s }))))
+    (of_scope file.automaton f h)
+
+-- ---- no fault
+
+pub no-text : (bytes : List ℕ) (t : Tree) (e : FileFault) → IsTreeOf bytes t → OfText bytes e → ⊥
+no-text bytes t fault.Memory is f = f
+no-text bytes t e is f = let m = no_text_fault bytes t e is f in cc
+
+pub no-meaning : (bytes : List ℕ) (t : Tree) (e : FileFault) → IsTreeOf bytes t → meaning_faults t ≡ [] → OfMeaning bytes e → ⊥
+no-meaning bytes t e is none f = let same = one_meaning bytes t f.tree is f.is_tree in let there = f.first in cc
+
+pub at-fault : (a : Automaton) (r : ℕ) (rule : Rule) (f : ScopeFault) → scope.FaultAt a r rule f → scope.AtFault a rule
+at-fault a r rule (scope_fault.LoopUpdates k) h = inl h.1
+at-fault a r rule (scope_fault.Cycle k) h = inr h.1
+at-fault a r rule scope_fault.Memory h = absurd h
+
+out-of-scope : (a : Automaton) (f : ScopeFault) → scope.FirstFault a f → ¬ InScope a
+out-of-scope a f h = fault_out a h.number h.rule h.named (at-fault a h.number h.rule f h.at_fault)
+
+in-scope : (a : Automaton) (e : FileFault) → first.ScopeFault a e → ¬ InScope a
+in-scope a (fault.LoopUpdates r) f = out-of-scope a (scope_fault.LoopUpdates r) f
+in-scope a (fault.Cycle r) f = out-of-scope a (scope_fault.Cycle r) f
+in-scope a _ f = absurd f
+
+no-scope : (bytes : List ℕ) (file : File) (e : FileFault) → Means bytes file → InScope file.automaton → OfScope bytes e → ⊥
+no-scope bytes file e means scoped f =
+    let other : Means bytes f.file = record { tree = f.tree; is_tree = f.is_tree; means = f.means } in
+    in-scope f.file.automaton e f.fault (subst (λ (z : File). InScope z.automaton) (one_meant bytes file f.file means other) scoped)
+
+-- a text without a fault of meaning, whose file is in scope, has no fault
+pub is-legal : (bytes : List ℕ) (t : Tree) (file : File) (scoped : ScopedFile) → IsTreeOf bytes t → meaning_faults t ≡ [] → MeansTree (plain_tree t) file → scoped.file ≡ file → Legal bytes scoped.file
+is-legal bytes t file scoped is none means e =
+    let right : Means bytes scoped.file = record { tree = t; is_tree = is; means = subst (λ (z : File). MeansTree (plain_tree t) z) (sym e) means } in
+    record {
+      means = right;
+      no_fault = λ f. ⊎_elim (no-text bytes t f is) (⊎_elim (no-meaning bytes t f is none) (no-scope bytes scoped.file f right scoped.in_scope));
+    }

@@ -1,0 +1,225 @@
+-- Forms of the parts of a sum, and how they make the form of the whole.
+use Rattle.std.proofs.Common.{◌≡◌, ℕ, ℤ, pos, ◌+◌, ◌*◌, ◌^◌, ◌<◌, ◌≤◌, ◌+ℤ◌, ◌*ℤ◌, unsigned_abs, Bool, true, false, ◌&&◌, IsTrue, List, [], ◌∷◌, ◌++◌, map, get_or, slice_get, Option, Some, None, Result, refl, sym, ap, subst, ◌∙◌, arith}
+use Rattle.std.proofs.lemmas.Int.{ints}
+use Rattle.std.proofs.lemmas.Bool.Decides.{nat_tests}
+use Rattle.ta_linear.specs.Terms.{coefficient}
+use Rattle.ta_linear.specs.Forms.{IsMultiple}
+use Rattle.ta_linear.specs.declared.form.Form.{Form}
+use Rattle.ta_syntax.specs.Grammar.{Terms, Term, Factor, number, blank, named}
+use Rattle.ta_syntax.specs.PlainSums.{plain_term, plain_factor, plain_terms, term_of}
+use Rattle.ta_syntax.specs.declared.names.Digits.{Digits}
+use Rattle.ta_syntax.specs.declared.sums.Sign.{Sign}
+use Rattle.ta_syntax.specs.declared.sums.Sign.TheVariants as sign
+use Rattle.ta_syntax.specs.declared.sums.TreeTerm.{TreeTerm}
+use Rattle.ta_syntax.specs.declared.sums.TreeFactor.{TreeFactor}
+use Rattle.ta_syntax.specs.declared.sums.TreeFactor.TheViews.{out-TreeTerm}
+use Rattle.ta_syntax.specs.declared.fault.FileFault.TheVariants as fault
+use Rattle.ta_syntax.specs.declared.fault.FileFault.{FileFault}
+use Rattle.ta_automaton.specs.Lists.{Distinct}
+use Rattle.ta_automaton.proofs.Sums.{one_times}
+use Rattle.ta_meaning.specs.Sums.{signed, number_of, sum_coefficient, term_coefficient, factor_coefficient, sum_constant, term_constant, sum_uses, term_uses, factor_uses}
+use Rattle.ta_meaning.specs.Linear.{Linear, FormOf, linear_sum, is_large_linear}
+use Rattle.ta_meaning.specs.Faults.{Scope, FirstOrMemory, Answers, where_, else_, linear_term, number_faults}
+use Rattle.ta_meaning.specs.SumParts.{judged_term, judged_factor, is_large_form, linear_factor, number_or, Within, PartOf, IsSignedSum}
+use Rattle.ta_meaning.proofs.Answering.{append-left-none, append-none, append-left-first, else-none, else-left-first, where-false, not-where, answers-along, answers-knowing, answers-otherwise}
+use Rattle.ta_meaning.proofs.LargeNumbers.{small_within, linear_small, same_large}
+use Rattle.ta_meaning.proofs.ListedNames.{has_name-at}
+use Rattle.ta_meaning.proofs.WrittenNumbers.{number_is_small}
+use Rattle.ta_meaning.proofs.SmallForms.{add_within, within_more, minus_within}
+use Rattle.ta_meaning.proofs.LinearSums.{at_map, at_map_both, at_map_none, name_numbers}
+use Rattle.ta_meaning.proofs.TreeSums.{terms_faults, large_term, term_faults_none, term_faults_some, plain_term_none, plain_term_some}
+
+-- ---- names
+
+one_small : (i x : ℕ) → unsigned_abs (coefficient ((i, pos 1) ∷ []) x) ≤ 1
+one_small i x = grind (arith, ints, nat_tests)
+
+pub name_part : (names : List (List ℕ)) (n : List ℕ) (i : ℕ) (form : Form) → Distinct names → slice_get names i ≡ Some n → form.constant ≡ pos 0 → form.terms ≡ (i, pos 1) ∷ [] → PartOf (factor_uses names (named n)) (linear_factor names (named n)) 1 form
+name_part names n i form d e constant terms = record {
+  known = has_name-at names n i e;
+  numbers = record { constant = constant; coefficients = λ j. ap (λ (ts : List (ℕ × ℤ)). coefficient ts j) terms ∙ name_numbers names n i d e j };
+  within = record {
+    constant = subst (λ (z : ℤ). unsigned_abs z ≤ 1) (sym constant) (omega (arith, ints));
+    coefficients = λ j. subst (λ (ts : List (ℕ × ℤ)). unsigned_abs (coefficient ts j) ≤ 1) (sym terms) (one_small i j);
+  };
+}
+
+pub part_within : (known : Bool) (l : Linear) (p q : ℕ) (form : Form) → p ≤ q → PartOf known l p form → PartOf known l q form
+part_within known l p q form h part = record { known = part.known; numbers = part.numbers; within = within_more p q form h part.within }
+
+-- ---- terms
+
+small_constant : (n : ℕ) → n ≤ 1000000000 → unsigned_abs (pos n) ≤ 1000000000
+small_constant n h = h
+
+number_alone : (names : List (List ℕ)) (t : Term) (n : ℕ) (form : Form) → IsTrue (term_uses names t) → term_constant t ≡ pos n → ((i : ℕ) → get_or (map (λ x. term_coefficient x t) names) i (pos 0) ≡ pos 0) → n ≤ 1000000000 → form.constant ≡ pos n → form.terms ≡ [] → PartOf (term_uses names t) (linear_term names t) 1000000000 form
+number_alone names t n form known is none small constant terms = record {
+  known = known;
+  numbers = record { constant = constant ∙ sym is; coefficients = λ i. ap (λ (ts : List (ℕ × ℤ)). coefficient ts i) terms ∙ sym (none i) };
+  within = record {
+    constant = subst (λ (z : ℤ). unsigned_abs z ≤ 1000000000) (sym constant) (small_constant n small);
+    coefficients = λ i. subst (λ (ts : List (ℕ × ℤ)). unsigned_abs (coefficient ts i) ≤ 1000000000) (sym terms) (omega (arith, ints));
+  };
+}
+
+-- a number alone, or a blank
+pub alone_part : (names : List (List ℕ)) (factor : Option Digits) (n : ℕ) (form : Form) → number_faults factor ≡ [] → n ≡ number_or 0 factor → form.constant ≡ pos n → form.terms ≡ [] → PartOf (term_uses names (term_of factor None)) (linear_term names (term_of factor None)) 1000000000 form
+alone_part names None n form none is constant terms = number_alone names blank n form refl (ap pos (sym is)) (λ i. at_map_none names i) (omega (arith, is)) constant terms
+alone_part names (Some d) n form none is constant terms = number_alone names (number d.text) n form refl (ap pos (sym is)) (λ i. at_map_none names i) (omega (arith, is, number_is_small d none)) constant terms
+
+times_none : (d : ℕ) → (pos d *ℤ pos 0) ≡ pos 0
+times_none d = omega (arith, ints)
+
+-- a factor with a number before it, or none
+pub product_numbers : (names : List (List ℕ)) (factor : Option Digits) (f : Factor) (n : ℕ) (inner product : Form) → n ≡ number_or 1 factor → FormOf (linear_factor names f) inner → IsMultiple product inner (pos n) → FormOf (linear_term names (term_of factor (Some f))) product
+product_numbers names None f n inner product is numbers multiple =
+    let one : (z : ℤ) → (pos n *ℤ z) ≡ z = λ z. ap (λ (k : ℕ). pos k *ℤ z) is ∙ one_times z in
+    record {
+      constant = multiple.constant ∙ one inner.constant ∙ numbers.constant;
+      coefficients = λ i. multiple.coefficients i ∙ one (coefficient inner.terms i) ∙ numbers.coefficients i;
+    }
+product_numbers names (Some d) f n inner product is numbers multiple =
+    let same : (z : ℤ) → (pos n *ℤ z) ≡ (pos (number_of d.text) *ℤ z) = λ z. ap (λ (k : ℕ). pos k *ℤ z) is in
+    record {
+      constant = multiple.constant ∙ same inner.constant ∙ ap (λ (z : ℤ). pos (number_of d.text) *ℤ z) numbers.constant;
+      coefficients = λ i.
+          multiple.coefficients i ∙ same (coefficient inner.terms i) ∙ ap (λ (z : ℤ). pos (number_of d.text) *ℤ z) (numbers.coefficients i)
+          ∙ sym (at_map (λ z. pos (number_of d.text) *ℤ z) (times_none (number_of d.text)) (λ x. factor_coefficient x f) names i);
+    }
+
+pub product_known : (names : List (List ℕ)) (factor : Option Digits) (f : Factor) → IsTrue (factor_uses names f) → IsTrue (term_uses names (term_of factor (Some f)))
+product_known names None f h = h
+product_known names (Some d) f h = h
+
+-- ---- sums
+
+pub signed_zero : (s : Sign) → (signed s (pos 0) +ℤ pos 0) ≡ pos 0
+signed_zero sign.Plus = omega (arith, ints)
+signed_zero sign.Minus = omega (arith, ints)
+
+signed_within : (s : Sign) (p : ℕ) (z : ℤ) → unsigned_abs z ≤ p → unsigned_abs (signed s z) ≤ p
+signed_within sign.Plus p z h = h
+signed_within sign.Minus p z h = minus_within p z h
+
+-- what stands before the names in terms, by place
+abbrev pub sum_at : List (List ℕ) → Terms → ℕ → ℤ
+sum_at names ts i = get_or (map (λ x. sum_coefficient x ts) names) i (pos 0)
+
+-- what is added so far, and what is left
+pub record Summing (s : Scope) (all left : List (Sign × TreeTerm)) (count : ℕ) (form : Form) : Type 0 where
+  pub faults : terms_faults s all ≡ terms_faults s left
+  pub known : sum_uses s.allowed (plain_terms all) ≡ sum_uses s.allowed (plain_terms left)
+  pub constant : (form.constant +ℤ sum_constant (plain_terms left)) ≡ sum_constant (plain_terms all)
+  pub coefficients : (i : ℕ) → (coefficient form.terms i +ℤ sum_at s.allowed (plain_terms left) i) ≡ sum_at s.allowed (plain_terms all) i
+  pub within : Within (1000000000 * count) form
+
+add_moved : (f g t l a : ℤ) → (f +ℤ (t +ℤ l)) ≡ a → g ≡ (f +ℤ t) → (g +ℤ l) ≡ a
+add_moved f g t l a e h = omega (arith, ints, e, h)
+
+and_known : (a b : Bool) → IsTrue a → (a && b) ≡ b
+and_known true b h = refl
+and_known false b h = cc
+
+signed_same : (s : Sign) (a b : ℤ) → a ≡ b → signed s a ≡ signed s b
+signed_same s a b e = ap (λ (z : ℤ). signed s z) e
+
+more_within : (count : ℕ) (x y : ℤ) → unsigned_abs x ≤ 1000000000 * count → unsigned_abs y ≤ 1000000000 → unsigned_abs (x +ℤ y) ≤ 1000000000 * (count + 1)
+more_within count x y h k = omega (arith, add_within (1000000000 * count) 1000000000 x y h k)
+
+pub sum_more : (s : Scope) (all left : List (Sign × TreeTerm)) (t : Sign × TreeTerm) (count : ℕ) (form next sum : Form) → Summing s all (t ∷ left) count form → (judged_term s t.1).faults ≡ [] → PartOf (term_uses s.allowed (plain_term t.1)) (linear_term s.allowed (plain_term t.1)) 1000000000 next → IsSignedSum sum form t.0 next → Summing s all left (count + 1) sum
+sum_more s all left t count form next sum so_far none part is = record {
+  faults = so_far.faults ∙ append-left-none (judged_term s t.1).faults (terms_faults s left) none;
+  known = so_far.known ∙ and_known (term_uses s.allowed (plain_term t.1)) (sum_uses s.allowed (plain_terms left)) part.known;
+  constant = add_moved form.constant sum.constant (signed t.0 (term_constant (plain_term t.1))) (sum_constant (plain_terms left)) (sum_constant (plain_terms all)) so_far.constant
+      (is.constant ∙ ap (λ (z : ℤ). form.constant +ℤ z) (signed_same t.0 next.constant (term_constant (plain_term t.1)) part.numbers.constant));
+  coefficients = λ i.
+      add_moved (coefficient form.terms i) (coefficient sum.terms i) (signed t.0 (get_or (map (λ x. term_coefficient x (plain_term t.1)) s.allowed) i (pos 0))) (sum_at s.allowed (plain_terms left) i) (sum_at s.allowed (plain_terms all) i)
+      (ap (λ (z : ℤ). coefficient form.terms i +ℤ z) (sym (at_map_both (λ a b. signed t.0 a +ℤ b) (signed_zero t.0) (λ x. term_coefficient x (plain_term t.1)) (λ x. sum_coefficient x (plain_terms left)) s.allowed i)) ∙ so_far.coefficients i)
+      (is.coefficients i ∙ ap (λ (z : ℤ). coefficient form.terms i +ℤ z) (signed_same t.0 (coefficient next.terms i) (get_or (map (λ x. term_coefficient x (plain_term t.1)) s.allowed) i (pos 0)) (part.numbers.coefficients i)));
+  within = record {
+    constant = subst (λ (z : ℤ). unsigned_abs z ≤ 1000000000 * (count + 1)) (sym is.constant) (more_within count form.constant (signed t.0 next.constant) so_far.within.constant (signed_within t.0 1000000000 next.constant part.within.constant));
+    coefficients = λ i. subst (λ (z : ℤ). unsigned_abs z ≤ 1000000000 * (count + 1)) (sym (is.coefficients i)) (more_within count (coefficient form.terms i) (signed t.0 (coefficient next.terms i)) (so_far.within.coefficients i) (signed_within t.0 1000000000 (coefficient next.terms i) (part.within.coefficients i)));
+  };
+}
+
+zero_left : (z : ℤ) → (pos 0 +ℤ z) ≡ z
+zero_left z = omega (arith, ints)
+
+zero_right : (z : ℤ) → (z +ℤ pos 0) ≡ z
+zero_right z = omega (arith, ints)
+
+pub sum_begins : (s : Scope) (all : List (Sign × TreeTerm)) (form : Form) → form.constant ≡ pos 0 → form.terms ≡ [] → Summing s all all 0 form
+sum_begins s all form constant terms = record {
+  faults = refl;
+  known = refl;
+  constant = ap (λ (z : ℤ). z +ℤ sum_constant (plain_terms all)) constant ∙ zero_left (sum_constant (plain_terms all));
+  coefficients = λ i. ap (λ (ts : List (ℕ × ℤ)). coefficient ts i +ℤ sum_at s.allowed (plain_terms all) i) terms ∙ zero_left (sum_at s.allowed (plain_terms all) i);
+  within = record {
+    constant = subst (λ (z : ℤ). unsigned_abs z ≤ 1000000000 * 0) (sym constant) (omega (arith, ints));
+    coefficients = λ i. subst (λ (ts : List (ℕ × ℤ)). unsigned_abs (coefficient ts i) ≤ 1000000000 * 0) (sym terms) (omega (arith, ints));
+  };
+}
+
+pub sum_ends : (s : Scope) (all : List (Sign × TreeTerm)) (count : ℕ) (form : Form) → Summing s all [] count form → count < 2 ^ 63 → (terms_faults s all ≡ []) × PartOf (sum_uses s.allowed (plain_terms all)) (linear_sum s.allowed (plain_terms all)) (2 ^ 93) form
+sum_ends s all count form so_far few = (
+  so_far.faults,
+  record {
+    known = so_far.known;
+    numbers = record {
+      constant = sym (zero_right form.constant) ∙ so_far.constant;
+      coefficients = λ i. sym (zero_right (coefficient form.terms i)) ∙ ap (λ (z : ℤ). coefficient form.terms i +ℤ z) (sym (at_map_none s.allowed i)) ∙ so_far.coefficients i;
+    };
+    within = within_more (1000000000 * count) (2 ^ 93) form (omega (arith, few)) so_far.within;
+  },
+)
+
+pub sum_within : (s : Scope) (all left : List (Sign × TreeTerm)) (count : ℕ) (form : Form) → Summing s all left count form → count < 2 ^ 63 → Within (2 ^ 93) form
+sum_within s all left count form so_far few = within_more (1000000000 * count) (2 ^ 93) form (omega (arith, few)) so_far.within
+
+-- the first fault of a term is the first of the sum
+pub sum_fails : (s : Scope) (all left : List (Sign × TreeTerm)) (t : Sign × TreeTerm) (count : ℕ) (form : Form) (e : FileFault) → Summing s all (t ∷ left) count form → FirstOrMemory (judged_term s t.1).faults e → FirstOrMemory (terms_faults s all) e
+sum_fails s all left t count form e so_far first =
+    subst (λ (fs : List FileFault). FirstOrMemory fs e) (sym so_far.faults) (append-left-first (judged_term s t.1).faults (terms_faults s left) e first)
+
+-- ---- the answers of a term
+
+-- a number alone, or a blank, has no fault but that of its number
+pub alone_answers : (s : Scope) (t : TreeTerm) (n : ℕ) (form : Form) → (out-TreeTerm t).body ≡ None → number_faults (out-TreeTerm t).factor ≡ [] → n ≡ number_or 0 (out-TreeTerm t).factor → form.constant ≡ pos n → form.terms ≡ []
+    → ((judged_term s t).faults ≡ []) × PartOf (term_uses s.allowed (plain_term t)) (linear_term s.allowed (plain_term t)) 1000000000 form
+alone_answers s t n form body none is constant terms =
+    let part = alone_part s.allowed (out-TreeTerm t).factor n form none is constant terms in
+    let plain = term_of (out-TreeTerm t).factor None in
+    let small = linear_small (linear_term s.allowed plain) form part.numbers part.within in (
+      term_faults_none s t body
+          ∙ else-none (number_faults (out-TreeTerm t).factor ++ []) (large_term s (out-TreeTerm t).at plain) (append-none (number_faults (out-TreeTerm t).factor) [] none refl) (where-false (is_large_linear (linear_term s.allowed plain)) (fault.TooLarge (out-TreeTerm t).at) small),
+      subst (λ (p : Term). PartOf (term_uses s.allowed p) (linear_term s.allowed p) 1000000000 form) (sym (plain_term_none t body)) part,
+    )
+
+-- a fault of a term's number is its first
+pub number_first : (s : Scope) (t : TreeTerm) (f : TreeFactor) (e : FileFault) → (out-TreeTerm t).body ≡ Some f → FirstOrMemory (number_faults (out-TreeTerm t).factor) e → FirstOrMemory (judged_term s t).faults e
+number_first s t f e body first =
+    subst (λ (fs : List FileFault). FirstOrMemory fs e) (sym (term_faults_some s t f body))
+    (else-left-first (number_faults (out-TreeTerm t).factor ++ (judged_factor s f).faults) (large_term s (out-TreeTerm t).at (term_of (out-TreeTerm t).factor (Some (plain_factor f)))) e
+    (append-left-first (number_faults (out-TreeTerm t).factor) (judged_factor s f).faults e first))
+
+-- a factor whose number and parts have no fault
+pub product_answers : (s : Scope) (t : TreeTerm) (f : TreeFactor) (n : ℕ) (inner product : Form) (r : Result Form FileFault) → (out-TreeTerm t).body ≡ Some f → number_faults (out-TreeTerm t).factor ≡ [] → n ≡ number_or 1 (out-TreeTerm t).factor → (judged_factor s f).faults ≡ []
+    → PartOf (factor_uses s.allowed (plain_factor f)) (linear_factor s.allowed (plain_factor f)) (2 ^ 93) inner → IsMultiple product inner (pos n)
+    → Answers (where_ (is_large_form product) (fault.TooLarge (out-TreeTerm t).at)) (λ form. form ≡ product) r
+    → Answers (judged_term s t).faults (PartOf (term_uses s.allowed (plain_term t)) (linear_term s.allowed (plain_term t)) 1000000000) r
+product_answers s t f n inner product r body none is none_inner part multiple answer =
+    let plain = term_of (out-TreeTerm t).factor (Some (plain_factor f)) in
+    let numbers = product_numbers s.allowed (out-TreeTerm t).factor (plain_factor f) n inner product is part.numbers multiple in
+    let same = same_large (linear_term s.allowed plain) product numbers in
+    let right : (form : Form) → where_ (is_large_form product) (fault.TooLarge (out-TreeTerm t).at) ≡ [] → form ≡ product → PartOf (term_uses s.allowed plain) (linear_term s.allowed plain) 1000000000 form =
+    λ form small e. subst (λ (x : Form). PartOf (term_uses s.allowed plain) (linear_term s.allowed plain) 1000000000 x) (sym e) (record {
+      known = product_known s.allowed (out-TreeTerm t).factor (plain_factor f) part.known;
+      numbers = numbers;
+      within = small_within product (not-where (is_large_form product) (fault.TooLarge (out-TreeTerm t).at) small);
+    })
+    in
+    let known = answers-knowing (where_ (is_large_form product) (fault.TooLarge (out-TreeTerm t).at)) (λ form. form ≡ product) (PartOf (term_uses s.allowed plain) (linear_term s.allowed plain) 1000000000) r right answer in
+    let large = answers-along (where_ (is_large_form product) (fault.TooLarge (out-TreeTerm t).at)) (large_term s (out-TreeTerm t).at plain) (PartOf (term_uses s.allowed plain) (linear_term s.allowed plain) 1000000000) r (ap (λ (b : Bool). where_ b (fault.TooLarge (out-TreeTerm t).at)) same) known in
+    let both = answers-otherwise (number_faults (out-TreeTerm t).factor ++ (judged_factor s f).faults) (large_term s (out-TreeTerm t).at plain) (PartOf (term_uses s.allowed plain) (linear_term s.allowed plain) 1000000000) r (append-none (number_faults (out-TreeTerm t).factor) (judged_factor s f).faults none none_inner) large in
+    let term = answers-along (else_ (number_faults (out-TreeTerm t).factor ++ (judged_factor s f).faults) (large_term s (out-TreeTerm t).at plain)) (judged_term s t).faults (PartOf (term_uses s.allowed plain) (linear_term s.allowed plain) 1000000000) r (sym (term_faults_some s t f body)) both in
+    subst (λ (p : Term). Answers (judged_term s t).faults (PartOf (term_uses s.allowed p) (linear_term s.allowed p) 1000000000) r) (sym (plain_term_some t f body)) term

@@ -1,0 +1,31 @@
+-- Where all places may stand, and where the locations alone may.
+use Rattle.std.proofs.Common.{◌≡◌, ℕ, ◌-◌, List, [], length, map, take, drop, Result, sym, ap, subst, ◌∙◌, arith}
+use Rattle.std.proofs.lemmas.List.{take_all, take_rest}
+use Rattle.ta_syntax.specs.PlainTrees.{plain_name, plain_comparison}
+use Rattle.ta_syntax.specs.declared.names.Spelled.{Spelled}
+use Rattle.ta_syntax.specs.declared.tree.TreeComparison.{TreeComparison}
+use Rattle.ta_syntax.specs.declared.fault.FileFault.{FileFault}
+use Rattle.ta_automaton.specs.declared.condition.Condition.{Condition}
+use Rattle.ta_meaning.specs.Faults.{Scope, Answers, condition_faults, listed_faults}
+use Rattle.ta_meaning.specs.Listed.{between, ListedMask}
+use Rattle.ta_meaning.specs.Resolved.{first_places, ResolvedCondition}
+
+abbrev scope : List (List ℕ) → List (List ℕ) → Scope
+scope places allowed = record { places = places; allowed = allowed }
+
+-- a condition over the first places, which are all
+pub over_all : (names all : List (List ℕ)) (n : ℕ) (cs : List TreeComparison) (r : Result Condition FileFault) → all ≡ names → n ≡ length names → Answers (condition_faults (first_places names n) cs) (λ c. ResolvedCondition (take n names) (map plain_comparison cs) c) r → Answers (condition_faults (scope all all) cs) (λ c. ResolvedCondition all (map plain_comparison cs) c) r
+over_all names all n cs r is count h =
+    let Over : List (List ℕ) → List (List ℕ) → Type 0 = λ z w. Answers (condition_faults (scope z w) cs) (λ c. ResolvedCondition w (map plain_comparison cs) c) r in
+    let whole : take n names ≡ all = take_all n names (omega arith) ∙ sym is in
+    subst (λ w. Over all w) whole (subst (λ z. Over z (take n names)) (sym is) h)
+
+-- listed names among some of the names that are declared
+pub listed_along : (declared all some allowed : List (List ℕ)) (listed : List Spelled) (r : Result ℕ FileFault) → declared ≡ all → some ≡ allowed → Answers (listed_faults declared some [] listed) (λ mask. ListedMask some (map plain_name listed) mask) r → Answers (listed_faults all allowed [] listed) (λ mask. ListedMask allowed (map plain_name listed) mask) r
+listed_along declared all some allowed listed r e f h =
+    let Over : List (List ℕ) → List (List ℕ) → Type 0 = λ z w. Answers (listed_faults z w [] listed) (λ mask. ListedMask w (map plain_name listed) mask) r in
+    subst (λ w. Over all w) f (subst (λ z. Over z some) e h)
+
+-- the names from a number on
+pub between-end : (from n : ℕ) (names : List (List ℕ)) → n ≡ length names → between from n names ≡ drop from names
+between-end from n names e = ap (λ k. take (k - from) (drop from names)) e ∙ take_rest names from

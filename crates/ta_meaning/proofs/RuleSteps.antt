@@ -1,0 +1,97 @@
+-- the parts of one rule
+use Rattle.std.proofs.Common.{◌≡◌, ℕ, ℤ, ◌<◌, ◌^◌, List, [], ◌∷◌, ◌++◌, map, length, slice_get, Some, arith, sym, subst}
+use Rattle.std.proofs.lemmas.Option.{slice_get_within}
+use Rattle.std.proofs.lemmas.List.{length-map}
+use Rattle.ta_linear.specs.declared.row.Row.{Row}
+use Rattle.ta_syntax.specs.PlainTrees.{plain_comparison, plain_update}
+use Rattle.ta_syntax.specs.declared.tree.TreeRule.{TreeRule}
+use Rattle.ta_syntax.specs.declared.fault.FileFault.{FileFault}
+use Rattle.ta_automaton.specs.Names.{Name}
+use Rattle.ta_automaton.specs.declared.rule.Rule.{Rule}
+use Rattle.ta_meaning.specs.Names.{Names, all_names, guard_names}
+use Rattle.ta_meaning.specs.Linear.{Linear}
+use Rattle.ta_meaning.specs.Guards.{Guards, NamesGuards, rows_of}
+use Rattle.ta_meaning.specs.Faults.{FirstOrMemory, declared_faults, used_faults, in_guards, guards_faults, updates_faults, rule_faults}
+use Rattle.ta_meaning.specs.Numbering.{linear_of, guards_so_far, GuardsNumbered}
+use Rattle.ta_meaning.specs.Updating.{UpdatesRead}
+use Rattle.ta_meaning.specs.RuleReading.{RuleRead}
+use Rattle.ta_meaning.specs.declared.guards.GuardList.{GuardList}
+use Rattle.ta_meaning.specs.declared.guards.GuardMasks.{GuardMasks}
+use Rattle.ta_meaning.proofs.Declared.{declared-legal}
+use Rattle.ta_meaning.proofs.Answering.{append-left-first, append-right-first, append-none}
+use Rattle.ta_meaning.proofs.GuardSteps.{mask_fits}
+
+-- ---- the first fault of a rule
+
+abbrev from_faults : Names → TreeRule → List FileFault
+from_faults ns r = used_faults (all_names ns) ns.locations r.from
+
+abbrev to_faults : Names → TreeRule → List FileFault
+to_faults ns r = used_faults (all_names ns) ns.locations r.to
+
+abbrev pub when_faults : Names → Guards → TreeRule → List FileFault
+when_faults ns g r = guards_faults (length ns.parameters) (in_guards ns) g r.guards
+
+pub first_declared : (ns : Names) (names : List (List ℕ)) (g : Guards) (r : TreeRule) (e : FileFault) → FirstOrMemory (declared_faults names r.name) e → FirstOrMemory (rule_faults ns names g r) e
+first_declared ns names g r e h = append-left-first (declared_faults names r.name) _ e h
+
+pub first_from : (ns : Names) (names : List (List ℕ)) (g : Guards) (r : TreeRule) (e : FileFault) → declared_faults names r.name ≡ [] → FirstOrMemory (from_faults ns r) e → FirstOrMemory (rule_faults ns names g r) e
+first_from ns names g r e a h = append-right-first (declared_faults names r.name) _ e a (append-left-first (from_faults ns r) _ e h)
+
+pub first_to : (ns : Names) (names : List (List ℕ)) (g : Guards) (r : TreeRule) (e : FileFault) → declared_faults names r.name ≡ [] → from_faults ns r ≡ [] → FirstOrMemory (to_faults ns r) e → FirstOrMemory (rule_faults ns names g r) e
+first_to ns names g r e a b h = append-right-first (declared_faults names r.name) _ e a (append-right-first (from_faults ns r) _ e b (append-left-first (to_faults ns r) _ e h))
+
+pub first_guards : (ns : Names) (names : List (List ℕ)) (g : Guards) (r : TreeRule) (e : FileFault) → declared_faults names r.name ≡ [] → from_faults ns r ≡ [] → to_faults ns r ≡ [] → FirstOrMemory (when_faults ns g r) e → FirstOrMemory (rule_faults ns names g r) e
+first_guards ns names g r e a b c h =
+    append-right-first (declared_faults names r.name) _ e a (append-right-first (from_faults ns r) _ e b (append-right-first (to_faults ns r) _ e c (append-left-first (when_faults ns g r) _ e h)))
+
+pub first_updates : (ns : Names) (names : List (List ℕ)) (g : Guards) (r : TreeRule) (e : FileFault) → declared_faults names r.name ≡ [] → from_faults ns r ≡ [] → to_faults ns r ≡ [] → when_faults ns g r ≡ [] → FirstOrMemory (updates_faults ns [] r.updates) e → FirstOrMemory (rule_faults ns names g r) e
+first_updates ns names g r e a b c d h =
+    append-right-first (declared_faults names r.name) _ e a (append-right-first (from_faults ns r) _ e b (append-right-first (to_faults ns r) _ e c (append-right-first (when_faults ns g r) (updates_faults ns [] r.updates) e d h)))
+
+pub none_in_rule : (ns : Names) (names : List (List ℕ)) (g : Guards) (r : TreeRule) → declared_faults names r.name ≡ [] → from_faults ns r ≡ [] → to_faults ns r ≡ [] → when_faults ns g r ≡ [] → updates_faults ns [] r.updates ≡ [] → rule_faults ns names g r ≡ []
+none_in_rule ns names g r a b c d e =
+    append-none (declared_faults names r.name) _ a (append-none (from_faults ns r) _ b (append-none (to_faults ns r) _ c (append-none (when_faults ns g r) (updates_faults ns [] r.updates) d e)))
+
+-- ---- a rule without faults
+
+pub rows_fit : (places : ℕ) (rows : List Row) (linears : List Linear) (mask : ℕ) → NamesGuards (map (linear_of places) rows) linears mask → mask < 2 ^ length rows
+rows_fit places rows linears mask names = subst (λ (n : ℕ). mask < 2 ^ n) (length-map rows (linear_of places)) (mask_fits (map (linear_of places) rows) linears mask names)
+
+pub rule_read : (ns : Names) (names names_after : List (List ℕ)) (before after : GuardList) (r : TreeRule) (masks : GuardMasks) (updates : List (ℕ × ℤ)) (rule : Rule)
+    → declared_faults names r.name ≡ [] → names_after ≡ names ++ r.name.name ∷ [] → slice_get ns.locations rule.from ≡ Some r.from.name → slice_get ns.locations rule.to ≡ Some r.to.name
+    → GuardsNumbered ns before (map plain_comparison r.guards) after masks → UpdatesRead ns (map plain_update r.updates) updates
+    → rule.name ≡ r.name.name → rule.rise ≡ masks.rise → rule.fall ≡ masks.fall → rule.updates ≡ updates → RuleRead ns names before r names_after after rule
+rule_read ns names names_after before after r masks updates rule none declared from to guards read named rise fall same =
+    let places = length (guard_names ns) in
+    let rows = rows_of (guard_names ns) (map plain_comparison r.guards) in
+    let rise_names = subst (λ (m : ℕ). NamesGuards (guards_so_far ns after).rise rows m) (sym rise) guards.rise in
+    let fall_names = subst (λ (m : ℕ). NamesGuards (guards_so_far ns after).fall rows m) (sym fall) guards.fall in
+    let all = subst (λ (us : List (ℕ × ℤ)). UpdatesRead ns (map plain_update r.updates) us) (sym same) read in
+    record {
+      declared = declared;
+      kept = guards.kept;
+      guards = guards.guards;
+      so_far = record {
+        means = record {
+          name = named;
+          from = from;
+          to = to;
+          known = guards.known;
+          rise = rise_names;
+          fall = fall_names;
+          updates = all.means;
+        };
+        among = guards.among;
+        within = record {
+          name = subst (λ (n : List ℕ). Name n) (sym named) (declared-legal names r.name none);
+          from = slice_get_within ns.locations rule.from r.from.name from;
+          to = slice_get_within ns.locations rule.to r.to.name to;
+          rise_mask = rows_fit places after.rise.items rows rule.rise rise_names;
+          fall_mask = rows_fit places after.fall.items rows rule.fall fall_names;
+          updates_limit = (let few = all.few in let count = length-map r.updates plain_update in let limit = r.few_updates in omega arith);
+          updates = all.each;
+          variables_distinct = all.distinct;
+        };
+      };
+    }

@@ -1,0 +1,84 @@
+-- What an automaton's type keeps, of the parts that a tree resolves to
+use Rattle.std.proofs.Common.{ℕ, ◌+◌, ◌≤◌, ◌<◌, ◌≡◌, true, false, ◌||◌, if◌then◌else◌, List, [], ◌∷◌, length, map, arith}
+use Rattle.std.proofs.lemmas.List.{length-map}
+use Rattle.ta_syntax.specs.Grammar.{PlainLocation}
+use Rattle.ta_syntax.specs.PlainTrees.{plain_location}
+use Rattle.ta_syntax.specs.declared.tree.TreeLocation.{TreeLocation}
+use Rattle.ta_automaton.specs.Lists.{Rises}
+use Rattle.ta_meaning.specs.Meaning.{initial_from}
+use Rattle.ta_syntax.specs.PlainSums.{plain_sum}
+use Rattle.ta_syntax.specs.PlainTrees.{plain_comparison, plain_rule}
+use Rattle.ta_syntax.specs.declared.tree.Tree.{Tree}
+use Rattle.ta_linear.specs.declared.form.Form.{Form}
+use Rattle.ta_linear.specs.declared.row.Row.{Row}
+use Rattle.ta_automaton.specs.declared.condition.Condition.{Condition}
+use Rattle.ta_automaton.specs.declared.rule.Rule.{Rule}
+use Rattle.ta_automaton.specs.Shape.{AutomatonShape}
+use Rattle.ta_meaning.specs.Names.{names_of, location_name}
+use Rattle.ta_meaning.specs.Resolved.{ResolvedForm, ResolvedCondition, ResolvedRules}
+use Rattle.ta_meaning.specs.Faults.{any_initial, names_faults}
+use Rattle.ta_meaning.proofs.PairwiseItems.{pairwise_length}
+use Rattle.ta_meaning.proofs.Declared.{name-legal, names-legal, names-distinct, some_initial}
+
+rises-from : (low high : ℕ) (xs : List ℕ) → Rises (low + 1) high xs → Rises low high xs
+rises-from low high [] h = tt
+rises-from low high (x ∷ xs) h = (omega (arith, h.0), h.1, h.2)
+
+-- the numbers of the marked locations rise
+pub initial-rises : (k high : ℕ) (ls : List PlainLocation) → k + length ls ≤ high → Rises k high (initial_from k ls)
+initial-rises k high [] h = tt
+initial-rises k high (l ∷ ls) h =
+    let below : k < high = omega arith in
+    let later : Rises (k + 1) high (initial_from (k + 1) ls) = initial-rises (k + 1) high ls (omega arith) in
+    elim l.initial as (λ b. Rises k high (if b then k ∷ initial_from (k + 1) ls else initial_from (k + 1) ls)) [ true ↦ (omega arith, below, later) | false ↦ rises-from k high (initial_from (k + 1) ls) later ]
+
+-- where a location is marked, some number is listed
+pub some-initial : (k : ℕ) (ls : List TreeLocation) → any_initial ls ≡ true → 1 ≤ length (initial_from k (map plain_location ls))
+some-initial k [] h = cc
+some-initial k (l ∷ ls) h =
+    elim l.initial as (λ b. (b || any_initial ls) ≡ true → 1 ≤ length (if b then k ∷ initial_from (k + 1) (map plain_location ls) else initial_from (k + 1) (map plain_location ls))) [ true ↦ (λ e. omega arith) | false ↦ (λ e. some-initial (k + 1) ls e) ] h
+
+-- the parts of an automaton that a tree resolves to keep what its type keeps
+pub automaton_shape :
+    (t : Tree) (processes : Form) (resilience : Condition) (rise fall : List Row) (rules : List Rule)
+    → names_faults (names_of t) t ≡ []
+    → ResolvedForm (names_of t).parameters (plain_sum t.processes) processes
+    → ResolvedCondition (names_of t).parameters (map plain_comparison t.resilience) resilience
+    → ResolvedRules (names_of t) (map plain_rule t.rules) rise fall rules
+    → AutomatonShape t.name.name (names_of t).parameters (names_of t).shared (names_of t).locations (initial_from 0 (map plain_location t.locations)) processes resilience rise fall rules
+automaton_shape t processes resilience rise fall rules none p r rs = record {
+  limits = record {
+    parameters_limit = rw length-map t.few_parameters;
+    shared_limit = rw length-map t.few_shared;
+    locations_limit = rw (length-map, length-map) t.few_locations;
+    rise_limit = rs.guards.rise_limit;
+    fall_limit = rs.guards.fall_limit;
+    rules_limit = rw (pairwise_length _ _ _ rs.means, length-map) t.few_rules;
+  };
+  name_legal = name-legal t none;
+  names_legal = names-legal t none;
+  names_distinct = names-distinct t none;
+  some_initial = some-initial 0 t.locations (some_initial t none);
+  initial_rises = initial-rises 0 _ (map plain_location t.locations) (rw (length-map (map plain_location t.locations) location_name) (omega arith));
+  processes_over = p.over;
+  resilience_over = r.over;
+  rise_rows = rs.guards.rise_rows;
+  rise_distinct = rs.guards.rise_distinct;
+  fall_rows = rs.guards.fall_rows;
+  fall_distinct = rs.guards.fall_distinct;
+  rules_within = rs.within;
+  rules_distinct = rs.distinct;
+}
+
+-- the same of an automaton's fields, given what they are
+pub automaton_shape-along :
+    (t : Tree) (name : List ℕ) (parameters shared locations : List (List ℕ)) (initial : List ℕ) (processes : Form) (resilience : Condition) (rise fall rise' fall' : List Row) (rules rules' : List Rule)
+    → name ≡ t.name.name → parameters ≡ (names_of t).parameters → shared ≡ (names_of t).shared → locations ≡ (names_of t).locations
+    → initial ≡ initial_from 0 (map plain_location t.locations) → rise' ≡ rise → fall' ≡ fall → rules' ≡ rules
+    → names_faults (names_of t) t ≡ []
+    → ResolvedForm (names_of t).parameters (plain_sum t.processes) processes
+    → ResolvedCondition (names_of t).parameters (map plain_comparison t.resilience) resilience
+    → ResolvedRules (names_of t) (map plain_rule t.rules) rise fall rules
+    → AutomatonShape name parameters shared locations initial processes resilience rise' fall' rules'
+automaton_shape-along t name parameters shared locations initial processes resilience rise fall rise' fall' rules rules' n p s l i r f u none form condition all =
+    rw (n, p, s, l, i, r, f, u) (automaton_shape t processes resilience rise fall rules none form condition all)

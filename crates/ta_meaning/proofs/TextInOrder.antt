@@ -1,0 +1,74 @@
+-- The tokens of a text lie one after another in it, and so the faults of what it means rise.
+use Rattle.std.proofs.Common.{ℕ, ◌+◌, ◌≤◌, ◌<◌, ◌≡◌, List, [], ◌∷◌, ◌++◌, length, length-append, map, inl, inr, sym, ap, subst, ◌∙◌, arith}
+use Rattle.std.specs.List.{AllByRecursion}
+use Rattle.ta_syntax.specs.Kinds.{kind_bytes}
+use Rattle.ta_syntax.specs.Tokens.{ScansTo, IsLastGap}
+use Rattle.ta_syntax.specs.Stated.{Offsets, IsPlaced, tree_stated}
+use Rattle.ta_syntax.specs.TreeOf.{IsTreeOf}
+use Rattle.ta_syntax.specs.declared.placed.Token.{Token}
+use Rattle.ta_syntax.specs.declared.tree.Tree.{Tree}
+use Rattle.ta_syntax.specs.declared.fault.FileFault.{FileFault}
+use Rattle.ta_syntax.proofs.Scans.{kind_some}
+use Rattle.ta_automaton.specs.Lists.{Each, Rises}
+use Rattle.ta_meaning.specs.Faults.{meaning_faults}
+use Rattle.ta_meaning.specs.Offsets.{offset_of, IsOfMeaning, IsTokenAt}
+use Rattle.ta_meaning.proofs.ListItems.{each_with}
+use Rattle.ta_meaning.proofs.InOrder.{Lies, lies-wider, Within, IsAmong, IsStated}
+use Rattle.ta_meaning.proofs.TreesInOrder.{tree-in_order}
+
+-- what is stated of a text's tokens lies in the text
+text-lies : (end : ℕ → List ℕ → Type 0) (at : ℕ) (bytes : List ℕ) (s : List Offsets) (ts : List Token) → ScansTo end at bytes ts → IsPlaced s ts → Lies at s (at + length bytes)
+text-lies end at bytes [] [] scans placed = omega arith
+text-lies end at bytes [] (t ∷ ts) scans placed = absurd placed
+text-lies end at bytes (x ∷ s) [] scans placed = absurd placed
+text-lies end at bytes (x ∷ s) (t ∷ ts) scans placed =
+    let gap : List ℕ = scans.0 in
+    let rest : List ℕ = scans.1 in
+    let here : t.at ≡ at + length gap = scans.4 in
+    let some : 0 < length (kind_bytes t.kind) = kind_some t.kind scans.5 in
+    let all : length bytes ≡ length gap + (length (kind_bytes t.kind) + length rest) =
+    ap length scans.3 ∙ length-append gap (kind_bytes t.kind ++ rest) ∙ ap (λ (n : ℕ). length gap + n) (length-append (kind_bytes t.kind) rest) in
+    let behind : ℕ = t.at + length (kind_bytes t.kind) in
+    (t.at, omega arith, placed.0, lies-wider behind (behind + length rest) (t.at + 1) (at + length bytes) s (omega arith) (omega arith) (text-lies end behind rest s ts scans.7 placed.1))
+
+pub faults-rise : (bytes : List ℕ) (t : Tree) → IsTreeOf bytes t → Rises 0 (length bytes) (map offset_of (meaning_faults t))
+faults-rise bytes t is =
+    let h = tree-in_order t in
+    h.rise 0 (length bytes)
+    (lies-wider 0 (0 + length bytes) 0 (length bytes) (tree_stated t) (omega arith) (omega arith) (text-lies (λ at rest. IsLastGap rest) 0 bytes (tree_stated t) is.tokens is.are is.placed))
+
+-- ---- tokens
+
+among-same : (at here : ℕ) (x : Offsets) → AllByRecursion (λ a. a ≡ here) x → IsAmong at x → here ≡ at
+among-same at here [] all h = absurd h
+among-same at here (a ∷ x) all (inl h) = sym all.0 ∙ h
+among-same at here (a ∷ x) all (inr h) = among-same at here x all.1 h
+
+-- what is stated of some token is the offset of a token
+stated-token : (at : ℕ) (s : List Offsets) (ts : List Token) → IsPlaced s ts → IsStated at s → IsTokenAt at ts
+stated-token at [] ts placed h = absurd h
+stated-token at (x ∷ s) [] placed h = absurd placed
+stated-token at (x ∷ s) (t ∷ ts) placed (inl h) = inl (among-same at t.at x placed.0 h)
+stated-token at (x ∷ s) (t ∷ ts) placed (inr h) = inr (stated-token at s ts placed.1 h)
+
+pub faults-tokens : (bytes : List ℕ) (t : Tree) (is : IsTreeOf bytes t) → Each (λ f. IsTokenAt (offset_of f) is.tokens) (meaning_faults t)
+faults-tokens bytes t is =
+    let h = tree-in_order t in
+    each_with (λ f. IsStated (offset_of f) (tree_stated t)) (λ f. IsTokenAt (offset_of f) is.tokens) (meaning_faults t) (λ f k. stated-token (offset_of f) (tree_stated t) is.tokens is.placed k) h.tokens
+
+-- ---- kinds
+
+pub faults-kinds : (t : Tree) → Each IsOfMeaning (meaning_faults t)
+faults-kinds t = let h = tree-in_order t in h.kinds
+
+-- ---- the first
+
+-- where numbers rise, each that comes later is larger
+later-above : (low n high : ℕ) (fs : List FileFault) → n < low → Within low high fs → Each (λ f. n < offset_of f) fs
+later-above low n high [] below h = tt
+later-above low n high (f ∷ fs) below h = let here : low ≤ offset_of f = h.0 in (omega arith, later-above (offset_of f + 1) n high fs (omega arith) h.2)
+
+pub first-least : (bytes : List ℕ) (t : Tree) (first : FileFault) (later : List FileFault) → IsTreeOf bytes t → meaning_faults t ≡ first ∷ later → Each (λ f. offset_of first < offset_of f) later
+first-least bytes t first later is e =
+    let rise : Within 0 (length bytes) (first ∷ later) = subst (λ (fs : List FileFault). Within 0 (length bytes) fs) e (faults-rise bytes t is) in
+    later-above (offset_of first + 1) (offset_of first) (length bytes) later (omega arith) rise.2

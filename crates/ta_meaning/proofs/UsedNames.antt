@@ -1,0 +1,49 @@
+-- The faults of used and of declared names.
+use Rattle.std.proofs.Common.{◌≡◌, ℕ, ◌<◌, ◌≤◌, true, false, not, List, [], length, ap, arith}
+use Rattle.std.proofs.lemmas.Bool.Decides.{nat_tests, Decides-ltb}
+use Rattle.std.proofs.lemmas.Bool.{not-false}
+use Rattle.ta_syntax.specs.declared.names.Spelled.{Spelled}
+use Rattle.ta_syntax.specs.declared.fault.FileFault.TheVariants as fault
+use Rattle.ta_meaning.specs.Sums.{has_name}
+use Rattle.ta_meaning.specs.Faults.{FirstOrMemory, where_, is_long, used_faults, declared_faults}
+use Rattle.ta_meaning.proofs.Answering.{where-first, where-false, not-where, else-left-first, else-right-first, else-none, none-else-right}
+
+pub unknown : (names allowed : List (List ℕ)) (n : Spelled) → has_name names n.name ≡ false → FirstOrMemory (used_faults names allowed n) (fault.Unknown n.at)
+unknown names allowed n none =
+    else-left-first (where_ (not (has_name names n.name)) (fault.Unknown n.at)) (where_ (not (has_name allowed n.name)) (fault.WrongKind n.at)) (fault.Unknown n.at) (where-first (not (has_name names n.name)) (fault.Unknown n.at) (ap not none))
+
+pub wrong_kind : (names allowed : List (List ℕ)) (n : Spelled) → has_name names n.name ≡ true → has_name allowed n.name ≡ false → FirstOrMemory (used_faults names allowed n) (fault.WrongKind n.at)
+wrong_kind names allowed n there none =
+    else-right-first (where_ (not (has_name names n.name)) (fault.Unknown n.at)) (where_ (not (has_name allowed n.name)) (fault.WrongKind n.at)) (fault.WrongKind n.at)
+    (where-false (not (has_name names n.name)) (fault.Unknown n.at) (ap not there))
+    (where-first (not (has_name allowed n.name)) (fault.WrongKind n.at) (ap not none))
+
+pub rightly_used : (names allowed : List (List ℕ)) (n : Spelled) → has_name names n.name ≡ true → has_name allowed n.name ≡ true → used_faults names allowed n ≡ []
+rightly_used names allowed n there may =
+    else-none (where_ (not (has_name names n.name)) (fault.Unknown n.at)) (where_ (not (has_name allowed n.name)) (fault.WrongKind n.at))
+    (where-false (not (has_name names n.name)) (fault.Unknown n.at) (ap not there))
+    (where-false (not (has_name allowed n.name)) (fault.WrongKind n.at) (ap not may))
+
+-- a name that is used without a fault is one of those that may stand there
+pub used_is_allowed : (names allowed : List (List ℕ)) (n : Spelled) → used_faults names allowed n ≡ [] → has_name allowed n.name ≡ true
+used_is_allowed names allowed n none =
+    not-false (has_name allowed n.name)
+    (not-where (not (has_name allowed n.name)) (fault.WrongKind n.at)
+    (none-else-right (where_ (not (has_name names n.name)) (fault.Unknown n.at)) (where_ (not (has_name allowed n.name)) (fault.WrongKind n.at)) none))
+
+pub declared_twice : (before : List (List ℕ)) (n : Spelled) → has_name before n.name ≡ true → FirstOrMemory (declared_faults before n) (fault.Duplicate n.at)
+declared_twice before n there =
+    else-left-first (where_ (has_name before n.name) (fault.Duplicate n.at)) (where_ (is_long n) (fault.TooLarge n.at)) (fault.Duplicate n.at) (where-first (has_name before n.name) (fault.Duplicate n.at) there)
+
+pub declared_too_long : (before : List (List ℕ)) (n : Spelled) → has_name before n.name ≡ false → 64 < length n.name → FirstOrMemory (declared_faults before n) (fault.TooLarge n.at)
+declared_too_long before n new long =
+    else-right-first (where_ (has_name before n.name) (fault.Duplicate n.at)) (where_ (is_long n) (fault.TooLarge n.at)) (fault.TooLarge n.at)
+    (where-false (has_name before n.name) (fault.Duplicate n.at) new)
+    (where-first (is_long n) (fault.TooLarge n.at) ((Decides-ltb 64 (length n.name)).1 long))
+
+pub declared_rightly : (before : List (List ℕ)) (n : Spelled) → has_name before n.name ≡ false → length n.name ≤ 64 → declared_faults before n ≡ []
+declared_rightly before n new short =
+    let is_short : is_long n ≡ false = grind (arith, nat_tests) in
+    else-none (where_ (has_name before n.name) (fault.Duplicate n.at)) (where_ (is_long n) (fault.TooLarge n.at))
+    (where-false (has_name before n.name) (fault.Duplicate n.at) new)
+    (where-false (is_long n) (fault.TooLarge n.at) is_short)

@@ -1,0 +1,98 @@
+-- The faults of a tree from those of its parts
+use Rattle.std.proofs.Common.{ℕ, ◌+◌, ◌≡◌, List, [], take, map, length, length-append, Result, refl, sym, ap, subst, ◌∙◌}
+use Rattle.std.specs.Global.{Vec}
+use Rattle.ta_linear.specs.declared.form.Form.{Form}
+use Rattle.ta_syntax.specs.PlainSums.{plain_sum}
+use Rattle.ta_syntax.specs.PlainTrees.{plain_comparison, plain_rule, plain_pattern, plain_tree}
+use Rattle.ta_syntax.specs.declared.tree.Tree.{Tree}
+use Rattle.ta_syntax.specs.declared.fault.FileFault.{FileFault}
+use Rattle.ta_syntax.specs.declared.fault.FileFault.TheVariants as fault
+use Rattle.ta_automaton.specs.declared.condition.Condition.{Condition}
+use Rattle.ta_automaton.specs.declared.pattern.Pattern.{Pattern}
+use Rattle.ta_meaning.specs.declared.places.Places.{Places}
+use Rattle.ta_meaning.specs.declared.rules.Rules.{Rules}
+use Rattle.ta_automaton.specs.declared.automaton.Automaton.{Automaton}
+use Rattle.ta_automaton.specs.Patterns.{PatternsShape}
+use Rattle.ta_meaning.specs.Meaning.{MeansAutomaton}
+use Rattle.ta_meaning.specs.Names.{Names, guard_names, all_names, names_of}
+use Rattle.ta_meaning.specs.Linear.{linear_sum, is_large_linear}
+use Rattle.ta_meaning.specs.Guards.{no_guards}
+use Rattle.ta_meaning.specs.Faults.{where_, else_, sum_faults, condition_faults, processes_faults, in_parameters, rules_faults, patterns_faults, names_faults, meaning_faults, Scope, FirstOrMemory, Answers}
+use Rattle.ta_meaning.specs.Resolved.{kinds_of, first_places, ResolvedForm, ResolvedCondition, ResolvedRules, ResolvedPatterns}
+use Rattle.ta_meaning.proofs.Answering.{append-left-first, append-right-first, append-none}
+use Rattle.ta_meaning.proofs.PlaceNames.{in_parameters_are}
+
+-- the faults of the sum of `processes` where parameters alone may stand
+abbrev pub processes_in : Scope → Tree → List FileFault
+processes_in s t = else_ (sum_faults s t.processes) (where_ (is_large_linear (linear_sum s.allowed (plain_sum t.processes))) (fault.TooLarge t.processes_at))
+
+pub processes-answer : (places : Places) (t : Tree) (r : Result Form FileFault) → kinds_of places ≡ names_of t
+    → Answers (processes_in (first_places places.names places.parameters) t) (ResolvedForm (take places.parameters places.names) (plain_sum t.processes)) r
+    → Answers (processes_faults (names_of t) t) (ResolvedForm (names_of t).parameters (plain_sum t.processes)) r
+processes-answer places t r k h =
+    let here : Answers (processes_faults (kinds_of places) t) (ResolvedForm (kinds_of places).parameters (plain_sum t.processes)) r =
+    subst (λ (s : Scope). Answers (processes_in s t) (ResolvedForm s.allowed (plain_sum t.processes)) r) (sym (in_parameters_are places)) h in
+    subst (λ (ns : Names). Answers (processes_faults ns t) (ResolvedForm ns.parameters (plain_sum t.processes)) r) k here
+
+pub resilience-answer : (places : Places) (t : Tree) (r : Result Condition FileFault) → kinds_of places ≡ names_of t
+    → Answers (condition_faults (first_places places.names places.parameters) t.resilience) (ResolvedCondition (take places.parameters places.names) (map plain_comparison t.resilience)) r
+    → Answers (condition_faults (in_parameters (names_of t)) t.resilience) (ResolvedCondition (names_of t).parameters (map plain_comparison t.resilience)) r
+resilience-answer places t r k h =
+    let here : Answers (condition_faults (in_parameters (kinds_of places)) t.resilience) (ResolvedCondition (kinds_of places).parameters (map plain_comparison t.resilience)) r =
+    subst (λ (s : Scope). Answers (condition_faults s t.resilience) (ResolvedCondition s.allowed (map plain_comparison t.resilience)) r) (sym (in_parameters_are places)) h in
+    subst (λ (ns : Names). Answers (condition_faults (in_parameters ns) t.resilience) (ResolvedCondition ns.parameters (map plain_comparison t.resilience)) r) k here
+
+pub rules-answer : (places : Places) (t : Tree) (r : Result Rules FileFault) → kinds_of places ≡ names_of t
+    → Answers (rules_faults (kinds_of places) [] no_guards t.rules) (λ (r : Rules). ResolvedRules (kinds_of places) (map plain_rule t.rules) r.rise.items r.fall.items r.rules.items) r
+    → Answers (rules_faults (names_of t) [] no_guards t.rules) (λ (r : Rules). ResolvedRules (names_of t) (map plain_rule t.rules) r.rise.items r.fall.items r.rules.items) r
+rules-answer places t r k h = subst (λ (ns : Names). Answers (rules_faults ns [] no_guards t.rules) (λ (r : Rules). ResolvedRules ns (map plain_rule t.rules) r.rise.items r.fall.items r.rules.items) r) k h
+
+pub patterns-answer : (places : Places) (t : Tree) (r : Result (Vec Pattern) FileFault) → kinds_of places ≡ names_of t
+    → Answers (patterns_faults (kinds_of places) [] t.patterns) (λ (ps : Vec Pattern). ResolvedPatterns (kinds_of places) (map plain_pattern t.patterns) ps.items) r
+    → Answers (patterns_faults (names_of t) [] t.patterns) (λ (ps : Vec Pattern). ResolvedPatterns (names_of t) (map plain_pattern t.patterns) ps.items) r
+patterns-answer places t r k h = subst (λ (ns : Names). Answers (patterns_faults ns [] t.patterns) (λ (ps : Vec Pattern). ResolvedPatterns ns (map plain_pattern t.patterns) ps.items) r) k h
+
+-- ---- the first fault of a part is the first of the tree, where the parts before it have none
+
+pub at-names : (t : Tree) (e : FileFault) → FirstOrMemory (names_faults (names_of t) t) e → FirstOrMemory (meaning_faults t) e
+at-names t e h = append-left-first _ _ e h
+
+pub at-processes : (t : Tree) (e : FileFault) → names_faults (names_of t) t ≡ [] → FirstOrMemory (processes_faults (names_of t) t) e → FirstOrMemory (meaning_faults t) e
+at-processes t e names h = append-right-first (names_faults (names_of t) t) _ e names (append-left-first _ _ e h)
+
+pub at-resilience : (t : Tree) (e : FileFault) → names_faults (names_of t) t ≡ [] → processes_faults (names_of t) t ≡ [] → FirstOrMemory (condition_faults (in_parameters (names_of t)) t.resilience) e → FirstOrMemory (meaning_faults t) e
+at-resilience t e names processes h =
+    append-right-first (names_faults (names_of t) t) _ e names (append-right-first (processes_faults (names_of t) t) _ e processes (append-left-first _ _ e h))
+
+-- what stands before the rules has no fault
+pub record HeadClean (t : Tree) : Type 0 where
+  pub names : names_faults (names_of t) t ≡ []
+  pub processes : processes_faults (names_of t) t ≡ []
+  pub resilience : condition_faults (in_parameters (names_of t)) t.resilience ≡ []
+
+pub at-rules : (t : Tree) (e : FileFault) → HeadClean t → FirstOrMemory (rules_faults (names_of t) [] no_guards t.rules) e → FirstOrMemory (meaning_faults t) e
+at-rules t e clean h =
+    append-right-first (names_faults (names_of t) t) _ e clean.names (append-right-first (processes_faults (names_of t) t) _ e clean.processes (append-right-first (condition_faults (in_parameters (names_of t)) t.resilience) _ e clean.resilience (append-left-first _ _ e h)))
+
+pub at-patterns : (t : Tree) (e : FileFault) → HeadClean t → rules_faults (names_of t) [] no_guards t.rules ≡ [] → FirstOrMemory (patterns_faults (names_of t) [] t.patterns) e → FirstOrMemory (meaning_faults t) e
+at-patterns t e clean rules h =
+    append-right-first (names_faults (names_of t) t) _ e clean.names (append-right-first (processes_faults (names_of t) t) _ e clean.processes (append-right-first (condition_faults (in_parameters (names_of t)) t.resilience) _ e clean.resilience (append-right-first (rules_faults (names_of t) [] no_guards t.rules) _ e rules h)))
+
+pub all-clean : (t : Tree) → HeadClean t → rules_faults (names_of t) [] no_guards t.rules ≡ [] → patterns_faults (names_of t) [] t.patterns ≡ [] → meaning_faults t ≡ []
+all-clean t clean rules patterns =
+    append-none (names_faults (names_of t) t) _ clean.names (append-none (processes_faults (names_of t) t) _ clean.processes (append-none (condition_faults (in_parameters (names_of t)) t.resilience) _ clean.resilience (append-none (rules_faults (names_of t) [] no_guards t.rules) _ rules patterns)))
+
+-- ---- the tree's file
+
+-- the places that a pattern's shape counts are those of the automaton
+pub patterns_shape-of :
+    (t : Tree) (a : Automaton) (patterns patterns' : List Pattern)
+    → MeansAutomaton (plain_tree t) a → ResolvedPatterns (names_of t) (map plain_pattern t.patterns) patterns → patterns' ≡ patterns
+    → PatternsShape (length a.parameters + length a.shared + length a.locations) (length a.locations) patterns'
+patterns_shape-of t a patterns patterns' means resolved same =
+    let ns = names_of t in
+    let count : length (all_names ns) ≡ length a.parameters + length a.shared + length a.locations =
+    length-append (guard_names ns) ns.locations
+    ∙ (ap (λ (n : ℕ). n + length ns.locations) (length-append ns.parameters ns.shared)
+    ∙ rw (means.parameters, means.shared, means.locations) refl) in
+    rw (same, sym count, means.locations) resolved.shape

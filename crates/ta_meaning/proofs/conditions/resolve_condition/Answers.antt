@@ -1,0 +1,13 @@
+use Rattle.std.proofs.Common.{List, subst}
+use Rattle.std.proofs.Math.ListN.{drop_of_length-le}
+use Rattle.ta_syntax.specs.declared.tree.TreeComparison.{TreeComparison}
+use Rattle.ta_meaning.specs.Resolved.{first_places}
+use Rattle.ta_meaning.proofs.ComparedForms.{Resolving, condition_ends}
+use Rattle.ta_meaning.proofs.conditions.resolve_condition.Goals as goal
+
+pub returns : goal.returns
+returns c =
+    let s = first_places c.args.places.now.names c.args.allowed in
+    let all = c.args.comparisons.now in
+    let had = subst (λ (ys : List TreeComparison). Resolving s all ys c.comparisons.resolved.items) (drop_of_length-le all c.comparisons-test.false) c.comparisons.invariant in
+    condition_ends s all c.comparisons.resolved.items _ had c.from_vec.ensures

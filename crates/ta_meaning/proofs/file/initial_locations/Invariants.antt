@@ -1,0 +1,7 @@
+use Rattle.std.proofs.Common.{◌≡◌, ◌++◌, map, drop}
+use Rattle.ta_syntax.specs.PlainTrees.{plain_location}
+use Rattle.ta_meaning.specs.Meaning.{initial_from}
+use Rattle.ta_meaning.proofs.file.initial_locations.Given as goal
+
+abbrev pub invariant-loop-number : goal.invariant-loop-number
+invariant-loop-number l = l.numbers.items ++ initial_from l.number (map plain_location (drop l.number l.locations)) ≡ initial_from 0 (map plain_location l.locations)

@@ -1,0 +1,58 @@
+use Rattle.std.proofs.Common.{◌≡◌, ◌+◌, List, ◌∷◌, drop, refl, subst, arith}
+use Rattle.std.proofs.lemmas.Bool.{false≢true}
+use Rattle.std.proofs.lemmas.Option.{slice_get_within}
+use Rattle.std.proofs.lemmas.Result.{err_from_is_err_and}
+use Rattle.std.proofs.Math.ListN.{drop_of_length-le}
+use Rattle.ta_syntax.specs.declared.names.Spelled.{Spelled}
+use Rattle.ta_meaning.specs.Listed.{between}
+use Rattle.ta_meaning.proofs.ListItems.{next_item}
+use Rattle.ta_meaning.proofs.ListedSteps.{ListedTo, listing_begins, listing_stops, listing_repeats, listing_goes_on, listing_ends, between-distinct, between-within, between-length}
+use Rattle.ta_meaning.proofs.masks.listed_mask.Goals as goal
+
+pub loop-name-init : goal.loop-name-init
+loop-name-init c = listing_begins c.args.names.now (between c.args.from c.args.to c.args.names.now) c.args.listed.now
+
+pub returns-in_err-number : goal.returns-in_err-number
+returns-in_err-number c =
+    let xs = c.args.listed.now in
+    let i = c.loop-name.name-index in
+    let x = c.name-item.result in
+    let names = c.args.names.now in
+    let allowed = between c.args.from c.args.to names in
+    let here : drop i xs ≡ x ∷ drop (i + 1) xs = next_item xs i x (omega arith) c.name-item.is in
+    let p = err_from_is_err_and c.from_residual.result c.from_residual.ensures.1 in
+    rw (p.1, p.2) (listing_stops names allowed xs x (drop (i + 1) xs) c.loop-name.mask (subst (λ (ys : List Spelled). ListedTo names allowed xs ys c.loop-name.mask) here c.loop-name.invariant) c.in_err-number.field-0.0 (between-within c.args.from c.args.to names) c.in_err-number.ensures)
+
+pub contains-requires : goal.contains-requires
+contains-requires c =
+    let few = between-length c.args.from c.args.to c.args.names.now c.requires.within in
+    let within = slice_get_within (between c.args.from c.args.to c.args.names.now) c.in_ok-number.number c.name-item.result.name c.in_ok-number.ensures.1 in
+    omega arith
+
+pub returns-then-contains : goal.returns-then-contains
+returns-then-contains c =
+    let xs = c.args.listed.now in
+    let i = c.loop-name.name-index in
+    let x = c.name-item.result in
+    let names = c.args.names.now in
+    let allowed = between c.args.from c.args.to names in
+    let here : drop i xs ≡ x ∷ drop (i + 1) xs = next_item xs i x (omega arith) c.name-item.is in
+    listing_repeats names allowed xs x (drop (i + 1) xs) c.loop-name.mask (subst (λ (ys : List Spelled). ListedTo names allowed xs ys c.loop-name.mask) here c.loop-name.invariant) c.in_ok-number.number c.in_ok-number.ensures.1 (c.if-contains.ensures.0 refl)
+
+pub loop-name-preserved : goal.loop-name-preserved
+loop-name-preserved c =
+    let xs = c.args.listed.now in
+    let i = c.loop-name.name-index in
+    let x = c.name-item.result in
+    let names = c.args.names.now in
+    let allowed = between c.args.from c.args.to names in
+    let here : drop i xs ≡ x ∷ drop (i + 1) xs = next_item xs i x (omega arith) c.name-item.is in
+    let few = between-length c.args.from c.args.to names c.requires.within in
+    listing_goes_on names allowed xs x (drop (i + 1) xs) c.loop-name.mask (subst (λ (ys : List Spelled). ListedTo names allowed xs ys c.loop-name.mask) here c.loop-name.invariant) c.in_ok-number.number (between-distinct c.args.from c.args.to names c.requires.distinct) (omega arith) c.in_ok-number.ensures.0 c.in_ok-number.ensures.1 (λ b. false≢true (c.if-contains.ensures.1 b))
+
+pub returns : goal.returns
+returns c =
+    let xs = c.args.listed.now in
+    let names = c.args.names.now in
+    let allowed = between c.args.from c.args.to names in
+    listing_ends names allowed xs c.loop-name.mask (subst (λ (ys : List Spelled). ListedTo names allowed xs ys c.loop-name.mask) (drop_of_length-le xs c.loop-name-test.false) c.loop-name.invariant)

@@ -1,0 +1,8 @@
+use Rattle.std.proofs.Common.{drop}
+use Rattle.ta_meaning.specs.Listed.{between}
+use Rattle.ta_meaning.proofs.ListedSteps.{ListedTo}
+use Rattle.ta_meaning.proofs.masks.listed_mask.Given as goal
+
+-- the names before are listed, and the rest is left
+abbrev pub invariant-loop-name : goal.invariant-loop-name
+invariant-loop-name l = ListedTo l.names (between l.from l.to l.names) l.listed (drop l.name-index l.listed) l.mask

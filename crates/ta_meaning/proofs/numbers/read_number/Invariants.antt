@@ -1,0 +1,6 @@
+use Rattle.std.proofs.Common.{◌≡◌, ◌≤◌, take}
+use Rattle.ta_meaning.specs.Sums.{number_of}
+use Rattle.ta_meaning.proofs.numbers.read_number.Given as goal
+
+abbrev pub invariant-digits : goal.invariant-digits
+invariant-digits l = record { is : l.number ≡ number_of (take l.digit-index l.digit-items); small : l.number ≤ 1000000000 }

@@ -1,0 +1,15 @@
+use Rattle.std.proofs.Common.{ℕ, ℤ, leb, ◌&&◌, ◌||◌, ◌∙◌, refl, rules, tests}
+use Rattle.std.proofs.lemmas.Iterator.{YieldsList-from_slice}
+use Rattle.std.proofs.lemmas.Iterator.Search.{any_from_yields_List}
+use Rattle.std.proofs.lemmas.List.Recursion.{same_from_clauses}
+use Rattle.std.specs.List.{list_any}
+use Rattle.ta_meaning.specs.Guards.{is_negative}
+use Rattle.ta_meaning.specs.Numbering.{any_shared}
+use Rattle.ta_meaning.proofs.thresholds.has_negative.Goals as goal
+
+pub returns : goal.returns
+returns c =
+    let terms = c.args.row.now.form.terms in
+    let parameters = c.args.parameters in
+    any_from_yields_List (λ (t : ℕ × ℤ). leb parameters t.0 && is_negative t.1) _ _ c.any.result c.any.ensures.ran (YieldsList-from_slice terms cc) (λ x b q k. search (rules, tests))
+    ∙ same_from_clauses (list_any (λ (t : ℕ × ℤ). leb parameters t.0 && is_negative t.1)) (any_shared is_negative parameters) (λ t r. (leb parameters t.0 && is_negative t.1) || r) refl (λ _ _. refl) (λ _ _. refl) terms

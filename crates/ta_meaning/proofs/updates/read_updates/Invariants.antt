@@ -1,0 +1,7 @@
+use Rattle.std.proofs.Common.{drop}
+use Rattle.ta_meaning.specs.Resolved.{kinds_of}
+use Rattle.ta_meaning.proofs.UpdateReading.{UpdatesReading}
+use Rattle.ta_meaning.proofs.updates.read_updates.Given as goal
+
+abbrev pub invariant-loop-update : goal.invariant-loop-update
+invariant-loop-update l = UpdatesReading (kinds_of l.places) l.updates (drop l.update-index l.updates) l.seen.items l.read.items

@@ -1,0 +1,45 @@
+-- The first fault of an automaton file, in four stages: bytes, tokens, meaning, scope (this project's profile)
+use Rattle.std.specs.Prelude.{ℕ, ◌≡◌, ◌⊎◌, List, [], ◌∷◌}
+use Rattle.ta_syntax.specs.PlainTrees.{plain_tree}
+use Rattle.ta_syntax.specs.TreeOf.{IsTreeOf}
+use Rattle.ta_syntax.specs.Faults as syntax
+use Rattle.ta_syntax.specs.declared.tree.Tree.{Tree}
+use Rattle.ta_syntax.specs.declared.fault.FileFault.{FileFault}
+use Rattle.ta_syntax.specs.declared.fault.FileFault.TheVariants as fault
+use Rattle.ta_automaton.specs.declared.automaton.Automaton.{Automaton}
+use Rattle.ta_automaton.specs.declared.file.File.{File}
+use Rattle.ta_scope.specs.Faults as scope
+use Rattle.ta_scope.specs.declared.fault.ScopeFault.TheVariants as scope_fault
+use Rattle.ta_meaning.specs.Meaning.{MeansTree}
+use Rattle.ta_meaning.specs.Faults.{meaning_faults}
+
+-- the first byte at which no token begins, or the first token that is wrong or past a limit
+abbrev pub OfText : List ℕ → FileFault → Type 0
+OfText bytes fault.Memory = ⊥
+OfText bytes e = syntax.FirstFault bytes e
+
+-- the text is a tree, and this is the first fault of what it means
+pub record OfMeaning (bytes : List ℕ) (e : FileFault) : Type 0 where
+  pub tree : Tree
+  pub is_tree : IsTreeOf bytes tree
+  pub later : List FileFault
+  pub first : meaning_faults tree ≡ e ∷ later
+
+-- the first rule that puts an automaton out of scope
+abbrev pub ScopeFault : Automaton → FileFault → Type 0
+ScopeFault a (fault.LoopUpdates r) = scope.FirstFault a (scope_fault.LoopUpdates r)
+ScopeFault a (fault.Cycle r) = scope.FirstFault a (scope_fault.Cycle r)
+ScopeFault a _ = ⊥
+
+-- the text means a file whose automaton is out of scope
+pub record OfScope (bytes : List ℕ) (e : FileFault) : Type 0 where
+  pub tree : Tree
+  pub is_tree : IsTreeOf bytes tree
+  pub none_of_meaning : meaning_faults tree ≡ []
+  pub file : File
+  pub means : MeansTree (plain_tree tree) file
+  pub fault : ScopeFault file.automaton e
+
+-- the first fault of a text: a later stage counts only where the earlier ones find nothing
+abbrev pub FirstFault : List ℕ → FileFault → Type 0
+FirstFault bytes e = OfText bytes e ⊎ (OfMeaning bytes e ⊎ OfScope bytes e)

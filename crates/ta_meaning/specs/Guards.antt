@@ -1,0 +1,90 @@
+-- Guards: which comparisons are threshold guards, and how they are numbered (POPL 2017, threshold guards; sums of shared variables and numbering are this project's profile)
+use Rattle.std.specs.Prelude.{ℕ, ℤ, pos, negsuc, ◌≡◌, ◌↔◌, ◌==◌, Bool, true, false, ◌&&◌, ◌||◌, not, ltb, List, [], ◌∷◌, ◌++◌, length, drop, flat_map, slice_get, Some, IsBitSet, IsTrue, if◌then◌else◌}
+use Rattle.ta_syntax.specs.Grammar.{PlainComparison, PlainRule}
+use Rattle.ta_meaning.specs.Linear.{Linear, comparison_rows, any_number}
+
+abbrev pub same_number : ℤ → ℤ → Bool
+same_number (pos m) (pos n) = m == n
+same_number (negsuc m) (negsuc n) = m == n
+same_number (pos m) (negsuc n) = false
+same_number (negsuc m) (pos n) = false
+
+abbrev pub same_numbers : List ℤ → List ℤ → Bool
+same_numbers [] [] = true
+same_numbers (a ∷ more) (b ∷ others) = same_number a b && same_numbers more others
+same_numbers [] (b ∷ others) = false
+same_numbers (a ∷ more) [] = false
+
+-- the same constant and the same coefficients
+abbrev pub same_row : Linear → Linear → Bool
+same_row a b = same_number a.constant b.constant && same_numbers a.coefficients b.coefficients
+
+abbrev pub has_row : List Linear → Linear → Bool
+has_row [] r = false
+has_row (q ∷ rows) r = same_row q r || has_row rows r
+
+abbrev pub is_negative : ℤ → Bool
+is_negative (pos n) = false
+is_negative (negsuc n) = true
+
+abbrev pub is_positive : ℤ → Bool
+is_positive (pos n) = ltb 0 n
+is_positive (negsuc n) = false
+
+-- what stands before the shared variables, which come after the parameters
+abbrev pub shared_part : ℕ → Linear → List ℤ
+shared_part parameters r = drop parameters r.coefficients
+
+-- some shared variable has a negative coefficient: a fall guard, where no coefficient of one is positive
+abbrev pub falls : ℕ → Linear → Bool
+falls parameters r = any_number is_negative (shared_part parameters r)
+
+-- the distinct guards, by first appearance
+pub record Guards : Type 0 where
+  pub rise : List Linear
+  pub fall : List Linear
+
+abbrev pub no_guards : Guards
+no_guards = record { rise = []; fall = [] }
+
+abbrev pub with_row : List Linear → Linear → List Linear
+with_row rows r = if has_row rows r then rows else rows ++ r ∷ []
+
+-- the guards with one more row
+abbrev pub with_guard : ℕ → Guards → Linear → Guards
+with_guard parameters g r =
+    if falls parameters r
+    then record { rise = g.rise; fall = with_row g.fall r }
+    else record { rise = with_row g.rise r; fall = g.fall }
+
+abbrev pub with_guards : ℕ → Guards → List Linear → Guards
+with_guards parameters g [] = g
+with_guards parameters g (r ∷ rows) = with_guards parameters (with_guard parameters g r) rows
+
+-- the normal rows of comparisons, in order
+abbrev pub rows_of : List (List ℕ) → List PlainComparison → List Linear
+rows_of names cs = flat_map (comparison_rows names) cs
+
+-- the guards of rules, in the order of the text, after others
+abbrev pub guards_after : ℕ → List (List ℕ) → Guards → List PlainRule → Guards
+guards_after parameters names g [] = g
+guards_after parameters names g (r ∷ rules) = guards_after parameters names (with_guards parameters g (rows_of names r.guards)) rules
+
+-- no threshold guard: two rows, or shared variables with coefficients of both signs
+abbrev pub is_no_threshold : ℕ → List Linear → Bool
+is_no_threshold parameters [] = true
+is_no_threshold parameters (r ∷ []) = falls parameters r && any_number is_positive (shared_part parameters r)
+is_no_threshold parameters (r ∷ q ∷ rows) = true
+
+-- a row more than 16 rise guards or 6 fall guards
+abbrev pub is_one_more : ℕ → Guards → List Linear → Bool
+is_one_more parameters g [] = false
+is_one_more parameters g (r ∷ rows) =
+    if falls parameters r
+    then not (has_row g.fall r) && not (ltb (length g.fall) 6)
+    else not (has_row g.rise r) && not (ltb (length g.rise) 16)
+
+-- the mask names the guards that are among rows
+abbrev pub NamesGuards : List Linear → List Linear → ℕ → Type 0
+NamesGuards guards rows mask =
+    (i : ℕ) → IsBitSet mask i ↔ ((guard : Linear) × (slice_get guards i ≡ Some guard) × IsTrue (has_row rows guard))

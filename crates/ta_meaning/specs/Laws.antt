@@ -1,0 +1,32 @@
+-- A text has one tree, one meaning and one first fault (this project's profile)
+use Rattle.std.specs.Prelude.{ℕ, ◌≡◌, List}
+use Rattle.ta_syntax.specs.PlainTrees.{plain_tree}
+use Rattle.ta_syntax.specs.Stated.{tree_stated}
+use Rattle.ta_syntax.specs.TreeOf.{IsTreeOf}
+use Rattle.ta_syntax.specs.declared.tree.Tree.{Tree}
+use Rattle.ta_syntax.specs.declared.fault.FileFault.{FileFault}
+use Rattle.ta_automaton.specs.declared.file.File.{File}
+use Rattle.ta_meaning.specs.Meaning.{Means}
+use Rattle.ta_meaning.specs.Faults.{meaning_faults}
+use Rattle.ta_meaning.specs.FirstFault.{FirstFault}
+
+-- Two trees have the same parts, and state the same offset for each token. All else that a tree has is where the lists of its sums lie in memory.
+pub record SameTree (t u : Tree) : Type 0 where
+  pub parts : plain_tree t ≡ plain_tree u
+  pub offsets : tree_stated t ≡ tree_stated u
+
+-- a text has at most one tree
+abbrev pub TreesAreUnique : Type 0
+TreesAreUnique = (bytes : List ℕ) (t u : Tree) → IsTreeOf bytes t → IsTreeOf bytes u → SameTree t u
+
+-- a text that has a tree has one list of faults of what it means
+abbrev pub FaultsAreUnique : Type 0
+FaultsAreUnique = (bytes : List ℕ) (t u : Tree) → IsTreeOf bytes t → IsTreeOf bytes u → meaning_faults t ≡ meaning_faults u
+
+-- a text means at most one file
+abbrev pub FilesAreUnique : Type 0
+FilesAreUnique = (bytes : List ℕ) (f g : File) → Means bytes f → Means bytes g → f ≡ g
+
+-- a text has at most one first fault
+abbrev pub FirstFaultsAreUnique : Type 0
+FirstFaultsAreUnique = (bytes : List ℕ) (e d : FileFault) → FirstFault bytes e → FirstFault bytes d → e ≡ d

@@ -1,0 +1,33 @@
+-- What the resolver gives for an event and for a pattern, and the names that are declared then (this project's profile)
+use Rattle.std.specs.Prelude.{ℕ, ◌≡◌, ◌≤◌, List, [], ◌∷◌, ◌++◌, length, map}
+use Rattle.ta_syntax.specs.Grammar.{PlainEvent, PlainPattern}
+use Rattle.ta_automaton.specs.declared.pattern.Event.{Event}
+use Rattle.ta_automaton.specs.declared.pattern.Pattern.{Pattern}
+use Rattle.ta_automaton.specs.Lists.{EachFrom, Distinct}
+use Rattle.ta_automaton.specs.Patterns.{EventWithin, event_name, PatternWithin}
+use Rattle.ta_meaning.specs.Names.{Names, all_names}
+use Rattle.ta_meaning.specs.Meaning.{MeansEvent, MeansEvents, MeansPattern}
+
+-- names with one more, which is none of them
+pub record DeclaredNext (before : List (List ℕ)) (name : List ℕ) (names : List (List ℕ)) : Type 0 where
+  pub next : names ≡ before ++ name ∷ []
+  pub distinct : Distinct names
+
+-- the event after those before it that an event of the text means
+pub record ResolvedEvent (ns : Names) (before : List (List ℕ)) (plain : PlainEvent) (names : List (List ℕ)) (event : Event) : Type 0 where
+  pub means : MeansEvent ns before plain event
+  pub within : EventWithin (length (all_names ns)) (length before) event
+  pub declared : DeclaredNext before plain.name names
+
+-- the events of a pattern
+pub record ResolvedEvents (ns : Names) (plain : List PlainEvent) (events : List Event) : Type 0 where
+  pub means : MeansEvents ns [] plain events
+  pub limit : length events ≤ 8
+  pub within : EachFrom (EventWithin (length (all_names ns))) 0 events
+  pub distinct : Distinct (map event_name events)
+
+-- the pattern after those before it that a pattern of the text means
+pub record ResolvedPattern (ns : Names) (before : List (List ℕ)) (plain : PlainPattern) (names : List (List ℕ)) (pattern : Pattern) : Type 0 where
+  pub means : MeansPattern ns plain pattern
+  pub within : PatternWithin (length (all_names ns)) (length ns.locations) pattern
+  pub declared : DeclaredNext before plain.name names

@@ -1,0 +1,110 @@
+//! Sums and conditions over the first places of a file.
+#![tactic(auto)]
+
+ghost use Rattle.std.specs.Prelude.{◌≡◌, ◌≤◌, ◌^◌, length, take, map, MatchResult};
+ghost use Rattle.ta_syntax.specs.PlainSums.{plain_sum};
+ghost use Rattle.ta_syntax.specs.PlainTrees.{plain_comparison};
+ghost use Rattle.ta_meaning.specs.Linear.{Pairwise, linear_sum, is_large_linear};
+ghost use Rattle.ta_meaning.specs.Faults.{Answers, else_, where_, sum_faults, comparison_faults, condition_faults};
+ghost use Rattle.ta_meaning.specs.Resolved.{first_places, ResolvedForm, ResolvedComparison, ResolvedCondition};
+ghost use Rattle.ta_meaning.specs.SumParts.{Within, any_large_row, form_differences, RowOfDifference};
+
+use crate::forms::{difference, is_large_form};
+use crate::places::Places;
+use crate::sums::{small_form, sum_form};
+use std::alloc::Global;
+use ta_automaton::{Comparison, Condition, List};
+use ta_linear::{Form, Row};
+use ta_syntax::{FileFault, Relation, TreeComparison, TreeSum};
+
+/// The form of a sum over the first places, with numbers of at most 1,000,000,000; `at` is the offset
+/// of the sum's first token.
+pub fn resolve_sum(
+    alloc: Global,
+    places: &Places,
+    allowed: u32,
+    at: u32,
+    sum: &TreeSum,
+) -> Result<Form, FileFault>
+    requires { allowed ≤ length places.now.names }
+    ensures { Answers (else_ (sum_faults (first_places places.now.names allowed) sum.now) (where_ (is_large_linear (linear_sum (take allowed places.now.names) (plain_sum sum.now))) (FileFault.TooLarge at))) (λ form. ResolvedForm (take allowed places.now.names) (plain_sum sum.now) form) result }
+{
+    let form = sum_form(alloc, places, allowed, sum)?;
+    small_form(form, at)
+}
+
+/// The normal rows of the comparison of two small forms.
+fn normal_rows(
+    alloc: Global,
+    left: &Form,
+    relation: Relation,
+    right: &Form,
+) -> Result<Vec<Row>, FileFault>
+    requires left { Within (2 ^ 93) left.now }
+    requires right { Within (2 ^ 93) right.now }
+    ensures { MatchResult result (λ rows. Pairwise RowOfDifference (form_differences relation left.now right.now) rows.items) (λ e. e ≡ FileFault.Memory) }
+{
+    let mut rows = Vec::new(alloc);
+    match relation {
+        Relation::Less => rows.push(difference(alloc, right, left, 1)?)?,
+        Relation::AtMost => rows.push(difference(alloc, right, left, 0)?)?,
+        Relation::Equal => {
+            rows.push(difference(alloc, left, right, 0)?)?;
+            rows.push(difference(alloc, right, left, 0)?)?;
+        }
+        Relation::AtLeast => rows.push(difference(alloc, left, right, 0)?)?,
+        Relation::More => rows.push(difference(alloc, left, right, 1)?)?,
+    }
+    Ok(rows)
+}
+
+/// Rows, or F6 at an offset where one of their numbers is too large.
+fn small_rows(rows: Vec<Row>, at: u32) -> Result<Vec<Row>, FileFault>
+    ensures { Answers (where_ (any_large_row rows.items) (FileFault.TooLarge at)) (λ small. small ≡ rows) result }
+{
+    'rows: for row in &rows {
+        if is_large_form(&row.form) {
+            return Err(FileFault::TooLarge(at));
+        }
+    }
+    Ok(rows)
+}
+
+/// The normal rows of a comparison over the first places.
+pub fn resolve_comparison(
+    alloc: Global,
+    places: &Places,
+    allowed: u32,
+    comparison: &TreeComparison,
+) -> Result<Comparison, FileFault>
+    requires { allowed ≤ length places.now.names }
+    ensures { Answers (comparison_faults (first_places places.now.names allowed) comparison.now) (λ rows. ResolvedComparison (take allowed places.now.names) (plain_comparison comparison.now) rows) result }
+{
+    let left = sum_form(alloc, places, allowed, &comparison.left)?;
+    let right = sum_form(alloc, places, allowed, &comparison.right)?;
+    let rows = normal_rows(alloc, &left, comparison.relation, &right)?;
+    let small = small_rows(rows, comparison.at)?;
+    Ok(Comparison {
+        rows: List::from_vec(small),
+    })
+}
+
+/// The condition that comparisons over the first places mean.
+pub fn resolve_condition(
+    alloc: Global,
+    places: &Places,
+    allowed: u32,
+    comparisons: &[TreeComparison],
+) -> Result<Condition, FileFault>
+    requires allowed { allowed ≤ length places.now.names }
+    requires few { length comparisons.now ≤ 16 }
+    ensures { Answers (condition_faults (first_places places.now.names allowed) comparisons.now) (λ condition. ResolvedCondition (take allowed places.now.names) (map plain_comparison comparisons.now) condition) result }
+{
+    let mut resolved = Vec::new(alloc);
+    'comparisons: for comparison in comparisons {
+        resolved.push(resolve_comparison(alloc, places, allowed, comparison)?)?;
+    }
+    Ok(Condition {
+        comparisons: List::from_vec(resolved),
+    })
+}

@@ -1,0 +1,25 @@
+//! What an automaton file means: from a tree to an automaton with its patterns, or the first fault.
+#![tactic(auto)]
+
+mod conditions;
+mod declarations;
+mod file;
+mod forms;
+mod guards;
+mod laws;
+mod masks;
+mod names;
+mod numbers;
+mod offset_law;
+mod patterns;
+mod places;
+mod reader;
+mod rules;
+mod sums;
+mod thresholds;
+mod updates;
+
+pub use file::resolve;
+pub use laws::meanings_are_unique;
+pub use offset_law::faults_rise;
+pub use reader::read_file;

@@ -1,0 +1,45 @@
+//! Lists of names as masks.
+#![tactic(auto)]
+
+ghost use Rattle.std.specs.Prelude.{◌-◌, ◌<◌, ◌≤◌, ◌↔◌, [], length, map, IsTrue, IsBitSet};
+ghost use Rattle.ta_syntax.specs.PlainTrees.{plain_name};
+ghost use Rattle.ta_automaton.specs.Lists.{Distinct};
+ghost use Rattle.ta_meaning.specs.Faults.{Answers, listed_faults};
+ghost use Rattle.ta_meaning.specs.Listed.{between, ListedMask};
+
+use crate::names::NameList;
+use ta_syntax::{FileFault, Spelled};
+
+/// The mask of the names that are listed, among those from one number on and below another: bit i
+/// for the i-th of these. F3 where a name was listed before, F4 where it isn't declared, F5 where
+/// it is another's.
+pub fn listed_mask(
+    names: &NameList,
+    from: u32,
+    to: u32,
+    listed: &[Spelled],
+) -> Result<u32, FileFault>
+    requires order { from ≤ to }
+    requires within { to ≤ length names.now }
+    requires few { to - from ≤ 32 }
+    requires distinct { Distinct names.now }
+    ensures { Answers (listed_faults names.now (between from to names.now) [] listed.now) (ListedMask (between from to names.now) (map plain_name listed.now)) result }
+{
+    let mut mask: u32 = 0;
+    for name in listed {
+        let number = names.number_in(from, to, name)?;
+        if contains(mask, number) {
+            return Err(FileFault::Duplicate(name.at));
+        }
+        mask |= 1 << number;
+    }
+    Ok(mask)
+}
+
+/// Whether a mask has the bit of a number.
+fn contains(mask: u32, number: u32) -> bool
+    requires { number < 32 }
+    ensures { IsTrue result ↔ IsBitSet mask number }
+{
+    mask & (1 << number) != 0
+}

@@ -1,0 +1,12 @@
+//! The law of the order of faults.
+#![tactic(auto)]
+
+ghost use Rattle.ta_meaning.specs.Offsets.{FaultsRise, FirstIsLeast, FaultsStandAtTokens, FaultsAreOfMeaning};
+
+/// The faults of what a tree means stand at rising offsets, each at a token. So the first of them is the one with the smallest offset, and at most one stands at each offset.
+pub fn faults_rise()
+    ensures rise { FaultsRise }
+    ensures least { FirstIsLeast }
+    ensures tokens { FaultsStandAtTokens }
+    ensures kinds { FaultsAreOfMeaning }
+{}

@@ -1,0 +1,130 @@
+//! Patterns and their events.
+#![tactic(auto)]
+
+ghost use Rattle.std.specs.Prelude.{◌≡◌, ◌+◌, ◌<◌, ◌≤◌, [], length, map};
+ghost use Rattle.ta_syntax.specs.PlainTrees.{plain_name, plain_comparison, plain_event, plain_pattern};
+ghost use Rattle.ta_automaton.specs.Lists.{Distinct};
+ghost use Rattle.ta_meaning.specs.Names.{all_names};
+ghost use Rattle.ta_meaning.specs.Faults.{Answers, in_conditions, condition_faults, listed_faults, event_faults, events_faults, pattern_faults, patterns_faults};
+ghost use Rattle.ta_meaning.specs.Resolved.{kinds_of, ResolvedCondition, ResolvedPatterns};
+ghost use Rattle.ta_meaning.specs.Listed.{ListedMask};
+ghost use Rattle.ta_meaning.specs.PatternParts.{ResolvedEvent, ResolvedEvents, ResolvedPattern};
+
+use crate::conditions::resolve_condition;
+use crate::file::text_of;
+use crate::masks::listed_mask;
+use crate::names::NameList;
+use crate::places::Places;
+use std::alloc::Global;
+use ta_automaton::{Condition, Event, List, Pattern};
+use ta_syntax::{FileFault, Spelled, TreeComparison, TreeEvent, TreePattern};
+
+/// The patterns that a tree's patterns mean.
+pub fn resolve_patterns(
+    alloc: Global,
+    places: &Places,
+    patterns: &[TreePattern],
+) -> Result<Vec<Pattern>, FileFault>
+    requires { length patterns.now ≤ 16 }
+    ensures { Answers (patterns_faults (kinds_of places.now) [] patterns.now) (λ ps. ResolvedPatterns (kinds_of places.now) (map plain_pattern patterns.now) ps.items) result }
+{
+    let mut names = NameList::new(alloc);
+    let mut resolved = Vec::new(alloc);
+    for pattern in patterns {
+        resolved.push(resolve_pattern(alloc, places, &mut names, pattern)?)?;
+    }
+    Ok(resolved)
+}
+
+/// The pattern that a tree's pattern means, after others; its name is declared then.
+fn resolve_pattern(
+    alloc: Global,
+    places: &Places,
+    names: &mut NameList,
+    pattern: &TreePattern,
+) -> Result<Pattern, FileFault>
+    requires { Distinct names.old }
+    ensures { Answers (pattern_faults (kinds_of places.now) names.old pattern.now) (ResolvedPattern (kinds_of places.now) names.old (plain_pattern pattern.now) names.new) result }
+{
+    names.declare(alloc, &pattern.name)?;
+    let start = resolve_over_all(alloc, places, pattern.start.as_slice())?;
+    let empty = empty_mask(places, pattern.empty.as_slice())?;
+    let events = resolve_events(alloc, places, pattern.events.as_slice())?;
+    Ok(Pattern {
+        name: text_of(alloc, &pattern.name)?,
+        start,
+        empty,
+        events: List::from_vec(events),
+    })
+}
+
+/// The events that a pattern's events mean.
+fn resolve_events(
+    alloc: Global,
+    places: &Places,
+    events: &[TreeEvent],
+) -> Result<Vec<Event>, FileFault>
+    requires { length events.now ≤ 8 }
+    ensures { Answers (events_faults (kinds_of places.now) [] events.now) (λ es. ResolvedEvents (kinds_of places.now) (map plain_event events.now) es.items) result }
+{
+    let mut names = NameList::new(alloc);
+    let mut resolved = Vec::new(alloc);
+    for event in events {
+        resolved.push(resolve_event(alloc, places, &mut names, event)?)?;
+    }
+    Ok(resolved)
+}
+
+/// The event that a pattern's event means, after others; its name is declared then. It may come
+/// after the others, and not after itself: so they are looked up before its name is declared,
+/// though a fault of its name comes first.
+fn resolve_event(
+    alloc: Global,
+    places: &Places,
+    names: &mut NameList,
+    event: &TreeEvent,
+) -> Result<Event, FileFault>
+    requires few { length names.old < 8 }
+    requires distinct { Distinct names.old }
+    ensures { Answers (event_faults (kinds_of places.now) names.old event.now) (ResolvedEvent (kinds_of places.now) names.old (plain_event event.now) names.new) result }
+{
+    let after = after_mask(names, event.after.as_slice());
+    names.declare(alloc, &event.name)?;
+    let after = after?;
+    let condition = resolve_over_all(alloc, places, event.condition.as_slice())?;
+    Ok(Event {
+        name: text_of(alloc, &event.name)?,
+        after,
+        condition,
+    })
+}
+
+/// The mask of the earlier events that an event comes after.
+fn after_mask(earlier: &NameList, listed: &[Spelled]) -> Result<u8, FileFault>
+    requires few { length earlier.now < 8 }
+    requires distinct { Distinct earlier.now }
+    ensures { Answers (listed_faults earlier.now earlier.now [] listed.now) (ListedMask earlier.now (map plain_name listed.now)) result }
+{
+    let mask = listed_mask(earlier, 0, earlier.len() as u32, listed)?;
+    Ok(mask as u8)
+}
+
+/// The mask of the locations that a pattern keeps empty.
+fn empty_mask(places: &Places, listed: &[Spelled]) -> Result<u32, FileFault>
+    ensures { Answers (listed_faults (all_names (kinds_of places.now)) (kinds_of places.now).locations [] listed.now) (ListedMask (kinds_of places.now).locations (map plain_name listed.now)) result }
+{
+    let first = places.parameters + places.shared;
+    listed_mask(&places.names, first, places.names.len() as u32, listed)
+}
+
+/// The condition that comparisons over all places mean.
+fn resolve_over_all(
+    alloc: Global,
+    places: &Places,
+    comparisons: &[TreeComparison],
+) -> Result<Condition, FileFault>
+    requires { length comparisons.now ≤ 16 }
+    ensures { Answers (condition_faults (in_conditions (kinds_of places.now)) comparisons.now) (ResolvedCondition (all_names (kinds_of places.now)) (map plain_comparison comparisons.now)) result }
+{
+    resolve_condition(alloc, places, places.names.len() as u32, comparisons)
+}

@@ -1,0 +1,36 @@
+//! Reading an automaton file whole.
+#![tactic(auto)]
+
+ghost use Rattle.std.specs.Prelude.{◌≡◌, ◌≤◌, length};
+ghost use Rattle.ta_meaning.specs.Reading.{Reads, file_fault};
+
+use crate::file::resolve;
+use std::alloc::Global;
+use ta_scope::{ScopeFault, ScopedFile, scope};
+use ta_syntax::{FileFault, read_tree};
+
+/// Reads an automaton file: its bytes, its tokens, what it means, and its scope. Ok exactly where
+/// the bytes mean a file in scope and no stage finds a fault; else the first fault, the stages gone
+/// through in this order.
+pub fn read_file(alloc: Global, bytes: &[u8]) -> Result<ScopedFile, FileFault>
+    requires { length bytes.now ≤ 1048576 }
+    ensures { Reads bytes.now result }
+{
+    let tree = read_tree(alloc, bytes)?;
+    let file = resolve(alloc, &tree)?;
+    match scope(alloc, file) {
+        Ok(scoped) => Ok(scoped),
+        Err(fault) => Err(fault_of(fault)),
+    }
+}
+
+/// The fault of the file that a fault of scope is.
+fn fault_of(fault: ScopeFault) -> FileFault
+    ensures { result ≡ file_fault fault }
+{
+    match fault {
+        ScopeFault::LoopUpdates(rule) => FileFault::LoopUpdates(rule),
+        ScopeFault::Cycle(rule) => FileFault::Cycle(rule),
+        ScopeFault::Memory => FileFault::Memory,
+    }
+}

@@ -1,0 +1,87 @@
+//! Rules and their guards.
+#![tactic(auto)]
+
+ghost use Rattle.std.specs.Prelude.{◌≡◌, ◌≤◌, [], length, map, slice_get, Some};
+ghost use Rattle.ta_syntax.specs.PlainTrees.{plain_rule};
+ghost use Rattle.ta_meaning.specs.Guards.{no_guards};
+ghost use Rattle.ta_meaning.specs.Faults.{Answers, used_faults, rule_faults, rules_faults};
+ghost use Rattle.ta_meaning.specs.Names.{all_names};
+ghost use Rattle.ta_meaning.specs.Numbering.{guards_so_far, GuardsKept};
+ghost use Rattle.ta_meaning.specs.RuleReading.{RuleRead};
+ghost use Rattle.ta_meaning.specs.Resolved.{kinds_of, ResolvedRules};
+
+use crate::file::text_of;
+use crate::guards::{GuardList, number_guards};
+use crate::names::NameList;
+use crate::places::Places;
+use crate::updates::read_updates;
+use std::alloc::Global;
+use ta_automaton::{List, Rule};
+use ta_linear::Row;
+use ta_syntax::{FileFault, Spelled, TreeRule};
+
+/// The rules of a file, and its distinct guards by first appearance.
+#[derive(Drop)]
+pub struct Rules {
+    pub rise: Vec<Row>,
+    pub fall: Vec<Row>,
+    pub rules: Vec<Rule>,
+}
+
+/// The rules that a tree's rules mean.
+pub fn resolve_rules(alloc: Global, places: &Places, rules: &[TreeRule]) -> Result<Rules, FileFault>
+    requires { length rules.now ≤ 128 }
+    ensures { Answers (rules_faults (kinds_of places.now) [] no_guards rules.now) (λ r. ResolvedRules (kinds_of places.now) (map plain_rule rules.now) r.rise.items r.fall.items r.rules.items) result }
+{
+    let mut names = NameList::new(alloc);
+    let mut guards = GuardList {
+        rise: Vec::new(alloc),
+        fall: Vec::new(alloc),
+    };
+    let mut resolved = Vec::new(alloc);
+    for rule in rules {
+        let one = resolve_rule(alloc, places, &mut names, &mut guards, rule)?;
+        resolved.push(one)?;
+    }
+    Ok(Rules {
+        rise: guards.rise,
+        fall: guards.fall,
+        rules: resolved,
+    })
+}
+
+/// The rule that a tree's rule means, after the names of rules and the guards so far.
+fn resolve_rule(
+    alloc: Global,
+    places: &Places,
+    names: &mut NameList,
+    guards: &mut GuardList,
+    rule: &TreeRule,
+) -> Result<Rule, FileFault>
+    requires { GuardsKept (kinds_of places.now) guards.old }
+    ensures { Answers (rule_faults (kinds_of places.now) names.old (guards_so_far (kinds_of places.now) guards.old) rule.now) (λ r. RuleRead (kinds_of places.now) names.old guards.old rule.now names.new guards.new r) result }
+{
+    names.declare(alloc, &rule.name)?;
+    let from = location_in(places, &rule.from)?;
+    let to = location_in(places, &rule.to)?;
+    let masks = number_guards(alloc, places, guards, rule.guards.as_slice())?;
+    let updates = read_updates(alloc, places, rule.updates.as_slice())?;
+    let name = text_of(alloc, &rule.name)?;
+    Ok(Rule {
+        name,
+        from,
+        to,
+        rise: masks.rise,
+        fall: masks.fall,
+        updates: List::from_vec(updates),
+    })
+}
+
+/// The number of a location: F4 where its name isn't declared, F5 where it is no location's.
+fn location_in(places: &Places, name: &Spelled) -> Result<u32, FileFault>
+    ensures { Answers (used_faults (all_names (kinds_of places.now)) (kinds_of places.now).locations name.now) (λ location. slice_get (kinds_of places.now).locations location ≡ Some name.now.name) result }
+{
+    let first = places.parameters + places.shared;
+    let count = places.names.len() as u32;
+    places.names.number_in(first, count, name)
+}
