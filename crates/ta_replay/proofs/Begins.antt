@@ -1,0 +1,175 @@
+-- where a replay begins
+use Rattle.std.proofs.Common.{◌≡◌, ◌⊎◌, inl, inr, ℕ, zero, suc, ◌+◌, ◌^◌, ◌<◌, ◌≤◌, ℤ, pos, List, [], ◌∷◌, length, arith, sym, ap, ◌∙◌, refl, subst, slice_get, get_or, Some, IsBitSet, Contains}
+use Rattle.std.proofs.lemmas.Int.{ints}
+use Rattle.std.proofs.lemmas.Bool.Decides.{eqb_tells}
+use Rattle.std.proofs.lemmas.List.{ext_get_or, get_or-take}
+use Rattle.std.proofs.lemmas.Option.{same_Some, slice_get-get_or, slice_get_within}
+use Rattle.std.specs.Int.Bits.{and_zero_l}
+use Rattle.ta_linear.specs.Values.{point_of}
+use Rattle.ta_automaton.specs.declared.automaton.Automaton.{Automaton}
+use Rattle.ta_automaton.specs.declared.pattern.Pattern.{Pattern}
+use Rattle.ta_automaton.specs.Lists.{Rises}
+use Rattle.ta_automaton.specs.Runs as runs
+use Rattle.ta_automaton.specs.Runs.{At}
+use Rattle.ta_automaton.specs.Sums.{total}
+use Rattle.ta_automaton.proofs.Moves.{place_cases}
+use Rattle.ta_counter.specs.declared.config.Config.{Config}
+use Rattle.ta_counter.specs.Checks.{ConditionPasses}
+use Rattle.ta_counter.specs.Configs.{config_of, naturals}
+use Rattle.ta_counter.specs.Starts.{StartsAt}
+use Rattle.ta_counter.proofs.Models.{naturals_at}
+use Rattle.ta_counter.proofs.Rows.{holds_from}
+use Rattle.ta_pattern.specs.Empty.{KeepsEmpty}
+use Rattle.ta_pattern.proofs.Agreeing.{holds_there, counter_there}
+use Rattle.ta_replay.specs.declared.run.Run.{Run}
+use Rattle.ta_replay.specs.declared.run.RunLine.{RunLine}
+use Rattle.ta_replay.specs.declared.run.RunLine.TheVariants.{Mark}
+use Rattle.ta_replay.specs.declared.fault.RunFault.{RunFault}
+use Rattle.ta_replay.specs.declared.fault.RunFault.TheVariants.{Line, Name, Resilience, Processes, Start, NotEmpty, Guard, Count, Event, MissingEvent, Overflow, Order, Memory}
+use Rattle.ta_replay.specs.Replays.{ValuesAfter, NoneFilled, FirstFilled}
+use Rattle.ta_replay.specs.ReplayFaults.{ConfigRefuses, StartRefuses, FirstRefusal}
+use Rattle.ta_replay.specs.Following.{FitsPattern, Following, StartsWith}
+
+abbrev pub NotIn : List ℕ → ℕ → Type 0
+NotIn ls l = (j : ℕ) → slice_get ls j ≡ Some l → ⊥
+
+-- whether a number is in a list
+pub in_or_not : (ls : List ℕ) (l : ℕ) → ((j : ℕ) × (slice_get ls j ≡ Some l)) ⊎ NotIn ls l
+in_or_not [] l = inr (λ j e. absurd (cc))
+in_or_not (x ∷ xs) l = elim (eqb_tells x l) [
+  | inl same ↦ inl (0, ap Some same.1)
+  | inr other ↦ elim (in_or_not xs l) [
+    | inl w ↦ inl (suc w.0, w.1)
+    | inr none ↦ inr (λ j e. neither x xs l other.1 none j e)
+  ]
+] where
+  neither : (x : ℕ) (ls : List ℕ) (l : ℕ) → (x ≡ l → ⊥) → NotIn ls l → NotIn (x ∷ ls) l
+  neither x ls l h none zero e = h (same_Some x l e)
+  neither x ls l h none (suc j) e = none j e
+
+pub not_contained : (ls : List ℕ) (l : ℕ) → NotIn ls l → ¬ Contains ls l
+not_contained ls l none c = none c.0 (slice_get-get_or ls c.0 l c.1 ∙ ap Some c.2)
+
+natural_same : (m n : ℕ) → pos m ≡ pos n → m ≡ n
+natural_same m n h = omega (arith, ints)
+
+counter_at_start : (a : Automaton) (run : Run) (config : Config) → StartsWith a run config → (j l : ℕ) → slice_get a.initial j ≡ Some l → pos (get_or (config_of a config).counters l 0) ≡ point_of run.counts j
+counter_at_start a run config s j l at = counter_there a config s.is_of l ∙ s.starts.counts_there j l at
+
+empty_at_start : (a : Automaton) (p : Pattern) (run : Run) (config : Config) → StartsWith a run config → NoneFilled a p run → KeepsEmpty p.empty (config_of a config)
+empty_at_start a p run config s none l bit = elim (in_or_not a.initial l) [
+  | inl w ↦ natural_same _ 0 (counter_at_start a run config s w.0 l w.1 ∙ none w.0 l w.1 bit)
+  | inr out ↦ s.initial.others_empty l (not_contained a.initial l out)
+]
+
+no_bit : (e : ℕ) → IsBitSet 0 e → ⊥
+no_bit e bit = bit (and_zero_l (2 ^ e))
+
+-- the first configuration, before any line
+pub starting : (a : Automaton) (p : Pattern) (run : Run) (config : Config) → FitsPattern a p run → StartsWith a run config → ConditionPasses (point_of config.values.items) p.start → NoneFilled a p run → Following a p run 0 config 0
+unfolding total
+starting a p run config fits s start none = record {
+  may_follow = record { may_start = s.may_start; first = config.values.items; starts = s.starts; start = start; empty = none };
+  before = λ j line b at. absurd (omega arith);
+  is_of = s.is_of;
+  reached = record { first = config.values.items; starts = s.starts; places = refl; changed = λ place. omega (arith, ints) };
+  marked = λ e. (λ bit. absurd (no_bit e bit), λ m. absurd (nothing m.0 e m.1));
+  first = config_of a config;
+  begins = record {
+    parameters = ap naturals s.starts.parameters_first;
+    counts = λ j l at. natural_same _ _ (counter_at_start a run config s j l at ∙ sym (naturals_at run.counts fits.counts_natural j));
+  };
+  initial = s.initial;
+  start = holds_there a p.start config (holds_from (point_of config.values.items) p.start start);
+  path = record {
+    later = [];
+    steps = tt;
+    ends = refl;
+    kept = λ k c at. only k c at;
+    happened = λ j e event b marks at. absurd (omega arith);
+  };
+} where
+  nothing : (i e : ℕ) → slice_get [] i ≡ Some (Mark e) → ⊥
+  nothing i e at = absurd (cc)
+
+  only : (k : ℕ) (c : runs.Config) → At (config_of a config) [] k c → KeepsEmpty p.empty c
+  only zero c at = subst (KeepsEmpty p.empty) (same_Some (config_of a config) c at) (empty_at_start a p run config s none)
+  only (suc k) c at = absurd (cc)
+
+pub config_refuses : (a : Automaton) (p : Pattern) (run : Run) (fault : RunFault) → ConfigRefuses a run fault → FirstRefusal a p run fault
+config_refuses a p run (Line line) h = h
+config_refuses a p run (Name line) h = h
+config_refuses a p run (Resilience k) h = h
+config_refuses a p run Processes h = h
+config_refuses a p run (Start k) h = absurd h
+config_refuses a p run (NotEmpty line) h = absurd h
+config_refuses a p run (Guard line guard) h = absurd h
+config_refuses a p run (Count line) h = absurd h
+config_refuses a p run (Event line) h = absurd h
+config_refuses a p run (MissingEvent e) h = absurd h
+config_refuses a p run (Overflow line) h = inl h
+config_refuses a p run (Order line) h = absurd h
+config_refuses a p run Memory h = tt
+
+pub start_refuses : (a : Automaton) (p : Pattern) (run : Run) (config : Config) (fault : RunFault) → StartsWith a run config → StartRefuses p config.values.items fault → FirstRefusal a p run fault
+start_refuses a p run config (Line line) s h = h
+start_refuses a p run config (Name line) s h = h
+start_refuses a p run config (Resilience k) s h = absurd h
+start_refuses a p run config Processes s h = absurd h
+start_refuses a p run config (Start k) s h = record { may_start = s.may_start; first = config.values.items; starts = s.starts; stops = h }
+start_refuses a p run config (NotEmpty line) s h = absurd h
+start_refuses a p run config (Guard line guard) s h = absurd h
+start_refuses a p run config (Count line) s h = absurd h
+start_refuses a p run config (Event line) s h = absurd h
+start_refuses a p run config (MissingEvent e) s h = absurd h
+start_refuses a p run config (Overflow line) s h = inr (inl (h.0, (h.1.0, record { may_start = s.may_start; first = config.values.items; starts = s.starts; stops = h.1.1 })))
+start_refuses a p run config (Order line) s h = absurd h
+start_refuses a p run config Memory s h = tt
+
+pub filled_refuses : (a : Automaton) (p : Pattern) (run : Run) (config : Config) (j line : ℕ) → StartsWith a run config → ConditionPasses (point_of config.values.items) p.start → FirstFilled a p run j → line ≡ 2 + length a.parameters + j → FirstRefusal a p run (NotEmpty line)
+filled_refuses a p run config j line s start filled is = inl (record {
+  may_start = s.may_start;
+  first = config.values.items;
+  starts = s.starts;
+  start = start;
+  j = j;
+  filled = filled;
+  line_is = is;
+})
+
+-- a run has one list of values to start with
+pub first_same : (a : Automaton) (parameters counts v w : List ℤ) → StartsAt a parameters counts v → StartsAt a parameters counts w → (i : ℕ) → point_of v i ≡ point_of w i
+first_same a parameters counts v w s t i = elim (place_cases a i) [
+  | inl b ↦ (
+      let here = get_or-take (length a.parameters) v i (pos 0) b in
+      let there = get_or-take (length a.parameters) w i (pos 0) b in
+      sym here ∙ ap (λ (xs : List ℤ). get_or xs i (pos 0)) (s.parameters_first ∙ sym t.parameters_first) ∙ there)
+  | inr (inl x) ↦ ap (point_of v) x.2 ∙ s.shared_zero x.0 x.1 ∙ sym (t.shared_zero x.0 x.1) ∙ sym (ap (point_of w) x.2)
+  | inr (inr x) ↦ elim (in_or_not a.initial x.0) [
+    | inl m ↦ ap (point_of v) x.1 ∙ s.counts_there m.0 x.0 m.1 ∙ sym (t.counts_there m.0 x.0 m.1) ∙ sym (ap (point_of w) x.1)
+    | inr none ↦ ap (point_of v) x.1 ∙ s.others_empty x.0 (not_contained a.initial x.0 none) ∙ sym (t.others_empty x.0 (not_contained a.initial x.0 none)) ∙ sym (ap (point_of w) x.1)
+  ]
+]
+
+pub starts_same : (a : Automaton) (parameters counts v w : List ℤ) → StartsAt a parameters counts v → StartsAt a parameters counts w → v ≡ w
+starts_same a parameters counts v w s t = ext_get_or (pos 0) v w (s.places ∙ sym t.places) (λ i b. first_same a parameters counts v w s t i)
+
+-- lines lead to one list of values
+pub after_same : (a : Automaton) (run : Run) (lines : List RunLine) (v w : List ℤ) → ValuesAfter a run lines v → ValuesAfter a run lines w → v ≡ w
+after_same a run lines v w s t =
+    ext_get_or (pos 0) v w (s.places ∙ s.starts.places ∙ sym (t.places ∙ t.starts.places)) (λ i b. omega (arith, ints, s.changed i, t.changed i, first_same a run.parameters run.counts s.first t.first s.starts t.starts i))
+
+rises_count : (low high : ℕ) (ls : List ℕ) → Rises low high ls → low ≤ high → low + length ls ≤ high
+rises_count low high [] r h = omega arith
+rises_count low high (x ∷ xs) r h =
+    let a = r.0 in
+    let b = r.1 in
+    let rest = rises_count (x + 1) high xs r.2 (omega arith) in
+    omega arith
+
+-- places among the initial locations are small
+pub filled_below : (a : Automaton) (p : Pattern) (run : Run) (j : ℕ) → FirstFilled a p run j → length a.parameters + j < 48
+filled_below a p run j filled =
+    let within = slice_get_within a.initial j filled.location filled.at in
+    let count = rises_count 0 (length a.locations) a.initial a.shape.initial_rises (omega arith) in
+    omega (arith, a.shape.limits.parameters_limit, a.shape.limits.locations_limit)

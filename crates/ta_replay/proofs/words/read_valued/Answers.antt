@@ -1,0 +1,17 @@
+use Rattle.std.proofs.Common.{sym, ◌∙◌}
+use Rattle.std.proofs.lemmas.Bool.{false≢true}
+use Rattle.ta_replay.proofs.Forms.{no_space, no_word, no_number}
+use Rattle.ta_replay.proofs.words.read_valued.Goals as goal
+
+pub returns-in_err-name : goal.returns-in_err-name
+returns-in_err-name c =
+    rw c.from_residual-in_err-name.ensures
+    (no_space c.args.word.now c.in_ok-rest.rest.now c.args.line.now c.in_ok-rest.ensures c.in_err-name.ensures)
+
+pub returns-then-not-is_name : goal.returns-then-not-is_name
+returns-then-not-is_name c = no_word c.args.word.now c.in_ok-rest.rest.now c.args.line.now c.in_ok-name.name.now c.in_ok-name.digits.now c.in_ok-rest.ensures c.in_ok-name.ensures (λ word. false≢true (sym c.if-not-is_name.true ∙ c.is_name.ensures.1 word))
+
+pub returns-in_err-value : goal.returns-in_err-value
+returns-in_err-value c =
+    rw c.from_residual-in_err-value.ensures
+    (no_number c.args.word.now c.in_ok-rest.rest.now c.args.line.now c.in_ok-name.name.now c.in_ok-name.digits.now c.in_ok-rest.ensures c.in_ok-name.ensures c.in_err-value.ensures)

@@ -1,0 +1,9 @@
+pub mod Fits
+pub mod Shows
+pub mod Replays
+pub mod ReplayFaults
+pub mod Following
+pub mod RunText
+pub mod TextFaults
+pub mod Reading
+pub mod Numerals
