@@ -1,0 +1,4 @@
+pub mod Ends
+pub mod Says
+pub mod Clauses
+pub mod Exact

@@ -1,0 +1,11 @@
+pub mod Words
+pub mod Requests
+pub mod Troubles
+pub mod Texts
+pub mod Lines
+pub mod Told
+pub mod Contents
+pub mod Outcome
+pub mod Check
+pub mod Replay
+pub mod Program

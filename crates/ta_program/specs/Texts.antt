@@ -1,0 +1,46 @@
+-- The one line on standard error (this project's profile)
+use Rattle.std.specs.Prelude.{ℕ, List, ◌++◌, codes, decimal}
+use Rattle.ta_syntax.specs.declared.fault.FileFault.{FileFault}
+use Rattle.ta_syntax.specs.declared.fault.FileFault.TheVariants as file
+use Rattle.ta_check.specs.declared.fault.EarlyFault.{EarlyFault}
+use Rattle.ta_check.specs.declared.fault.EarlyFault.TheVariants as early
+use Rattle.ta_replay.specs.declared.fault.RunFault.{RunFault}
+use Rattle.ta_replay.specs.declared.fault.RunFault.TheVariants as run
+
+-- what is wrong in a file
+abbrev pub file_fault_text : FileFault → List ℕ
+file_fault_text (file.Byte at) = codes "F1 byte at offset " ++ decimal at
+file_fault_text (file.Syntax at) = codes "F2 syntax at offset " ++ decimal at
+file_fault_text (file.Duplicate at) = codes "F3 duplicate name at offset " ++ decimal at
+file_fault_text (file.Unknown at) = codes "F4 unknown name at offset " ++ decimal at
+file_fault_text (file.WrongKind at) = codes "F5 wrong kind of name at offset " ++ decimal at
+file_fault_text (file.TooLarge at) = codes "F6 too large at offset " ++ decimal at
+file_fault_text (file.TooMany at) = codes "F7 too many at offset " ++ decimal at
+file_fault_text (file.TooDeep at) = codes "F8 too deep at offset " ++ decimal at
+file_fault_text (file.NotThreshold at) = codes "F9 not a threshold guard at offset " ++ decimal at
+file_fault_text (file.LoopUpdates rule) = codes "F10 loop with updates at rule " ++ decimal rule
+file_fault_text (file.Cycle rule) = codes "F11 cycle at rule " ++ decimal rule
+file_fault_text (file.NoInitial at) = codes "F12 no initial location at offset " ++ decimal at
+file_fault_text (file.NotYet at) = codes "F13 not yet at offset " ++ decimal at
+file_fault_text file.Memory = codes "out of memory"
+
+-- what is wrong in a certificate of the first form
+abbrev pub early_fault_text : EarlyFault → List ℕ
+early_fault_text early.First = codes "C13 not of the first form"
+early_fault_text early.Memory = codes "out of memory"
+
+-- what is wrong in a run
+abbrev pub run_fault_text : RunFault → List ℕ
+run_fault_text (run.Line line) = codes "N1 malformed at line " ++ decimal line
+run_fault_text (run.Name line) = codes "N2 name at line " ++ decimal line
+run_fault_text (run.Resilience comparison) = codes "N3 resilience comparison " ++ (decimal comparison ++ codes " is false")
+run_fault_text run.Processes = codes "N4 wrong number of processes"
+run_fault_text (run.Start comparison) = codes "N5 start comparison " ++ (decimal comparison ++ codes " is false")
+run_fault_text (run.NotEmpty line) = codes "N6 not empty at line " ++ decimal line
+run_fault_text (run.Guard line guard) = codes "N7 guard " ++ (decimal guard ++ (codes " is false at line " ++ decimal line))
+run_fault_text (run.Count line) = codes "N8 too few processes at line " ++ decimal line
+run_fault_text (run.Event line) = codes "N9 event is false at line " ++ decimal line
+run_fault_text (run.MissingEvent event) = codes "N10 event " ++ (decimal event ++ codes " has no mark")
+run_fault_text (run.Overflow line) = codes "N11 outside 128 bits at line " ++ decimal line
+run_fault_text (run.Order line) = codes "N12 order of marks at line " ++ decimal line
+run_fault_text run.Memory = codes "out of memory"

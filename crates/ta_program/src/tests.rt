@@ -1,0 +1,349 @@
+//! The worked rows of the commands, over files and sinks in memory.
+
+use crate::run;
+use std::alloc::{AllocError, Global};
+use std::process::Abort;
+use std::test::Fail;
+use ta_shelf::{List, MemoryShelf, MemorySink, Text, are_distinct};
+
+const KEPT: &str =
+    "automaton first; parameters n; shared; locations A initial, B; processes n; resilience n >= 1; rule r: A -> B; pattern reached { event done: A + B >= n + 1; }";
+
+const FIRST: &str =
+    "automaton first; parameters n; shared; locations A initial, B; processes n; resilience n >= 1; rule r: A -> B; pattern reached { event done: B >= 1; }";
+
+const CUT: &str = "automaton first; parameters n; shared; locations A initial, B; processes n";
+
+const ST: &str =
+    "automaton st; parameters n, t, f; shared nsnt; locations V0 initial, V1 initial, SE, AC; processes n - f; resilience n > 3*t, t >= f; rule send: V1 -> SE do nsnt += 1; rule echo: V0 -> SE when nsnt >= t + 1 - f do nsnt += 1; rule accept0: V0 -> AC when nsnt >= n - t - f do nsnt += 1; rule accept1: V1 -> AC when nsnt >= n - t - f do nsnt += 1; rule accept: SE -> AC when nsnt >= n - t - f; pattern unforgeability { start V1 == 0; event accepted: AC >= 1; }";
+
+const PAIR: &str =
+    "automaton pair; parameters n; shared x; locations A initial, B; processes n; resilience n >= 1; rule one: A -> B do x += 1; rule next: A -> B when x >= 1; pattern all { event both: B >= 2; }";
+
+const STAY: &str =
+    "automaton first; parameters n; shared; locations A initial, B; processes n; resilience n >= 1; rule r: A -> B; rule stay: A -> A; pattern reached { event done: B >= 1; }";
+
+const HELD: &str =
+    "automaton first; parameters n; shared; locations A initial, B; processes n; resilience n >= 1; rule r: A -> B; pattern held { empty B; event done: A >= 1; }";
+
+const TWO: &str =
+    "automaton first; parameters n; shared; locations A initial, B; processes n; resilience n >= 1; rule r: A -> B; pattern two { event a: B >= 1; event b after a: B >= 1; }";
+
+const EDGE: &str =
+    "automaton edge; parameters t; shared x; locations A initial, B; processes 1; resilience t >= 1; rule both: A -> B when x < t, 2*x < 2*t + 1 do x += 2; pattern turned { event done: B >= 1, x > t; }";
+
+const CERT: &str = "threshold-certificate 1\npattern 0\ne\nf 1:1 5:1\nend\n";
+
+const PROVED: &str = "automaton first\npattern reached: proved\n";
+
+const USAGE: &str =
+    "tav: usage: verify FILE [--nodes N] [--certificate OUT] [--json], check FILE CERT, replay FILE RUN, compress FILE RUN, bench K\n";
+
+const SHOWN_ALL: &str =
+    "run all\nparameter n 2\nstart A 2\nstep one 1\nstep next 1\nmark both\nend\n";
+
+/// A run over files in memory. The calls with these numbers fail; 0 is none.
+#[derive(Drop)]
+struct Setting {
+    shelf_fails: u64,
+    room: usize,
+    piece: usize,
+    out_fails: u64,
+}
+
+/// Nothing fails, and there is room.
+const CALM: Setting = Setting {
+    shelf_fails: 0,
+    room: 4096,
+    piece: 4096,
+    out_fails: 0,
+};
+
+/// Files in memory.
+fn list_of(alloc: Global, files: &[(&str, &str)]) -> Result<List<(Text, List<u8>)>, AllocError> {
+    let mut list = Vec::new(alloc);
+    for (name, text) in files {
+        let name = Text::from_string(String::from_str(alloc, name)?);
+        list.push((name, List::from_vec(text.as_bytes().to_vec(alloc)?)))?;
+    }
+    Ok(List::from_vec(list))
+}
+
+/// The number of a failing call.
+fn call(alloc: Global, number: u64) -> Result<List<u64>, AllocError> {
+    Ok(List::from_vec(vec![in alloc; number]?))
+}
+
+/// Runs the program, and compares its number, its output and its line on standard error.
+fn expect(
+    rt: &impl Abort,
+    alloc: Global,
+    files: &[(&str, &str)],
+    setting: &Setting,
+    words: &[&str],
+    number: u8,
+    text: &str,
+    line: &str,
+) -> Result<(), Fail> {
+    let list = list_of(alloc, files)?;
+    assert!(rt; are_distinct(list.as_slice()));
+    let mut shelf = MemoryShelf::new(list, call(alloc, setting.shelf_fails)?)?;
+    let out_fails = call(alloc, setting.out_fails)?;
+    let mut out = MemorySink::new(alloc, setting.room, setting.piece, out_fails)?;
+    let mut err = MemorySink::new(alloc, 4096, 4096, call(alloc, 0)?)?;
+    let answer = run(alloc, words, &mut shelf, &mut out, &mut err);
+    assert_eq!(rt; answer, number, "the number of {words:?}");
+    assert_eq!(rt; out.as_slice(), text.as_bytes(), "the output of {words:?}");
+    assert_eq!(rt; err.as_slice(), line.as_bytes(), "the line of {words:?}");
+    Ok(())
+}
+
+#[test]
+fn checks_files(rt: HostRuntime) -> Result<(), Fail> {
+    let alloc = rt.alloc();
+    let files = [
+        ("kept", KEPT),
+        ("first", FIRST),
+        ("st", ST),
+        ("pair", PAIR),
+        ("empty", ""),
+        ("cut", CUT),
+        ("cert", CERT),
+        ("-x", KEPT),
+        ("-y", CERT),
+    ];
+    let rows = [
+        (["check", "kept", "cert"].as_slice(), 0, PROVED, ""),
+        (
+            &["check", "first", "cert"],
+            4,
+            "",
+            "tav: cert: C13 not of the first form\n",
+        ),
+        (
+            &["check", "st", "cert"],
+            3,
+            "",
+            "tav: st: F13 not yet at offset 0\n",
+        ),
+        (
+            &["check", "pair", "gone"],
+            3,
+            "",
+            "tav: pair: F13 not yet at offset 0\n",
+        ),
+        (
+            &["check", "empty", "cert"],
+            3,
+            "",
+            "tav: empty: F2 syntax at offset 0\n",
+        ),
+        (
+            &["check", "cut", "cert"],
+            3,
+            "",
+            "tav: cut: F2 syntax at offset 74\n",
+        ),
+        (&["check", "gone", "cert"], 3, "", "tav: gone: missing\n"),
+        (&["check", "gone", "cert"], 3, "", "tav: gone: missing\n"),
+        (&["check", "kept", "gone"], 4, "", "tav: gone: missing\n"),
+        (&["check", "--", "-x", "-y"], 0, PROVED, ""),
+        (&["check", "kept", "--", "-y"], 0, PROVED, ""),
+        (&["check", "kept", "cert", "--"], 0, PROVED, ""),
+        (&[], 5, "", USAGE),
+        (&["check"], 5, "", USAGE),
+        (&["check", "a"], 5, "", USAGE),
+        (&["check", "a", "b", "c"], 5, "", USAGE),
+        (&["verify", "a"], 5, "", USAGE),
+        (&["check", "--json", "a", "b"], 5, "", USAGE),
+        (&["check", "-x", "-y"], 5, "", USAGE),
+        (&["check", "a", ""], 5, "", USAGE),
+        (&["--", "check", "kept", "cert"], 5, "", USAGE),
+    ];
+    for (words, number, text, line) in rows {
+        expect(&rt, alloc, &files, &CALM, words, number, text, line)?;
+    }
+    let failing = [
+        ((1, 4096, 4096, 0), "", "tav: kept: read failed\n"),
+        ((3, 4096, 4096, 0), "", "tav: cert: read failed\n"),
+        ((0, 4096, 1, 3), "au", "tav: output failed\n"),
+        ((0, 0, 4096, 0), "", "tav: output failed\n"),
+        ((0, 5, 4096, 0), "autom", "tav: output failed\n"),
+    ];
+    for ((shelf_fails, room, piece, out_fails), text, line) in failing {
+        let setting = Setting {
+            shelf_fails,
+            room,
+            piece,
+            out_fails,
+        };
+        let words = ["check", "kept", "cert"];
+        expect(&rt, alloc, &files, &setting, &words, 6, text, line)?;
+    }
+    Ok(())
+}
+
+#[test]
+fn refuses_long_files(rt: HostRuntime) -> Result<(), Fail> {
+    let alloc = rt.alloc();
+    let spaces = vec![in alloc; b' '; 1_048_577]?;
+    let Ok(long) = String::from_utf8(spaces) else {
+        return Ok(());
+    };
+    let files = [("long", long.as_str()), ("cert", CERT)];
+    let words = ["check", "long", "cert"];
+    let line = "tav: long: longer than 1048576 bytes\n";
+    expect(&rt, alloc, &files, &CALM, &words, 3, "", line)
+}
+
+#[test]
+fn replays_runs(rt: HostRuntime) -> Result<(), Fail> {
+    let alloc = rt.alloc();
+    let rows = [
+        (
+            FIRST,
+            "run reached\nparameter n 1\nstart A 1\nstep r 1\nmark done\nend\n",
+            0,
+            "pattern reached: shown, 1 steps, 1 marks\n",
+            "",
+        ),
+        (
+            PAIR,
+            "run all\nparameter n 2\nstart A 2\nstep next 1\nend\n",
+            4,
+            "",
+            "tav: run: N7 guard 0 is false at line 4\n",
+        ),
+        (
+            PAIR,
+            SHOWN_ALL,
+            0,
+            "pattern all: shown, 2 steps, 1 marks\n",
+            "",
+        ),
+        (
+            FIRST,
+            "run reached\nparameter n 2\nstart A 2\nstep r 3\nend\n",
+            4,
+            "",
+            "tav: run: N8 too few processes at line 4\n",
+        ),
+        (
+            STAY,
+            "run reached\nparameter n 1\nstart A 1\nstep stay 18446744073709551615\nstep stay 1\nstep r 1\nmark done\nend\n",
+            0,
+            "pattern reached: shown, 18446744073709551615 steps, 1 marks\n",
+            "",
+        ),
+        (
+            FIRST,
+            "run reached\nparameter n 1000001\nstart A 1000001\nstep r 1000001\nmark done\nend\n",
+            0,
+            "pattern reached: shown, 1000001 steps, 1 marks\n",
+            "",
+        ),
+        (
+            HELD,
+            "run held\nparameter n 3\nstart A 3\nstep r 2\nmark done\nend\n",
+            4,
+            "",
+            "tav: run: N6 not empty at line 4\n",
+        ),
+        (
+            EDGE,
+            "run turned\nparameter t 1\nstart A 1\nstep both 1\nmark done\nend\n",
+            0,
+            "pattern turned: shown, 1 steps, 1 marks\n",
+            "",
+        ),
+        (
+            ST,
+            "run unforgeability\nparameter n 4\nparameter t 1\nparameter f 1\nstart V0 3\nstart V1 0\nstep accept0 1\nend\n",
+            4,
+            "",
+            "tav: run: N7 guard 1 is false at line 7\n",
+        ),
+        (
+            PAIR,
+            "run all\nparameter n 2\nstart A 2\nstep one 1\nstep next 1\nend\n",
+            4,
+            "",
+            "tav: run: N10 event 0 has no mark\n",
+        ),
+        (
+            FIRST,
+            "run other\nparameter n 1\nstart A 1\nstep r 1\nmark done\nend\n",
+            4,
+            "",
+            "tav: run: N2 name at line 1\n",
+        ),
+        (
+            FIRST,
+            "run reached\nparameter n 0\nstart A 0\nend\n",
+            4,
+            "",
+            "tav: run: N3 resilience comparison 0 is false\n",
+        ),
+        (
+            FIRST,
+            "run reached\nparameter n 2\nstart A 1\nend\n",
+            4,
+            "",
+            "tav: run: N4 wrong number of processes\n",
+        ),
+        (
+            ST,
+            "run unforgeability\nparameter n 4\nparameter t 1\nparameter f 1\nstart V0 2\nstart V1 1\nend\n",
+            4,
+            "",
+            "tav: run: N5 start comparison 0 is false\n",
+        ),
+        (
+            FIRST,
+            "run reached\nparameter n 1\nstart A 1\nmark done\nend\n",
+            4,
+            "",
+            "tav: run: N9 event is false at line 4\n",
+        ),
+        (
+            TWO,
+            "run two\nparameter n 1\nstart A 1\nstep r 1\nmark b\nmark a\nend\n",
+            4,
+            "",
+            "tav: run: N12 order of marks at line 5\n",
+        ),
+    ];
+    let words = ["replay", "file", "run"];
+    for (file, run, number, text, line) in rows {
+        let files = [("file", file), ("run", run)];
+        expect(&rt, alloc, &files, &CALM, &words, number, text, line)?;
+    }
+    let files = [("file", FIRST)];
+    expect(
+        &rt,
+        alloc,
+        &files,
+        &CALM,
+        &words,
+        4,
+        "",
+        "tav: run: missing\n",
+    )?;
+    Ok(())
+}
+
+#[test]
+fn refuses_unfinished_runs(rt: HostRuntime) -> Result<(), Fail> {
+    let alloc = rt.alloc();
+    let words = ["replay", "file", "run"];
+    for kept in 0..SHOWN_ALL.len() {
+        let Some(run) = SHOWN_ALL.get(..kept) else {
+            return Ok(());
+        };
+        let feeds = run.as_bytes().iter().filter(|b| **b == b'\n').count();
+        let line = format!(in alloc; "tav: run: N1 malformed at line {}\n", feeds as u64 + 1)?;
+        let files = [("file", PAIR), ("run", run)];
+        expect(&rt, alloc, &files, &CALM, &words, 4, "", line.as_str())?;
+    }
+    Ok(())
+}
