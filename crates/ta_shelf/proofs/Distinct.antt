@@ -16,23 +16,23 @@ passed_over true bytes later none = absurd (none-some bytes (sym none))
 passed_over false bytes later none = (refl, none)
 
 -- a name has no file where each file has another name
-none_named : (name : List ℕ) (files : List (List ℕ × List ℕ)) → All (λ f. name ≢ f.0) files → file_named name files ≡ None
+pub none_named : (name : List ℕ) (files : List (List ℕ × List ℕ)) → All (λ f. name ≢ f.0) files → file_named name files ≡ None
 none_named name [] apart = refl
 none_named name (file ∷ files) apart =
     let other : bytes_eq file.0 name ≡ false = false_from_ne_true (bytes_eq file.0 name) (λ e. All-head (λ f. name ≢ f.0) file files apart (sym ((bytes_eq-Decides file.0 name).0 e))) in
     rw other (none_named name files (All-tail (λ f. name ≢ f.0) file files apart))
 
 -- each file has another name where a name has no file
-named_apart : (name : List ℕ) (files : List (List ℕ × List ℕ)) → file_named name files ≡ None → All (λ f. name ≢ f.0) files
+pub named_apart : (name : List ℕ) (files : List (List ℕ × List ℕ)) → file_named name files ≡ None → All (λ f. name ≢ f.0) files
 named_apart name [] none = All-nil (λ f. name ≢ f.0)
 named_apart name (file ∷ files) none =
     let parts = passed_over (bytes_eq file.0 name) file.1 (file_named name files) none in
     All-cons (λ f. name ≢ f.0) file files (λ e. true≢false (sym ((bytes_eq-Decides file.0 name).1 (sym e)) ∙ parts.0)) (named_apart name files parts.1)
 
-distinct-head : (file : List ℕ × List ℕ) (files : List (List ℕ × List ℕ)) → AreDistinct (file ∷ files) → All (λ g. file.0 ≢ g.0) files
+pub distinct-head : (file : List ℕ × List ℕ) (files : List (List ℕ × List ℕ)) → AreDistinct (file ∷ files) → All (λ g. file.0 ≢ g.0) files
 distinct-head file files distinct = λ k d in_files. distinct 0 (suc k) d (omega arith) (omega arith)
 
-distinct-tail : (file : List ℕ × List ℕ) (files : List (List ℕ × List ℕ)) → AreDistinct (file ∷ files) → AreDistinct files
+pub distinct-tail : (file : List ℕ × List ℕ) (files : List (List ℕ × List ℕ)) → AreDistinct (file ∷ files) → AreDistinct files
 distinct-tail file files distinct = λ i j d below in_files. distinct (suc i) (suc j) d (omega arith) (omega arith)
 
 -- where the first file's name has no file among the later ones, these decide whether all are distinct

@@ -1,3 +1,4 @@
 pub mod Distinct
 pub mod ReadSoFar
+pub mod WithFile
 pub mod WrittenSoFar

@@ -1,6 +1,8 @@
 pub mod Counts
 pub mod Failing
 pub mod Files
+pub mod Lending
+pub mod Put
 pub mod Shelf
 pub mod Sink
 pub mod ReadWhole

@@ -20,7 +20,7 @@ mod text;
 mod writing;
 
 pub use disk_shelf::DiskShelf;
-pub use fault::{Failed, ShelfFault, SinkFault, WholeFault};
+pub use fault::{Failed, PutFault, ShelfFault, SinkFault, WholeFault};
 pub use files::are_distinct;
 pub use list::List;
 pub use memory_shelf::MemoryShelf;

@@ -1,13 +1,14 @@
 //! A shelf in memory, some of whose calls fail.
 #![tactic(auto)]
 
-ghost use Rattle.std.specs.Prelude.{◌≡◌, ◌≤◌, ℕ, length, min, IsOk, IfOk, IfSome, Some};
+ghost use Rattle.std.specs.Prelude.{◌≡◌, ◌≤◌, ℕ, length, min, IsOk, IfOk, IfErr, IfSome, Some};
 ghost use Rattle.ta_shelf.specs.Failing.{IsNextListed, next_calls};
 ghost use Rattle.ta_shelf.specs.Files.{AreDistinct, bytes_left, file_named};
+ghost use Rattle.ta_shelf.specs.Put.{Creates, Appends, OthersStay, PutCountsFaults, PutFailsExactly};
 ghost use Rattle.ta_shelf.specs.Shelf.{ReadsAt, CountsFaults, FailsExactly};
 
 use crate::failing::Failing;
-use crate::fault::ShelfFault;
+use crate::fault::{PutFault, ShelfFault};
 use crate::list::List;
 use crate::quiet_shelf::QuietShelf;
 use crate::shelf::Shelf;
@@ -15,7 +16,8 @@ use crate::text::Text;
 use std::alloc::AllocError;
 
 /// Files in memory, which are told. The calls whose numbers are listed fail; the first is number 1,
-/// and calls past number 2^64 - 1 never fail.
+/// and calls past number 2^64 - 1 never fail. Where a change of a file fails or wants memory, all files
+/// stay.
 #[derive(Drop)]
 pub struct MemoryShelf {
     shelf: QuietShelf,
@@ -59,5 +61,35 @@ impl Shelf for MemoryShelf {
             return Err(ShelfFault::Failed);
         }
         self.shelf.read_at(name, at, buf)
+    }
+
+    fn create(&mut self, name: &str) -> Result<(), PutFault>
+        ensures made { Creates result name.now (λ n. file_named n self.old.shelf.files) (λ n. file_named n self.new.shelf.files) }
+        ensures others { OthersStay name.now (λ n. file_named n self.old.shelf.files) (λ n. file_named n self.new.shelf.files) }
+        ensures cause { PutCountsFaults result self.old.failing.faults self.new.failing.faults }
+        ensures kept { IfErr result (λ _. self.new.shelf.files ≡ self.old.shelf.files) }
+        ensures fails { PutFailsExactly result (IsNextListed self.old.failing.listed self.old.failing.calls) }
+        ensures listed { self.new.failing.listed ≡ self.old.failing.listed }
+        ensures calls { self.new.failing.calls ≡ next_calls self.old.failing.calls }
+    {
+        if self.failing.fails_next() {
+            return Err(PutFault::Failed);
+        }
+        self.shelf.create(name)
+    }
+
+    fn append(&mut self, name: &str, bytes: &[u8]) -> Result<(), PutFault>
+        ensures added { Appends result name.now bytes.now (λ n. file_named n self.old.shelf.files) (λ n. file_named n self.new.shelf.files) }
+        ensures others { OthersStay name.now (λ n. file_named n self.old.shelf.files) (λ n. file_named n self.new.shelf.files) }
+        ensures cause { PutCountsFaults result self.old.failing.faults self.new.failing.faults }
+        ensures kept { IfErr result (λ _. self.new.shelf.files ≡ self.old.shelf.files) }
+        ensures fails { PutFailsExactly result (IsNextListed self.old.failing.listed self.old.failing.calls) }
+        ensures listed { self.new.failing.listed ≡ self.old.failing.listed }
+        ensures calls { self.new.failing.calls ≡ next_calls self.old.failing.calls }
+    {
+        if self.failing.fails_next() {
+            return Err(PutFault::Failed);
+        }
+        self.shelf.append(name, bytes)
     }
 }

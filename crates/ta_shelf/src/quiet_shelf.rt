@@ -1,18 +1,20 @@
 //! A shelf in memory that never fails.
 #![tactic(auto)]
 
-ghost use Rattle.std.specs.Prelude.{◌≡◌, ◌≤◌, ℕ, length, min, take, drop, IsOk, IfOk, IfSome, Some};
+ghost use Rattle.std.specs.Prelude.{◌≡◌, ◌≤◌, ℕ, length, min, take, drop, IsOk, IfOk, IfErr, IfSome, Some};
 ghost use Rattle.ta_shelf.specs.Files.{AreDistinct, bytes_left, file_named};
+ghost use Rattle.ta_shelf.specs.Put.{Creates, Appends, OthersStay, PutNeverFails};
 ghost use Rattle.ta_shelf.specs.Shelf.{ReadsAt, FailsOnlyFaulted, NeverFails};
 
-use crate::fault::ShelfFault;
-use crate::files::find_file;
+use crate::fault::{PutFault, ShelfFault};
+use crate::files::{append_file, create_file, find_file};
 use crate::list::List;
 use crate::shelf::Shelf;
 use crate::text::Text;
 use std::alloc::AllocError;
 
-/// Files in memory, which are told. No call fails.
+/// Files in memory, which are told. No call fails; a change of a file may want memory, and then all
+/// files stay.
 #[derive(Drop)]
 pub struct QuietShelf {
     files: List<(Text, List<u8>)>,
@@ -47,6 +49,26 @@ impl Shelf for QuietShelf {
             Some(bytes) => Ok(copy_from(bytes.as_slice(), at, buf)),
             None => Err(ShelfFault::Missing),
         }
+    }
+
+    fn create(&mut self, name: &str) -> Result<(), PutFault>
+        ensures made { Creates result name.now (λ n. file_named n self.old.files) (λ n. file_named n self.new.files) }
+        ensures others { OthersStay name.now (λ n. file_named n self.old.files) (λ n. file_named n self.new.files) }
+        ensures quiet { PutNeverFails result }
+        ensures kept { IfErr result (λ _. self.new.files ≡ self.old.files) }
+    {
+        create_file(&mut self.files, name)?;
+        Ok(())
+    }
+
+    fn append(&mut self, name: &str, bytes: &[u8]) -> Result<(), PutFault>
+        ensures added { Appends result name.now bytes.now (λ n. file_named n self.old.files) (λ n. file_named n self.new.files) }
+        ensures others { OthersStay name.now (λ n. file_named n self.old.files) (λ n. file_named n self.new.files) }
+        ensures quiet { PutNeverFails result }
+        ensures kept { IfErr result (λ _. self.new.files ≡ self.old.files) }
+    {
+        append_file(&mut self.files, name, bytes)?;
+        Ok(())
     }
 }
 

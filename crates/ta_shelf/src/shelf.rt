@@ -3,9 +3,10 @@
 
 ghost use Rattle.std.specs.Prelude.{◌≡◌, ◌≤◌, ℕ, List, length, take, IfOk, IfSome};
 ghost use Rattle.std.specs.declared.option.Option.{Option};
+ghost use Rattle.ta_shelf.specs.Put.{WhereTold, Creates, Appends, OthersStay, PutFailsOnlyFaulted};
 ghost use Rattle.ta_shelf.specs.Shelf.{ReadsAt, FailsOnlyFaulted};
 
-use crate::fault::ShelfFault;
+use crate::fault::{PutFault, ShelfFault};
 
 /// Files by name, and a count of the calls that failed.
 ///
@@ -28,4 +29,20 @@ pub trait Shelf {
         ensures cause { FailsOnlyFaulted result (faults self.old) (faults self.new) }
         ensures gives { IfOk result (λ k. gives self.old name.now at (take k buf.new) self.new) }
         ensures kept { files self.new ≡ files self.old };
+
+    /// Makes the file of a name, which is empty then; one that is there is emptied.
+    ///
+    /// After a refusal this file may hold any bytes or be absent. The other files stay.
+    fn create(&mut self, name: &str) -> Result<(), PutFault>
+        ensures made { WhereTold (Creates result name.now) (files self.old) (files self.new) }
+        ensures others { WhereTold (OthersStay name.now) (files self.old) (files self.new) }
+        ensures cause { PutFailsOnlyFaulted result (faults self.old) (faults self.new) };
+
+    /// Adds bytes at the end of the file of a name; one that is absent is made with them.
+    ///
+    /// After a refusal this file may hold any bytes or be absent. The other files stay.
+    fn append(&mut self, name: &str, bytes: &[u8]) -> Result<(), PutFault>
+        ensures added { WhereTold (Appends result name.now bytes.now) (files self.old) (files self.new) }
+        ensures others { WhereTold (OthersStay name.now) (files self.old) (files self.new) }
+        ensures cause { PutFailsOnlyFaulted result (faults self.old) (faults self.new) };
 }

@@ -1,8 +1,8 @@
 //! The worked rows of reading and writing, and the adapters over the real thing at work.
 
 use crate::{
-    DiskShelf, List, MemoryShelf, MemorySink, QuietShelf, QuietSink, SinkFault, StdSink, Text,
-    WholeFault, are_distinct, read_whole, write_whole,
+    DiskShelf, List, MemoryShelf, MemorySink, PutFault, QuietShelf, QuietSink, Shelf, SinkFault,
+    StdSink, Text, WholeFault, are_distinct, read_whole, write_whole,
 };
 use std::alloc::{AllocError, Global};
 use std::io::{ErrorKind, Write};
@@ -119,6 +119,105 @@ fn writes_whole_texts(rt: HostRuntime) -> Result<(), Fail> {
     Ok(())
 }
 
+/// What a test does to a file.
+#[derive(Clone, Copy, Debug)]
+enum Put {
+    Create,
+    Append(&'static [u8]),
+}
+
+impl Put {
+    /// Does it to the file of a name.
+    fn apply<S: Shelf>(self, shelf: &mut S, name: &str) -> Result<(), PutFault> {
+        match self {
+            Put::Create => shelf.create(name),
+            Put::Append(bytes) => shelf.append(name, bytes),
+        }
+    }
+}
+
+/// The files that a shelf in memory holds after one change, by name, with None for an absent one.
+type After = [(&'static str, Option<&'static [u8]>); 3];
+
+/// Changes of a shelf of the four files: what is done to which name, and the files after it.
+const PUTS: [(&str, Put, After); 4] = [
+    (
+        "new",
+        Put::Create,
+        [
+            ("new", Some(b"")),
+            ("three", Some(b"abc")),
+            ("four", Some(b"abcd")),
+        ],
+    ),
+    (
+        "three",
+        Put::Create,
+        [("new", None), ("three", Some(b"")), ("four", Some(b"abcd"))],
+    ),
+    (
+        "three",
+        Put::Append(b"xy"),
+        [
+            ("new", None),
+            ("three", Some(b"abcxy")),
+            ("four", Some(b"abcd")),
+        ],
+    ),
+    (
+        "new",
+        Put::Append(b"xy"),
+        [
+            ("new", Some(b"xy")),
+            ("three", Some(b"abc")),
+            ("four", Some(b"abcd")),
+        ],
+    ),
+];
+
+/// Whether a shelf has the files of these names, each with these bytes.
+fn holds<S: Shelf>(alloc: Global, shelf: &mut S, files: &After) -> bool {
+    for (name, want) in files {
+        let read = read_whole(alloc, shelf, name, 9);
+        let same = match want {
+            Some(bytes) => read.is_ok_and(|read| read.as_slice() == *bytes),
+            None => read.is_err_and(|fault| fault == WholeFault::Missing),
+        };
+        if !same {
+            return false;
+        }
+    }
+    true
+}
+
+#[test]
+fn changes_files_in_memory(rt: HostRuntime) -> Result<(), Fail> {
+    let alloc = rt.alloc();
+    let before = [
+        ("new", None),
+        ("three", Some(b"abc".as_slice())),
+        ("four", Some(b"abcd")),
+    ];
+    for (name, put, after) in PUTS {
+        let files = four_files(alloc)?;
+        assert!(rt; are_distinct(files.as_slice()));
+        let mut quiet = QuietShelf::new(files)?;
+        assert_eq!(rt; put.apply(&mut quiet, name), Ok(()), "{put:?} of {name}");
+        assert!(rt; holds(alloc, &mut quiet, &after), "{put:?} of {name}");
+        let files = four_files(alloc)?;
+        assert!(rt; are_distinct(files.as_slice()));
+        let mut shelf = MemoryShelf::new(files, numbers(alloc, &[1])?)?;
+        assert_eq!(rt; put.apply(&mut shelf, name), Err(PutFault::Failed));
+        assert!(rt;
+            holds(alloc, &mut shelf, &before),
+            "failed {put:?} of {name}"
+        );
+        assert_eq!(rt; put.apply(&mut shelf, name), Ok(()), "{put:?} of {name}");
+        assert!(rt; holds(alloc, &mut shelf, &after), "{put:?} of {name}");
+    }
+    Ok(())
+}
+
 /// A writer that takes a byte a call, and fails where it has no more room.
 #[derive(Drop)]
 struct Narrow {
@@ -173,6 +272,31 @@ fn reads_real_files(rt: HostRuntime) -> Result<(), Fail> {
     ] {
         let read = length_of(read_whole(rt.alloc(), &mut shelf, name, limit));
         assert_eq!(rt; read, want, "{name} up to {limit}");
+    }
+    fs::remove_file(&rt, name)?;
+    Ok(())
+}
+
+#[test]
+fn changes_real_files(rt: HostRuntime) -> Result<(), Fail> {
+    let name = "ta_shelf_test_changed_file";
+    let mut shelf = DiskShelf::new(rt.clone()?);
+    for (put, want) in [
+        (Put::Create, b"".as_slice()),
+        (Put::Append(b"ab"), b"ab"),
+        (Put::Append(b"cde"), b"abcde"),
+        (Put::Create, b""),
+    ] {
+        assert_eq!(rt; put.apply(&mut shelf, name), Ok(()), "{put:?}");
+        let read = read_whole(rt.alloc(), &mut shelf, name, 9)?;
+        assert_eq!(rt; read.as_slice(), want, "after {put:?}");
+    }
+    for put in [Put::Create, Put::Append(b"ab")] {
+        assert_eq!(rt;
+            put.apply(&mut shelf, "."),
+            Err(PutFault::Failed),
+            "{put:?}"
+        );
     }
     fs::remove_file(&rt, name)?;
     Ok(())
