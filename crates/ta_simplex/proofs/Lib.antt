@@ -13,3 +13,4 @@ pub mod SlotLemmas
 pub mod ValueLemmas
 pub mod LeafLemmas
 pub mod WholeLemmas
+pub mod FewMultipliers

@@ -33,7 +33,7 @@ reached_same s (suc k) t t' r r' =
     step_same s r.0 t t' (reached_dictionary s k r.0 r.1) r.2 (subst (λ (u : Tableau). LeastStep u t') (sym before) r'.2)
 
 -- the step that a longer run makes after a shorter one
-step_at : (s : System) (k j : ℕ) (t : Tableau) → Reached (slack_tableau s) k t → j < k → (u : Tableau) × (v : Tableau) × Reached (slack_tableau s) j u × LeastStep u v
+pub step_at : (s : System) (k j : ℕ) (t : Tableau) → Reached (slack_tableau s) k t → j < k → (u : Tableau) × (v : Tableau) × Reached (slack_tableau s) j u × LeastStep u v
 step_at s zero j t r h = absurd (omega arith)
 step_at s (suc k) j t r h =
     elim (cases_eq j k) [
@@ -42,7 +42,7 @@ step_at s (suc k) j t r h =
     ]
 
 -- no run goes on after its end
-no_step_after : (s : System) (j k : ℕ) (t t' : Tableau) → Reached (slack_tableau s) j t → Ended t → Reached (slack_tableau s) k t' → j < k → ⊥
+pub no_step_after : (s : System) (j k : ℕ) (t t' : Tableau) → Reached (slack_tableau s) j t → Ended t → Reached (slack_tableau s) k t' → j < k → ⊥
 no_step_after s j k t t' r end r' h =
     let next = step_at s k j t' r' h in
     let same = reached_same s j next.0 t next.2 r in

@@ -1,7 +1,7 @@
 //! Laws of the least-index rule, each the contract of a function that does nothing.
 #![tactic(auto)]
 
-ghost use Rattle.ta_simplex.specs.Laws.{RunsAreDetermined, WholeVerticesSolve};
+ghost use Rattle.ta_simplex.specs.Laws.{MultipliersAreFew, RunsAreDetermined, WholeVerticesSolve};
 
 /// The rule leaves no choice: a system has one list of bases and at most one end.
 pub fn runs_are_determined()
@@ -11,4 +11,9 @@ pub fn runs_are_determined()
 /// A vertex whose values are all whole is a solution.
 pub fn whole_vertices_solve()
     ensures { WholeVerticesSolve }
+{}
+
+/// A refutation has at most one multiplier more than the system has unknowns.
+pub fn multipliers_are_few()
+    ensures { MultipliersAreFew }
 {}

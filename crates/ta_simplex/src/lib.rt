@@ -14,7 +14,7 @@ mod vertex;
 
 pub use fault::SolveFault;
 pub use fraction::Fraction;
-pub use laws::{runs_are_determined, whole_vertices_solve};
+pub use laws::{multipliers_are_few, runs_are_determined, whole_vertices_solve};
 use multipliers::multipliers_of;
 use pivots::{Stopped, run};
 use std::alloc::Global;
