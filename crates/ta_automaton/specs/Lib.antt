@@ -8,4 +8,3 @@ pub mod Masks
 pub mod Sums
 pub mod Places
 pub mod Laws
-pub mod First

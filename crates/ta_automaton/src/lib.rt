@@ -4,7 +4,6 @@
 mod automaton;
 mod condition;
 mod file;
-mod first;
 mod law;
 mod list;
 mod pattern;
@@ -14,7 +13,6 @@ mod text;
 pub use automaton::Automaton;
 pub use condition::{Comparison, Condition};
 pub use file::File;
-pub use first::is_first;
 pub use law::laws;
 pub use list::List;
 pub use pattern::{Event, Pattern};

@@ -139,7 +139,7 @@ pairs_unbroken low (t ∷ ts) are =
     unbroken-append (pair_text t) (pairs_text ts) ((λ e. omega arith), unbroken-append (decimal t.0) (58 ∷ signed_decimal t.1) row ((λ e. omega arith), number)) (pairs_unbroken (t.0 + 1) ts are.2)
 
 -- no line has a line feed in its text
-line_unbroken : (l : Line) → IsLine l → IsUnbroken (line_text l)
+pub line_unbroken : (l : Line) → IsLine l → IsUnbroken (line_text l)
 unfolding plain
 line_unbroken line.Header form = plain_unbroken (line_text line.Header) refl
 line_unbroken (line.Pattern k) form = unbroken-append (codes "pattern ") (decimal k) (plain_unbroken (codes "pattern ") refl) (decimal_unbroken (2 ^ 32) k form (lit≤ tt))
@@ -152,7 +152,7 @@ line_unbroken (line.Tree (node.Leaf ts)) form = unbroken-append (codes "f") (pai
 line_unbroken line.End form = plain_unbroken (codes "end") refl
 
 -- the first line feed of a text
-first_feed : (xs ys p q : List ℕ) → IsUnbroken xs → IsUnbroken ys → xs ++ (10 ∷ p) ≡ ys ++ (10 ∷ q) → (xs ≡ ys) × (p ≡ q)
+pub first_feed : (xs ys p q : List ℕ) → IsUnbroken xs → IsUnbroken ys → xs ++ (10 ∷ p) ≡ ys ++ (10 ∷ q) → (xs ≡ ys) × (p ≡ q)
 first_feed [] [] p q u v e = (refl, cc)
 first_feed [] (y ∷ ys) p q u v e = let head : y ≡ 10 = cc in absurd (v.0 head)
 first_feed (x ∷ xs) [] p q u v e = let head : x ≡ 10 = cc in absurd (u.0 head)
@@ -179,7 +179,7 @@ no_feed (x ∷ xs) ys [] u e = cc
 no_feed (x ∷ xs) ys (b ∷ rest) u e = let tail : rest ≡ xs ++ (10 ∷ ys) = cc in no_feed xs ys rest u.1 tail
 
 -- each line has a text
-Forms : List Line → Type 0
+unfoldable pub Forms : List Line → Type 0
 Forms ls = AllByRecursion IsLine ls
 
 -- lines behind the header have texts
@@ -189,17 +189,17 @@ later_forms [] later = tt
 later_forms (l ∷ ls) later = (later.0, later_forms ls later.4)
 
 -- legal lines have texts
-legal_forms : (ls : List Line) → AreLines ls → Forms ls
+pub legal_forms : (ls : List Line) → AreLines ls → Forms ls
 unfolding Forms
 legal_forms [] legal = tt
 legal_forms (l ∷ ls) legal = (header_line l legal.0, later_forms ls legal.1)
 
 -- of two lists of lines at the front of one text, one begins with the other
-GoesOn : List Line → List Line → List ℕ → List ℕ → Type 0
+unfoldable pub GoesOn : List Line → List Line → List ℕ → List ℕ → Type 0
 GoesOn ls ms x y = (more : List Line) × (ms ≡ ls ++ more) × (x ≡ lines_text more ++ y)
 
 -- two lists of lines at the front of one text
-compare : (ls ms : List Line) (x y : List ℕ) → Forms ls → Forms ms → lines_text ls ++ x ≡ lines_text ms ++ y → GoesOn ls ms x y ⊎ GoesOn ms ls y x
+pub compare : (ls ms : List Line) (x y : List ℕ) → Forms ls → Forms ms → lines_text ls ++ x ≡ lines_text ms ++ y → GoesOn ls ms x y ⊎ GoesOn ms ls y x
 unfolding Forms GoesOn
 compare [] ms x y f g e = inl (ms, refl, e)
 compare (l ∷ ls) [] x y f g e = inr (l ∷ ls, refl, sym e)
@@ -213,7 +213,7 @@ compare (l ∷ ls) (m ∷ ms) x y f g e =
     ]
 
 -- what stands behind these lines begins with no further line
-Stuck : List Line → List ℕ → Type 0
+unfoldable pub Stuck : List Line → List ℕ → Type 0
 Stuck ls x = (l : Line) (more : List ℕ) → AreLines (ls ++ (l ∷ [])) → x ≡ line_text l ++ (10 ∷ more) → ⊥
 
 -- fewer lines behind the header
@@ -222,7 +222,7 @@ later_prefix [] ms m later = (later.0, later.1, later.2, λ e. refl, tt)
 later_prefix (l ∷ ls) ms m later = (later.0, later.1, later.2, λ e. let none = later.3 e in absurd (omega (arith, ap length none, length-append ls (m ∷ ms))), later_prefix ls ms m later.4)
 
 -- fewer legal lines
-legal_prefix : (ls ms : List Line) (m : Line) → AreLines (ls ++ (m ∷ ms)) → AreLines (ls ++ (m ∷ []))
+pub legal_prefix : (ls ms : List Line) (m : Line) → AreLines (ls ++ (m ∷ ms)) → AreLines (ls ++ (m ∷ []))
 legal_prefix [] ms m legal = (legal.0, tt)
 legal_prefix (l ∷ ls) ms m legal = (legal.0, later_prefix ls ms m legal.1)
 
@@ -242,7 +242,7 @@ stuck_unique ls ms text x y legal right stuck other e f =
     ]
 
 -- a beginning of a line is no line
-reads_stuck : (text rest : List ℕ) (ls : List Line) → Reads text ls rest → Stuck ls rest
+pub reads_stuck : (text rest : List ℕ) (ls : List Line) → Reads text ls rest → Stuck ls rest
 unfolding Stuck
 reads_stuck text rest ls r l more legal e = no_feed (line_text l) more rest r.unbroken e
 
@@ -262,7 +262,7 @@ last_short (m ∷ ls) l legal = later_short ls l legal.1
     later_short (m ∷ ls) l later = later_short ls l later.4
 
 -- a malformed line is no line
-malformed_stuck : (text : List ℕ) (n : ℕ) (m : IsMalformed text n) → Stuck m.ls (m.bytes ++ m.after)
+pub malformed_stuck : (text : List ℕ) (n : ℕ) (m : IsMalformed text n) → Stuck m.ls (m.bytes ++ m.after)
 unfolding Stuck
 malformed_stuck text n m l more legal e =
     elim m.no_line [
@@ -297,7 +297,7 @@ end_last [] l legal = refl
 end_last (m ∷ ls) l legal = or_none (is_end m) (has_end ls) (header_end m legal.0) (end_later ls l legal.1)
 
 -- no line stands behind the end
-trailing_stuck : (text : List ℕ) (n : ℕ) (t : IsTrailing text n) → Stuck t.ls (t.byte ∷ t.after)
+pub trailing_stuck : (text : List ℕ) (n : ℕ) (t : IsTrailing text n) → Stuck t.ls (t.byte ∷ t.after)
 unfolding Stuck
 trailing_stuck text n t l more legal e = false≢true (sym (end_last t.ls l legal) ∙ t.ended)
 

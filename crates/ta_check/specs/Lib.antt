@@ -1,3 +1,5 @@
-pub mod Range
-pub mod First
+pub mod Certificate
 pub mod Lines
+pub mod Faults
+pub mod Positions
+pub mod Feeding

@@ -2,10 +2,11 @@
 #![tactic(auto)]
 
 mod accepted;
-mod fault;
-mod first;
-mod lines;
+mod checking;
+mod feeding;
+mod judging;
+mod leaf;
+mod position;
 
 pub use accepted::Accepted;
-pub use fault::EarlyFault;
-pub use first::check_first;
+pub use checking::check;

@@ -24,7 +24,7 @@ use Rattle.ta_counter.specs.declared.fault.StartFault.TheVariants.{Resilience, P
 use Rattle.ta_counter.proofs.Rows.{holds_from, fails_from}
 use Rattle.ta_counter.proofs.Models.{naturals_at, model_at, model_whole, whole_fits, sum_naturals, each_drop, each_from, each_point}
 
-abbrev NotIn : List ℕ → ℕ → Type 0
+abbrev pub NotIn : List ℕ → ℕ → Type 0
 NotIn ls l = (j : ℕ) → slice_get ls j ≡ Some l → ⊥
 
 below_all : (low high : ℕ) (ls : List ℕ) → Rises low high ls → (l : ℕ) → l < low → NotIn ls l
@@ -91,7 +91,7 @@ counters_sum a v same =
     let at = total-same (λ l. point_of v (location_place a l)) (λ l. get_or (counters_of a v) l (pos 0)) (numbers_from 0 (length a.locations)) (λ l. sym (counter_at a v l)) in
     at ∙ ap (λ n. total (λ l. get_or (counters_of a v) l (pos 0)) (numbers_from 0 n)) (sym count) ∙ sum_numbers (counters_of a v)
 
-not_contained : (ls : List ℕ) (l : ℕ) → NotIn ls l → ¬ Contains ls l
+pub not_contained : (ls : List ℕ) (l : ℕ) → NotIn ls l → ¬ Contains ls l
 not_contained ls l none c = none c.0 (slice_get-get_or ls c.0 l c.1 ∙ ap Some c.2)
 
 -- the counters at the start add up to the counts
@@ -145,7 +145,8 @@ starts_initial a parameters counts values same n e s may =
       zero_from : (m : ℕ) → pos m ≡ pos 0 → m ≡ 0
       zero_from m h = omega (arith, ints)
 
-in_or_not : (ls : List ℕ) (l : ℕ) → ((j : ℕ) × (slice_get ls j ≡ Some l)) ⊎ NotIn ls l
+-- whether a number is in a list
+pub in_or_not : (ls : List ℕ) (l : ℕ) → ((j : ℕ) × (slice_get ls j ≡ Some l)) ⊎ NotIn ls l
 in_or_not [] l = inr (λ j e. absurd (cc))
 in_or_not (x ∷ ls) l = elim (eqb_tells x l) [
   | inl same ↦ inl (0, ap Some same.1)

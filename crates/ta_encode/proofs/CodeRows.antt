@@ -1,5 +1,5 @@
 -- leaves and solutions of a system of the code are those of the word
-use Rattle.std.proofs.Common.{◌≡◌, ℕ, zero, suc, ℤ, pos, ◌*ℤ◌, ◌≤ℤ◌, ◌<ℤ◌, List, [], ◌∷◌, map, length, slice_get, get_or, Option, arith, sym, ap, ◌∙◌, refl, subst}
+use Rattle.std.proofs.Common.{◌≡◌, ℕ, zero, suc, ℤ, pos, ◌*ℤ◌, ◌≤ℤ◌, ◌<ℤ◌, List, [], ◌∷◌, map, length, slice_get, get_or, Option, None, Some, arith, sym, ap, ◌∙◌, refl, subst}
 use Rattle.std.specs.List.{All}
 use Rattle.std.proofs.lemmas.Int.{ints}
 use Rattle.ta_linear.specs.Terms.{coefficient, IsNormal}
@@ -18,19 +18,19 @@ use Rattle.ta_encode.specs.Code.{RowOf, RowsOf, SystemOf}
 use Rattle.ta_encode.proofs.Moments.{AllHold-append, AllHold-left}
 use Rattle.ta_encode.proofs.RowSums.{value_at, combine-range}
 
-coefficient_same : (u : ℕ) (ls : List LinearRow) (rs : List Row) (k : ℕ) → RowsOf ls rs → code_coefficient u (slice_get rs k) ≡ coefficient_in u (slice_get ls k)
-coefficient_same u [] [] k h = refl
-coefficient_same u (l ∷ ls) (r ∷ rs) zero h = h.0.coefficients u
-coefficient_same u (l ∷ ls) (r ∷ rs) (suc k) h = coefficient_same u ls rs k h.1
-coefficient_same u [] (r ∷ rs) k h = absurd h
-coefficient_same u (l ∷ ls) [] k h = absurd h
+-- what two rows have in common, the rows of the code and of the word have at each number
+rows_same : (code : Option Row → ℤ) (word : Option LinearRow → ℤ) → code None ≡ word None → ((l : LinearRow) (r : Row) → RowOf l r → code (Some r) ≡ word (Some l)) → (ls : List LinearRow) (rs : List Row) (k : ℕ) → RowsOf ls rs → code (slice_get rs k) ≡ word (slice_get ls k)
+rows_same code word none some [] [] k h = none
+rows_same code word none some (l ∷ ls) (r ∷ rs) zero h = some l r h.0
+rows_same code word none some (l ∷ ls) (r ∷ rs) (suc k) h = rows_same code word none some ls rs k h.1
+rows_same code word none some [] (r ∷ rs) k h = absurd h
+rows_same code word none some (l ∷ ls) [] k h = absurd h
 
-constant_same : (ls : List LinearRow) (rs : List Row) (k : ℕ) → RowsOf ls rs → code_constant (slice_get rs k) ≡ constant_in (slice_get ls k)
-constant_same [] [] k h = refl
-constant_same (l ∷ ls) (r ∷ rs) zero h = h.0.constant
-constant_same (l ∷ ls) (r ∷ rs) (suc k) h = constant_same ls rs k h.1
-constant_same [] (r ∷ rs) k h = absurd h
-constant_same (l ∷ ls) [] k h = absurd h
+pub coefficient_same : (u : ℕ) (ls : List LinearRow) (rs : List Row) (k : ℕ) → RowsOf ls rs → code_coefficient u (slice_get rs k) ≡ coefficient_in u (slice_get ls k)
+coefficient_same u = rows_same (code_coefficient u) (coefficient_in u) refl (λ l r is. is.coefficients u)
+
+pub constant_same : (ls : List LinearRow) (rs : List Row) (k : ℕ) → RowsOf ls rs → code_constant (slice_get rs k) ≡ constant_in (slice_get ls k)
+constant_same = rows_same code_constant constant_in refl (λ l r is. is.constant)
 
 -- as many rows
 pub rows_count : (ls : List LinearRow) (rs : List Row) → RowsOf ls rs → length rs ≡ length ls
@@ -39,7 +39,7 @@ rows_count (l ∷ ls) (r ∷ rs) h = ap suc (rows_count ls rs h.1)
 rows_count [] (r ∷ rs) h = absurd h
 rows_count (l ∷ ls) [] h = absurd h
 
-weighted_same : {R S : Type 0} (f : Option R → ℤ) (g : Option S → ℤ) (rs : List R) (ls : List S) (ts : List (ℕ × ℤ)) → ((k : ℕ) → f (slice_get rs k) ≡ g (slice_get ls k)) → weighted f rs ts ≡ weighted g ls ts
+pub weighted_same : {R S : Type 0} (f : Option R → ℤ) (g : Option S → ℤ) (rs : List R) (ls : List S) (ts : List (ℕ × ℤ)) → ((k : ℕ) → f (slice_get rs k) ≡ g (slice_get ls k)) → weighted f rs ts ≡ weighted g ls ts
 unfolding weighted
 weighted_same f g rs ls [] h = refl
 weighted_same f g rs ls (t ∷ ts) h = omega (arith, ints, ap (λ z. t.1 *ℤ z) (h t.0), weighted_same f g rs ls ts h)

@@ -13,7 +13,7 @@ use Rattle.ta_words.specs.declared.element.Element.TheVariants.{Event, Rise, Fal
 use Rattle.ta_words.specs.Words.{children, Legal, is_complete}
 use Rattle.ta_encode.specs.System.{Bound, Low, High, only_at, side_row, bound_row, word_rows, system_rows, combine, row_value, AllHold}
 use Rattle.ta_cert.specs.Tree.{Tree, Forest, Leaf, Extend, Split, Done, More}
-use Rattle.ta_encode.specs.Refutes.{bound_at, Refutes, RefuteEach, RefutesFrom, ProofOf}
+use Rattle.ta_encode.specs.Refutes.{LeafOfRows, bound_at, RefutesBy, RefuteEach, RefutesFrom, ProofOf}
 use Rattle.ta_automaton.proofs.Sums.{one_times}
 use Rattle.ta_encode.proofs.Moments.{AllHold-append, AllHold-left}
 use Rattle.ta_encode.proofs.Start.{is_negative, negative_true, negative_false}
@@ -70,9 +70,9 @@ bounds_more [] b vs h g = (g, tt)
 bounds_more (c ∷ bounds) b vs h g = (h.0, bounds_more bounds b vs h.1 g)
 
 mutual
-  unfolding Refutes
+  unfolding RefutesBy
 
-  no_tree : (tree : Tree) (a : Automaton) (p : Pattern) (start : ℕ) (past future : List Element) (bounds : List Bound) (vs : List ℕ) → Legal a p start (extend past future) → is_complete p (extend past future) ≡ true → AllHold vs (word_rows a p start (extend past future)) → AllHold vs (map bound_row bounds) → Refutes a p start past bounds tree → ⊥
+  no_tree : (tree : Tree) (a : Automaton) (p : Pattern) (start : ℕ) (past future : List Element) (bounds : List Bound) (vs : List ℕ) → Legal a p start (extend past future) → is_complete p (extend past future) ≡ true → AllHold vs (word_rows a p start (extend past future)) → AllHold vs (map bound_row bounds) → RefutesBy LeafOfRows a p start past bounds tree → ⊥
   no_tree (Leaf ts) a p start past future bounds vs legal complete rows held h =
       leaf_contradicts (system_rows a p start past bounds) ts vs h (AllHold-append vs (word_rows a p start past) (map bound_row bounds) (prefix_rows a p start past future vs rows) held)
   no_tree (Extend trees) a p start past [] bounds vs legal complete rows held h = false≢true (sym h.0 ∙ complete)
@@ -84,22 +84,22 @@ mutual
         | inr g ↦ no_tree high a p start past future (bounds ++ bound_at unknown floor High ∷ []) vs legal complete rows (bounds_more bounds (bound_at unknown floor High) vs held g) h.2
       ]
 
-  no_forest : (trees : Forest) (a : Automaton) (p : Pattern) (start : ℕ) (past : List Element) (e : Element) (future : List Element) (bounds : List Bound) (vs : List ℕ) → Legal a p start (extend (e ∷ past) future) → is_complete p (extend (e ∷ past) future) ≡ true → AllHold vs (word_rows a p start (extend (e ∷ past) future)) → AllHold vs (map bound_row bounds) → (es : List Element) → In e es → RefuteEach a p start past bounds es trees → ⊥
+  no_forest : (trees : Forest) (a : Automaton) (p : Pattern) (start : ℕ) (past : List Element) (e : Element) (future : List Element) (bounds : List Bound) (vs : List ℕ) → Legal a p start (extend (e ∷ past) future) → is_complete p (extend (e ∷ past) future) ≡ true → AllHold vs (word_rows a p start (extend (e ∷ past) future)) → AllHold vs (map bound_row bounds) → (es : List Element) → In e es → RefuteEach LeafOfRows a p start past bounds es trees → ⊥
   no_forest Done a p start past e future bounds vs legal complete rows held [] i h = i
   no_forest Done a p start past e future bounds vs legal complete rows held (x ∷ es) i h = h
   no_forest (More tree trees) a p start past e future bounds vs legal complete rows held [] i h = i
   no_forest (More tree trees) a p start past e future bounds vs legal complete rows held (x ∷ es) (inl same) h =
-      no_tree tree a p start (e ∷ past) future bounds vs legal complete rows held (subst (λ (y : Element). Refutes a p start (y ∷ past) bounds tree) (sym same) h.0)
+      no_tree tree a p start (e ∷ past) future bounds vs legal complete rows held (subst (λ (y : Element). RefutesBy LeafOfRows a p start (y ∷ past) bounds tree) (sym same) h.0)
   no_forest (More tree trees) a p start past e future bounds vs legal complete rows held (x ∷ es) (inr i) h =
       no_forest trees a p start past e future bounds vs legal complete rows held es i h.1
 
 cases_start : (first start : ℕ) → first ≤ start → (first ≡ start) ⊎ (first + 1 ≤ start)
 cases_start first start h = elim (eqb_tells first start) [ inl e ↦ inl e.1 | inr ne ↦ inr (let q = ne.1 in omega arith) ]
 
-pick_tree : (a : Automaton) (p : Pattern) (first start : ℕ) (trees : List Tree) → RefutesFrom a p first trees → first ≤ start → start < first + length trees → (tree : Tree) × Refutes a p start [] [] tree
+pick_tree : (a : Automaton) (p : Pattern) (first start : ℕ) (trees : List Tree) → RefutesFrom LeafOfRows a p first trees → first ≤ start → start < first + length trees → (tree : Tree) × RefutesBy LeafOfRows a p start [] [] tree
 pick_tree a p first start [] h low high = absurd (omega arith)
 pick_tree a p first start (tree ∷ trees) h low high = elim (cases_start first start low) [
-  | inl e ↦ (tree, subst (λ (x : ℕ). Refutes a p x [] [] tree) e h.0)
+  | inl e ↦ (tree, subst (λ (x : ℕ). RefutesBy LeafOfRows a p x [] [] tree) e h.0)
   | inr g ↦ pick_tree a p (first + 1) start trees h.1 g (omega arith)
 ]
 

@@ -11,7 +11,7 @@ use Rattle.ta_words.specs.declared.element.Element.{Element}
 use Rattle.ta_words.specs.Words.{children, is_complete}
 use Rattle.ta_encode.specs.Unknowns.{meanings}
 use Rattle.ta_encode.specs.System.{Bound, Low, High, system_rows}
-use Rattle.ta_encode.specs.Refutes.{LeafOfRows, bound_at, ProofOf}
+use Rattle.ta_encode.specs.Refutes.{LeafTest, bound_at, ProofBy, ProofOf}
 
 -- a word that is to be refuted, under a start set, with bounds
 pub record Pending : Type 0 where
@@ -31,23 +31,29 @@ bounded w b = record { start = w.start; past = w.past; bounds = w.bounds ++ b �
 abbrev pub all_starts : Automaton → List Pending
 all_starts a = map (λ s. record { start = s; past = []; bounds = [] }) (numbers_from 0 (2 ^ length a.fall))
 
--- the first word is refuted by the first node, or what the node leaves of it comes in its place
-abbrev pub RefutedInOrder : Automaton → Pattern → List Pending → List Node → Type 0
-RefutedInOrder a p [] [] = Unit {0}
-RefutedInOrder a p [] (n ∷ ns) = ⊥
-RefutedInOrder a p (w ∷ ws) [] = ⊥
-RefutedInOrder a p (w ∷ ws) (node.Leaf ts ∷ ns) = LeafOfRows (system_rows a p w.start w.past w.bounds) ts × RefutedInOrder a p ws ns
-RefutedInOrder a p (w ∷ ws) (node.Extend ∷ ns) =
-    (is_complete p w.past ≡ false) × RefutedInOrder a p (map (longer w) (children a p w.start w.past) ++ ws) ns
-RefutedInOrder a p (w ∷ ws) (node.Split unknown floor ∷ ns) =
-    (unknown < length (meanings a p w.start w.past))
-    × RefutedInOrder a p (bounded w (bound_at unknown floor Low) ∷ bounded w (bound_at unknown floor High) ∷ ws) ns
+-- what a node leaves to be refuted of the word at which it stands
+abbrev pub parts : Automaton → Pattern → Pending → Node → List Pending
+parts a p w (node.Leaf ts) = []
+parts a p w node.Extend = map (longer w) (children a p w.start w.past)
+parts a p w (node.Split unknown floor) = bounded w (bound_at unknown floor Low) ∷ bounded w (bound_at unknown floor High) ∷ []
+
+-- whether a node may stand at a word: a leaf that meets the test, more elements of a word that isn't complete, or a split of an unknown of its system
+abbrev pub MayStand : LeafTest → Automaton → Pattern → Pending → Node → Type 0
+MayStand test a p w (node.Leaf ts) = test (system_rows a p w.start w.past w.bounds) ts
+MayStand test a p w node.Extend = is_complete p w.past ≡ false
+MayStand test a p w (node.Split unknown floor) = unknown < length (meanings a p w.start w.past)
+
+-- each node stands at the first word that is left, and what the node leaves of it comes in its place
+abbrev pub RefutedInOrder : LeafTest → Automaton → Pattern → List Pending → List Node → Type 0
+RefutedInOrder test a p ws [] = ws ≡ []
+RefutedInOrder test a p [] (n ∷ ns) = ⊥
+RefutedInOrder test a p (w ∷ ws) (n ∷ ns) = MayStand test a p w n × RefutedInOrder test a p (parts a p w n ++ ws) ns
 
 -- nodes refute the empty word for each start set, one after another, exactly if they are those of a proof of the pattern
-abbrev pub ProofsReadInOrder : Type 0
-ProofsReadInOrder =
+abbrev pub ProofsReadInOrder : LeafTest → Type 0
+ProofsReadInOrder test =
     (a : Automaton) (p : Pattern) (nodes : List Node)
-    → RefutedInOrder a p (all_starts a) nodes ↔ ((trees : List Tree) × ProofOf a p trees × (all_preorder trees ≡ nodes))
+    → RefutedInOrder test a p (all_starts a) nodes ↔ ((trees : List Tree) × ProofBy test a p trees × (all_preorder trees ≡ nodes))
 
 -- two proofs of a pattern with the same nodes in preorder are one
 abbrev pub ProofsAreDetermined : Type 0

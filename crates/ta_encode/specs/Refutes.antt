@@ -27,29 +27,37 @@ LeafOfRows rows ts = FarkasLeaf coefficient_in constant_in rows ts
 abbrev pub bound_at : ℕ → ℤ → Side → Bound
 bound_at unknown floor side = record { unknown = unknown; floor = floor; side = side }
 
+-- what is asked of the rows of a leaf's word and of the leaf's multipliers
+abbrev pub LeafTest : Type 1
+LeafTest = List LinearRow → List (ℕ × ℤ) → Type 0
+
 unfoldable mutual
-  -- a leaf of the word's system; or a tree for each child of a word that isn't complete; or a tree for each side of an unknown of the system
-  pub Refutes : Automaton → Pattern → ℕ → List Element → List Bound → Tree → Type 0
-  Refutes a p start past bounds (Leaf ts) = LeafOfRows (system_rows a p start past bounds) ts
-  Refutes a p start past bounds (Extend trees) = (is_complete p past ≡ false) × RefuteEach a p start past bounds (children a p start past) trees
-  Refutes a p start past bounds (Split unknown floor low high) =
+  -- a leaf that meets the test over the rows of the word's system; or a tree for each child of a word that isn't complete; or a tree for each side of an unknown of the system
+  pub RefutesBy : LeafTest → Automaton → Pattern → ℕ → List Element → List Bound → Tree → Type 0
+  RefutesBy test a p start past bounds (Leaf ts) = test (system_rows a p start past bounds) ts
+  RefutesBy test a p start past bounds (Extend trees) = (is_complete p past ≡ false) × RefuteEach test a p start past bounds (children a p start past) trees
+  RefutesBy test a p start past bounds (Split unknown floor low high) =
       (unknown < length (meanings a p start past))
-      × Refutes a p start past (bounds ++ bound_at unknown floor Low ∷ []) low
-      × Refutes a p start past (bounds ++ bound_at unknown floor High ∷ []) high
+      × RefutesBy test a p start past (bounds ++ bound_at unknown floor Low ∷ []) low
+      × RefutesBy test a p start past (bounds ++ bound_at unknown floor High ∷ []) high
 
   -- one tree for each element, in order, each of which refutes the word that is longer by the element
-  pub RefuteEach : Automaton → Pattern → ℕ → List Element → List Bound → List Element → Forest → Type 0
-  RefuteEach a p start past bounds [] Done = Unit {0}
-  RefuteEach a p start past bounds (e ∷ es) Done = ⊥
-  RefuteEach a p start past bounds [] (More tree trees) = ⊥
-  RefuteEach a p start past bounds (e ∷ es) (More tree trees) = Refutes a p start (e ∷ past) bounds tree × RefuteEach a p start past bounds es trees
+  pub RefuteEach : LeafTest → Automaton → Pattern → ℕ → List Element → List Bound → List Element → Forest → Type 0
+  RefuteEach test a p start past bounds [] Done = Unit {0}
+  RefuteEach test a p start past bounds (e ∷ es) Done = ⊥
+  RefuteEach test a p start past bounds [] (More tree trees) = ⊥
+  RefuteEach test a p start past bounds (e ∷ es) (More tree trees) = RefutesBy test a p start (e ∷ past) bounds tree × RefuteEach test a p start past bounds es trees
 
 -- one tree for each start set from one on by rising mask, each of which refutes the empty word without bounds
-abbrev pub RefutesFrom : Automaton → Pattern → ℕ → List Tree → Type 0
-RefutesFrom a p start [] = Unit {0}
-RefutesFrom a p start (tree ∷ trees) = Refutes a p start [] [] tree × RefutesFrom a p (start + 1) trees
+abbrev pub RefutesFrom : LeafTest → Automaton → Pattern → ℕ → List Tree → Type 0
+RefutesFrom test a p start [] = Unit {0}
+RefutesFrom test a p start (tree ∷ trees) = RefutesBy test a p start [] [] tree × RefutesFrom test a p (start + 1) trees
 
--- a proof of a pattern: one tree for each set of fall guards that may be false at the start
-pub record ProofOf (a : Automaton) (p : Pattern) (trees : List Tree) : Type 0 where
+-- a proof of a pattern whose leaves meet a test: one tree for each set of fall guards that may be false at the start
+pub record ProofBy (test : LeafTest) (a : Automaton) (p : Pattern) (trees : List Tree) : Type 0 where
   pub count : length trees ≡ 2 ^ length a.fall
-  pub each : RefutesFrom a p 0 trees
+  pub each : RefutesFrom test a p 0 trees
+
+-- a proof of a pattern
+abbrev pub ProofOf : Automaton → Pattern → List Tree → Type 0
+ProofOf a p trees = ProofBy LeafOfRows a p trees

@@ -28,7 +28,7 @@ column-constant s ts =
     let P : Bool → Type 0 = λ b. weighted (λ row. cond b (coefficient_in s.unknowns row) (constant_in row)) s.rows ts ≡ weighted constant_in s.rows ts in
     subst P (sym e) refl
 
-none_beyond : (n x : ℕ) (rows : List Row) (k : ℕ) → AllBelow n rows → n ≤ x → coefficient_in x (slice_get rows k) ≡ pos 0
+pub none_beyond : (n x : ℕ) (rows : List Row) (k : ℕ) → AllBelow n rows → n ≤ x → coefficient_in x (slice_get rows k) ≡ pos 0
 none_beyond n x [] k all h = refl
 none_beyond n x (r ∷ rs) zero all h = coefficient-above 0 n r.form.terms x all.0 h
 none_beyond n x (r ∷ rs) (suc k) all h = none_beyond n x rs k all.1 h

@@ -22,7 +22,6 @@ offset_of (fault.NotThreshold at) = at
 offset_of (fault.LoopUpdates rule) = rule
 offset_of (fault.Cycle rule) = rule
 offset_of (fault.NoInitial at) = at
-offset_of (fault.NotYet at) = at
 offset_of fault.Memory = 0
 
 -- the offsets of the faults of a text's tree rise strictly, and each is that of a byte of the text
@@ -52,7 +51,6 @@ IsOfMeaning (fault.Syntax at) = ⊥
 IsOfMeaning (fault.TooDeep at) = ⊥
 IsOfMeaning (fault.LoopUpdates rule) = ⊥
 IsOfMeaning (fault.Cycle rule) = ⊥
-IsOfMeaning (fault.NotYet at) = ⊥
 IsOfMeaning fault.Memory = ⊥
 
 -- each fault of a tree is one that meaning may have

@@ -2,8 +2,7 @@
 use Rattle.std.proofs.Common.{◌≡◌, ◌≤◌, ◌<◌, ℕ, List, Option, None, Some, length, refl, sym, subst, ◌∙◌, inl, inr, arith}
 use Rattle.ta_syntax.specs.declared.fault.FileFault.{FileFault}
 use Rattle.ta_automaton.specs.declared.file.File.{File}
-use Rattle.ta_automaton.specs.First.{First}
-use Rattle.ta_check.specs.declared.fault.EarlyFault.{EarlyFault}
+use Rattle.ta_cert.specs.declared.fault.CertFault.{CertFault}
 use Rattle.ta_meaning.specs.FirstFault.{FirstFault}
 use Rattle.ta_replay.specs.declared.run.Run.{Run}
 use Rattle.ta_replay.specs.declared.fault.RunFault.{RunFault}
@@ -14,7 +13,7 @@ use Rattle.ta_program.specs.declared.status.Status.TheVariants as status
 use Rattle.ta_program.specs.Contents.{Files, Has, HasBytes, Hinders}
 use Rattle.ta_program.specs.Lines.{file_limit, certificate_limit, run_limit, status_number}
 use Rattle.ta_program.specs.Troubles.{trouble_number}
-use Rattle.ta_program.specs.Check.{CertificateFault, CertificateHinders, CheckSays, EarlyFileFault, IsCertificate, IsFile}
+use Rattle.ta_program.specs.Check.{CertificateFault, CertificateHinders, CheckSays, IsCertificate, IsFile}
 use Rattle.ta_program.specs.Replay.{IsShownRun, ReplaySays, RunFaultIn, RunHinders}
 use Rattle.ta_program.specs.Program.{AreTold, Complete, IsAside, Outcome, SinkState}
 use Rattle.ta_program.proofs.Clauses.{of_check, of_replay}
@@ -60,53 +59,47 @@ refused_or expected refused trouble.Memory other = inr (inr refl)
 file_one : (files : Files) → AreTold files → (name : List ℕ) (f g : File) → IsFile files name f → IsFile files name g → f ≡ g
 file_one files told name f g a b = one_legal b.bytes f g (rw (sym (bytes_one files told name file_limit a.bytes b.bytes a.had b.had)) a.legal) b.legal
 
--- a file of the first form doesn't hinder `check`
-first_passes : (files : Files) → AreTold files → (name : List ℕ) (file : File) → IsFile files name file → First file → (t : Trouble FileFault) → trouble_number 3 t ≡ 3 → Hinders EarlyFileFault file_limit files name t → ⊥
-first_passes files told name file is_file first =
-    no_hindrance EarlyFileFault file_limit files told name is_file.bytes is_file.had
-    (λ fault found. elim found [ inl f ↦ is_file.legal.no_fault fault f | inr o ↦ o.1.other (subst First (one_legal is_file.bytes file o.1.file is_file.legal o.1.legal) first) ])
-    3 (omega arith)
-
+-- a legal file doesn't hinder a command
 legal_passes : (files : Files) → AreTold files → (name : List ℕ) (file : File) → IsFile files name file → (t : Trouble FileFault) → trouble_number 3 t ≡ 3 → Hinders FirstFault file_limit files name t → ⊥
 legal_passes files told name file is_file =
     no_hindrance FirstFault file_limit files told name is_file.bytes is_file.had (λ fault found. is_file.legal.no_fault fault found) 3 (omega arith)
 
-certificate_passes : (files : Files) → AreTold files → (name : List ℕ) (file : File) → IsCertificate files name file → (t : Trouble EarlyFault) → trouble_number 4 t ≡ 4 → Hinders (CertificateFault file) certificate_limit files name t → ⊥
-certificate_passes files told name file is_certificate =
-    no_hindrance (CertificateFault file) certificate_limit files told name is_certificate.bytes is_certificate.had (λ fault found. found.1 is_certificate.accepted) 4 (omega arith)
+certificate_passes : (files : Files) → AreTold files → (name : List ℕ) (file : File) (numbers : List ℕ) → IsCertificate files name file numbers → (t : Trouble CertFault) → trouble_number 4 t ≡ 4 → Hinders (CertificateFault file) certificate_limit files name t → ⊥
+certificate_passes files told name file numbers is_certificate =
+    no_hindrance (CertificateFault file) certificate_limit files told name is_certificate.bytes is_certificate.had (λ fault found. found.no_certificate numbers is_certificate.accepted) 4 (omega arith)
 
 run_passes : (files : Files) → AreTold files → (name : List ℕ) (file : File) (run : Run) → IsShownRun files name file run → (t : Trouble RunFault) → trouble_number 4 t ≡ 4 → Hinders (RunFaultIn file) run_limit files name t → ⊥
 run_passes files told name file run is_run =
     no_hindrance (RunFaultIn file) run_limit files told name is_run.bytes is_run.had (λ fault found. found.shows_nothing run is_run.shows) 4 (omega arith)
 
-check_file : (end : Status) (files : Files) → AreTold files → (f s : List ℕ) (before after : Option (List ℕ)) (t : Trouble FileFault) → trouble_number 3 t ≡ 3 → Hinders EarlyFileFault file_limit files f t → CheckSays end files f s before after → IsAside 3 (status_number end)
-check_file status.Done files told f s before after t three h says = absurd (first_passes files told f says.file says.is_file says.first t three h)
+check_file : (end : Status) (files : Files) → AreTold files → (f s : List ℕ) (before after : Option (List ℕ)) (t : Trouble FileFault) → trouble_number 3 t ≡ 3 → Hinders FirstFault file_limit files f t → CheckSays end files f s before after → IsAside 3 (status_number end)
+check_file status.Done files told f s before after t three h says = absurd (legal_passes files told f says.file says.is_file t three h)
 check_file status.Usage files told f s before after t three h says = absurd says
 check_file (status.File name u) files told f s before after t three h says = is_aside 3 u
-check_file (status.Certificate name u) files told f s before after t three h says = absurd (first_passes files told f says.1.file says.1.is_file says.1.first t three h)
+check_file (status.Certificate name u) files told f s before after t three h says = absurd (legal_passes files told f says.1.file says.1.is_file t three h)
 check_file (status.Run name u) files told f s before after t three h says = absurd says
 check_file status.OutputFailed files told f s before after t three h says = inr (inl refl)
 check_file status.Memory files told f s before after t three h says = inr (inr refl)
 
-check_certificate : (end : Status) (files : Files) → AreTold files → (f s : List ℕ) (before after : Option (List ℕ)) (t : Trouble EarlyFault) → trouble_number 4 t ≡ 4 → CertificateHinders files f s t → CheckSays end files f s before after → IsAside 4 (status_number end)
+check_certificate : (end : Status) (files : Files) → AreTold files → (f s : List ℕ) (before after : Option (List ℕ)) (t : Trouble CertFault) → trouble_number 4 t ≡ 4 → CertificateHinders files f s t → CheckSays end files f s before after → IsAside 4 (status_number end)
 check_certificate status.Done files told f s before after t four h says =
-    absurd (certificate_passes files told s h.file (subst (IsCertificate files s) (file_one files told f says.file h.file says.is_file h.is_file) says.certificate) t four h.hinders)
+    absurd (certificate_passes files told s h.file says.numbers (subst (λ (file : File). IsCertificate files s file says.numbers) (file_one files told f says.file h.file says.is_file h.is_file) says.certificate) t four h.hinders)
 check_certificate status.Usage files told f s before after t four h says = absurd says
-check_certificate (status.File name u) files told f s before after t four h says = refused_or 4 3 u (λ three. first_passes files told f h.file h.is_file h.first u three says.1)
+check_certificate (status.File name u) files told f s before after t four h says = refused_or 4 3 u (λ three. legal_passes files told f h.file h.is_file u three says.1)
 check_certificate (status.Certificate name u) files told f s before after t four h says = is_aside 4 u
 check_certificate (status.Run name u) files told f s before after t four h says = absurd says
 check_certificate status.OutputFailed files told f s before after t four h says = inr (inl refl)
 check_certificate status.Memory files told f s before after t four h says = inr (inr refl)
 
-check_done : (end : Status) (files : Files) → AreTold files → (f s : List ℕ) (before after : Option (List ℕ)) (file : File) → IsFile files f file → First file → IsCertificate files s file → CheckSays end files f s before after → IsAside 0 (status_number end)
-check_done status.Done files told f s before after file is_file first is_certificate says = inl refl
-check_done status.Usage files told f s before after file is_file first is_certificate says = absurd says
-check_done (status.File name u) files told f s before after file is_file first is_certificate says = refused_or 0 3 u (λ three. first_passes files told f file is_file first u three says.1)
-check_done (status.Certificate name u) files told f s before after file is_file first is_certificate says =
-    refused_or 0 4 u (λ four. certificate_passes files told s says.1.file (subst (IsCertificate files s) (file_one files told f file says.1.file is_file says.1.is_file) is_certificate) u four says.1.hinders)
-check_done (status.Run name u) files told f s before after file is_file first is_certificate says = absurd says
-check_done status.OutputFailed files told f s before after file is_file first is_certificate says = inr (inl refl)
-check_done status.Memory files told f s before after file is_file first is_certificate says = inr (inr refl)
+check_done : (end : Status) (files : Files) → AreTold files → (f s : List ℕ) (before after : Option (List ℕ)) (file : File) (numbers : List ℕ) → IsFile files f file → IsCertificate files s file numbers → CheckSays end files f s before after → IsAside 0 (status_number end)
+check_done status.Done files told f s before after file numbers is_file is_certificate says = inl refl
+check_done status.Usage files told f s before after file numbers is_file is_certificate says = absurd says
+check_done (status.File name u) files told f s before after file numbers is_file is_certificate says = refused_or 0 3 u (λ three. legal_passes files told f file is_file u three says.1)
+check_done (status.Certificate name u) files told f s before after file numbers is_file is_certificate says =
+    refused_or 0 4 u (λ four. certificate_passes files told s says.1.file numbers (subst (λ (g : File). IsCertificate files s g numbers) (file_one files told f file says.1.file is_file says.1.is_file) is_certificate) u four says.1.hinders)
+check_done (status.Run name u) files told f s before after file numbers is_file is_certificate says = absurd says
+check_done status.OutputFailed files told f s before after file numbers is_file is_certificate says = inr (inl refl)
+check_done status.Memory files told f s before after file numbers is_file is_certificate says = inr (inr refl)
 
 replay_file : (end : Status) (files : Files) → AreTold files → (f s : List ℕ) (before after : Option (List ℕ)) (t : Trouble FileFault) → trouble_number 3 t ≡ 3 → Hinders FirstFault file_limit files f t → ReplaySays end files f s before after → IsAside 3 (status_number end)
 replay_file status.Done files told f s before after t three h says = absurd (legal_passes files told f says.file says.is_file t three h)
@@ -142,7 +135,7 @@ complete number words files shelf shelf' out out' err err' o told = (
   λ f s asked. let says = of_check _ _ _ _ _ _ _ asked o.says in record {
     file = λ t three h. subst (IsAside 3) (sym o.numbered) (check_file o.end files told f s _ _ t three h says);
     certificate = λ t four h. subst (IsAside 4) (sym o.numbered) (check_certificate o.end files told f s _ _ t four h says);
-    done = λ file is_file first is_certificate. subst (IsAside 0) (sym o.numbered) (check_done o.end files told f s _ _ file is_file first is_certificate says);
+    done = λ file numbers is_file is_certificate. subst (IsAside 0) (sym o.numbered) (check_done o.end files told f s _ _ file numbers is_file is_certificate says);
   },
   λ f s asked. let says = of_replay _ _ _ _ _ _ _ asked o.says in record {
     file = λ t three h. subst (IsAside 3) (sym o.numbered) (replay_file o.end files told f s _ _ t three h says);

@@ -4,7 +4,7 @@ use Rattle.ta_program.specs.declared.status.Trouble.{Trouble}
 use Rattle.ta_program.specs.declared.status.Trouble.TheVariants as trouble
 use Rattle.ta_program.specs.declared.status.Status.{Status}
 use Rattle.ta_program.specs.declared.status.Status.TheVariants as status
-use Rattle.ta_program.specs.Texts.{file_fault_text, early_fault_text, run_fault_text}
+use Rattle.ta_program.specs.Texts.{file_fault_text, cert_fault_text, run_fault_text}
 use Rattle.ta_program.specs.Troubles.{trouble_number}
 
 -- the limits of a file, a certificate and a run, in bytes
@@ -39,7 +39,7 @@ abbrev pub line_of : Status → List ℕ
 line_of status.Done = []
 line_of status.Usage = usage_line
 line_of (status.File name trouble) = trouble_line file_fault_text file_limit name.now trouble
-line_of (status.Certificate name trouble) = trouble_line early_fault_text certificate_limit name.now trouble
+line_of (status.Certificate name trouble) = trouble_line cert_fault_text certificate_limit name.now trouble
 line_of (status.Run name trouble) = trouble_line run_fault_text run_limit name.now trouble
 line_of status.OutputFailed = output_line
 line_of status.Memory = memory_line

@@ -1,8 +1,7 @@
 -- What a run of the program says (this project's profile)
 use Rattle.std.specs.Prelude.{ℕ, ◌≡◌, ◌≢◌, ◌≤◌, ◌⊎◌, List, Option, Some}
 use Rattle.ta_automaton.specs.declared.file.File.{File}
-use Rattle.ta_automaton.specs.First.{First}
-use Rattle.ta_check.specs.declared.fault.EarlyFault.{EarlyFault}
+use Rattle.ta_cert.specs.declared.fault.CertFault.{CertFault}
 use Rattle.ta_meaning.specs.FirstFault.{FirstFault}
 use Rattle.ta_replay.specs.declared.fault.RunFault.{RunFault}
 use Rattle.ta_replay.specs.declared.run.Run.{Run}
@@ -17,7 +16,7 @@ use Rattle.ta_program.specs.Lines.{file_limit, status_number}
 use Rattle.ta_program.specs.Troubles.{trouble_number}
 use Rattle.ta_program.specs.Outcome.{ShelfCause, WriteCause}
 use Rattle.ta_program.specs.Told.{Told}
-use Rattle.ta_program.specs.Check.{CertificateHinders, CheckSays, CheckWrites, EarlyFileFault, IsCertificate, IsFile}
+use Rattle.ta_program.specs.Check.{CertificateHinders, CheckSays, CheckWrites, IsCertificate, IsFile}
 use Rattle.ta_program.specs.Replay.{IsShownRun, ReplaySays, ReplayWrites, RunHinders}
 
 -- the words are no command's, and nothing was written
@@ -60,8 +59,8 @@ pub record Outcome (number : ℕ) (words : List (List ℕ)) (files : Files) (she
   pub out_cause : WriteCause end out.faults out'.faults out.stalls out'.stalls
   pub told : Told end err.written err'.written err.faults err'.faults err.stalls err'.stalls
 
--- `check FILE CERT` with status 0: FILE is a legal file of the first form, CERT is a certificate for it, each of its patterns is
--- safe, and the output gained the text that says so
+-- `check FILE CERT` with status 0: FILE is a legal file, CERT is a certificate of it, each pattern that it proves is safe, and
+-- the output gained the text that says which these are
 abbrev pub CheckProves : ℕ → List (List ℕ) → Files → Option (List ℕ) → Option (List ℕ) → Type 0
 CheckProves number words files before after =
     (file_name certificate_name : List ℕ) → AsksCheck words file_name certificate_name → number ≡ 0 → CheckWrites status.Done files file_name certificate_name before after
@@ -95,9 +94,9 @@ AreTold files = (told : List ℕ → Option (List ℕ)) × (files ≡ Some told)
 
 -- where the files are told, `check` answers 3, 4 and 0, 6 and 7 aside, wherever these have their cause
 pub record CheckExact (number : ℕ) (files : Files) (file_name certificate_name : List ℕ) : Type 0 where
-  pub file : (trouble : Trouble FileFault) → trouble_number 3 trouble ≡ 3 → Hinders EarlyFileFault file_limit files file_name trouble → IsAside 3 number
-  pub certificate : (trouble : Trouble EarlyFault) → trouble_number 4 trouble ≡ 4 → CertificateHinders files file_name certificate_name trouble → IsAside 4 number
-  pub done : (file : File) → IsFile files file_name file → First file → IsCertificate files certificate_name file → IsAside 0 number
+  pub file : (trouble : Trouble FileFault) → trouble_number 3 trouble ≡ 3 → Hinders FirstFault file_limit files file_name trouble → IsAside 3 number
+  pub certificate : (trouble : Trouble CertFault) → trouble_number 4 trouble ≡ 4 → CertificateHinders files file_name certificate_name trouble → IsAside 4 number
+  pub done : (file : File) (numbers : List ℕ) → IsFile files file_name file → IsCertificate files certificate_name file numbers → IsAside 0 number
 
 -- where the files are told, `replay` answers 3, 4 and 0, 6 and 7 aside, wherever these have their cause
 pub record ReplayExact (number : ℕ) (files : Files) (file_name run_name : List ℕ) : Type 0 where

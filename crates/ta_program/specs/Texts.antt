@@ -2,8 +2,8 @@
 use Rattle.std.specs.Prelude.{ℕ, List, ◌++◌, codes, decimal}
 use Rattle.ta_syntax.specs.declared.fault.FileFault.{FileFault}
 use Rattle.ta_syntax.specs.declared.fault.FileFault.TheVariants as file
-use Rattle.ta_check.specs.declared.fault.EarlyFault.{EarlyFault}
-use Rattle.ta_check.specs.declared.fault.EarlyFault.TheVariants as early
+use Rattle.ta_cert.specs.declared.fault.CertFault.{CertFault}
+use Rattle.ta_cert.specs.declared.fault.CertFault.TheVariants as cert
 use Rattle.ta_replay.specs.declared.fault.RunFault.{RunFault}
 use Rattle.ta_replay.specs.declared.fault.RunFault.TheVariants as run
 
@@ -21,13 +21,23 @@ file_fault_text (file.NotThreshold at) = codes "F9 not a threshold guard at offs
 file_fault_text (file.LoopUpdates rule) = codes "F10 loop with updates at rule " ++ decimal rule
 file_fault_text (file.Cycle rule) = codes "F11 cycle at rule " ++ decimal rule
 file_fault_text (file.NoInitial at) = codes "F12 no initial location at offset " ++ decimal at
-file_fault_text (file.NotYet at) = codes "F13 not yet at offset " ++ decimal at
 file_fault_text file.Memory = codes "out of memory"
 
--- what is wrong in a certificate of the first form
-abbrev pub early_fault_text : EarlyFault → List ℕ
-early_fault_text early.First = codes "C13 not of the first form"
-early_fault_text early.Memory = codes "out of memory"
+-- what is wrong in a certificate; the last two are never told
+abbrev pub cert_fault_text : CertFault → List ℕ
+cert_fault_text (cert.Line line) = codes "C1 malformed at line " ++ decimal line
+cert_fault_text (cert.Truncated line) = codes "C2 truncated at line " ++ decimal line
+cert_fault_text (cert.UnknownPattern line) = codes "C3 unknown pattern at line " ++ decimal line
+cert_fault_text (cert.Row line row) = codes "C4 no row " ++ (decimal row ++ (codes " at line " ++ decimal line))
+cert_fault_text (cert.Positive line unknown) = codes "C5 positive at unknown " ++ (decimal unknown ++ (codes " at line " ++ decimal line))
+cert_fault_text (cert.NotNegative line) = codes "C6 constant not negative at line " ++ decimal line
+cert_fault_text (cert.Overflow line column) = codes "C7 outside 128 bits in column " ++ (decimal column ++ (codes " at line " ++ decimal line))
+cert_fault_text (cert.ExtendComplete line) = codes "C8 extension of a complete word at line " ++ decimal line
+cert_fault_text (cert.SplitVariable line) = codes "C9 no such unknown at line " ++ decimal line
+cert_fault_text (cert.Trailing line) = codes "C10 trailing text at line " ++ decimal line
+cert_fault_text (cert.RepeatedPattern line) = codes "C11 repeated pattern at line " ++ decimal line
+cert_fault_text cert.Failed = codes "C12 failed"
+cert_fault_text cert.Memory = codes "out of memory"
 
 -- what is wrong in a run
 abbrev pub run_fault_text : RunFault → List ℕ

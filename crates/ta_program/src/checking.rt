@@ -1,24 +1,23 @@
 //! The command `check`.
 #![tactic(auto)]
 
-ghost use Rattle.std.specs.Prelude.{◌≡◌, IfOk, IfErr, OnOk};
+ghost use Rattle.std.specs.Prelude.{◌≡◌, IfOk, IfErr};
 ghost use Rattle.std.specs.String.{string_bytes};
-ghost use Rattle.ta_automaton.specs.First.{First};
-ghost use Rattle.ta_check.specs.First.{AllSafe};
-ghost use Rattle.ta_program.specs.Check.{CertificateFault, CertificateSays, CheckSays, EarlyFileFault, IsCertificate, IsFile, check_text, proved_lines};
+ghost use Rattle.ta_check.specs.Certificate.{AllSafe};
+ghost use Rattle.ta_program.specs.Check.{CertificateFault, CertificateSays, CheckSays, IsCertificate, check_text, verdict, verdict_lines};
 ghost use Rattle.ta_program.specs.Contents.{Hinders, ReadCause};
-ghost use Rattle.ta_program.specs.Lines.{certificate_limit, file_limit};
+ghost use Rattle.ta_program.specs.Lines.{certificate_limit};
 ghost use Rattle.ta_program.specs.Outcome.{ShelfCause, WriteCause, Wrote};
 
 use crate::reading::{read_legal, read_text};
 use crate::status::{Status, Trouble};
 use crate::writing::write_text;
 use std::alloc::{AllocError, Global};
-use ta_automaton::{File, is_first};
-use ta_check::{EarlyFault, check_first};
+use ta_automaton::File;
+use ta_cert::CertFault;
+use ta_check::Accepted;
 use ta_scope::ScopedFile;
 use ta_shelf::{Shelf, Sink};
-use ta_syntax::FileFault;
 
 /// Reads a file, then a certificate, and writes which patterns are proved.
 pub(crate) fn check<'a, S: Shelf, O: Sink>(
@@ -33,8 +32,8 @@ pub(crate) fn check<'a, S: Shelf, O: Sink>(
     ensures out { WriteCause result (O.faults out.old) (O.faults out.new) (O.stalls out.old) (O.stalls out.new) }
     ensures kept { S.files shelf.new ≡ S.files shelf.old }
 {
-    match read_first(alloc, file_name, shelf) {
-        Ok(scoped) => check_file(alloc, scoped.file(), certificate_name, shelf, out),
+    match read_legal(alloc, file_name, shelf) {
+        Ok(scoped) => check_file(alloc, &scoped, certificate_name, shelf, out),
         Err(trouble) => Status::File {
             name: file_name,
             trouble,
@@ -42,41 +41,21 @@ pub(crate) fn check<'a, S: Shelf, O: Sink>(
     }
 }
 
-/// The file that a name's bytes mean, where they are legal and of the first form.
-fn read_first<S: Shelf>(
-    alloc: Global,
-    name: &str,
-    shelf: &mut S,
-) -> Result<ScopedFile, Trouble<FileFault>>
-    ensures is_file { IfOk result (λ scoped. IsFile (S.files shelf.old) name.now scoped.file) }
-    ensures first { IfOk result (λ scoped. First scoped.file) }
-    ensures hinders { IfErr result (λ trouble. Hinders EarlyFileFault file_limit (S.files shelf.old) name.now trouble) }
-    ensures cause { ReadCause result (S.faults shelf.old) (S.faults shelf.new) }
-    ensures kept { S.files shelf.new ≡ S.files shelf.old }
-{
-    let scoped = read_legal(alloc, name, shelf)?;
-    if !is_first(scoped.file()) {
-        return Err(Trouble::Fault(FileFault::NotYet(0)));
-    }
-    Ok(scoped)
-}
-
-/// Reads a certificate for a file, and writes which patterns are proved.
+/// Reads a certificate of a file, and writes which patterns are proved.
 fn check_file<'a, S: Shelf, O: Sink>(
     alloc: Global,
-    file: &File,
+    scoped: &ScopedFile,
     certificate_name: &'a str,
     shelf: &mut S,
     out: &mut O,
 ) -> Status<'a>
-    requires { First file.now }
-    ensures says { CertificateSays result file.now (S.files shelf.old) certificate_name.now (O.written out.old) (O.written out.new) }
+    ensures says { CertificateSays result scoped.now.file (S.files shelf.old) certificate_name.now (O.written out.old) (O.written out.new) }
     ensures shelf { ShelfCause result (S.faults shelf.old) (S.faults shelf.new) }
     ensures out { WriteCause result (O.faults out.old) (O.faults out.new) (O.stalls out.old) (O.stalls out.new) }
     ensures kept { S.files shelf.new ≡ S.files shelf.old }
 {
-    match read_certificate(alloc, file, certificate_name, shelf) {
-        Ok(()) => write_proved(alloc, file, out),
+    match read_certificate(alloc, scoped, certificate_name, shelf) {
+        Ok(accepted) => write_proved(alloc, scoped.file(), accepted.patterns.as_slice(), out),
         Err(trouble) => Status::Certificate {
             name: certificate_name,
             trouble,
@@ -87,43 +66,54 @@ fn check_file<'a, S: Shelf, O: Sink>(
 /// Reads a certificate and judges it for a file.
 fn read_certificate<S: Shelf>(
     alloc: Global,
-    file: &File,
+    scoped: &ScopedFile,
     name: &str,
     shelf: &mut S,
-) -> Result<(), Trouble<EarlyFault>>
-    requires { First file.now }
-    ensures accepted { OnOk result (IsCertificate (S.files shelf.old) name.now file.now) }
-    ensures safe { OnOk result (AllSafe file.now) }
-    ensures hinders { IfErr result (λ trouble. Hinders (CertificateFault file.now) certificate_limit (S.files shelf.old) name.now trouble) }
+) -> Result<Accepted, Trouble<CertFault>>
+    ensures accepted { IfOk result (λ accepted. IsCertificate (S.files shelf.old) name.now scoped.now.file accepted.patterns) }
+    ensures safe { IfOk result (λ accepted. AllSafe scoped.now.file accepted.patterns) }
+    ensures hinders { IfErr result (λ trouble. Hinders (CertificateFault scoped.now.file) certificate_limit (S.files shelf.old) name.now trouble) }
     ensures cause { ReadCause result (S.faults shelf.old) (S.faults shelf.new) }
     ensures kept { S.files shelf.new ≡ S.files shelf.old }
 {
     let bytes = read_text(alloc, name, 67_108_864, shelf)?;
-    match check_first(alloc, file, bytes.as_slice()) {
-        Ok(_) => Ok(()),
-        Err(EarlyFault::First) => Err(Trouble::Fault(EarlyFault::First)),
-        Err(EarlyFault::Memory) => Err(Trouble::Memory),
+    match ta_check::check(alloc, scoped, bytes.as_slice()) {
+        Ok(accepted) => Ok(accepted),
+        Err(CertFault::Memory) => Err(Trouble::Memory),
+        Err(fault) => Err(Trouble::Fault(fault)),
     }
 }
 
-/// Writes that each pattern of a file is proved.
-fn write_proved<'a, O: Sink>(alloc: Global, file: &File, out: &mut O) -> Status<'a>
-    ensures wrote { Wrote result (check_text file.now) (O.written out.old) (O.written out.new) }
+/// Writes which patterns of a file are proved: those of these numbers.
+fn write_proved<'a, O: Sink>(alloc: Global, file: &File, numbers: &[u32], out: &mut O) -> Status<'a>
+    ensures wrote { Wrote result (check_text file.now numbers.now) (O.written out.old) (O.written out.new) }
     ensures cause { WriteCause result (O.faults out.old) (O.faults out.new) (O.stalls out.old) (O.stalls out.new) }
 {
-    match proved_text(alloc, file) {
+    match proved_text(alloc, file, numbers) {
         Ok(text) => write_text(out, text.as_str()),
         Err(AllocError) => Status::Memory,
     }
 }
 
-/// The text where each pattern of a file is proved.
-fn proved_text(alloc: Global, file: &File) -> Result<String, AllocError>
-    ensures { IfOk result (λ text. string_bytes text ≡ check_text file.now) }
+/// The text that says which patterns of a file are proved: those of these numbers.
+fn proved_text(alloc: Global, file: &File, numbers: &[u32]) -> Result<String, AllocError>
+    ensures { IfOk result (λ text. string_bytes text ≡ check_text file.now numbers.now) }
 {
     let mut text = format!(in alloc; "automaton {}\n", file.automaton.name.as_str())?;
-    for pattern in file.patterns.as_slice() {
-        write!(text, "pattern {}: proved\n", pattern.name.as_str())?;
+    for (number, pattern) in file.patterns.as_slice().iter().enumerate() {
+        let verdict = verdict_of(numbers, number as u32);
+        write!(text, "pattern {}: {verdict}\n", pattern.name.as_str())?;
     }
     Ok(text)
+}
+
+/// The word for the pattern of a number, where those of `numbers` are proved.
+fn verdict_of(numbers: &[u32], number: u32) -> &'static str
+    ensures { result.now ≡ verdict numbers.now number }
+{
+    if numbers.contains(&number) {
+        "proved"
+    } else {
+        "not proved"
+    }
 }

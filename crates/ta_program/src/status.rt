@@ -5,7 +5,7 @@ ghost use Rattle.std.specs.Prelude.{◌≡◌};
 ghost use Rattle.ta_program.specs.declared.status.Trouble.{Trouble as AnyTrouble};
 ghost use Rattle.ta_program.specs.Troubles.{trouble_of, trouble_number};
 
-use ta_check::EarlyFault;
+use ta_cert::CertFault;
 use ta_replay::RunFault;
 use ta_shelf::WholeFault;
 use ta_syntax::FileFault;
@@ -66,7 +66,7 @@ pub enum Status<'a> {
     /// CERT hinders.
     Certificate {
         name: &'a str,
-        trouble: Trouble<EarlyFault>,
+        trouble: Trouble<CertFault>,
     },
     /// RUN hinders.
     Run {

@@ -32,9 +32,28 @@ const TWO: &str =
 const EDGE: &str =
     "automaton edge; parameters t; shared x; locations A initial, B; processes 1; resilience t >= 1; rule both: A -> B when x < t, 2*x < 2*t + 1 do x += 2; pattern turned { event done: B >= 1, x > t; }";
 
+const FAMILY: &str =
+    "automaton family1; parameters n; shared x1; locations A initial, B; processes n; resilience n >= 1; rule s1: A -> B do x1 += 1; rule g1: A -> B when x1 >= 1; pattern lost { event lost: A + B >= n + 1; }";
+
+const WEAK: &str =
+    "automaton st; parameters n, t, f; shared nsnt; locations V0 initial, V1 initial, SE, AC; processes n - f; resilience n >= 2*t, t >= f; rule send: V1 -> SE do nsnt += 1; rule echo: V0 -> SE when nsnt >= t + 1 - f do nsnt += 1; rule accept0: V0 -> AC when nsnt >= n - t - f do nsnt += 1; rule accept1: V1 -> AC when nsnt >= n - t - f do nsnt += 1; rule accept: SE -> AC when nsnt >= n - t - f; pattern unforgeability { start V1 == 0; event accepted: AC >= 1; }";
+
+const CLOSED: &str =
+    "automaton closed; parameters n, t; shared x; locations A initial, B; processes n; resilience n > 3*t; rule r: A -> B when x < t - n do x += 1; pattern reached { event done: B >= 1; }";
+
+const BOTH: &str =
+    "automaton both; parameters n; shared; locations A initial, B; processes n; resilience n >= 1; rule r: A -> B; pattern one { event done: A + B >= n + 1; } pattern two { event done: A + B >= n + 2; }";
+
 const CERT: &str = "threshold-certificate 1\npattern 0\ne\nf 1:1 5:1\nend\n";
 
 const PROVED: &str = "automaton first\npattern reached: proved\n";
+
+const PROVED_FAMILY: &str = "automaton family1\npattern lost: proved\n";
+
+const PROVED_ST: &str = "automaton st\npattern unforgeability: proved\n";
+
+const CERT_ST: &str =
+    "threshold-certificate 1\npattern 0\ne\nf 10:1\nf 1:1 5:1 7:1 10:1\nf 0:1 1:1 5:1 7:1 10:1\nend\n";
 
 const USAGE: &str =
     "tav: usage: verify FILE [--nodes N] [--certificate OUT] [--json], check FILE CERT, replay FILE RUN, compress FILE RUN, bench K\n";
@@ -118,20 +137,21 @@ fn checks_files(rt: HostRuntime) -> Result<(), Fail> {
             &["check", "first", "cert"],
             4,
             "",
-            "tav: cert: C13 not of the first form\n",
+            "tav: cert: C5 positive at unknown 0 at line 4\n",
         ),
         (
             &["check", "st", "cert"],
-            3,
+            4,
             "",
-            "tav: st: F13 not yet at offset 0\n",
+            "tav: cert: C5 positive at unknown 1 at line 4\n",
         ),
         (
-            &["check", "pair", "gone"],
-            3,
+            &["check", "pair", "cert"],
+            4,
             "",
-            "tav: pair: F13 not yet at offset 0\n",
+            "tav: cert: C5 positive at unknown 0 at line 4\n",
         ),
+        (&["check", "pair", "gone"], 4, "", "tav: gone: missing\n"),
         (
             &["check", "empty", "cert"],
             3,
@@ -179,6 +199,160 @@ fn checks_files(rt: HostRuntime) -> Result<(), Fail> {
         };
         let words = ["check", "kept", "cert"];
         expect(&rt, alloc, &files, &setting, &words, 6, text, line)?;
+    }
+    Ok(())
+}
+
+#[test]
+fn judges_certificates(rt: HostRuntime) -> Result<(), Fail> {
+    let alloc = rt.alloc();
+    let rows = [
+        (
+            FAMILY,
+            "threshold-certificate 1\npattern 0\ne\nf 1:1 5:1\ne\nf 1:1 8:1\nend\n",
+            0,
+            PROVED_FAMILY,
+            "",
+        ),
+        (
+            FAMILY,
+            "threshold-certificate 1\npattern 0\ne\nf 1:1 5:1\nend\n",
+            4,
+            "",
+            "tav: cert: C1 malformed at line 5\n",
+        ),
+        (
+            FAMILY,
+            "threshold-certificate 1\npattern 0\ns 0 0\nf 0:1 3:1\ne\nf 1:1 5:1\ne\nf 1:1 8:1\nend\n",
+            0,
+            PROVED_FAMILY,
+            "",
+        ),
+        (
+            FAMILY,
+            "threshold-certificate 1\npattern 0\ns 5 0\nf 0:1 3:1\ne\nf 1:1 5:1\ne\nf 1:1 8:1\nend\n",
+            4,
+            "",
+            "tav: cert: C9 no such unknown at line 3\n",
+        ),
+        (
+            FAMILY,
+            "threshold-certificate 1\npattern 0\ne\ne\ne\nf 1:1 8:1\nend\n",
+            4,
+            "",
+            "tav: cert: C8 extension of a complete word at line 4\n",
+        ),
+        (
+            KEPT,
+            "threshold-certificate 1\npattern 0\ne\nf 0:170141183460469231731687303715884105727 1:170141183460469231731687303715884105727\nend\n",
+            4,
+            "",
+            "tav: cert: C7 outside 128 bits in column 0 at line 4\n",
+        ),
+        (
+            KEPT,
+            "threshold-certificate 1\npattern 0\ne\nf 1:170141183460469231731687303715884105727 5:170141183460469231731687303715884105727\nend\n",
+            0,
+            PROVED,
+            "",
+        ),
+        (
+            KEPT,
+            "threshold-certificate 1\npattern 0\ne\nf 1:1 5:2\nend\n",
+            4,
+            "",
+            "tav: cert: C5 positive at unknown 1 at line 4\n",
+        ),
+        (
+            KEPT,
+            "threshold-certificate 1\npattern 0\ne\n",
+            4,
+            "",
+            "tav: cert: C2 truncated at line 4\n",
+        ),
+        (
+            KEPT,
+            "threshold-certificate 1\npattern 0\ne\nf 1:1 5:1\nend\ne\n",
+            4,
+            "",
+            "tav: cert: C10 trailing text at line 6\n",
+        ),
+        (
+            KEPT,
+            "threshold-certificate 1\npattern 1\ne\nf 1:1 5:1\nend\n",
+            4,
+            "",
+            "tav: cert: C3 unknown pattern at line 2\n",
+        ),
+        (
+            KEPT,
+            "threshold-certificate 1\npattern 0\ne\nf 1:1 5:1\npattern 0\ne\nf 1:1 5:1\nend\n",
+            4,
+            "",
+            "tav: cert: C11 repeated pattern at line 5\n",
+        ),
+        (
+            KEPT,
+            "threshold-certificate 1\nend\n",
+            0,
+            "automaton first\npattern reached: not proved\n",
+            "",
+        ),
+        (
+            KEPT,
+            "threshold-certificate 1\npattern 0\ne\nf 5:1\nend\n",
+            4,
+            "",
+            "tav: cert: C5 positive at unknown 1 at line 4\n",
+        ),
+        (
+            KEPT,
+            "threshold-certificate 1\npattern 0\ne\nf 0:1 9:1\nend\n",
+            4,
+            "",
+            "tav: cert: C4 no row 9 at line 4\n",
+        ),
+        (
+            KEPT,
+            "threshold-certificate 1\npattern 0\ne\nf 1:1 2:1\nend\n",
+            4,
+            "",
+            "tav: cert: C6 constant not negative at line 4\n",
+        ),
+        (ST, CERT_ST, 0, PROVED_ST, ""),
+        (
+            WEAK,
+            CERT_ST,
+            4,
+            "",
+            "tav: cert: C6 constant not negative at line 6\n",
+        ),
+        (
+            CLOSED,
+            "threshold-certificate 1\npattern 0\nf 0:1 3:1\ne\nf 6:1\nend\n",
+            0,
+            "automaton closed\npattern reached: proved\n",
+            "",
+        ),
+        (
+            CLOSED,
+            "threshold-certificate 1\npattern 0\nf 0:1 3:1\nend\n",
+            4,
+            "",
+            "tav: cert: C1 malformed at line 4\n",
+        ),
+        (
+            BOTH,
+            "threshold-certificate 1\npattern 1\ne\nf 1:1 5:1\nend\n",
+            0,
+            "automaton both\npattern one: not proved\npattern two: proved\n",
+            "",
+        ),
+    ];
+    let words = ["check", "file", "cert"];
+    for (file, certificate, number, text, line) in rows {
+        let files = [("file", file), ("cert", certificate)];
+        expect(&rt, alloc, &files, &CALM, &words, number, text, line)?;
     }
     Ok(())
 }

@@ -3,10 +3,10 @@
 
 ghost use Rattle.std.specs.Prelude.{◌≡◌, IfOk, List, ℕ};
 ghost use Rattle.std.specs.String.{string_bytes};
-ghost use Rattle.ta_program.specs.Texts.{early_fault_text, file_fault_text, run_fault_text};
+ghost use Rattle.ta_program.specs.Texts.{cert_fault_text, file_fault_text, run_fault_text};
 
 use std::alloc::{AllocError, Global};
-use ta_check::EarlyFault;
+use ta_cert::CertFault;
 use ta_replay::RunFault;
 use ta_syntax::FileFault;
 
@@ -41,19 +41,43 @@ impl Worded for FileFault {
             ),
             FileFault::Cycle(rule) => format!(in alloc; "F11 cycle at rule {rule}"),
             FileFault::NoInitial(at) => format!(in alloc; "F12 no initial location at offset {at}"),
-            FileFault::NotYet(at) => format!(in alloc; "F13 not yet at offset {at}"),
             FileFault::Memory => format!(in alloc; "out of memory"),
         }
     }
 }
 
-impl Worded for EarlyFault {
-    ghost words = { λ fault. early_fault_text fault };
+impl Worded for CertFault {
+    ghost words = { λ fault. cert_fault_text fault };
 
     fn worded(&self, alloc: Global) -> Result<String, AllocError> {
         match self {
-            EarlyFault::First => format!(in alloc; "C13 not of the first form"),
-            EarlyFault::Memory => format!(in alloc; "out of memory"),
+            CertFault::Line(line) => format!(in alloc; "C1 malformed at line {line}"),
+            CertFault::Truncated(line) => format!(in alloc; "C2 truncated at line {line}"),
+            CertFault::UnknownPattern(line) => format!(in alloc;
+                "C3 unknown pattern at line {line}"
+            ),
+            CertFault::Row { line, row } => format!(in alloc; "C4 no row {row} at line {line}"),
+            CertFault::Positive { line, unknown } => format!(in alloc;
+                "C5 positive at unknown {unknown} at line {line}"
+            ),
+            CertFault::NotNegative(line) => format!(in alloc;
+                "C6 constant not negative at line {line}"
+            ),
+            CertFault::Overflow { line, column } => format!(in alloc;
+                "C7 outside 128 bits in column {column} at line {line}"
+            ),
+            CertFault::ExtendComplete(line) => format!(in alloc;
+                "C8 extension of a complete word at line {line}"
+            ),
+            CertFault::SplitVariable(line) => format!(in alloc;
+                "C9 no such unknown at line {line}"
+            ),
+            CertFault::Trailing(line) => format!(in alloc; "C10 trailing text at line {line}"),
+            CertFault::RepeatedPattern(line) => format!(in alloc;
+                "C11 repeated pattern at line {line}"
+            ),
+            CertFault::Failed => format!(in alloc; "C12 failed"),
+            CertFault::Memory => format!(in alloc; "out of memory"),
         }
     }
 }

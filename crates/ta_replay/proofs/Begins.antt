@@ -19,6 +19,7 @@ use Rattle.ta_counter.specs.Configs.{config_of, naturals}
 use Rattle.ta_counter.specs.Starts.{StartsAt}
 use Rattle.ta_counter.proofs.Models.{naturals_at}
 use Rattle.ta_counter.proofs.Rows.{holds_from}
+use Rattle.ta_counter.proofs.Starting.{in_or_not, not_contained}
 use Rattle.ta_pattern.specs.Empty.{KeepsEmpty}
 use Rattle.ta_pattern.proofs.Agreeing.{holds_there, counter_there}
 use Rattle.ta_replay.specs.declared.run.Run.{Run}
@@ -29,26 +30,6 @@ use Rattle.ta_replay.specs.declared.fault.RunFault.TheVariants.{Line, Name, Resi
 use Rattle.ta_replay.specs.Replays.{ValuesAfter, NoneFilled, FirstFilled}
 use Rattle.ta_replay.specs.ReplayFaults.{ConfigRefuses, StartRefuses, FirstRefusal}
 use Rattle.ta_replay.specs.Following.{FitsPattern, Following, StartsWith}
-
-abbrev pub NotIn : List ℕ → ℕ → Type 0
-NotIn ls l = (j : ℕ) → slice_get ls j ≡ Some l → ⊥
-
--- whether a number is in a list
-pub in_or_not : (ls : List ℕ) (l : ℕ) → ((j : ℕ) × (slice_get ls j ≡ Some l)) ⊎ NotIn ls l
-in_or_not [] l = inr (λ j e. absurd (cc))
-in_or_not (x ∷ xs) l = elim (eqb_tells x l) [
-  | inl same ↦ inl (0, ap Some same.1)
-  | inr other ↦ elim (in_or_not xs l) [
-    | inl w ↦ inl (suc w.0, w.1)
-    | inr none ↦ inr (λ j e. neither x xs l other.1 none j e)
-  ]
-] where
-  neither : (x : ℕ) (ls : List ℕ) (l : ℕ) → (x ≡ l → ⊥) → NotIn ls l → NotIn (x ∷ ls) l
-  neither x ls l h none zero e = h (same_Some x l e)
-  neither x ls l h none (suc j) e = none j e
-
-pub not_contained : (ls : List ℕ) (l : ℕ) → NotIn ls l → ¬ Contains ls l
-not_contained ls l none c = none c.0 (slice_get-get_or ls c.0 l c.1 ∙ ap Some c.2)
 
 natural_same : (m n : ℕ) → pos m ≡ pos n → m ≡ n
 natural_same m n h = omega (arith, ints)

@@ -45,9 +45,6 @@ pub enum FileFault {
     /// F12: no location is initial.
     #[error("NoInitial")]
     NoInitial(u32),
-    /// F13: a form that is not judged yet.
-    #[error("NotYet")]
-    NotYet(u32),
     /// There was no memory.
     #[error("Memory")]
     Memory,

@@ -6,17 +6,17 @@ use std::alloc::Global;
 /// What is printed of a text's tree.
 fn printed_again(alloc: Global, bytes: &[u8]) -> Result<Text, FileFault> {
     if bytes.len() > 1_048_576 {
-        return Err(FileFault::NotYet(0));
+        return Err(FileFault::Memory);
     }
     let tree = read_tree(alloc, bytes)?;
     let text = print_tree(alloc, &tree)?;
     if text.as_str().len() > 1_048_576 {
-        return Err(FileFault::NotYet(0));
+        return Err(FileFault::Memory);
     }
     let same = print_then_read(alloc, &tree)?;
     let again = print_tree(alloc, &same)?;
     if again.as_str() != text.as_str() {
-        return Err(FileFault::NotYet(1));
+        return Err(FileFault::Memory);
     }
     Ok(text)
 }

@@ -8,7 +8,7 @@ use std::test::Fail;
 /// The fault of a text, or none.
 fn fault_of(alloc: Global, bytes: &[u8]) -> Option<FileFault> {
     if bytes.len() > 1_048_576 {
-        return Some(FileFault::NotYet(0));
+        return Some(FileFault::Memory);
     }
     match read_tree(alloc, bytes) {
         Ok(_) => None,

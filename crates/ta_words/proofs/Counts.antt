@@ -96,7 +96,7 @@ in_passed f test k n e h =
     (mapped.0, mapped.2, kept.0, within.0, within.1)
 
 -- a child is an event that is ready, a rise guard that is not in the word, or a set of standing fall guards
-in_children : (a : Automaton) (p : Pattern) (start : ℕ) (past : List Element) (e : Element) → In e (children a p start past)
+pub in_children : (a : Automaton) (p : Pattern) (start : ℕ) (past : List Element) (e : Element) → In e (children a p start past)
     → ((x : ℕ) × (e ≡ Event x) × (is_ready p past x ≡ true) × (0 ≤ x) × (x < 0 + length p.events))
     ⊎ (((x : ℕ) × (e ≡ Rise x) × (not (has_rise past x) ≡ true) × (0 ≤ x) × (x < 0 + length a.rise))
     ⊎ ((x : ℕ) × (e ≡ Fall x) × (is_standing a start past x ≡ true) × (1 ≤ x) × (x < 1 + (2 ^ length a.fall - 1))))
@@ -117,22 +117,35 @@ in_children a p start past e h =
 abbrev weight : Automaton → Pattern → ℕ → List Element → ℕ
 weight a p start past = count (has_event past) (length p.events) + (count (has_rise past) (length a.rise) + count (has_fallen start past) (length a.fall))
 
-event_weighs : (a : Automaton) (p : Pattern) (start : ℕ) (past : List Element) (x : ℕ) → is_ready p past x ≡ true → x < length p.events → weight a p start past + 1 ≤ weight a p start (Event x ∷ past)
-unfolding has_event has_rise has_fallen
-event_weighs a p start past x ready b =
-    omega (arith, count_new (has_event past) (has_event (Event x ∷ past)) (length p.events) x (λ j t. or_right (x == j) (has_event past j) t) b (true_not (has_event past x) (and_parts _ _ ready).0) (or_left (x == x) (has_event past x) (eq-eqb x x refl)))
+-- a child's event is new to a word, and so is its rise guard, or a fall guard of its set
+pub event_new : (p : Pattern) (past : List Element) (x : ℕ) → is_ready p past x ≡ true → x < length p.events → count (has_event past) (length p.events) + 1 ≤ count (has_event (Event x ∷ past)) (length p.events)
+unfolding has_event
+event_new p past x ready b =
+    count_new (has_event past) (has_event (Event x ∷ past)) (length p.events) x (λ j t. or_right (x == j) (has_event past j) t) b (true_not (has_event past x) (and_parts _ _ ready).0) (or_left (x == x) (has_event past x) (eq-eqb x x refl))
 
-rise_weighs : (a : Automaton) (p : Pattern) (start : ℕ) (past : List Element) (x : ℕ) → not (has_rise past x) ≡ true → x < length a.rise → weight a p start past + 1 ≤ weight a p start (Rise x ∷ past)
-unfolding has_event has_rise has_fallen
-rise_weighs a p start past x new b =
-    omega (arith, count_new (has_rise past) (has_rise (Rise x ∷ past)) (length a.rise) x (λ j t. or_right (x == j) (has_rise past j) t) b (true_not (has_rise past x) new) (or_left (x == x) (has_rise past x) (eq-eqb x x refl)))
+pub rise_new : (a : Automaton) (past : List Element) (x : ℕ) → not (has_rise past x) ≡ true → x < length a.rise → count (has_rise past) (length a.rise) + 1 ≤ count (has_rise (Rise x ∷ past)) (length a.rise)
+unfolding has_rise
+rise_new a past x new b =
+    count_new (has_rise past) (has_rise (Rise x ∷ past)) (length a.rise) x (λ j t. or_right (x == j) (has_rise past j) t) b (true_not (has_rise past x) new) (or_left (x == x) (has_rise past x) (eq-eqb x x refl))
 
-fall_weighs : (a : Automaton) (p : Pattern) (start : ℕ) (past : List Element) (x : ℕ) → is_standing a start past x ≡ true → 1 ≤ x → x < 2 ^ length a.fall → weight a p start past + 1 ≤ weight a p start (Fall x ∷ past)
-unfolding has_event has_rise has_fallen
-fall_weighs a p start past x standing least most =
+pub fall_new : (a : Automaton) (start : ℕ) (past : List Element) (x : ℕ) → is_standing a start past x ≡ true → 1 ≤ x → x < 2 ^ length a.fall → count (has_fallen start past) (length a.fall) + 1 ≤ count (has_fallen start (Fall x ∷ past)) (length a.fall)
+unfolding has_fallen
+fall_new a start past x standing least most =
     let bit = some_bit x (length a.fall) least most in
     let left = implies-at (has_bit x bit.0) (not (has_fallen start past bit.0)) (all_below-at (length a.fall) (λ j. implies (has_bit x j) (not (has_fallen start past j))) standing bit.0 bit.1) bit.2 in
-    omega (arith, count_new (has_fallen start past) (has_fallen start (Fall x ∷ past)) (length a.fall) bit.0 (λ j t. or_right (has_bit x j) (has_fallen start past j) t) bit.1 (true_not (has_fallen start past bit.0) left) (or_left (has_bit x bit.0) (has_fallen start past bit.0) bit.2))
+    count_new (has_fallen start past) (has_fallen start (Fall x ∷ past)) (length a.fall) bit.0 (λ j t. or_right (has_bit x j) (has_fallen start past j) t) bit.1 (true_not (has_fallen start past bit.0) left) (or_left (has_bit x bit.0) (has_fallen start past bit.0) bit.2)
+
+event_weighs : (a : Automaton) (p : Pattern) (start : ℕ) (past : List Element) (x : ℕ) → is_ready p past x ≡ true → x < length p.events → weight a p start past + 1 ≤ weight a p start (Event x ∷ past)
+unfolding has_rise has_fallen
+event_weighs a p start past x ready b = omega (arith, event_new p past x ready b)
+
+rise_weighs : (a : Automaton) (p : Pattern) (start : ℕ) (past : List Element) (x : ℕ) → not (has_rise past x) ≡ true → x < length a.rise → weight a p start past + 1 ≤ weight a p start (Rise x ∷ past)
+unfolding has_event has_fallen
+rise_weighs a p start past x new b = omega (arith, rise_new a past x new b)
+
+fall_weighs : (a : Automaton) (p : Pattern) (start : ℕ) (past : List Element) (x : ℕ) → is_standing a start past x ≡ true → 1 ≤ x → x < 2 ^ length a.fall → weight a p start past + 1 ≤ weight a p start (Fall x ∷ past)
+unfolding has_event has_rise
+fall_weighs a p start past x standing least most = omega (arith, fall_new a start past x standing least most)
 
 pub legal_weight : (a : Automaton) (p : Pattern) (start : ℕ) (past : List Element) → Legal a p start past → length past ≤ weight a p start past
 legal_weight a p start [] h = omega arith

@@ -70,7 +70,9 @@ pub const WIDE_EDGE: &str =
     "automaton edge; parameters t; shared x; locations A initial, B; processes 2; \
     resilience t >= 1; rule both: A -> B when x < t, 2*x < 2*t + 1 do x += 2;";
 
-/// Two guards that imply each other, the first of them in two spellings.
+/// Two guards that imply each other, the first of them in three spellings; then a guard whose
+/// variable cancels, and one with the variable on both sides.
 pub const SPELLINGS: &str =
     "automaton s; parameters n; shared x; locations A initial; processes n; \
-    resilience; rule r: A -> A when x >= 1, 2*x >= 2, 1 <= x; rule s: A -> A when 0 < x;";
+    resilience; rule r: A -> A when x >= 1, 2*x >= 2, 1 <= x; rule s: A -> A when 0 < x; \
+    rule t: A -> A when x - x >= 0, 2*x >= x;";

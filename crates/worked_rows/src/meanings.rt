@@ -145,8 +145,11 @@ fn meanings(rt: HostRuntime) -> Result<(), Fail> {
              resilience\n\
              rise -1 1:1\n\
              rise -2 1:2\n\
+             rise 0\n\
+             rise 0 1:1\n\
              rule r 0 0 3 0\n\
-             rule s 0 0 1 0\n",
+             rule s 0 0 1 0\n\
+             rule t 0 0 12 0\n",
         ),
     ];
     for (text, wanted) in rows {

@@ -1,0 +1,40 @@
+-- Certificates of a file (Farkas' lemma and integer branching over the words of this project's profile)
+use Rattle.std.specs.Prelude.{ℕ, ◌≡◌, List, map, slice_get, Some}
+use Rattle.ta_automaton.specs.declared.file.File.{File}
+use Rattle.ta_automaton.specs.declared.pattern.Pattern.{Pattern}
+use Rattle.ta_automaton.specs.Lists.{Each, Distinct}
+use Rattle.ta_automaton.specs.Runs.{Safe}
+use Rattle.ta_cert.specs.Tree.{Tree}
+use Rattle.ta_cert.specs.Laws.{AreShort}
+use Rattle.ta_cert.specs.Certificates.{AreWritable, CertText, cert_lines, proofs_of}
+use Rattle.ta_encode.specs.Refutes.{ProofBy}
+use Rattle.ta_cursor.specs.Range.{Judged}
+
+-- trees that prove the file's pattern of a number, no leaf check of which leaves the range
+pub record ProvesPattern (file : File) (numbered : ℕ × List Tree) : Type 0 where
+  pub pattern : Pattern
+  pub named : slice_get file.patterns numbered.0 ≡ Some pattern
+  pub proves : ProofBy Judged file.automaton pattern numbered.1
+
+abbrev pub number_of : (ℕ × List Tree) → ℕ
+number_of numbered = numbered.0
+
+-- the text of proofs of distinct patterns of the file, with these numbers in its order; no line is longer than a reader takes
+pub record Certificate (file : File) (text : List ℕ) (numbers : List ℕ) : Type 0 where
+  pub proofs : List (ℕ × List Tree)
+  pub written : text ≡ CertText proofs
+  pub legal : AreWritable (proofs_of proofs)
+  pub short : AreShort (cert_lines (proofs_of proofs))
+  pub prove : Each (ProvesPattern file) proofs
+  pub named : numbers ≡ map number_of proofs
+  pub distinct : Distinct numbers
+
+-- the file's pattern of a number occurs in no run, for any admissible parameters
+pub record PatternSafe (file : File) (number : ℕ) : Type 0 where
+  pub pattern : Pattern
+  pub named : slice_get file.patterns number ≡ Some pattern
+  pub safe : Safe file.automaton pattern
+
+-- so are all of these
+abbrev pub AllSafe : File → List ℕ → Type 0
+AllSafe file numbers = Each (PatternSafe file) numbers

@@ -1,0 +1,98 @@
+-- The first fault of a text that is no certificate of a file
+use Rattle.std.specs.Prelude.{ℕ, ◌≡◌, ◌≢◌, ◌≤◌, ◌⊎◌, true, List, [], ◌∷◌, ◌++◌, length, ℤ}
+use Rattle.ta_linear.specs.declared.row.System.{System}
+use Rattle.ta_automaton.specs.declared.automaton.Automaton.{Automaton}
+use Rattle.ta_automaton.specs.declared.file.File.{File}
+use Rattle.ta_automaton.specs.declared.pattern.Pattern.{Pattern}
+use Rattle.ta_automaton.specs.Masks.{In}
+use Rattle.ta_cert.specs.declared.line.Line.{Line}
+use Rattle.ta_cert.specs.declared.line.Line.TheVariants as line
+use Rattle.ta_cert.specs.declared.line.Node.TheVariants as node
+use Rattle.ta_cert.specs.declared.fault.CertFault.{CertFault}
+use Rattle.ta_cert.specs.declared.fault.CertFault.TheVariants as fault
+use Rattle.ta_cert.specs.Lines.{lines_text}
+use Rattle.ta_cert.specs.Streams.{AreLines, IsMalformed, IsTrailing, IsTruncated, line_number}
+use Rattle.ta_words.specs.Words.{is_complete}
+use Rattle.ta_encode.specs.Unknowns.{meanings}
+use Rattle.ta_encode.specs.Code.{SystemOf}
+use Rattle.ta_encode.specs.InPreorder.{Pending}
+use Rattle.ta_farkas.specs.Faults.{IsFirstFault as IsFirstLeafFault}
+use Rattle.ta_farkas.specs.declared.LeafFault.{LeafFault}
+use Rattle.ta_farkas.specs.declared.LeafFault.TheVariants as leaf
+use Rattle.ta_check.specs.Lines.{Standing, AtWord, at_first, LeadThrough, MayFollow}
+
+-- a line of a form that can't follow: a node where no word is left, or anything else where one is
+abbrev pub IsMisplaced : Standing → Line → Type 0
+IsMisplaced s line.Header = ⊥
+IsMisplaced s (line.Pattern number) = s.pending ≢ []
+IsMisplaced s (line.Tree node) = s.pending ≡ []
+IsMisplaced s line.End = s.pending ≢ []
+
+-- a pattern's line where one may follow
+pub record IsPatternLine (s : Standing) (l : Line) (number : ℕ) : Type 0 where
+  pub is : l ≡ line.Pattern number
+  pub done : s.pending ≡ []
+
+-- at the first word that is left
+pub record AtSomeWord (file : File) (s : Standing) (fact : Pattern → Pending → Type 0) : Type 0 where
+  pub pattern : Pattern
+  pub word : Pending
+  pub words : List Pending
+  pub at : AtWord file s pattern word words
+  pub holds : fact pattern word
+
+-- the split of an unknown that the word's system doesn't have
+pub record SplitsUnknown (file : File) (s : Standing) (l : Line) : Type 0 where
+  pub unknown : ℕ
+  pub floor : ℤ
+  pub is : l ≡ line.Tree (node.Split unknown floor)
+  pub at : AtSomeWord file s (λ p w. length (meanings file.automaton p w.start w.past) ≤ unknown)
+
+-- the first fault of multipliers over the system of a word: rows before columns, the columns by rising unknown and the
+-- constants last, and a column's range before its sign
+pub record FirstLeafFault (a : Automaton) (p : Pattern) (w : Pending) (ts : List (ℕ × ℤ)) (f : LeafFault) : Type 0 where
+  pub system : System
+  pub is : SystemOf a p w.start w.past w.bounds system
+  pub first : IsFirstLeafFault system ts f
+
+-- a leaf with this first fault
+pub record LeafFails (file : File) (s : Standing) (l : Line) (f : LeafFault) : Type 0 where
+  pub multipliers : List (ℕ × ℤ)
+  pub is : l ≡ line.Tree (node.Leaf multipliers)
+  pub at : AtSomeWord file s (λ p w. FirstLeafFault file.automaton p w multipliers f)
+
+-- why a line of this number can't follow
+abbrev pub IsAtFault : File → Standing → ℕ → Line → CertFault → Type 0
+IsAtFault file s number l (fault.Line n) = (n ≡ number) × IsMisplaced s l
+IsAtFault file s number l (fault.UnknownPattern n) = (n ≡ number) × (k : ℕ) × IsPatternLine s l k × (length file.patterns ≤ k)
+IsAtFault file s number l (fault.RepeatedPattern n) = (n ≡ number) × (k : ℕ) × IsPatternLine s l k × In k s.begun
+IsAtFault file s number l (fault.ExtendComplete n) = (n ≡ number) × (l ≡ line.Tree node.Extend) × AtSomeWord file s (λ p w. is_complete p w.past ≡ true)
+IsAtFault file s number l (fault.SplitVariable n) = (n ≡ number) × SplitsUnknown file s l
+IsAtFault file s number l (fault.Row n row) = (n ≡ number) × LeafFails file s l (leaf.RowNumber row)
+IsAtFault file s number l (fault.Overflow n column) = (n ≡ number) × LeafFails file s l (leaf.Overflow column)
+IsAtFault file s number l (fault.Positive n unknown) = (n ≡ number) × LeafFails file s l (leaf.Positive unknown)
+IsAtFault file s number l (fault.NotNegative n) = (n ≡ number) × LeafFails file s l leaf.NotNegative
+IsAtFault file s number l _ = ⊥
+
+-- a line that has its form and can't follow those before it, each of which may follow those before it
+pub record LineAtFault (file : File) (text : List ℕ) (f : CertFault) : Type 0 where
+  pub ls : List Line
+  pub line : Line
+  pub after : List ℕ
+  pub whole : text ≡ lines_text (ls ++ line ∷ []) ++ after
+  pub legal : AreLines (ls ++ line ∷ [])
+  pub standing : Standing
+  pub leads : LeadThrough file at_first ls standing
+  pub at_fault : IsAtFault file standing (line_number (length ls)) line f
+
+-- a fault of the text behind lines each of which may follow those before it: a line of no form or too long, a byte behind
+-- the end, or the text's end where `end` has not come
+abbrev pub TextAtFault : File → List ℕ → CertFault → Type 0
+TextAtFault file text (fault.Line n) = (m : IsMalformed text n) × MayFollow file m.ls
+TextAtFault file text (fault.Trailing n) = (t : IsTrailing text n) × MayFollow file t.ls
+TextAtFault file text (fault.Truncated n) = (t : IsTruncated text n) × MayFollow file t.ls
+TextAtFault file text _ = ⊥
+
+-- the first line at fault
+abbrev pub IsFirstFault : File → List ℕ → CertFault → Type 0
+IsFirstFault file text f = LineAtFault file text f ⊎ TextAtFault file text f

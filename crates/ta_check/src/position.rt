@@ -1,0 +1,34 @@
+//! Where a certificate is being read.
+#![tactic(auto)]
+
+ghost use Rattle.ta_check.specs.Lines.{at_first};
+ghost use Rattle.ta_check.specs.Positions.{IsAt};
+
+use std::alloc::Global;
+use ta_automaton::File;
+use ta_cursor::Cursor;
+
+/// Where a certificate is being read.
+#[derive(Drop)]
+pub(crate) struct Position {
+    /// The patterns whose proofs began, in the certificate's order.
+    pub proved: Vec<u32>,
+    /// The pattern whose proof is being read.
+    pub current: Option<u32>,
+    /// The node whose line comes next. Between two proofs it is the first node.
+    pub cursor: Cursor,
+}
+
+impl Position {
+    /// The position before any proof. It takes no memory.
+    pub fn new(alloc: Global, file: &File) -> Position
+        ensures { IsAt file.now result at_first }
+    {
+        let _file = file;
+        Position {
+            proved: Vec::new(alloc),
+            current: None,
+            cursor: Cursor::new(alloc),
+        }
+    }
+}

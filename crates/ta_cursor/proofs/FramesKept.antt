@@ -1,0 +1,204 @@
+-- what open nodes leave depends on the beginnings of the word and of the bounds alone
+use Rattle.std.proofs.Common.{◌≡◌, ℕ, zero, suc, ◌+◌, ◌^◌, ◌<◌, ◌≤◌, List, [], ◌∷◌, ◌++◌, length, take, drop, reverse, slice_get, Some, None, arith, sym, ap, ◌∙◌, refl, subst, length-append}
+use Rattle.std.proofs.Math.Seq.{take-length}
+use Rattle.std.proofs.lemmas.List.{take-append-le, length-take-le, reverse-append}
+use Rattle.ta_automaton.specs.declared.automaton.Automaton.{Automaton}
+use Rattle.ta_automaton.specs.declared.file.File.{File}
+use Rattle.ta_automaton.specs.declared.pattern.Pattern.{Pattern}
+use Rattle.ta_words.specs.declared.element.Element.{Element}
+use Rattle.ta_words.specs.Words.{Legal}
+use Rattle.ta_encode.specs.Unknowns.{meanings}
+use Rattle.ta_encode.specs.declared.meaning.Bound.{Bound}
+use Rattle.ta_encode.specs.InPreorder.{Pending, all_starts, parts}
+use Rattle.ta_encode.proofs.InOrder.{prefix_is_legal}
+use Rattle.ta_cursor.specs.declared.cursor.Frame.{Frame}
+use Rattle.ta_cursor.specs.declared.cursor.Cursor.{Cursor}
+use Rattle.ta_cursor.specs.Cursors.{here, word_of, node_of, behind, all_behind, BoundsFit, SplitFits, FrameFits, FramesFit, Inside, Within}
+
+take_less : {X : Type 0} (m n : ℕ) (xs : List X) → m ≤ n → take m (take n xs) ≡ take m xs
+take_less zero n xs le = refl
+take_less (suc m) zero xs le = absurd (omega arith)
+take_less (suc m) (suc n) [] le = refl
+take_less (suc m) (suc n) (x ∷ xs) le = ap (λ ys. x ∷ ys) (take_less m n xs (omega arith))
+
+pub next_dropped : {X : Type 0} (xs : List X) (k : ℕ) (x : X) → slice_get xs k ≡ Some x → drop k xs ≡ x ∷ drop (k + 1) xs
+next_dropped [] k x e = cc
+next_dropped (y ∷ ys) zero x e = let same : y ≡ x = cc in ap (λ z. z ∷ ys) same
+next_dropped (y ∷ ys) (suc k) x e = next_dropped ys k x e ∙ ap (λ n. x ∷ drop n (y ∷ ys)) (let more : suc (k + 1) ≡ suc k + 1 = omega arith in more)
+
+pub none_dropped : {X : Type 0} (xs : List X) (k : ℕ) → slice_get xs k ≡ None → drop k xs ≡ []
+none_dropped [] zero e = refl
+none_dropped [] (suc k) e = refl
+none_dropped (y ∷ ys) zero e = cc
+none_dropped (y ∷ ys) (suc k) e = none_dropped ys k e
+
+-- cursors under the same start set, with this many elements and bounds alike
+pub record BeginAlike (s t : Cursor) (n m : ℕ) : Type 0 where
+  pub start : t.start_mask ≡ s.start_mask
+  pub word : take n t.word ≡ take n s.word
+  pub bounds : take m t.bounds.items ≡ take m s.bounds.items
+
+fewer_alike : {X : Type 0} (m n : ℕ) (xs ys : List X) → m ≤ n → take n xs ≡ take n ys → take m xs ≡ take m ys
+fewer_alike m n xs ys le e = sym (take_less m n xs le) ∙ ap (take m) e ∙ take_less m n ys le
+
+alike_before : (s t : Cursor) (n m k l : ℕ) → BeginAlike s t n m → k ≤ n → l ≤ m → BeginAlike s t k l
+alike_before s t n m k l h le less = record {
+  start = h.start;
+  word = fewer_alike k n t.word s.word le h.word;
+  bounds = fewer_alike l m t.bounds.items s.bounds.items less h.bounds;
+}
+
+same_pending : (a b : ℕ) (past before : List Element) (xs ys : List Bound) → a ≡ b → past ≡ before → xs ≡ ys → ◌≡◌ {A = Pending} (record { start = a; past = past; bounds = xs }) (record { start = b; past = before; bounds = ys })
+same_pending a b past before xs ys e f g = cc
+
+word_kept : (s t : Cursor) (f : Frame) → BeginAlike s t f.length f.bounds → word_of t f ≡ word_of s f
+word_kept s t f h = same_pending t.start_mask s.start_mask (reverse (take f.length t.word)) (reverse (take f.length s.word)) (take f.bounds t.bounds.items) (take f.bounds s.bounds.items) h.start (ap reverse h.word) h.bounds
+
+pub frames_kept : (a : Automaton) (p : Pattern) (s t : Cursor) (n m : ℕ) (fs : List Frame) → BeginAlike s t n m → FramesFit a p s n m fs → FramesFit a p t n m fs
+frames_kept a p s t n m [] h fit = tt
+frames_kept a p s t n m (f ∷ fs) h fit =
+    let alike = alike_before s t n m f.length f.bounds h fit.0 fit.1 in
+    (fit.0, fit.1, subst (λ (w : Pending). FrameFits a p w f) (sym (word_kept s t f alike)) fit.2, frames_kept a p s t f.length f.bounds fs alike fit.3)
+
+pub left_kept : (a : Automaton) (p : Pattern) (s t : Cursor) (n m : ℕ) (fs : List Frame) → BeginAlike s t n m → FramesFit a p s n m fs → all_behind a p t fs ≡ all_behind a p s fs
+left_kept a p s t n m [] h fit = ap (λ (k : ℕ). drop (k + 1) (all_starts a)) h.start
+left_kept a p s t n m (f ∷ fs) h fit =
+    let alike = alike_before s t n m f.length f.bounds h fit.0 fit.1 in
+    ap (λ (w : Pending). drop (f.next + 1) (parts a p w (node_of f.split)) ++ all_behind a p t fs) (word_kept s t f alike)
+    ∙ ap (λ (ws : List Pending). behind a p s f ++ ws) (left_kept a p s t f.length f.bounds fs alike fit.3)
+
+-- a cursor at which a node was opened, and whose word and bounds are the node's and more
+pub record Opened (old new : Cursor) (f : Frame) : Type 0 where
+  pub start : new.start_mask ≡ old.start_mask
+  pub frames : new.frames.items ≡ old.frames.items ++ f ∷ []
+  pub elements : f.length ≡ length old.word
+  pub marks : f.bounds ≡ length old.bounds.items
+  pub more_word : List Element
+  pub word : new.word ≡ old.word ++ more_word
+  pub more_bounds : List Bound
+  pub bounds : new.bounds.items ≡ old.bounds.items ++ more_bounds
+
+begins : {X : Type 0} (n : ℕ) (xs ys more : List X) → n ≡ length xs → ys ≡ xs ++ more → take n ys ≡ take n xs
+begins n xs ys more e f = ap (take n) f ∙ take-append-le n xs more (omega arith)
+
+all_taken : {X : Type 0} (n : ℕ) (xs : List X) → n ≡ length xs → take n xs ≡ xs
+all_taken n xs e = ap (λ m. take m xs) e ∙ take-length xs
+
+longer_by : {X : Type 0} (n : ℕ) (xs ys more : List X) → n ≡ length xs → ys ≡ xs ++ more → n ≤ length ys
+longer_by n xs ys more e f = omega (arith, ap length f, length-append xs more)
+
+alike_opened : (old new : Cursor) (f : Frame) → Opened old new f → BeginAlike old new f.length f.bounds
+alike_opened old new f o = record {
+  start = o.start;
+  word = begins f.length old.word new.word o.more_word o.elements o.word;
+  bounds = begins f.bounds old.bounds.items new.bounds.items o.more_bounds o.marks o.bounds;
+}
+
+opened_word : (old new : Cursor) (f : Frame) → Opened old new f → word_of new f ≡ here old
+opened_word old new f o =
+    word_kept old new f (alike_opened old new f o)
+    ∙ same_pending old.start_mask old.start_mask (reverse (take f.length old.word)) (reverse old.word) (take f.bounds old.bounds.items) old.bounds.items refl (ap reverse (all_taken f.length old.word o.elements)) (all_taken f.bounds old.bounds.items o.marks)
+
+-- behind an open node comes the part of it that the cursor is at, and then the parts behind that
+pub opened_on : (file : File) (old new : Cursor) (number : ℕ) (p : Pattern) (w : Pending) (words : List Pending) (f : Frame)
+    → Within file old number p (w ∷ words) → Opened old new f
+    → SplitFits (length (meanings file.automaton p old.start_mask (reverse old.word))) f.split
+    → Legal file.automaton p new.start_mask (reverse new.word)
+    → BoundsFit file.automaton p (here new)
+    → slice_get (parts file.automaton p w (node_of f.split)) f.next ≡ Some (here new)
+    → Within file new number p (drop f.next (parts file.automaton p w (node_of f.split)) ++ words)
+opened_on file old new number p w words f within o split legal fits part =
+    let a = file.automaton in
+    let fs = reverse old.frames.items in
+    let alike = alike_opened old new f o in
+    let at : w ≡ here old = (let e = within.left in cc) in
+    let same : words ≡ within.words = (let e = within.left in cc) in
+    let is = opened_word old new f o in
+    let all : reverse new.frames.items ≡ f ∷ fs = ap reverse o.frames ∙ reverse-append old.frames.items (f ∷ []) in
+    let outer : FramesFit a p old f.length f.bounds fs = subst (λ (n : ℕ). FramesFit a p old n f.bounds fs) (sym o.elements) (subst (λ (m : ℕ). FramesFit a p old (length old.word) m fs) (sym o.marks) within.inside.frames) in
+    let whole : FrameFits a p (here old) f = record { bounds = within.bounds; split = split } in
+    let fit : FramesFit a p new (length new.word) (length new.bounds.items) (f ∷ fs) =
+    (longer_by f.length old.word new.word o.more_word o.elements o.word, longer_by f.bounds old.bounds.items new.bounds.items o.more_bounds o.marks o.bounds, subst (λ (v : Pending). FrameFits a p v f) (sym is) whole, frames_kept a p old new f.length f.bounds fs alike outer) in
+    let rest = drop (f.next + 1) (parts a p w (node_of f.split)) ++ words in
+    let left : rest ≡ all_behind a p new (f ∷ fs) =
+    ap (λ (v : Pending). drop (f.next + 1) (parts a p v (node_of f.split)) ++ words) (at ∙ sym is)
+    ∙ ap (λ (ws : List Pending). behind a p new f ++ ws) (same ∙ within.inside.left ∙ sym (left_kept a p old new f.length f.bounds fs alike outer)) in
+    let dropped = ap (λ (ws : List Pending). ws ++ words) (next_dropped (parts a p w (node_of f.split)) f.next (here new) part) in
+    subst (Within file new number p) (sym dropped) (record {
+      words = rest;
+      inside = record {
+        named = within.inside.named;
+        start = subst (λ (k : ℕ). k < 2 ^ length a.fall) (sym o.start) within.inside.start;
+        legal = legal;
+        frames = subst (FramesFit a p new (length new.word) (length new.bounds.items)) (sym all) fit;
+        left = left ∙ ap (all_behind a p new) (sym all);
+      };
+      bounds = fits;
+      left = refl;
+    })
+
+-- a cursor that goes back to the word of its innermost open node
+pub record Popped (old new : Cursor) (f : Frame) : Type 0 where
+  pub start : new.start_mask ≡ old.start_mask
+  pub frames : old.frames.items ≡ new.frames.items ++ f ∷ []
+  pub word : new.word ≡ take f.length old.word
+  pub bounds : new.bounds.items ≡ take f.bounds old.bounds.items
+
+popped_frames : (file : File) (old new : Cursor) (number : ℕ) (p : Pattern) (words : List Pending) (f : Frame) → Inside file old number p words → Popped old new f → FramesFit file.automaton p old (length old.word) (length old.bounds.items) (f ∷ reverse new.frames.items)
+popped_frames file old new number p words f inside o = subst (FramesFit file.automaton p old (length old.word) (length old.bounds.items)) (ap reverse o.frames ∙ reverse-append new.frames.items (f ∷ [])) inside.frames
+
+-- the words behind the child of an open node are those of the node, and then those of the nodes around it
+pub record Reopened (file : File) (new : Cursor) (number : ℕ) (p : Pattern) (words : List Pending) (f : Frame) : Type 0 where
+  pub rest : List Pending
+  pub left : words ≡ drop (f.next + 1) (parts file.automaton p (here new) (node_of f.split)) ++ rest
+  pub within : Within file new number p (here new ∷ rest)
+  pub split : SplitFits (length (meanings file.automaton p new.start_mask (reverse new.word))) f.split
+
+popped_word : (old new : Cursor) (f : Frame) → Popped old new f → here new ≡ word_of old f
+popped_word old new f o = same_pending new.start_mask old.start_mask (reverse new.word) (reverse (take f.length old.word)) new.bounds.items (take f.bounds old.bounds.items) o.start (ap reverse o.word) o.bounds
+
+alike_popped : (old new : Cursor) (f : Frame) → Popped old new f → BeginAlike old new f.length f.bounds
+alike_popped old new f o = record {
+  start = o.start;
+  word = ap (take f.length) o.word ∙ take_less f.length f.length old.word (omega arith);
+  bounds = ap (take f.bounds) o.bounds ∙ take_less f.bounds f.bounds old.bounds.items (omega arith);
+}
+
+pub reopened : (file : File) (old new : Cursor) (number : ℕ) (p : Pattern) (words : List Pending) (f : Frame) → Inside file old number p words → Popped old new f → Reopened file new number p words f
+reopened file old new number p words f inside o =
+    let a = file.automaton in
+    let fs = reverse new.frames.items in
+    let fit = popped_frames file old new number p words f inside o in
+    let alike = alike_popped old new f o in
+    let is = popped_word old new f o in
+    let whole : FrameFits a p (here new) f = subst (λ (v : Pending). FrameFits a p v f) (sym is) fit.2 in
+    let elements : length new.word ≡ f.length = ap length o.word ∙ length-take-le f.length old.word fit.0 in
+    let marks : length new.bounds.items ≡ f.bounds = ap length o.bounds ∙ length-take-le f.bounds old.bounds.items fit.1 in
+    let outer = frames_kept a p old new f.length f.bounds fs alike fit.3 in
+    let all : reverse old.frames.items ≡ f ∷ fs = ap reverse o.frames ∙ reverse-append new.frames.items (f ∷ []) in
+    record {
+      rest = all_behind a p new fs;
+      left =
+          inside.left ∙ ap (all_behind a p old) all
+          ∙ ap (λ (v : Pending). drop (f.next + 1) (parts a p v (node_of f.split)) ++ all_behind a p old fs) (sym is)
+          ∙ ap (λ (ws : List Pending). drop (f.next + 1) (parts a p (here new) (node_of f.split)) ++ ws) (sym (left_kept a p old new f.length f.bounds fs alike fit.3));
+      within = record {
+        words = all_behind a p new fs;
+        inside = record {
+          named = inside.named;
+          start = subst (λ (k : ℕ). k < 2 ^ length a.fall) (sym o.start) inside.start;
+          legal = subst (λ (k : ℕ). Legal a p k (reverse new.word)) (sym o.start) (subst (λ (xs : List Element). Legal a p old.start_mask (reverse xs)) (sym o.word) (prefix_is_legal a p old.start_mask old.word inside.legal f.length));
+          frames = subst (λ (n : ℕ). FramesFit a p new n (length new.bounds.items) fs) (sym elements) (subst (λ (m : ℕ). FramesFit a p new f.length m fs) (sym marks) outer);
+          left = refl;
+        };
+        bounds = whole.bounds;
+        left = refl;
+      };
+      split = whole.split;
+    }
+
+-- an open node stands within the word
+pub frame_within : (file : File) (s : Cursor) (number : ℕ) (p : Pattern) (words : List Pending) (fs : List Frame) (f : Frame) → Inside file s number p words → s.frames.items ≡ fs ++ f ∷ [] → f.length ≤ length s.word
+frame_within file s number p words fs f inside e =
+    let fit = subst (FramesFit file.automaton p s (length s.word) (length s.bounds.items)) (ap reverse e ∙ reverse-append fs (f ∷ [])) inside.frames in
+    fit.0

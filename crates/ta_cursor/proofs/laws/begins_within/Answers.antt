@@ -1,0 +1,5 @@
+use Rattle.ta_cursor.proofs.Beginning.{begins_within}
+use Rattle.ta_cursor.proofs.laws.begins_within.Goals as goal
+
+pub returns : goal.returns
+returns c = begins_within

@@ -1,0 +1,16 @@
+-- What a leaf's check adds up, over the rows of a word
+use Rattle.std.specs.Prelude.{ℕ, ℤ, pos, List, slice_get}
+use Rattle.ta_linear.specs.Sums.{StaysInRange}
+use Rattle.ta_encode.specs.System.{LinearRow}
+use Rattle.ta_encode.specs.Refutes.{coefficient_in, constant_in, LeafOfRows}
+
+-- the products of the multipliers with the rows' coefficients of each unknown, and with the rows' constants, and the
+-- partial sums of each in the order of the list, are in range
+pub record LeafStays (rows : List LinearRow) (ts : List (ℕ × ℤ)) : Type 0 where
+  pub coefficients : (u : ℕ) → StaysInRange (λ r. coefficient_in u (slice_get rows r)) (pos 0) ts
+  pub constants : StaysInRange (λ r. constant_in (slice_get rows r)) (pos 0) ts
+
+-- a leaf whose check stays in range
+pub record Judged (rows : List LinearRow) (ts : List (ℕ × ℤ)) : Type 0 where
+  pub leaf : LeafOfRows rows ts
+  pub in_range : LeafStays rows ts
