@@ -16,3 +16,5 @@ mod meanings;
 mod steps;
 #[cfg(test)]
 mod systems;
+#[cfg(test)]
+mod walks;

@@ -1,0 +1,77 @@
+-- the nodes of a walk are short
+use Rattle.std.proofs.Common.{◌≡◌, ℕ, ◌+◌, ◌*◌, ◌<◌, ◌≤◌, ◌^◌, ℤ, pos, negsuc, ◌≤ℤ◌, ◌<ℤ◌, List, [], ◌∷◌, ◌++◌, length, slice_get, Some, arith, length-append, codes, decimal, lit<}
+use Rattle.std.specs.Fmt.{signed_decimal}
+use Rattle.std.proofs.lemmas.Fmt.{length-decimal-le_wide}
+use Rattle.std.proofs.lemmas.Int.{ints}
+use Rattle.ta_automaton.specs.declared.pattern.Pattern.{Pattern}
+use Rattle.ta_automaton.specs.declared.file.File.{File}
+use Rattle.ta_automaton.specs.Lists.{Each}
+use Rattle.ta_words.specs.Words.{Legal}
+use Rattle.ta_cert.specs.declared.line.Node.{Node}
+use Rattle.ta_cert.specs.declared.line.Node.TheVariants as node
+use Rattle.ta_cert.specs.Lines.{pair_text, pairs_text, split_text, IsPair, ArePairs, IsSplit, IsNode}
+use Rattle.ta_cert.proofs.Decimals.{wide}
+use Rattle.ta_encode.specs.InPreorder.{Pending, parts}
+use Rattle.ta_simplex.proofs.FewMultipliers.{few_multipliers}
+use Rattle.ta_walk.specs.Visit.{NodeAt, Visits}
+use Rattle.ta_walk.specs.Ends.{HasFewPairs, IsShort}
+use Rattle.ta_walk.proofs.WordsVisited.{Waits, next_wait}
+use Rattle.ta_walk.proofs.RowCounts.{few_unknowns}
+
+-- a row or an unknown has at most 10 digits, and a multiplier or a floor at most 39
+row_short : (k : ℕ) → k < 2 ^ 32 → length (decimal k) ≤ 10
+row_short k below =
+    let small : 2 ^ 32 < 10 ^ 10 = lit< tt in
+    length-decimal-le_wide 10 k (omega arith) (omega arith) (wide k (2 ^ 32) below (omega arith))
+
+number_short : (z : ℤ) → pos 0 ≤ℤ z → z <ℤ pos (2 ^ 127) → length (signed_decimal z) ≤ 39
+number_short (pos k) low high =
+    let large : 2 ^ 127 < 10 ^ 39 = lit< tt in
+    let below : k < 2 ^ 127 = omega (arith, ints) in
+    length-decimal-le_wide 39 k (omega arith) (omega arith) (wide k (2 ^ 127) below (omega arith))
+number_short (negsuc k) low high = absurd (omega (arith, ints))
+
+-- a pair has at most 51 bytes
+pair_short : (t : ℕ × ℤ) → IsPair t → length (pair_text t) ≤ 51
+pair_short t is =
+    let low = is.low in
+    let number = number_short t.1 (omega (arith, ints)) is.high in
+    omega (arith, length-append (decimal t.0) (codes ":" ++ signed_decimal t.1), row_short t.0 is.row, number)
+
+pairs_short : (low : ℕ) (ts : List (ℕ × ℤ)) → ArePairs low ts → length (pairs_text ts) ≤ 51 * length ts
+pairs_short low [] are = omega arith
+pairs_short low (t ∷ ts) are = omega (arith, length-append (pair_text t) (pairs_text ts), pair_short t are.1, pairs_short (t.0 + 1) ts are.2)
+
+split_short : (unknown : ℕ) (floor : ℤ) → IsSplit unknown floor → length (split_text unknown floor) ≤ 50
+split_short unknown floor is =
+    let high = is.high in
+    let large : 2 ^ 126 < 2 ^ 127 = lit< tt in
+    let number = number_short floor is.low (omega (arith, ints)) in
+    omega (arith, length-append (decimal unknown) (codes " " ++ signed_decimal floor), row_short unknown is.number, number)
+
+-- a node that can be written and has few pairs is short
+node_short : (n : Node) → IsNode n → HasFewPairs n → IsShort n
+node_short (node.Leaf ts) is few = omega (arith, pairs_short 0 ts is.1, few)
+node_short node.Extend is few = omega arith
+node_short (node.Split unknown floor) is few = omega (arith, split_short unknown floor is)
+
+pub nodes_short : (ns : List Node) → Each IsNode ns → Each HasFewPairs ns → Each IsShort ns
+nodes_short [] are few = tt
+nodes_short (n ∷ ns) are few = (node_short n are.0 few.0, nodes_short ns are.1 few.1)
+
+-- a node that stands at a legal word of a file's pattern has few pairs
+node_few : (file : File) (number : ℕ) (p : Pattern) (w : Pending) (n : Node) → slice_get file.patterns number ≡ Some p → Legal file.automaton p w.start w.past → NodeAt file.automaton p w n → HasFewPairs n
+node_few file number p w (node.Leaf ts) at legal stands =
+    let s = stands.refuted.system in
+    let unknowns = stands.refuted.is.unknowns in
+    omega (arith, few_multipliers s ts stands.refuted.holds, few_unknowns file number p w.start w.past at legal)
+node_few file number p w node.Extend at legal stands = tt
+node_few file number p w (node.Split unknown floor) at legal stands = tt
+
+-- each node that is visited has few pairs
+pub nodes_few : (file : File) (number : ℕ) (p : Pattern) → slice_get file.patterns number ≡ Some p → (most : ℕ) (ws : List Pending) (ns : List Node) (rest : List Pending) → Each (Waits file.automaton p most) ws → Visits file.automaton p ws ns rest → Each HasFewPairs ns
+nodes_few file number p at most ws [] rest all v = tt
+nodes_few file number p at most [] (n ∷ ns) rest all v = absurd v
+nodes_few file number p at most (w ∷ ws) (n ∷ ns) rest all v =
+    let a = file.automaton in
+    (node_few file number p w n at all.0.legal v.0, nodes_few file number p at (most + 1) (parts a p w n ++ ws) ns rest (next_wait a p most w ws n all) v.1)

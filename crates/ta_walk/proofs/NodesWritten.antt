@@ -1,0 +1,50 @@
+-- the nodes of a walk can be written
+use Rattle.std.proofs.Common.{ℕ, ◌+◌, ◌<◌, ◌≤◌, ◌^◌, ℤ, pos, negsuc, ◌<ℤ◌, ◌≤ℤ◌, List, [], ◌∷◌, length, arith, subst}
+use Rattle.std.specs.Prelude.{unsigned_abs}
+use Rattle.std.proofs.lemmas.Int.{ints}
+use Rattle.ta_linear.specs.Numbers.{InRange}
+use Rattle.ta_linear.specs.Terms.{coefficient}
+use Rattle.ta_linear.specs.Leaf.{AreMultipliers}
+use Rattle.ta_linear.specs.declared.row.System.{System}
+use Rattle.ta_automaton.specs.declared.automaton.Automaton.{Automaton}
+use Rattle.ta_automaton.specs.declared.pattern.Pattern.{Pattern}
+use Rattle.ta_cert.specs.declared.line.Node.{Node}
+use Rattle.ta_cert.specs.declared.line.Node.TheVariants as node
+use Rattle.ta_cert.specs.Lines.{ArePairs, IsNode}
+use Rattle.ta_encode.specs.Code.{SystemOf}
+use Rattle.ta_encode.specs.InPreorder.{Pending}
+use Rattle.ta_dense.specs.Slack.{variables}
+use Rattle.ta_walk.specs.Visit.{NodeAt}
+use Rattle.ta_walk.proofs.TableausInRange.{multipliers_fit}
+use Rattle.ta_walk.proofs.SplitsFit.{split_within, split_fits}
+use Rattle.ta_walk.proofs.MultiplierCoefficients.{coefficient_first, coefficient_after}
+
+below_limit : (z : ℤ) (limit : ℕ) → pos 1 ≤ℤ z → unsigned_abs z < limit → z <ℤ pos limit
+below_limit (pos n) limit low h = omega (arith, ints, h)
+below_limit (negsuc n) limit low h = absurd (omega (arith, ints, low))
+
+-- multipliers in range are pairs
+are_pairs : (low count : ℕ) (ts : List (ℕ × ℤ)) → count ≤ 2 ^ 32 → AreMultipliers low count ts → ((k : ℕ) → low ≤ k → k < count → InRange (coefficient ts k)) → ArePairs low ts
+are_pairs low count [] few all fits = tt
+are_pairs low count (t ∷ ts) few all fits =
+    let first = all.0 in
+    let inside = all.1 in
+    let here = coefficient_first low count t ts all in (
+      all.0,
+      record { row = omega arith; low = all.2; high = below_limit t.1 (2 ^ 127) all.2 (subst InRange here (fits t.0 all.0 all.1)) },
+      are_pairs (t.0 + 1) count ts few all.3 (λ k from below. subst InRange (coefficient_after t ts k (omega arith)) (fits k (omega arith) below)),
+    )
+
+-- a node that stands at a word of few variables can be written
+pub node_written : (a : Automaton) (p : Pattern) (w : Pending) (n : Node) → ((s : System) → SystemOf a p w.start w.past w.bounds s → variables s < 2 ^ 32) → NodeAt a p w n → IsNode n
+node_written a p w (node.Leaf ts) few at =
+    let s = at.refuted.system in
+    let is = at.refuted.holds in
+    let room = few s at.refuted.is in
+    (is.multipliers.some, are_pairs 0 (length s.rows) ts (omega arith) is.multipliers.leaf.multipliers (λ k from inside. multipliers_fit s ts is k inside))
+node_written a p w node.Extend few at = tt
+node_written a p w (node.Split unknown floor) few at =
+    let room = few at.vertex.system at.vertex.is in
+    let unknowns = at.vertex.is.unknowns in
+    let below = split_within a p w unknown floor at in
+    split_fits a p w unknown floor at (omega arith)

@@ -1,0 +1,90 @@
+-- the values of a whole node solve its word
+use Rattle.std.proofs.Common.{◌≡◌, ℕ, zero, suc, ◌<◌, ◌^◌, ℤ, pos, negsuc, ◌*ℤ◌, ◌≤ℤ◌, List, [], ◌∷◌, map, length, reverse, slice_get, arith, refl, sym, ap, ◌∙◌, subst}
+use Rattle.std.specs.Prelude.{IsSomeAnd, slice_index}
+use Rattle.std.proofs.lemmas.Int.{ints}
+use Rattle.ta_linear.proofs.Signs.{ge-zero_of_mul}
+use Rattle.ta_linear.proofs.Integers.{mul_comm}
+use Rattle.ta_automaton.specs.declared.automaton.Automaton.{Automaton}
+use Rattle.ta_automaton.specs.declared.pattern.Pattern.{Pattern}
+use Rattle.ta_words.specs.declared.element.Element.{Element}
+use Rattle.ta_words.specs.Words.{Legal, is_complete}
+use Rattle.ta_encode.specs.InPreorder.{Pending, all_starts}
+use Rattle.ta_encode.specs.System.{SolvesWord}
+use Rattle.ta_encode.proofs.CodeRows.{solution_of, unbounded}
+use Rattle.ta_simplex.specs.declared.fraction.Fraction.{Fraction}
+use Rattle.ta_simplex.proofs.WholeLemmas.{whole_vertex_solves}
+use Rattle.ta_walk.specs.Visit.{IsNumber, AreNumbers, WholeAt}
+use Rattle.ta_walk.specs.Ends.{FoundWordsAreSolved}
+use Rattle.ta_walk.proofs.WordsVisited.{starts_wait, left_wait}
+
+-- natural numbers that are the values
+record Naturals (values : List Fraction) (numbers : List ℤ) : Type 0 where
+  pub naturals : List ℕ
+  pub same : numbers ≡ map pos naturals
+  pub count : length naturals ≡ length values
+  pub are : (x : ℕ) → x < length values → IsSomeAnd (slice_get values x) (λ f. f.top ≡ pos (slice_index naturals x) *ℤ f.bottom)
+
+-- a whole number whose fraction isn't negative is natural
+natural : (k : ℤ) (f : Fraction) → IsNumber k f → pos 0 ≤ℤ f.top → (n : ℕ) × (k ≡ pos n)
+natural k f is low = of_sign k (ge-zero_of_mul f.bottom k f.positive (subst (λ (z : ℤ). pos 0 ≤ℤ z) (is ∙ mul_comm k f.bottom) low))
+  where
+    of_sign : (z : ℤ) → pos 0 ≤ℤ z → (n : ℕ) × (z ≡ pos n)
+    of_sign (pos n) h = (n, refl)
+    of_sign (negsuc n) h = absurd (omega (arith, ints, h))
+
+naturals : (values : List Fraction) (numbers : List ℤ) → AreNumbers values numbers → ((x : ℕ) → x < length values → IsSomeAnd (slice_get values x) (λ f. pos 0 ≤ℤ f.top)) → Naturals values numbers
+naturals [] [] are low = record { naturals = []; same = refl; count = refl; are = λ x h. absurd (omega arith) }
+naturals [] (k ∷ ks) are low = absurd are
+naturals (f ∷ fs) [] are low = absurd are
+naturals (f ∷ fs) (k ∷ ks) are low =
+    let first = natural k f are.0 (low 0 (omega arith)) in
+    let rest = naturals fs ks are.1 (λ x h. low (suc x) (omega arith)) in
+    record {
+      naturals = first.0 ∷ rest.naturals;
+      same = (let e = first.1 in let es = rest.same in cc);
+      count = ap suc rest.count;
+      are = here first.0 rest.naturals (are.0 ∙ ap (λ z. z *ℤ f.bottom) first.1) rest.are;
+    }
+  where
+    here : (n : ℕ) (ns : List ℕ) → f.top ≡ pos n *ℤ f.bottom → ((x : ℕ) → x < length fs → IsSomeAnd (slice_get fs x) (λ f. f.top ≡ pos (slice_index ns x) *ℤ f.bottom)) →
+        (x : ℕ) → x < suc (length fs) → IsSomeAnd (slice_get (f ∷ fs) x) (λ f. f.top ≡ pos (slice_index (n ∷ ns) x) *ℤ f.bottom)
+    here n ns e more zero h = e
+    here n ns e more (suc x) h = more x (omega arith)
+
+-- natural values of a word without its bounds
+record Solved (a : Automaton) (p : Pattern) (w : Pending) (numbers : List ℤ) : Type 0 where
+  pub naturals : List ℕ
+  pub same : numbers ≡ map pos naturals
+  pub solves : SolvesWord a p w.start w.past [] naturals
+
+whole_solves : (a : Automaton) (p : Pattern) (w : Pending) (numbers : List ℤ) → WholeAt a p w numbers → Solved a p w numbers
+whole_solves a p w numbers whole =
+    let s = whole.vertex.system in
+    let at = whole.vertex.holds in
+    let count = at.gives.count in
+    let n = naturals whole.values numbers whole.whole (λ x h. at.meet.not_negative x (omega arith)) in
+    record {
+      naturals = n.naturals;
+      same = n.same;
+      solves = unbounded a p w.start w.past w.bounds n.naturals
+          (solution_of a p w.start w.past w.bounds s n.naturals whole.vertex.is
+          (whole_vertex_solves s whole.values n.naturals at.meet (n.count ∙ count) (λ x h. n.are x (omega arith))));
+    }
+
+pub found_solved : FoundWordsAreSolved
+found_solved a p number budget count solution found =
+    let w = found.word in
+    let waits = (left_wait a p 0 (all_starts a) found.visited.nodes (w ∷ found.visited.words) (starts_wait a p) found.visited.visits).0 in
+    let at = found.holds in
+    let solved = whole_solves a p w solution.values at.whole in
+    let start : w.start ≡ solution.start_mask = sym at.start in
+    let past : w.past ≡ reverse solution.word = sym at.word in (
+      solved.naturals,
+      solved.same,
+      subst (λ (k : ℕ). k < 2 ^ length a.fall) start waits.is_start,
+      record {
+        legal = subst (λ (k : ℕ). Legal a p k (reverse solution.word)) start (subst (Legal a p w.start) past waits.legal);
+        complete = ap (is_complete p) (sym past) ∙ at.whole.complete;
+        solves = subst (λ (k : ℕ). SolvesWord a p k (reverse solution.word) [] solved.naturals) start (subst (λ (q : List Element). SolvesWord a p w.start q [] solved.naturals) past solved.solves);
+      },
+    )

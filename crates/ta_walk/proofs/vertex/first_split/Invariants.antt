@@ -1,0 +1,7 @@
+use Rattle.std.proofs.Common.{ℕ, ◌<◌, IsSomeAnd, slice_get}
+use Rattle.ta_walk.specs.Visit.{IsWhole}
+use Rattle.ta_walk.proofs.vertex.first_split.Given as goal
+
+-- the values so far are whole
+abbrev pub invariant-loop-unknown : goal.invariant-loop-unknown
+invariant-loop-unknown l = (k : ℕ) → k < l.unknown → IsSomeAnd (slice_get l.values k) IsWhole

@@ -1,0 +1,31 @@
+//! How a walk ends.
+#![tactic(auto)]
+
+use ta_cert::{List, Node};
+use ta_encode::Solution;
+
+/// Where a number left 128 bits.
+#[derive(Clone, Copy, Debug, PartialEq, Eq)]
+pub enum PlaceKind {
+    /// In the pivot of this number of the node's solving, from 1; the number stands still at
+    /// 2^64 - 1.
+    Pivot(u64),
+    /// In the check of the leaf that the node is.
+    Leaf,
+    /// In the replay of the node's run.
+    Run,
+}
+
+/// How the walk of a pattern ends. Nodes are counted from 1, over all start sets, in the order of the
+/// visit.
+#[derive(Drop)]
+pub enum WalkEnd {
+    /// The tree has these nodes, and they are a proof of the pattern.
+    Refuted { nodes: List<Node>, count: u64 },
+    /// The node of this number has a complete word and whole values that solve its system.
+    Found { count: u64, solution: Solution },
+    /// These many nodes were visited, and the tree has more.
+    Spent { count: u64 },
+    /// At the node of this number a number left 128 bits.
+    Overflow { node: u64, kind: PlaceKind },
+}
