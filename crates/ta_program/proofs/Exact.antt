@@ -15,8 +15,11 @@ use Rattle.ta_program.specs.Lines.{file_limit, certificate_limit, run_limit, sta
 use Rattle.ta_program.specs.Troubles.{trouble_number}
 use Rattle.ta_program.specs.Check.{CertificateFault, CertificateHinders, CheckSays, IsCertificate, IsFile}
 use Rattle.ta_program.specs.Replay.{IsShownRun, ReplaySays, RunFaultIn, RunHinders}
+use Rattle.ta_program.specs.Verify.{IsVerified, VerifySays, verdicts_number}
 use Rattle.ta_program.specs.Program.{AreTold, Complete, IsAside, Outcome, SinkState}
-use Rattle.ta_program.proofs.Clauses.{of_check, of_replay}
+use Rattle.ta_report.specs.declared.verdict.Verdict.{Verdict}
+use Rattle.ta_program.proofs.Clauses.{of_check, of_replay, of_verify}
+use Rattle.ta_program.proofs.VerdictsOnce.{numbers_once}
 use Rattle.ta_meaning.proofs.OneTree.{one_legal}
 
 -- told files have one content each
@@ -74,6 +77,8 @@ run_passes files told name file run is_run =
 
 check_file : (end : Status) (files : Files) → AreTold files → (f s : List ℕ) (before after : Option (List ℕ)) (t : Trouble FileFault) → trouble_number 3 t ≡ 3 → Hinders FirstFault file_limit files f t → CheckSays end files f s before after → IsAside 3 (status_number end)
 check_file status.Done files told f s before after t three h says = absurd (legal_passes files told f says.file says.is_file t three h)
+check_file status.Found files told f s before after t three h says = absurd says
+check_file status.Unknown files told f s before after t three h says = absurd says
 check_file status.Usage files told f s before after t three h says = absurd says
 check_file (status.File name u) files told f s before after t three h says = is_aside 3 u
 check_file (status.Certificate name u) files told f s before after t three h says = absurd (legal_passes files told f says.1.file says.1.is_file t three h)
@@ -84,6 +89,8 @@ check_file status.Memory files told f s before after t three h says = inr (inr r
 check_certificate : (end : Status) (files : Files) → AreTold files → (f s : List ℕ) (before after : Option (List ℕ)) (t : Trouble CertFault) → trouble_number 4 t ≡ 4 → CertificateHinders files f s t → CheckSays end files f s before after → IsAside 4 (status_number end)
 check_certificate status.Done files told f s before after t four h says =
     absurd (certificate_passes files told s h.file says.numbers (subst (λ (file : File). IsCertificate files s file says.numbers) (file_one files told f says.file h.file says.is_file h.is_file) says.certificate) t four h.hinders)
+check_certificate status.Found files told f s before after t four h says = absurd says
+check_certificate status.Unknown files told f s before after t four h says = absurd says
 check_certificate status.Usage files told f s before after t four h says = absurd says
 check_certificate (status.File name u) files told f s before after t four h says = refused_or 4 3 u (λ three. legal_passes files told f h.file h.is_file u three says.1)
 check_certificate (status.Certificate name u) files told f s before after t four h says = is_aside 4 u
@@ -93,6 +100,8 @@ check_certificate status.Memory files told f s before after t four h says = inr 
 
 check_done : (end : Status) (files : Files) → AreTold files → (f s : List ℕ) (before after : Option (List ℕ)) (file : File) (numbers : List ℕ) → IsFile files f file → IsCertificate files s file numbers → CheckSays end files f s before after → IsAside 0 (status_number end)
 check_done status.Done files told f s before after file numbers is_file is_certificate says = inl refl
+check_done status.Found files told f s before after file numbers is_file is_certificate says = absurd says
+check_done status.Unknown files told f s before after file numbers is_file is_certificate says = absurd says
 check_done status.Usage files told f s before after file numbers is_file is_certificate says = absurd says
 check_done (status.File name u) files told f s before after file numbers is_file is_certificate says = refused_or 0 3 u (λ three. legal_passes files told f file is_file u three says.1)
 check_done (status.Certificate name u) files told f s before after file numbers is_file is_certificate says =
@@ -103,6 +112,8 @@ check_done status.Memory files told f s before after file numbers is_file is_cer
 
 replay_file : (end : Status) (files : Files) → AreTold files → (f s : List ℕ) (before after : Option (List ℕ)) (t : Trouble FileFault) → trouble_number 3 t ≡ 3 → Hinders FirstFault file_limit files f t → ReplaySays end files f s before after → IsAside 3 (status_number end)
 replay_file status.Done files told f s before after t three h says = absurd (legal_passes files told f says.file says.is_file t three h)
+replay_file status.Found files told f s before after t three h says = absurd says
+replay_file status.Unknown files told f s before after t three h says = absurd says
 replay_file status.Usage files told f s before after t three h says = absurd says
 replay_file (status.File name u) files told f s before after t three h says = is_aside 3 u
 replay_file (status.Certificate name u) files told f s before after t three h says = absurd says
@@ -113,6 +124,8 @@ replay_file status.Memory files told f s before after t three h says = inr (inr 
 replay_run : (end : Status) (files : Files) → AreTold files → (f s : List ℕ) (before after : Option (List ℕ)) (t : Trouble RunFault) → trouble_number 4 t ≡ 4 → RunHinders files f s t → ReplaySays end files f s before after → IsAside 4 (status_number end)
 replay_run status.Done files told f s before after t four h says =
     absurd (run_passes files told s h.file says.writes.run (subst (λ (file : File). IsShownRun files s file says.writes.run) (file_one files told f says.file h.file says.is_file h.is_file) says.writes.is_run) t four h.hinders)
+replay_run status.Found files told f s before after t four h says = absurd says
+replay_run status.Unknown files told f s before after t four h says = absurd says
 replay_run status.Usage files told f s before after t four h says = absurd says
 replay_run (status.File name u) files told f s before after t four h says = refused_or 4 3 u (λ three. legal_passes files told f h.file h.is_file u three says.1)
 replay_run (status.Certificate name u) files told f s before after t four h says = absurd says
@@ -122,6 +135,8 @@ replay_run status.Memory files told f s before after t four h says = inr (inr re
 
 replay_done : (end : Status) (files : Files) → AreTold files → (f s : List ℕ) (before after : Option (List ℕ)) (file : File) (run : Run) → IsFile files f file → IsShownRun files s file run → ReplaySays end files f s before after → IsAside 0 (status_number end)
 replay_done status.Done files told f s before after file run is_file is_run says = inl refl
+replay_done status.Found files told f s before after file run is_file is_run says = absurd says
+replay_done status.Unknown files told f s before after file run is_file is_run says = absurd says
 replay_done status.Usage files told f s before after file run is_file is_run says = absurd says
 replay_done (status.File name u) files told f s before after file run is_file is_run says = refused_or 0 3 u (λ three. legal_passes files told f file is_file u three says.1)
 replay_done (status.Certificate name u) files told f s before after file run is_file is_run says = absurd says
@@ -129,6 +144,34 @@ replay_done (status.Run name u) files told f s before after file run is_file is_
     refused_or 0 4 u (λ four. run_passes files told s says.1.file run (subst (λ (g : File). IsShownRun files s g run) (file_one files told f file says.1.file is_file says.1.is_file) is_run) u four says.1.hinders)
 replay_done status.OutputFailed files told f s before after file run is_file is_run says = inr (inl refl)
 replay_done status.Memory files told f s before after file run is_file is_run says = inr (inr refl)
+
+verify_file : (end : Status) (files : Files) → AreTold files → (f : List ℕ) (budget : ℕ) (before after : Option (List ℕ)) (t : Trouble FileFault) → trouble_number 3 t ≡ 3 → Hinders FirstFault file_limit files f t → VerifySays end files f budget before after → IsAside 3 (status_number end)
+verify_file status.Done files told f budget before after t three h says = absurd (legal_passes files told f says.file says.verified.is_file t three h)
+verify_file status.Found files told f budget before after t three h says = absurd (legal_passes files told f says.file says.verified.is_file t three h)
+verify_file status.Unknown files told f budget before after t three h says = absurd (legal_passes files told f says.file says.verified.is_file t three h)
+verify_file status.Usage files told f budget before after t three h says = absurd says
+verify_file (status.File name u) files told f budget before after t three h says = is_aside 3 u
+verify_file (status.Certificate name u) files told f budget before after t three h says = absurd says
+verify_file (status.Run name u) files told f budget before after t three h says = absurd says
+verify_file status.OutputFailed files told f budget before after t three h says = inr (inl refl)
+verify_file status.Memory files told f budget before after t three h says = inr (inr refl)
+
+-- verdicts on the file of told bytes give one number
+verified_once : (files : Files) → AreTold files → (name : List ℕ) (budget : ℕ) (file other : File) (vs ws : List Verdict) → IsVerified files name budget file vs → IsVerified files name budget other ws → verdicts_number vs ≡ verdicts_number ws
+verified_once files told name budget file other vs ws a b =
+    let holds = subst (λ (f : File). IsVerified files name budget f vs) (file_one files told name file other a.is_file b.is_file) a in
+    numbers_once other budget other.patterns vs ws holds.hold b.hold
+
+verify_done : (end : Status) (files : Files) → AreTold files → (f : List ℕ) (budget : ℕ) (before after : Option (List ℕ)) (file : File) (verdicts : List Verdict) → IsVerified files f budget file verdicts → VerifySays end files f budget before after → IsAside (verdicts_number verdicts) (status_number end)
+verify_done status.Done files told f budget before after file verdicts verified says = inl (sym says.numbered ∙ verified_once files told f budget says.file file says.verdicts verdicts says.verified verified)
+verify_done status.Found files told f budget before after file verdicts verified says = inl (sym says.numbered ∙ verified_once files told f budget says.file file says.verdicts verdicts says.verified verified)
+verify_done status.Unknown files told f budget before after file verdicts verified says = inl (sym says.numbered ∙ verified_once files told f budget says.file file says.verdicts verdicts says.verified verified)
+verify_done status.Usage files told f budget before after file verdicts verified says = absurd says
+verify_done (status.File name u) files told f budget before after file verdicts verified says = refused_or (verdicts_number verdicts) 3 u (λ three. legal_passes files told f file verified.is_file u three says.1)
+verify_done (status.Certificate name u) files told f budget before after file verdicts verified says = absurd says
+verify_done (status.Run name u) files told f budget before after file verdicts verified says = absurd says
+verify_done status.OutputFailed files told f budget before after file verdicts verified says = inr (inl refl)
+verify_done status.Memory files told f budget before after file verdicts verified says = inr (inr refl)
 
 pub complete : (number : ℕ) (words : List (List ℕ)) (files : Files) (shelf shelf' : ℕ) (out out' err err' : SinkState) → Outcome number words files shelf shelf' out out' err err' → Complete number words files
 complete number words files shelf shelf' out out' err err' o told = (
@@ -141,5 +184,9 @@ complete number words files shelf shelf' out out' err err' o told = (
     file = λ t three h. subst (IsAside 3) (sym o.numbered) (replay_file o.end files told f s _ _ t three h says);
     run = λ t four h. subst (IsAside 4) (sym o.numbered) (replay_run o.end files told f s _ _ t four h says);
     done = λ file run is_file is_run. subst (IsAside 0) (sym o.numbered) (replay_done o.end files told f s _ _ file run is_file is_run says);
+  },
+  λ f budget asked. let says = of_verify _ _ _ _ _ _ _ asked o.says in record {
+    file = λ t three h. subst (IsAside 3) (sym o.numbered) (verify_file o.end files told f budget _ _ t three h says);
+    done = λ file verdicts verified. subst (IsAside (verdicts_number verdicts)) (sym o.numbered) (verify_done o.end files told f budget _ _ file verdicts verified says);
   },
 )

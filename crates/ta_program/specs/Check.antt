@@ -80,6 +80,8 @@ pub record CertificateHinders (files : Files) (file_name certificate_name : List
 -- what `check FILE CERT` says by a status of the files, and of what it wrote
 abbrev pub CheckSays : Status → Files → List ℕ → List ℕ → Option (List ℕ) → Option (List ℕ) → Type 0
 CheckSays status.Done files file_name certificate_name before after = CheckWrites status.Done files file_name certificate_name before after
+CheckSays status.Found files file_name certificate_name before after = ⊥
+CheckSays status.Unknown files file_name certificate_name before after = ⊥
 CheckSays status.Usage files file_name certificate_name before after = ⊥
 CheckSays (status.File name trouble) files file_name certificate_name before after =
     (name.now ≡ file_name) × Hinders FirstFault file_limit files file_name trouble × (after ≡ before)
@@ -92,6 +94,8 @@ CheckSays status.Memory files file_name certificate_name before after = after �
 -- the same once FILE is read
 abbrev pub CertificateSays : Status → File → Files → List ℕ → Option (List ℕ) → Option (List ℕ) → Type 0
 CertificateSays status.Done file files name before after = WritesProved status.Done files name file before after
+CertificateSays status.Found file files name before after = ⊥
+CertificateSays status.Unknown file files name before after = ⊥
 CertificateSays status.Usage file files name before after = ⊥
 CertificateSays (status.File word trouble) file files name before after = ⊥
 CertificateSays (status.Certificate word trouble) file files name before after =

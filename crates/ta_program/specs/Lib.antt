@@ -8,4 +8,5 @@ pub mod Contents
 pub mod Outcome
 pub mod Check
 pub mod Replay
+pub mod Verify
 pub mod Program

@@ -34,9 +34,11 @@ trouble_line text limit name (trouble.Fault fault) = codes "tav: " ++ (name ++ (
 trouble_line text limit name trouble.ReadFailed = codes "tav: " ++ (name ++ codes ": read failed\n")
 trouble_line text limit name trouble.Memory = memory_line
 
--- the line of a status; where all was done there is none
+-- the line of a status; where all was written there is none
 abbrev pub line_of : Status → List ℕ
 line_of status.Done = []
+line_of status.Found = []
+line_of status.Unknown = []
 line_of status.Usage = usage_line
 line_of (status.File name trouble) = trouble_line file_fault_text file_limit name.now trouble
 line_of (status.Certificate name trouble) = trouble_line cert_fault_text certificate_limit name.now trouble
@@ -47,6 +49,8 @@ line_of status.Memory = memory_line
 -- the number that a process ends with
 abbrev pub status_number : Status → ℕ
 status_number status.Done = 0
+status_number status.Found = 1
+status_number status.Unknown = 2
 status_number status.Usage = 5
 status_number (status.File name trouble) = trouble_number 3 trouble
 status_number (status.Certificate name trouble) = trouble_number 4 trouble

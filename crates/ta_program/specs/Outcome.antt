@@ -10,6 +10,8 @@ use Rattle.ta_program.specs.Contents.{TroubleCause}
 -- a text was written whole; or a prefix of it, where the output failed; or nothing, for want of memory
 abbrev pub Wrote : Status → List ℕ → Option (List ℕ) → Option (List ℕ) → Type 0
 Wrote status.Done text before after = after ≡ with_text before text
+Wrote status.Found text before after = after ≡ with_text before text
+Wrote status.Unknown text before after = after ≡ with_text before text
 Wrote status.Usage text before after = ⊥
 Wrote (status.File name trouble) text before after = ⊥
 Wrote (status.Certificate name trouble) text before after = ⊥
@@ -25,6 +27,8 @@ WriteCause end faults faults' stalls stalls' = (faults' ≡ faults) × (stalls' 
 -- a shelf's count of faults is as it was, but where reading failed; want of memory may come after that
 abbrev pub ShelfCause : Status → ℕ → ℕ → Type 0
 ShelfCause status.Done before after = after ≡ before
+ShelfCause status.Found before after = after ≡ before
+ShelfCause status.Unknown before after = after ≡ before
 ShelfCause status.Usage before after = after ≡ before
 ShelfCause (status.File name trouble) before after = TroubleCause trouble before after
 ShelfCause (status.Certificate name trouble) before after = TroubleCause trouble before after

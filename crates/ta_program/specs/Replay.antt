@@ -80,6 +80,8 @@ pub record RunHinders (files : Files) (file_name run_name : List ℕ) (trouble :
 -- what `replay FILE RUN` says by a status of the files, and of what it wrote
 abbrev pub ReplaySays : Status → Files → List ℕ → List ℕ → Option (List ℕ) → Option (List ℕ) → Type 0
 ReplaySays status.Done files file_name run_name before after = ReplayWrites status.Done files file_name run_name before after
+ReplaySays status.Found files file_name run_name before after = ⊥
+ReplaySays status.Unknown files file_name run_name before after = ⊥
 ReplaySays status.Usage files file_name run_name before after = ⊥
 ReplaySays (status.File name trouble) files file_name run_name before after =
     (name.now ≡ file_name) × Hinders FirstFault file_limit files file_name trouble × (after ≡ before)
@@ -92,6 +94,8 @@ ReplaySays status.Memory files file_name run_name before after = after ≡ befor
 -- the same once FILE is read
 abbrev pub RunSays : Status → File → Files → List ℕ → Option (List ℕ) → Option (List ℕ) → Type 0
 RunSays status.Done file files name before after = WritesShown status.Done files name file before after
+RunSays status.Found file files name before after = ⊥
+RunSays status.Unknown file files name before after = ⊥
 RunSays status.Usage file files name before after = ⊥
 RunSays (status.File word trouble) file files name before after = ⊥
 RunSays (status.Certificate word trouble) file files name before after = ⊥

@@ -27,9 +27,11 @@ EndsAs (status.Certificate name trouble) end = (end ≡ status.Certificate name 
 EndsAs (status.Run name trouble) end = (end ≡ status.Run name trouble) ⊎ (end ≡ status.Memory)
 EndsAs begun end = end ≡ begun
 
--- nothing was told where all was done, and else the status's line
+-- nothing was told where all was written, and else the status's line
 abbrev pub Told : Status → Option (List ℕ) → Option (List ℕ) → ℕ → ℕ → ℕ → ℕ → Type 0
 Told status.Done before after faults faults' stalls stalls' = after ≡ before
+Told status.Found before after faults faults' stalls stalls' = after ≡ before
+Told status.Unknown before after faults faults' stalls stalls' = after ≡ before
 Told end before after faults faults' stalls stalls' = Tells (line_of end) before after faults faults' stalls stalls'
 
 -- a status ended with a number, and was told

@@ -1,9 +1,10 @@
 //! The command `check`.
 #![tactic(auto)]
 
-ghost use Rattle.std.specs.Prelude.{◌≡◌, IfOk, IfErr};
+ghost use Rattle.std.specs.Prelude.{◌≡◌, ◌≢◌, IfOk, IfErr};
 ghost use Rattle.std.specs.String.{string_bytes};
 ghost use Rattle.ta_check.specs.Certificate.{AllSafe};
+ghost use Rattle.ta_program.specs.declared.status.Status.TheVariants as status;
 ghost use Rattle.ta_program.specs.Check.{CertificateFault, CertificateSays, CheckSays, IsCertificate, check_text, verdict, verdict_lines};
 ghost use Rattle.ta_program.specs.Contents.{Hinders, ReadCause};
 ghost use Rattle.ta_program.specs.Lines.{certificate_limit};
@@ -88,6 +89,8 @@ fn read_certificate<S: Shelf>(
 fn write_proved<'a, O: Sink>(alloc: Global, file: &File, numbers: &[u32], out: &mut O) -> Status<'a>
     ensures wrote { Wrote result (check_text file.now numbers.now) (O.written out.old) (O.written out.new) }
     ensures cause { WriteCause result (O.faults out.old) (O.faults out.new) (O.stalls out.old) (O.stalls out.new) }
+    ensures not_found { result ≢ status.Found }
+    ensures not_unknown { result ≢ status.Unknown }
 {
     match proved_text(alloc, file, numbers) {
         Ok(text) => write_text(out, text.as_str()),

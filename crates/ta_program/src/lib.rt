@@ -8,6 +8,7 @@ mod running;
 mod status;
 mod telling;
 mod texts;
+mod verifying;
 mod words;
 mod writing;
 

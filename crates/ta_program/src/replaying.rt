@@ -6,6 +6,7 @@ ghost use Rattle.std.specs.String.{string_bytes};
 ghost use Rattle.ta_replay.specs.declared.fault.RunFault.TheVariants as fault;
 ghost use Rattle.ta_replay.specs.Fits.{Fits};
 ghost use Rattle.ta_replay.specs.Shows.{shown_of};
+ghost use Rattle.ta_program.specs.declared.status.Status.TheVariants as status;
 ghost use Rattle.ta_program.specs.Contents.{Hinders, ReadCause};
 ghost use Rattle.ta_program.specs.Lines.{run_limit};
 ghost use Rattle.ta_program.specs.Outcome.{ShelfCause, WriteCause, Wrote};
@@ -107,6 +108,8 @@ fn write_shown<'a, O: Sink>(
     requires shown { shown ≡ shown_of run.now }
     ensures wrote { WroteShown result file.now run.now (O.written out.old) (O.written out.new) }
     ensures cause { WriteCause result (O.faults out.old) (O.faults out.new) (O.stalls out.old) (O.stalls out.new) }
+    ensures not_found { result ≢ status.Found }
+    ensures not_unknown { result ≢ status.Unknown }
 {
     let pattern = &file.patterns.as_slice()[run.pattern as usize];
     match shown_text(alloc, pattern.name.as_str(), shown) {

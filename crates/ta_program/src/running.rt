@@ -3,19 +3,21 @@
 
 ghost use Rattle.std.specs.Prelude.{◌≡◌, map};
 ghost use Rattle.ta_program.specs.Outcome.{ShelfCause, WriteCause};
-ghost use Rattle.ta_program.specs.Program.{CheckProves, Complete, Outcome, Quiet, ReplayShows, Says, SinkState, UsageExactly};
+ghost use Rattle.ta_program.specs.Program.{CheckProves, Complete, Outcome, Quiet, ReplayShows, Says, SinkState, UsageExactly, VerifyReports};
 
 use crate::checking::check;
 use crate::replaying::replay_run;
 use crate::status::Status;
 use crate::telling::tell;
+use crate::verifying::verify;
 use crate::words::{Request, read_words};
 use std::alloc::Global;
 use ta_shelf::{Shelf, Sink};
 
 /// Does what the words ask for, and answers the number that the process ends with: 0 where all is
-/// proved or shown, 3 where FILE hinders, 4 where CERT or RUN does, 5 where the words are no
-/// command's, 6 where the shelf or the output failed, and 7 for want of memory.
+/// done, 1 where some pattern is found, 2 where none is and some is unknown, 3 where FILE hinders, 4
+/// where CERT or RUN does, 5 where the words are no command's, 6 where the shelf or the output
+/// failed, and 7 for want of memory.
 ///
 /// A file is read and judged whole before the next one is opened, and a text is made whole before
 /// it is written. A failing `err` changes nothing.
@@ -33,6 +35,7 @@ pub fn run<S: Shelf, O: Sink, E: Sink>(
         (record { written = E.written err.new; faults = E.faults err.new; stalls = E.stalls err.new }) }
     ensures check { CheckProves result (map (λ w. w.now) words.now) (S.files shelf.old) (O.written out.old) (O.written out.new) }
     ensures replay { ReplayShows result (map (λ w. w.now) words.now) (S.files shelf.old) (O.written out.old) (O.written out.new) }
+    ensures verify { VerifyReports result (map (λ w. w.now) words.now) (S.files shelf.old) (O.written out.old) (O.written out.new) }
     ensures usage { UsageExactly result (map (λ w. w.now) words.now) }
     ensures refused { Quiet result (S.faults shelf.old) (S.faults shelf.new)
         (record { written = O.written out.old; faults = O.faults out.old; stalls = O.stalls out.old })
@@ -59,6 +62,7 @@ fn answer<'a, S: Shelf, O: Sink>(
     match read_words(words) {
         Request::Check { file, certificate } => check(alloc, file, certificate, shelf, out),
         Request::Replay { file, run } => replay_run(alloc, file, run, shelf, out),
+        Request::Verify { file, nodes } => verify(alloc, file, nodes, shelf, out),
         Request::Refused => Status::Usage,
     }
 }

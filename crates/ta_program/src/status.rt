@@ -56,6 +56,10 @@ impl<F> Trouble<F> {
 pub enum Status<'a> {
     /// All was done and written.
     Done,
+    /// All was written, and some pattern is found.
+    Found,
+    /// All was written; no pattern is found, and some is unknown.
+    Unknown,
     /// The words are no command's.
     Usage,
     /// FILE hinders.

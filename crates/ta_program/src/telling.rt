@@ -23,6 +23,8 @@ pub(crate) fn tell<E: Sink>(alloc: Global, status: &Status, err: &mut E) -> u8
 {
     match status {
         Status::Done => 0,
+        Status::Found => 1,
+        Status::Unknown => 2,
         Status::Usage => {
             tell_line(err, USAGE);
             5

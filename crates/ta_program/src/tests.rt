@@ -44,6 +44,21 @@ const CLOSED: &str =
 const BOTH: &str =
     "automaton both; parameters n; shared; locations A initial, B; processes n; resilience n >= 1; rule r: A -> B; pattern one { event done: A + B >= n + 1; } pattern two { event done: A + B >= n + 2; }";
 
+const ODD: &str =
+    "automaton odd; parameters a, b; shared; locations A initial; processes a; resilience 2*a == 2*b + 1; pattern any { }";
+
+const TOWER: &str =
+    "automaton tower; parameters p0, p1, p2, p3, p4, p5; shared; locations A initial; processes p0; resilience p0 >= 1, p1 == 1000000000*p0, p2 == 1000000000*p1, p3 == 1000000000*p2, p4 == 1000000000*p3, p5 == 1000000000*p4; pattern any { }";
+
+const CYCLE: &str =
+    "automaton first; parameters n; shared; locations A initial, B; processes n; resilience n >= 1; rule r: A -> B; rule s: B -> A; pattern reached { event done: B >= 1; }";
+
+const DEEP: &str =
+    "automaton a;parameters n;shared;locations A initial;processes n;resilience ((((((((((((((((((((((((((((((((n))))))))))))))))))))))))))))))))>=0;";
+
+const TOO_DEEP: &str =
+    "automaton a;parameters n;shared;locations A initial;processes n;resilience (((((((((((((((((((((((((((((((((n)))))))))))))))))))))))))))))))))>=0;";
+
 const CERT: &str = "threshold-certificate 1\npattern 0\ne\nf 1:1 5:1\nend\n";
 
 const PROVED: &str = "automaton first\npattern reached: proved\n";
@@ -54,6 +69,8 @@ const PROVED_ST: &str = "automaton st\npattern unforgeability: proved\n";
 
 const CERT_ST: &str =
     "threshold-certificate 1\npattern 0\ne\nf 10:1\nf 1:1 5:1 7:1 10:1\nf 0:1 1:1 5:1 7:1 10:1\nend\n";
+
+const SAFE: &str = "automaton first\npattern reached: safe, 2 nodes, 1 leaves\n";
 
 const USAGE: &str =
     "tav: usage: verify FILE [--nodes N] [--certificate OUT] [--json], check FILE CERT, replay FILE RUN, compress FILE RUN, bench K\n";
@@ -174,7 +191,8 @@ fn checks_files(rt: HostRuntime) -> Result<(), Fail> {
         (&["check"], 5, "", USAGE),
         (&["check", "a"], 5, "", USAGE),
         (&["check", "a", "b", "c"], 5, "", USAGE),
-        (&["verify", "a"], 5, "", USAGE),
+        (&["verify"], 5, "", USAGE),
+        (&["compress", "a", "b"], 5, "", USAGE),
         (&["check", "--json", "a", "b"], 5, "", USAGE),
         (&["check", "-x", "-y"], 5, "", USAGE),
         (&["check", "a", ""], 5, "", USAGE),
@@ -355,6 +373,137 @@ fn judges_certificates(rt: HostRuntime) -> Result<(), Fail> {
         expect(&rt, alloc, &files, &CALM, &words, number, text, line)?;
     }
     Ok(())
+}
+
+#[test]
+fn verifies_files(rt: HostRuntime) -> Result<(), Fail> {
+    let alloc = rt.alloc();
+    let files = [
+        ("first", FIRST),
+        ("kept", KEPT),
+        ("st", ST),
+        ("weak", WEAK),
+        ("closed", CLOSED),
+        ("edge", EDGE),
+        ("both", BOTH),
+        ("odd", ODD),
+        ("tower", TOWER),
+        ("cycle", CYCLE),
+        ("deep", DEEP),
+        ("too_deep", TOO_DEEP),
+        ("empty", ""),
+        ("-x", KEPT),
+    ];
+    let rows = [
+        (
+            ["verify", "first"].as_slice(),
+            1,
+            "automaton first\npattern reached: found, 2 nodes\n",
+            "",
+        ),
+        (
+            &["verify", "kept", "--nodes", "1"],
+            2,
+            "automaton first\npattern reached: unknown, 1 nodes spent\n",
+            "",
+        ),
+        (&["verify", "kept"], 0, SAFE, ""),
+        (&["verify", "kept", "--nodes", "2"], 0, SAFE, ""),
+        (&["verify", "--nodes=0000000002", "kept"], 0, SAFE, ""),
+        (
+            &["verify", "--nodes", "1000000000", "--", "-x"],
+            0,
+            SAFE,
+            "",
+        ),
+        (
+            &["verify", "st"],
+            0,
+            "automaton st\npattern unforgeability: safe, 4 nodes, 3 leaves\n",
+            "",
+        ),
+        (
+            &["verify", "weak"],
+            1,
+            "automaton st\npattern unforgeability: found, 5 nodes\n",
+            "",
+        ),
+        (
+            &["verify", "closed"],
+            0,
+            "automaton closed\npattern reached: safe, 3 nodes, 2 leaves\n",
+            "",
+        ),
+        (
+            &["verify", "edge"],
+            1,
+            "automaton edge\npattern turned: found, 8 nodes\n",
+            "",
+        ),
+        (
+            &["verify", "both"],
+            0,
+            "automaton both\npattern one: safe, 2 nodes, 1 leaves\npattern two: safe, 2 nodes, 1 leaves\n",
+            "",
+        ),
+        (
+            &["verify", "odd", "--nodes", "50"],
+            2,
+            "automaton odd\npattern any: unknown, 50 nodes spent\n",
+            "",
+        ),
+        (
+            &["verify", "tower"],
+            2,
+            "automaton tower\npattern any: unknown, outside 128 bits at node 1, pivot 5\n",
+            "",
+        ),
+        (&["verify", "deep"], 0, "automaton a\n", ""),
+        (
+            &["verify", "too_deep"],
+            3,
+            "",
+            "tav: too_deep: F8 too deep at offset 107\n",
+        ),
+        (
+            &["verify", "empty"],
+            3,
+            "",
+            "tav: empty: F2 syntax at offset 0\n",
+        ),
+        (
+            &["verify", "cycle"],
+            3,
+            "",
+            "tav: cycle: F11 cycle at rule 0\n",
+        ),
+        (&["verify", "gone"], 3, "", "tav: gone: missing\n"),
+        (&["verify", "gone"], 3, "", "tav: gone: missing\n"),
+        (&["verify", ""], 5, "", USAGE),
+        (&["verify", "kept", "st"], 5, "", USAGE),
+        (&["verify", "-x"], 5, "", USAGE),
+        (&["verify", "kept", "--nodes"], 5, "", USAGE),
+        (&["verify", "kept", "--nodes", "0"], 5, "", USAGE),
+        (&["verify", "kept", "--nodes", "1000000001"], 5, "", USAGE),
+        (&["verify", "kept", "--nodes", "00000000002"], 5, "", USAGE),
+        (&["verify", "kept", "--nodes", "+2"], 5, "", USAGE),
+        (&["verify", "kept", "--nodes="], 5, "", USAGE),
+        (&["verify", "kept", "--nodes=2", "--nodes=2"], 5, "", USAGE),
+        (&["verify", "kept", "--certificate", "out"], 5, "", USAGE),
+        (&["verify", "kept", "--json"], 5, "", USAGE),
+    ];
+    for (words, number, text, line) in rows {
+        expect(&rt, alloc, &files, &CALM, words, number, text, line)?;
+    }
+    let setting = Setting {
+        shelf_fails: 0,
+        room: 4096,
+        piece: 1,
+        out_fails: 3,
+    };
+    let words = ["verify", "first"];
+    let line = "tav: output failed\n";
+    expect(&rt, alloc, &files, &setting, &words, 6, "au", line)
 }
 
 #[test]

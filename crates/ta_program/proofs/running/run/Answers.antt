@@ -1,4 +1,4 @@
-use Rattle.ta_program.proofs.Clauses.{check_proves, outcome, quiet, replay_shows, usage_exactly}
+use Rattle.ta_program.proofs.Clauses.{check_proves, outcome, quiet, replay_shows, usage_exactly, verify_reports}
 use Rattle.ta_program.proofs.Exact.{complete}
 use Rattle.ta_program.proofs.running.run.Goals as goal
 
@@ -10,6 +10,9 @@ returns-clause-check g c = check_proves _ _ _ _ _ _ _ _ _ (returns-clause-outcom
 
 pub returns-clause-replay : goal.returns-clause-replay
 returns-clause-replay g c = replay_shows _ _ _ _ _ _ _ _ _ (returns-clause-outcome g c)
+
+pub returns-clause-verify : goal.returns-clause-verify
+returns-clause-verify g c = verify_reports _ _ _ _ _ _ _ _ _ (returns-clause-outcome g c)
 
 pub returns-clause-usage : goal.returns-clause-usage
 returns-clause-usage g c = usage_exactly _ _ _ _ _ _ _ _ _ (returns-clause-outcome g c)

@@ -6,6 +6,12 @@ use Rattle.ta_program.proofs.telling.tell.Goals as goal
 pub returns-in-Done : goal.returns-in-Done
 returns-in-Done g c = rw c.in-Done.is (record { end = status.Done; ends = refl; numbered = refl; told = refl })
 
+pub returns-in-Found : goal.returns-in-Found
+returns-in-Found g c = rw c.in-Found.is (record { end = status.Found; ends = refl; numbered = refl; told = refl })
+
+pub returns-in-Unknown : goal.returns-in-Unknown
+returns-in-Unknown g c = rw c.in-Unknown.is (record { end = status.Unknown; ends = refl; numbered = refl; told = refl })
+
 pub returns-in-Usage : goal.returns-in-Usage
 returns-in-Usage g c = rw c.in-Usage.is (record { end = status.Usage; ends = refl; numbered = refl; told = c.tell_line.ensures })
 

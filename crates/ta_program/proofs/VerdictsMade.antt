@@ -1,0 +1,123 @@
+-- what is known of verdicts as they are made and counted
+use Rattle.std.proofs.Common.{◌≡◌, ℕ, suc, ◌+◌, ◌<◌, ◌≤◌, List, [], ◌∷◌, ◌++◌, Bool, true, false, length, take, arith, refl, sym, ap, subst, ◌∙◌, Some, slice_get, Option, get_or, Err}
+use Rattle.std.specs.Prelude.{filter}
+use Rattle.std.proofs.lemmas.List.{length-take-le, take_more}
+use Rattle.std.proofs.lemmas.Option.{get_or_from_slice_get}
+use Rattle.ta_shelf.specs.WriteWhole.{AddsPrefix, AddsWhole}
+use Rattle.ta_shelf.specs.declared.fault.SinkFault.{SinkFault}
+use Rattle.ta_shelf.specs.declared.fault.SinkFault.TheVariants as fault
+use Rattle.ta_automaton.specs.declared.file.File.{File}
+use Rattle.ta_automaton.specs.declared.pattern.Pattern.{Pattern}
+use Rattle.ta_automaton.specs.Runs.{LoopsPure}
+use Rattle.ta_cert.specs.declared.line.Node.{Node}
+use Rattle.ta_cert.specs.declared.line.Node.TheVariants as node
+use Rattle.ta_scope.specs.Order.{IsOrder, rank_of}
+use Rattle.ta_scope.proofs.OrderLaws.{goes_forward}
+use Rattle.ta_words.specs.Calls.{OfPattern}
+use Rattle.ta_encode.specs.declared.encoded.Solution.{Solution}
+use Rattle.ta_encode.proofs.Switch.{some_at}
+use Rattle.ta_encode.proofs.Theorems.{runs}
+use Rattle.ta_walk.specs.Ends.{NodeOf, SolutionAt, TreeIs}
+use Rattle.ta_walk.proofs.ProofsMade.{refuted_safe}
+use Rattle.ta_walk.proofs.WordsSolved.{found_solved}
+use Rattle.ta_report.specs.declared.verdict.Verdict.{Verdict}
+use Rattle.ta_report.specs.Report.{report_text}
+use Rattle.ta_program.specs.declared.status.Status.{Status}
+use Rattle.ta_program.specs.declared.status.Status.TheVariants as status
+use Rattle.ta_program.specs.Contents.{Files}
+use Rattle.ta_program.specs.Check.{IsFile}
+use Rattle.ta_program.specs.Verify.{FoundHolds, ReportEnds, ReportSays, SafeHolds, VerdictHolds, VerdictsHold, VerifyEnds, VerifySays, leaf_count, verdicts_number}
+
+-- whether a node is a leaf
+abbrev pub is_leaf : Node → Bool
+is_leaf (node.Leaf ts) = true
+is_leaf node.Extend = false
+is_leaf (node.Split unknown floor) = false
+
+pub leaves_counted : (ns : List Node) → length (filter is_leaf ns) ≡ leaf_count ns
+leaves_counted [] = refl
+leaves_counted (node.Leaf ts ∷ ns) = ap suc (leaves_counted ns) ∙ omega arith
+leaves_counted (node.Extend ∷ ns) = leaves_counted ns
+leaves_counted (node.Split unknown floor ∷ ns) = leaves_counted ns
+
+-- a refuted pattern is safe
+pub safe_holds : (file : File) (number : ℕ) (p : Pattern) → slice_get file.patterns number ≡ Some p → LoopsPure file.automaton → (budget : ℕ) → budget ≤ 1000000000 → (tree : List Node) (nodes leaves : ℕ) → TreeIs file.automaton p budget tree nodes → leaves ≡ leaf_count tree → SafeHolds file p budget nodes leaves
+safe_holds file number p at loops budget within tree nodes leaves is counted =
+    record { safe = (refuted_safe file number p at loops budget within tree nodes is).1; tree = tree; is = is; counted = counted }
+
+-- a pattern whose word has a solution occurs in a run
+pub found_holds : (file : File) (number : ℕ) (p : Pattern) → slice_get file.patterns number ≡ Some p → (order : List ℕ) → IsOrder file.automaton order → (budget nodes : ℕ) (solution : Solution) → NodeOf file.automaton p budget nodes (SolutionAt file.automaton p number solution) → FoundHolds file number p budget nodes
+found_holds file number p at order ordered budget nodes solution found =
+    let solved = found_solved file.automaton p number budget nodes solution found in
+    record {
+      solution = solution;
+      node = found;
+      values = solved.0;
+      are = solved.1;
+      solved = solved.3;
+      run = runs file number p at (rank_of order) (goes_forward file.automaton order ordered) solution.start_mask solution.word solved.0 solved.3;
+    }
+
+-- one more verdict at the end
+holds_more : (file : File) (budget number : ℕ) (ps : List Pattern) (vs : List Verdict) (p : Pattern) (v : Verdict) → VerdictsHold file budget number ps vs → VerdictHolds file budget (number + length ps) p v → VerdictsHold file budget number (ps ++ p ∷ []) (vs ++ v ∷ [])
+holds_more file budget number [] [] p v hold here = (subst (λ (k : ℕ). VerdictHolds file budget k p v) (omega arith) here, tt)
+holds_more file budget number [] (w ∷ vs) p v hold here = absurd hold
+holds_more file budget number (q ∷ ps) [] p v hold here = absurd hold
+holds_more file budget number (q ∷ ps) (w ∷ vs) p v hold here =
+    let same : number + length (q ∷ ps) ≡ (number + 1) + length ps = omega arith in
+    (hold.0, holds_more file budget (number + 1) ps vs p v hold.1 (subst (λ (k : ℕ). VerdictHolds file budget k p v) same here))
+
+-- there is a verdict for each pattern
+pub as_many : (file : File) (budget number : ℕ) (ps : List Pattern) (vs : List Verdict) → VerdictsHold file budget number ps vs → length vs ≡ length ps
+as_many file budget number [] [] hold = refl
+as_many file budget number [] (v ∷ vs) hold = absurd hold
+as_many file budget number (p ∷ ps) [] hold = absurd hold
+as_many file budget number (p ∷ ps) (v ∷ vs) hold = ap suc (as_many file budget (number + 1) ps vs hold.1)
+
+-- the verdicts on so many of the first patterns
+pub record VerdictsSoFar (file : File) (budget count done : ℕ) (vs : List Verdict) : Type 0 where
+  pub counted : count ≡ length file.patterns
+  pub hold : VerdictsHold file budget 0 (take done file.patterns) vs
+
+pub so_far_more : (file : File) (budget count done : ℕ) (vs : List Verdict) (v : Verdict) → VerdictsSoFar file budget count done vs → done < count → OfPattern file done (λ p. VerdictHolds file budget done p v) → VerdictsSoFar file budget count (done + 1) (vs ++ v ∷ [])
+so_far_more file budget count done vs v so below here =
+    let ps = file.patterns in
+    let counted = so.counted in
+    let within : done < length ps = omega arith in
+    let at = some_at ps done within in
+    let p = at.0 in
+    let same : get_or ps done p ≡ p = get_or_from_slice_get ps done p p at.1 in
+    let more : take done ps ++ p ∷ [] ≡ take (done + 1) ps = sym (take_more ps done p within ∙ ap (λ (q : Pattern). take done ps ++ q ∷ []) same) in
+    let long : length (take done ps) ≡ done = length-take-le done ps (omega arith) in
+    let number : done ≡ 0 + length (take done ps) = omega arith in
+    record {
+      counted = counted;
+      hold = subst (λ (qs : List Pattern). VerdictsHold file budget 0 qs (vs ++ v ∷ [])) more (holds_more file budget 0 (take done ps) vs p v so.hold (subst (λ (k : ℕ). VerdictHolds file budget k p v) number (here p at.1)));
+    }
+
+-- a write that failed added a prefix
+adds_prefix : (e : SinkFault) (text : List ℕ) (before after : Option (List ℕ)) → AddsWhole (Err e) text before after → AddsPrefix text before after
+adds_prefix fault.Failed text before after h = h
+adds_prefix (fault.Stuck at) text before after h = (let below = h.0 in record { count = at; within = omega arith; added = h.1 })
+
+-- the report that was written in part, whatever number its verdicts give
+pub report_cut : (e : SinkFault) (file : File) (vs : List Verdict) (budget : ℕ) (before after : Option (List ℕ)) → AddsWhole (Err e) (report_text file vs) before after → VerdictsHold file budget 0 file.patterns vs → ReportSays status.OutputFailed file budget before after
+report_cut e file vs budget before after wrote hold =
+    (verdicts_number vs, record { verdicts = vs; hold = hold; numbered = refl; wrote = adds_prefix e (report_text file vs) before after wrote })
+
+-- the verdicts of a legal file
+verify_ends : (number : ℕ) (end : Status) (files : Files) (name : List ℕ) (file : File) (budget : ℕ) (before after : Option (List ℕ)) → IsFile files name file → ReportEnds number end file budget before after → VerifyEnds number end files name budget before after
+verify_ends number end files name file budget before after is_file h =
+    record { file = file; verdicts = h.verdicts; verified = record { is_file = is_file; hold = h.hold }; numbered = h.numbered; wrote = h.wrote }
+
+-- what the command says, once the file is legal
+pub verify_says : (end : Status) (files : Files) (name : List ℕ) (file : File) (budget : ℕ) (before after : Option (List ℕ)) → IsFile files name file → ReportSays end file budget before after → VerifySays end files name budget before after
+verify_says status.Done files name file budget before after is_file h = verify_ends 0 status.Done files name file budget before after is_file h
+verify_says status.Found files name file budget before after is_file h = verify_ends 1 status.Found files name file budget before after is_file h
+verify_says status.Unknown files name file budget before after is_file h = verify_ends 2 status.Unknown files name file budget before after is_file h
+verify_says status.Usage files name file budget before after is_file h = absurd h
+verify_says (status.File word trouble) files name file budget before after is_file h = absurd h
+verify_says (status.Certificate word trouble) files name file budget before after is_file h = absurd h
+verify_says (status.Run word trouble) files name file budget before after is_file h = absurd h
+verify_says status.OutputFailed files name file budget before after is_file h = record { number = h.0; ends = verify_ends h.0 status.OutputFailed files name file budget before after is_file h.1 }
+verify_says status.Memory files name file budget before after is_file h = h

@@ -1,0 +1,135 @@
+-- Reports of a file with one text have the same verdicts.
+use Rattle.std.proofs.Common.{ℕ, ◌<◌, ◌≤◌, ◌^◌, ◌≡◌, List, [], ◌∷◌, ◌++◌, length, codes, decimal, refl, sym, ap, ◌∙◌, append_assoc, arith, ◌⊎◌, inl, inr, lit<, lit≤}
+use Rattle.std.specs.Str.Parse.{AllDigits}
+use Rattle.std.proofs.lemmas.Fmt.{decimal_injective, decimal_is_IsNumeral}
+use Rattle.std.proofs.lemmas.List.{append_cancel_left}
+use Rattle.std.proofs.lemmas.Str.Parse.{digit_from_value}
+use Rattle.ta_automaton.specs.declared.pattern.Pattern.{Pattern}
+use Rattle.ta_automaton.specs.Lists.{Each}
+use Rattle.ta_report.specs.declared.verdict.ReportKind.{ReportKind}
+use Rattle.ta_report.specs.declared.verdict.ReportKind.TheVariants.{Pivot, Leaf, Run}
+use Rattle.ta_report.specs.declared.verdict.Verdict.{Verdict}
+use Rattle.ta_report.specs.declared.verdict.Verdict.TheVariants.{Safe, Found, Spent, Overflow}
+use Rattle.ta_report.specs.Report.{PlaceFits, ReportsAreDistinct, VerdictFits, place_text, verdict_line, verdict_lines, verdict_text}
+
+-- a number is written in digits
+written : (n : ℕ) → n < 2 ^ 64 → AllDigits 10 (decimal n)
+written n fits = (decimal_is_IsNumeral n fits).0.1
+
+-- digits in front of a byte below them are determined
+digits_same : (low : ℕ) (xs ys r s : List ℕ) → low < 48 → AllDigits 10 xs → AllDigits 10 ys → xs ++ (low ∷ r) ≡ ys ++ (low ∷ s) → (xs ≡ ys) × (r ≡ s)
+digits_same low [] [] r s below dx dy e = let tail : r ≡ s = cc in (refl, tail)
+digits_same low [] (y ∷ ys) r s below dx dy e =
+    let range = digit_from_value y dy.0 in let least = range.0 in let same : low ≡ y = cc in absurd (omega arith)
+digits_same low (x ∷ xs) [] r s below dx dy e =
+    let range = digit_from_value x dx.0 in let least = range.0 in let same : x ≡ low = cc in absurd (omega arith)
+digits_same low (x ∷ xs) (y ∷ ys) r s below dx dy e =
+    let head : x ≡ y = cc in
+    let tail : xs ++ (low ∷ r) ≡ ys ++ (low ∷ s) = cc in
+    let more = digits_same low xs ys r s below dx.1 dy.1 tail in
+    let same = more.0 in
+    (cc, more.1)
+
+-- a number in front of a byte below the digits is determined, and so is what stands behind it
+number_same : (low m n : ℕ) (r s : List ℕ) → low < 48 → m < 2 ^ 64 → n < 2 ^ 64 → decimal m ++ (low ∷ r) ≡ decimal n ++ (low ∷ s) → (m ≡ n) × (r ≡ s)
+number_same low m n r s below small fits e =
+    let parts = digits_same low (decimal m) (decimal n) r s below (written m small) (written n fits) e in
+    (decimal_injective m n small fits parts.0, parts.1)
+
+-- a number and a letter begin otherwise
+front_other : (ds xs : List ℕ) (x : ℕ) (r : List ℕ) → AllDigits 10 ds → 0 < length ds → 58 ≤ x → ds ++ r ≡ x ∷ xs → ⊥
+front_other [] xs x r digits some high e = omega arith
+front_other (d ∷ ds) xs x r digits some high e =
+    let range = digit_from_value d digits.0 in let most = range.1 in let same : d ≡ x = cc in omega arith
+
+number_other : (n x : ℕ) (xs r : List ℕ) → n < 2 ^ 64 → 58 ≤ x → decimal n ++ r ≡ x ∷ xs → ⊥
+number_other n x xs r fits high e = front_other (decimal n) xs x r (written n fits) (decimal_is_IsNumeral n fits).0.0 high e
+
+-- texts that begin otherwise differ
+apart : {X : Type 0} (x y : ℕ) (xs ys : List ℕ) → x < y ⊎ y < x → x ∷ xs ≡ y ∷ ys → X
+apart x y xs ys (inl less) e = let same : x ≡ y = cc in absurd (omega arith)
+apart x y xs ys (inr less) e = let same : x ≡ y = cc in absurd (omega arith)
+
+-- the place in front of a line's end is determined
+place_same : (j k : ReportKind) (r s : List ℕ) → PlaceFits j → PlaceFits k → place_text j ++ (10 ∷ r) ≡ place_text k ++ (10 ∷ s) → (j ≡ k) × (r ≡ s)
+place_same (Pivot m) (Pivot n) r s fj fk e =
+    let parts = number_same 10 m n r s (lit< tt) fj fk (append_cancel_left (codes "pivot ") _ _ e) in
+    (ap Pivot parts.0, parts.1)
+place_same (Pivot m) Leaf r s fj fk e = apart 112 108 _ _ (inr (lit< tt)) e
+place_same (Pivot m) Run r s fj fk e = apart 112 114 _ _ (inl (lit< tt)) e
+place_same Leaf (Pivot n) r s fj fk e = apart 108 112 _ _ (inl (lit< tt)) e
+place_same Leaf Leaf r s fj fk e = (refl, append_cancel_left (codes "leaf\n") r s e)
+place_same Leaf Run r s fj fk e = apart 108 114 _ _ (inl (lit< tt)) e
+place_same Run (Pivot n) r s fj fk e = apart 114 112 _ _ (inr (lit< tt)) e
+place_same Run Leaf r s fj fk e = apart 114 108 _ _ (inr (lit< tt)) e
+place_same Run Run r s fj fk e = (refl, append_cancel_left (codes "run\n") r s e)
+
+-- what is said of a budget that is spent, and what stands behind it
+spent_flat : (n : ℕ) (t : List ℕ) → verdict_text (Spent n) ++ (10 ∷ t) ≡ codes "unknown, " ++ (decimal n ++ (codes " nodes spent\n" ++ t))
+spent_flat n t = ap (λ tail. codes "unknown, " ++ tail) (append_assoc (decimal n) (codes " nodes spent") (10 ∷ t))
+
+-- the verdict in front of a line's end is determined
+verdict_same : (v w : Verdict) (r s : List ℕ) → VerdictFits v → VerdictFits w → verdict_text v ++ (10 ∷ r) ≡ verdict_text w ++ (10 ∷ s) → (v ≡ w) × (r ≡ s)
+verdict_same (Safe m k) (Safe n l) r s fv fw e =
+    let flat : (x y : ℕ) (t : List ℕ) → verdict_text (Safe x y) ++ (10 ∷ t) ≡ codes "safe, " ++ (decimal x ++ (codes " nodes, " ++ (decimal y ++ (codes " leaves\n" ++ t)))) =
+    λ x y t. ap (λ tail. codes "safe, " ++ tail) (append_assoc (decimal x) (codes " nodes, " ++ (decimal y ++ codes " leaves")) (10 ∷ t) ∙ ap (λ tail. decimal x ++ (codes " nodes, " ++ tail)) (append_assoc (decimal y) (codes " leaves") (10 ∷ t))) in
+    let first = number_same 32 m n _ _ (lit< tt) fv.0 fw.0 (append_cancel_left (codes "safe, ") _ _ (sym (flat m k r) ∙ e ∙ flat n l s)) in
+    let second = number_same 32 k l _ _ (lit< tt) fv.1 fw.1 (append_cancel_left (codes "nodes, ") _ _ first.1) in
+    (ap (λ x. Safe x k) first.0 ∙ ap (λ y. Safe n y) second.0, append_cancel_left (codes "leaves\n") r s second.1)
+verdict_same (Safe m k) (Found n) r s fv fw e = apart 115 102 _ _ (inr (lit< tt)) e
+verdict_same (Safe m k) (Spent n) r s fv fw e = apart 115 117 _ _ (inl (lit< tt)) e
+verdict_same (Safe m k) (Overflow n j) r s fv fw e = apart 115 117 _ _ (inl (lit< tt)) e
+verdict_same (Found m) (Safe n l) r s fv fw e = apart 102 115 _ _ (inl (lit< tt)) e
+verdict_same (Found m) (Found n) r s fv fw e =
+    let flat : (x : ℕ) (t : List ℕ) → verdict_text (Found x) ++ (10 ∷ t) ≡ codes "found, " ++ (decimal x ++ (codes " nodes\n" ++ t)) =
+    λ x t. ap (λ tail. codes "found, " ++ tail) (append_assoc (decimal x) (codes " nodes") (10 ∷ t)) in
+    let first = number_same 32 m n _ _ (lit< tt) fv fw (append_cancel_left (codes "found, ") _ _ (sym (flat m r) ∙ e ∙ flat n s)) in
+    (ap Found first.0, append_cancel_left (codes "nodes\n") r s first.1)
+verdict_same (Found m) (Spent n) r s fv fw e = apart 102 117 _ _ (inl (lit< tt)) e
+verdict_same (Found m) (Overflow n j) r s fv fw e = apart 102 117 _ _ (inl (lit< tt)) e
+verdict_same (Spent m) (Safe n l) r s fv fw e = apart 117 115 _ _ (inr (lit< tt)) e
+verdict_same (Spent m) (Found n) r s fv fw e = apart 117 102 _ _ (inr (lit< tt)) e
+verdict_same (Spent m) (Spent n) r s fv fw e =
+    let first = number_same 32 m n _ _ (lit< tt) fv fw (append_cancel_left (codes "unknown, ") _ _ (sym (spent_flat m r) ∙ e ∙ spent_flat n s)) in
+    (ap Spent first.0, append_cancel_left (codes "nodes spent\n") r s first.1)
+verdict_same (Spent m) (Overflow n j) r s fv fw e =
+    absurd (number_other m 111 _ _ fv (lit≤ tt) (append_cancel_left (codes "unknown, ") _ _ (sym (spent_flat m r) ∙ e)))
+verdict_same (Overflow m j) (Safe n l) r s fv fw e = apart 117 115 _ _ (inr (lit< tt)) e
+verdict_same (Overflow m j) (Found n) r s fv fw e = apart 117 102 _ _ (inr (lit< tt)) e
+verdict_same (Overflow m j) (Spent n) r s fv fw e =
+    absurd (number_other n 111 _ _ fw (lit≤ tt) (append_cancel_left (codes "unknown, ") _ _ (sym (spent_flat n s) ∙ sym e)))
+verdict_same (Overflow m j) (Overflow n k) r s fv fw e =
+    let flat : (x : ℕ) (i : ReportKind) (t : List ℕ) → verdict_text (Overflow x i) ++ (10 ∷ t) ≡ codes "unknown, outside 128 bits at node " ++ (decimal x ++ (codes ", " ++ (place_text i ++ (10 ∷ t)))) =
+    λ x i t. ap (λ tail. codes "unknown, outside 128 bits at node " ++ tail) (append_assoc (decimal x) (codes ", " ++ place_text i) (10 ∷ t)) in
+    let first = number_same 44 m n _ _ (lit< tt) fv.0 fw.0 (append_cancel_left (codes "unknown, outside 128 bits at node ") _ _ (sym (flat m j r) ∙ e ∙ flat n k s)) in
+    let second = place_same j k r s fv.1 fw.1 (append_cancel_left (codes " ") _ _ first.1) in
+    (ap (λ x. Overflow x j) first.0 ∙ ap (λ i. Overflow n i) second.0, second.1)
+
+-- a line, and what stands behind it
+line_flat : (p : Pattern) (v : Verdict) (r : List ℕ) → verdict_line p v ++ r ≡ codes "pattern " ++ (p.name ++ (codes ": " ++ (verdict_text v ++ (10 ∷ r))))
+line_flat p v r =
+    ap (λ tail. codes "pattern " ++ tail) (append_assoc p.name (codes ": " ++ (verdict_text v ++ (10 ∷ []))) r ∙ ap (λ tail. p.name ++ (codes ": " ++ tail)) (append_assoc (verdict_text v) (10 ∷ []) r))
+
+-- the verdict of a line is determined, and so is what stands behind it
+line_same : (p : Pattern) (v w : Verdict) (r s : List ℕ) → VerdictFits v → VerdictFits w → verdict_line p v ++ r ≡ verdict_line p w ++ s → (v ≡ w) × (r ≡ s)
+line_same p v w r s fv fw e =
+    let named = append_cancel_left (codes "pattern ") _ _ (sym (line_flat p v r) ∙ e ∙ line_flat p w s) in
+    let told = append_cancel_left p.name _ _ named in
+    verdict_same v w r s fv fw (append_cancel_left (codes ": ") _ _ told)
+
+-- the verdicts of lines are determined
+lines_same : (ps : List Pattern) (vs ws : List Verdict) → length vs ≡ length ps → length ws ≡ length ps → Each VerdictFits vs → Each VerdictFits ws → verdict_lines ps vs ≡ verdict_lines ps ws → vs ≡ ws
+lines_same [] [] [] cv cw fv fw e = refl
+lines_same [] [] (w ∷ ws) cv cw fv fw e = cc
+lines_same [] (v ∷ vs) ws cv cw fv fw e = absurd (omega arith)
+lines_same (p ∷ ps) [] ws cv cw fv fw e = absurd (omega arith)
+lines_same (p ∷ ps) (v ∷ vs) [] cv cw fv fw e = absurd (omega arith)
+lines_same (p ∷ ps) (v ∷ vs) (w ∷ ws) cv cw fv fw e =
+    let parts = line_same p v w (verdict_lines ps vs) (verdict_lines ps ws) fv.0 fw.0 e in
+    let rest = lines_same ps vs ws (omega arith) (omega arith) fv.1 fw.1 parts.1 in
+    ap (λ x. x ∷ vs) parts.0 ∙ ap (λ xs. w ∷ xs) rest
+
+pub reports_distinct : ReportsAreDistinct
+reports_distinct file vs ws cv cw fv fw e =
+    let lines = append_cancel_left (codes "\n") _ _ (append_cancel_left file.automaton.name _ _ (append_cancel_left (codes "automaton ") _ _ e)) in
+    lines_same file.patterns vs ws cv cw fv fw lines

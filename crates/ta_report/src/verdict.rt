@@ -1,0 +1,58 @@
+//! What a report says of a pattern.
+#![tactic(auto)]
+
+ghost use Rattle.std.specs.Prelude.{Some};
+ghost use Rattle.ta_report.specs.Report.{place_text, verdict_text};
+
+use std::fmt;
+
+/// Where a number left 128 bits.
+#[derive(Clone, Copy, Debug, PartialEq, Eq)]
+pub enum ReportKind {
+    /// In the pivot of this number of the node's solving.
+    Pivot(u64),
+    /// In the check of the leaf that the node is.
+    Leaf,
+    /// In the replay of the node's run.
+    Run,
+}
+
+/// What is said of a pattern, within a budget of nodes. Nodes are counted from 1.
+#[derive(Clone, Copy, Debug, PartialEq, Eq)]
+pub enum Verdict {
+    /// It occurs in no run: its tree has these many nodes, of which so many are leaves.
+    Safe { nodes: u64, leaves: u64 },
+    /// The node of this number is the first whose word has a solution.
+    Found { nodes: u64 },
+    /// These many nodes were visited, and the tree has more.
+    Spent { nodes: u64 },
+    /// At the node of this number a number left 128 bits.
+    Overflow { node: u64, kind: ReportKind },
+}
+
+impl fmt::Display for ReportKind {
+    ghost output = { λ kind. Some (place_text kind) };
+
+    fn fmt<W: fmt::Write>(&self, f: &mut fmt::Formatter<W>) -> fmt::Result {
+        match self {
+            ReportKind::Pivot(pivot) => write!(f, "pivot {pivot}"),
+            ReportKind::Leaf => write!(f, "leaf"),
+            ReportKind::Run => write!(f, "run"),
+        }
+    }
+}
+
+impl fmt::Display for Verdict {
+    ghost output = { λ verdict. Some (verdict_text verdict) };
+
+    fn fmt<W: fmt::Write>(&self, f: &mut fmt::Formatter<W>) -> fmt::Result {
+        match self {
+            Verdict::Safe { nodes, leaves } => write!(f, "safe, {nodes} nodes, {leaves} leaves"),
+            Verdict::Found { nodes } => write!(f, "found, {nodes} nodes"),
+            Verdict::Spent { nodes } => write!(f, "unknown, {nodes} nodes spent"),
+            Verdict::Overflow { node, kind } => {
+                write!(f, "unknown, outside 128 bits at node {node}, {kind}")
+            }
+        }
+    }
+}
