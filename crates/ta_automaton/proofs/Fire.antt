@@ -10,6 +10,7 @@ use Rattle.ta_automaton.specs.declared.automaton.Automaton.{Automaton}
 use Rattle.ta_automaton.specs.Runs.{Config, Step, MaskedHold}
 use Rattle.ta_automaton.specs.Masks.{numbers_from}
 use Rattle.ta_automaton.specs.Places.{one_if}
+pub use Rattle.ta_automaton.specs.Places.{Whole}
 use Rattle.ta_automaton.proofs.Thresholds.{updates_natural, updates_within, from_within, to_within}
 
 -- a whole number as a natural one
@@ -35,12 +36,6 @@ at_index f n i h = at_number f 0 n i h ∙ ap f (omega arith)
 
 pub past_numbers : (f : ℕ → ℕ) (n i : ℕ) → n ≤ i → get_or (map f (numbers_from 0 n)) i 0 ≡ 0
 past_numbers f n i h = get_or_past (map f (numbers_from 0 n)) i 0 (omega (arith, length-map (numbers_from 0 n) f, length_numbers 0 n))
-
--- a configuration with a value for each place
-pub record Whole (a : Automaton) (c : Config) : Type 0 where
-  pub parameters : length c.parameters ≡ length a.parameters
-  pub shared : length c.shared ≡ length a.shared
-  pub counters : length c.counters ≡ length a.locations
 
 abbrev pub fire : Automaton → Rule → Config → Config
 fire a rule c = record {

@@ -1,3 +1,4 @@
+-- lemmas for the crates above
 pub mod Sums
 pub mod Fired
 pub mod MaskTests
@@ -7,4 +8,7 @@ pub mod Fire
 pub mod Trails
 pub mod RunLaws
 pub mod ShortNames
-pub mod Examples
+pub mod Onward
+pub mod Circuits
+pub mod Rearranged
+mod Examples

@@ -85,3 +85,7 @@ terms_value-total f v xs (t ∷ ts) =
     let both = total-add (λ x. (t.1 *ℤ f x t.0) *ℤ v x) (λ x. terms_value (f x) ts *ℤ v x) xs in
     let whole = total-same (λ x. ((t.1 *ℤ f x t.0) *ℤ v x) +ℤ (terms_value (f x) ts *ℤ v x)) (λ x. terms_value (f x) (t ∷ ts) *ℤ v x) xs (λ x. sym (distributes_right (t.1 *ℤ f x t.0) (terms_value (f x) ts) (v x))) in
     omega (arith, ints, rest, first, assoc, both, whole)
+
+pub terms_value-same : (ts : List (ℕ × ℤ)) (f g : ℕ → ℤ) → ((i : ℕ) → f i ≡ g i) → terms_value f ts ≡ terms_value g ts
+terms_value-same [] f g h = refl
+terms_value-same (t ∷ ts) f g h = omega (arith, ints, ap (λ z. t.1 *ℤ z) (h t.0), terms_value-same ts f g h)

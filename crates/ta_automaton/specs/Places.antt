@@ -1,8 +1,15 @@
--- What one firing of a rule adds at each place
-use Rattle.std.specs.Prelude.{ℕ, ℤ, pos, ◌+◌, ◌-◌, ◌==◌, ◌+ℤ◌, ◌-ℤ◌, nat_lt, if◌then◌else◌, length, Option, Some, None}
+-- The places of a configuration, and what one firing of a rule adds at each
+use Rattle.std.specs.Prelude.{ℕ, ℤ, pos, ◌≡◌, ◌+◌, ◌-◌, ◌==◌, ◌+ℤ◌, ◌-ℤ◌, nat_lt, if◌then◌else◌, length, Option, Some, None}
 use Rattle.ta_linear.specs.Terms.{coefficient}
 use Rattle.ta_automaton.specs.declared.rule.Rule.{Rule}
 use Rattle.ta_automaton.specs.declared.automaton.Automaton.{Automaton}
+use Rattle.ta_automaton.specs.Runs.{Config}
+
+-- a configuration with a value for each place
+pub record Whole (a : Automaton) (c : Config) : Type 0 where
+  pub parameters : length c.parameters ≡ length a.parameters
+  pub shared : length c.shared ≡ length a.shared
+  pub counters : length c.counters ≡ length a.locations
 
 -- 1 where two numbers are equal, else 0
 abbrev pub one_if : ℕ → ℕ → ℤ

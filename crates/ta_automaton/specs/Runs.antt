@@ -1,6 +1,6 @@
 -- Runs of a threshold automaton and the patterns in them: counter systems of "A Short Counterexample Property for
 -- Safety and Liveness Verification of Fault-Tolerant Distributed Algorithms" (POPL 2017), with steps of one process
-use Rattle.std.specs.Prelude.{ℕ, ℤ, pos, ◌+◌, ◌+ℤ◌, ◌≤◌, ◌≡◌, ◌≢◌, ◌==◌, List, [], ◌∷◌, ◌++◌, length, All, Contains, sum, slice_get, slice_index, if◌then◌else◌, Some, IsBitSet}
+use Rattle.std.specs.Prelude.{ℕ, ℤ, pos, ◌+◌, ◌+ℤ◌, ◌≤ℤ◌, ◌≤◌, ◌≡◌, ◌==◌, List, [], ◌∷◌, ◌++◌, length, All, Contains, sum, slice_get, slice_index, if◌then◌else◌, Some, IsBitSet}
 use Rattle.ta_linear.specs.Terms.{coefficient}
 use Rattle.ta_linear.specs.Values.{value_of, RowHolds}
 use Rattle.ta_linear.specs.declared.row.Row.{Row}
@@ -112,7 +112,11 @@ Walk a x (r ∷ rs) y = (rule : Rule) × (slice_get a.rules r ≡ Some rule) × 
 abbrev pub LoopsPure : Automaton → Type 0
 LoopsPure a = (r : ℕ) (rule : Rule) → slice_get a.rules r ≡ Some rule → rule.from ≡ rule.to → (x : ℕ) → coefficient rule.updates x ≡ pos 0
 
--- a self-loop has no update, and no rule between two locations is on a cycle (POPL 2017, this project's profile)
-pub record InScope (a : Automaton) : Type 0 where
-  pub loops : LoopsPure a
-  pub no_cycle : (r : ℕ) (rule : Rule) → slice_get a.rules r ≡ Some rule → rule.from ≢ rule.to → (rs : List ℕ) → Walk a rule.to rs rule.from → ⊥
+-- a rule adds something to a shared variable (this project's profile)
+abbrev pub HasUpdate : Rule → Type 0
+HasUpdate rule = (x : ℕ) × (pos 1 ≤ℤ coefficient rule.updates x)
+
+-- no rule with an update has a walk from its target back to its source; a self-loop is such a walk (POPL 2017, canonical
+-- threshold automata; this project's profile)
+abbrev pub InScope : Automaton → Type 0
+InScope a = (r : ℕ) (rule : Rule) → slice_get a.rules r ≡ Some rule → HasUpdate rule → (walk : List ℕ) → Walk a rule.to walk rule.from → ⊥

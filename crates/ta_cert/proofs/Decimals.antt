@@ -9,7 +9,8 @@ use Rattle.std.proofs.lemmas.Fmt.{decimal_digit, decimal_step_wide, decimal_by_s
 use Rattle.std.proofs.lemmas.Int.Digits.{digits_value_more}
 use Rattle.std.proofs.lemmas.Str.{digit_value_digit}
 use Rattle.std.proofs.lemmas.Str.Parse.{digit_from_value, digit_at, digits_value-take-le}
-use Rattle.ta_cert.specs.Numbers.{BeginsNoDigit, NumberAt, NoNumberAt, IsNumber, IsRun, is_padded}
+use Rattle.ta_cert.specs.Numbers.{BeginsNoDigit, NumberAt, NoNumberAt}
+use Rattle.ta_cert.specs.Inside.Numbers.{IsNumber, IsRun, is_padded}
 
 -- a digit's test and its value
 digit_is : (c : ℕ) → is_ascii_digit c ≡ true → digit_value c < 10

@@ -2,7 +2,8 @@
 use Rattle.std.proofs.Common.{ℕ, ℤ, pos, negsuc, ◌<◌, ◌^◌, ◌≡◌, ◌≤ℤ◌, ◌<ℤ◌, List, ◌∷◌, ◌++◌, decimal, refl, sym, ap, ◌∙◌, append_assoc, arith, lit≤, le_refl}
 use Rattle.std.specs.Fmt.{signed_decimal}
 use Rattle.std.proofs.lemmas.Int.{ints}
-use Rattle.ta_cert.specs.Numbers.{NumberAt, NoNumberAt, IsNumber, IsSplitText, PairAt}
+use Rattle.ta_cert.specs.Numbers.{NumberAt, NoNumberAt}
+use Rattle.ta_cert.specs.Inside.Numbers.{IsNumber, IsSplitText, PairAt}
 use Rattle.ta_cert.proofs.Decimals.{number_is}
 
 -- what stands behind the unknown

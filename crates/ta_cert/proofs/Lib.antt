@@ -1,9 +1,10 @@
+-- lemmas for the crates above
 pub mod Decimals
-pub mod Fields
-pub mod Pairs
 pub mod Standing
-pub mod Writing
 pub mod Unique
 pub mod CertLines
-pub mod Exact
-pub mod Reading
+mod Fields
+mod Pairs
+mod Writing
+mod Exact
+mod Reading

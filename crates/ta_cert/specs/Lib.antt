@@ -5,3 +5,4 @@ pub mod Certificates
 pub mod Streams
 pub mod Steps
 pub mod Laws
+pub mod Inside

@@ -9,59 +9,12 @@ abbrev pub BeginsNoDigit : List ℕ → Type 0
 BeginsNoDigit [] = Unit {0}
 BeginsNoDigit (b ∷ bs) = is_ascii_digit b ≡ false
 
--- the bytes don't begin so
-abbrev pub BeginsOtherwise : List ℕ → List ℕ → Type 0
-BeginsOtherwise front bytes = (rest : List ℕ) → bytes ≡ front ++ rest → ⊥
-
 -- a number below the limit stands first, with all digits that stand there
 pub record NumberAt (limit : ℕ) (bytes : List ℕ) (n : ℕ) (rest : List ℕ) : Type 0 where
   pub split : bytes ≡ decimal n ++ rest
   pub below : n < limit
   pub ends : BeginsNoDigit rest
 
--- the digits that stand first, and what stands behind them
-pub record IsRun (bytes ds rest : List ℕ) : Type 0 where
-  pub split : bytes ≡ ds ++ rest
-  pub digits : AllDigits 10 ds
-  pub ends : BeginsNoDigit rest
-
 -- no number below the limit stands first
 abbrev pub NoNumberAt : ℕ → List ℕ → Type 0
 NoNumberAt limit bytes = (n : ℕ) (rest : List ℕ) → NumberAt limit bytes n rest → ⊥
-
--- the bytes are a number below the limit
-pub record IsNumber (limit : ℕ) (bytes : List ℕ) (n : ℕ) : Type 0 where
-  pub text : bytes ≡ decimal n
-  pub below : n < limit
-
--- a pair stands first
-pub record PairAt (bytes : List ℕ) (t : ℕ × ℤ) (rest : List ℕ) : Type 0 where
-  pub split : bytes ≡ pair_text t ++ rest
-  pub is : IsPair t
-  pub ends : BeginsNoDigit rest
-
-abbrev pub NoPairAt : List ℕ → Type 0
-NoPairAt bytes = (t : ℕ × ℤ) (rest : List ℕ) → PairAt bytes t rest → ⊥
-
--- no digits, or a zero in front of others
-abbrev pub is_padded : List ℕ → Bool
-is_padded [] = true
-is_padded (c ∷ []) = false
-is_padded (c ∷ d ∷ ds) = c == 48
-
--- the bytes are an unknown and a floor
-pub record IsSplitText (bytes : List ℕ) (unknown : ℕ) (floor : ℤ) : Type 0 where
-  pub is : IsSplit unknown floor
-  pub text : bytes ≡ split_text unknown floor
-
-abbrev pub NoSplitText : List ℕ → Type 0
-NoSplitText bytes = (unknown : ℕ) (floor : ℤ) → IsSplitText bytes unknown floor → ⊥
-
--- the bytes are the pairs of a leaf
-pub record ArePairsText (bytes : List ℕ) (ts : List (ℕ × ℤ)) : Type 0 where
-  pub some : 0 < length ts
-  pub are : ArePairs 0 ts
-  pub text : bytes ≡ pairs_text ts
-
-abbrev pub NoPairsText : List ℕ → Type 0
-NoPairsText bytes = (ts : List (ℕ × ℤ)) → ArePairsText bytes ts → ⊥

@@ -5,7 +5,8 @@ ghost use Rattle.std.specs.Prelude.{◌≡◌, ◌<◌, ◌≤◌, ◌^◌, ℕ,
 ghost use Rattle.std.specs.Char.{is_ascii_digit};
 ghost use Rattle.std.specs.List.{prefix_len};
 ghost use Rattle.std.specs.Str.Parse.{AllDigits, digits_value};
-ghost use Rattle.ta_cert.specs.Numbers.{NumberAt, NoNumberAt, IsNumber, IsRun, is_padded};
+ghost use Rattle.ta_cert.specs.Numbers.{NumberAt, NoNumberAt};
+ghost use Rattle.ta_cert.specs.Inside.Numbers.{IsNumber, IsRun, is_padded};
 
 /// How many digits stand first.
 fn digits_len(bytes: &[u8]) -> usize

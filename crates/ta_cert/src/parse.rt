@@ -3,7 +3,7 @@
 
 ghost use Rattle.std.specs.Prelude.{◌≡◌, ◌++◌, codes, MatchOption, IfOk};
 ghost use Rattle.ta_cert.specs.Lines.{IsMeaning, Says, IsNoFixed};
-ghost use Rattle.ta_cert.specs.Numbers.{BeginsOtherwise, IsSplitText, NoSplitText, PairAt, NoPairAt, ArePairsText, NoPairsText};
+ghost use Rattle.ta_cert.specs.Inside.Numbers.{BeginsOtherwise, IsSplitText, NoSplitText, PairAt, NoPairAt, ArePairsText, NoPairsText};
 
 use crate::line::{Line, Node};
 use crate::list::List;

@@ -13,7 +13,7 @@ use Rattle.ta_cert.proofs.Unique.{reads_unique}
 use Rattle.ta_check.specs.declared.position.Position.{Position}
 use Rattle.ta_check.specs.Certificate.{Certificate}
 use Rattle.ta_check.specs.Faults.{IsAtFault, TextAtFault, IsFirstFault}
-use Rattle.ta_check.specs.Feeding.{NextPiece, StandsBehind, FedLine}
+use Rattle.ta_check.specs.Inside.Feeding.{NextPiece, StandsBehind, FedLine}
 use Rattle.ta_check.specs.Lines.{Standing, at_first, Leads, LeadThrough, MayFollow}
 use Rattle.ta_check.specs.Positions.{IsAt, Taken}
 use Rattle.ta_check.proofs.FedLines.{malformed_behind, trailing_behind}

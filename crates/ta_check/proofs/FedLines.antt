@@ -15,7 +15,7 @@ use Rattle.ta_cert.proofs.Unique.{reads_unique, reads_malformed, reads_trailing,
 use Rattle.ta_automaton.specs.declared.file.File.{File}
 use Rattle.ta_check.specs.Lines.{MayFollow}
 use Rattle.ta_check.specs.Faults.{TextAtFault}
-use Rattle.ta_check.specs.Feeding.{IsPiece, NextPiece, StandsBehind, NoLineBehind, FedLine}
+use Rattle.ta_check.specs.Inside.Feeding.{IsPiece, NextPiece, StandsBehind, NoLineBehind, FedLine}
 
 -- what has a line feed is no bytes without one
 has_feed : (xs ys bs : List ℕ) → IsUnbroken bs → bs ≡ xs ++ (10 ∷ ys) → ⊥

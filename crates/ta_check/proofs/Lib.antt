@@ -1,14 +1,14 @@
-pub mod Following
-pub mod Accepting
-pub mod Stopping
-pub mod LeafFaults
-pub mod Reasons
-pub mod Refusing
-pub mod OneFault
-pub mod FedLines
-pub mod CheckedSoFar
-pub mod Answering
-pub mod Leaves
-pub mod JudgingMembers
-pub mod JudgingNodes
-pub mod JudgingProofs
+mod Following
+mod Accepting
+mod Stopping
+mod LeafFaults
+mod Reasons
+mod Refusing
+mod OneFault
+mod FedLines
+mod CheckedSoFar
+mod Answering
+mod Leaves
+mod JudgingMembers
+mod JudgingNodes
+mod JudgingProofs

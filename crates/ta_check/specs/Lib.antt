@@ -2,4 +2,4 @@ pub mod Certificate
 pub mod Lines
 pub mod Faults
 pub mod Positions
-pub mod Feeding
+pub mod Inside

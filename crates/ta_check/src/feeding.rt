@@ -5,7 +5,7 @@ ghost use Rattle.std.specs.Prelude.{◌+◌, ◌<◌, List, length, drop, MatchO
 ghost use Rattle.ta_cert.specs.Steps.{NextLine};
 ghost use Rattle.ta_cert.specs.Streams.{IsUnbroken};
 ghost use Rattle.ta_cert.specs.declared.line.Line.{Line};
-ghost use Rattle.ta_check.specs.Feeding.{FedLine, IsPiece, NextPiece, StandsBehind};
+ghost use Rattle.ta_check.specs.Inside.Feeding.{FedLine, IsPiece, NextPiece, StandsBehind};
 
 use ta_cert::{CertFault, Line, Reader};
 

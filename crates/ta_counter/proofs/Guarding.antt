@@ -10,7 +10,8 @@ use Rattle.ta_counter.specs.declared.fault.StepFault.{StepFault}
 use Rattle.ta_counter.specs.declared.fault.StepFault.TheVariants.{Count, OutOfRange, Guard}
 use Rattle.ta_counter.specs.Checks.{RowPasses, RowFails, RowsOver}
 use Rattle.ta_counter.specs.Configs.{places_of}
-use Rattle.ta_counter.specs.Guards.{RowFault, MaskedPass, MaskedStop, MaskedFault, GuardFault}
+use Rattle.ta_counter.specs.Guards.{MaskedPass, MaskedStop}
+use Rattle.ta_counter.specs.Inside.Guards.{RowFault, MaskedFault, GuardFault}
 use Rattle.ta_counter.proofs.Passing.{PassedTo}
 
 pub masked_fault : (point : ℕ → ℤ) (mask : ℕ) (rows : List Row) (places first number : ℕ) (row : Row) (fault : StepFault) → PassedTo (λ j (other : Row). IsBitSet mask j → RowPasses point other) rows number → slice_get rows number ≡ Some row → IsBitSet mask number → RowFault point row places (first + number) fault → MaskedFault point mask rows places first fault

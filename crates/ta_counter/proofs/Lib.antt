@@ -1,11 +1,12 @@
+-- lemmas for the crates above
 pub mod Passing
 pub mod Rows
 pub mod Models
 pub mod Starting
-pub mod Adding
-pub mod Filling
-pub mod Firing
-pub mod Updating
-pub mod Moving
-pub mod Guarding
 pub mod Stepping
+mod Adding
+mod Filling
+mod Firing
+mod Updating
+mod Moving
+mod Guarding

@@ -22,7 +22,8 @@ use Rattle.ta_counter.specs.declared.fault.StepFault.{StepFault}
 use Rattle.ta_counter.specs.declared.fault.StepFault.TheVariants.{Count, OutOfRange, Guard}
 use Rattle.ta_counter.specs.Values.{Value}
 use Rattle.ta_counter.specs.Configs.{places_of, counters_of, sum_of, model_of, AreOf}
-use Rattle.ta_counter.specs.Guards.{MaskedPass, GuardFault}
+use Rattle.ta_counter.specs.Guards.{MaskedPass}
+use Rattle.ta_counter.specs.Inside.Guards.{GuardFault}
 use Rattle.ta_counter.specs.Steps.{Fires, Enough, Grows, AllGrow, LeavesAt, shifted, before_last, StepFails, Taken, NoSteps}
 use Rattle.ta_counter.proofs.Models.{model_at, model_point, model_whole, whole_fits, same_model, each_point}
 use Rattle.ta_counter.proofs.Adding.{range_below}

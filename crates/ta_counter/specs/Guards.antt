@@ -17,26 +17,8 @@ abbrev pub MaskedStop : (ℕ → ℤ) → ℕ → (Row → Type 0) → List Row 
 MaskedStop point mask Bad rows k =
     StopsAt (λ j row. IsBitSet mask j → RowPasses point row) (λ j row. IsBitSet mask j × Bad row) rows k
 
--- how the row of a guard refuses
-abbrev pub RowFault : (ℕ → ℤ) → Row → ℕ → ℕ → StepFault → Type 0
-RowFault point row places guard Count = ⊥
-RowFault point row places guard (OutOfRange place) = (place ≡ places + guard) × RowLeaves point row
-RowFault point row places guard (Guard number) = (number ≡ guard) × RowFails point row
-
--- how the rows that a mask names refuse, the first having a guard number
-abbrev pub MaskedFault : (ℕ → ℤ) → ℕ → List Row → ℕ → ℕ → StepFault → Type 0
-MaskedFault point mask rows places first Count = ⊥
-MaskedFault point mask rows places first (OutOfRange place) = (j : ℕ) × (place ≡ places + (first + j)) × MaskedStop point mask (RowLeaves point) rows j
-MaskedFault point mask rows places first (Guard number) = (j : ℕ) × (number ≡ first + j) × MaskedStop point mask (RowFails point) rows j
-
 -- the guard with a number is bad, and each of the rule's before it passes
 abbrev pub BadGuard : Automaton → Rule → (ℕ → ℤ) → (ℕ → ℤ) → ((ℕ → ℤ) → Row → Type 0) → ℕ → Type 0
 BadGuard a rule now last Bad guard =
     MaskedStop now rule.rise (Bad now) a.rise guard
     ⊎ (MaskedPass now rule.rise a.rise × ((j : ℕ) × (guard ≡ length a.rise + j) × MaskedStop last rule.fall (Bad last) a.fall j))
-
--- how the guards of a rule refuse, rise guards at one point and fall guards at another
-abbrev pub GuardFault : Automaton → Rule → (ℕ → ℤ) → (ℕ → ℤ) → StepFault → Type 0
-GuardFault a rule now last Count = ⊥
-GuardFault a rule now last (OutOfRange place) = (guard : ℕ) × (place ≡ places_of a + guard) × BadGuard a rule now last RowLeaves guard
-GuardFault a rule now last (Guard guard) = BadGuard a rule now last RowFails guard

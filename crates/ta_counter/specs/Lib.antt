@@ -4,3 +4,4 @@ pub mod Configs
 pub mod Starts
 pub mod Guards
 pub mod Steps
+pub mod Inside

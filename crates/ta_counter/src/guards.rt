@@ -7,7 +7,8 @@ ghost use Rattle.ta_linear.specs.Values.{point_of};
 ghost use Rattle.ta_automaton.specs.Shape.{RuleWithin};
 ghost use Rattle.ta_counter.specs.Checks.{RowPasses, RowsOver};
 ghost use Rattle.ta_counter.specs.Configs.{places_of};
-ghost use Rattle.ta_counter.specs.Guards.{RowFault, MaskedPass, MaskedFault, GuardFault};
+ghost use Rattle.ta_counter.specs.Guards.{MaskedPass};
+ghost use Rattle.ta_counter.specs.Inside.Guards.{RowFault, MaskedFault, GuardFault};
 
 use crate::condition::row_holds;
 use crate::fault::StepFault;

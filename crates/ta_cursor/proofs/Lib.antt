@@ -1,5 +1,6 @@
-pub mod FramesKept
-pub mod FramesParts
-pub mod FramesLeft
+-- lemmas for the crates above
 pub mod Beginning
 pub mod Ranges
+mod FramesKept
+mod FramesParts
+mod FramesLeft

@@ -1,11 +1,13 @@
 use Rattle.std.proofs.Common.{◌≡◌, ℕ, zero, suc, refl, ◌<◌, List, [], ◌∷◌, map, arith, ap, ℤ, pos, negsuc, ◌+ℤ◌, ◌*ℤ◌, ◌<ℤ◌, neg_ℤ}
 use Rattle.std.specs.Prelude.{unsigned_abs, int_div}
 use Rattle.std.specs.Int.{◌∣◌}
-use Rattle.std.proofs.lemmas.Nat.Gcd.{dvd_refl, dvd_trans}
+use Rattle.std.proofs.Math.Nat.{one-dvd}
+use Rattle.std.proofs.lemmas.Nat.Gcd.{dvd_refl, dvd_trans, dvd_antisymm}
 use Rattle.std.proofs.lemmas.Int.{ints}
 use Rattle.ta_linear.proofs.Divide.{mul_cancel, div_exact}
 use Rattle.ta_linear.proofs.Integers.{expand}
-use Rattle.ta_linear.proofs.GcdLemmas.{IsGcd-gcd_of, gcd_of}
+use Rattle.ta_linear.proofs.GcdLemmas.{IsGcd-gcd_of}
+use Rattle.ta_linear.specs.Gcd.{gcd_of}
 use Rattle.ta_dense.specs.Tableau.{TableauRow, divided, gcd_with}
 use Rattle.ta_dense.specs.Valid.{dot, Holds, AllDivided}
 
@@ -24,6 +26,9 @@ gcd_with_divides (x ∷ xs) g =
     let rest = gcd_with_divides xs (gcd_of g (unsigned_abs x)) in
     let this = IsGcd-gcd_of g (unsigned_abs x) in
     (dvd_trans (gcd_with (gcd_of g (unsigned_abs x)) xs) rest.0 this.0, (dvd_trans (gcd_with (gcd_of g (unsigned_abs x)) xs) rest.0 this.1, rest.1))
+
+pub gcd_with-one : (xs : List ℤ) → gcd_with 1 xs ≡ 1
+gcd_with-one xs = dvd_antisymm (gcd_with_divides xs 1).0 (one-dvd (gcd_with 1 xs))
 
 dot-divided : (g : ℕ) (cs : List ℤ) (us : List ℕ) (value : ℕ → ℤ) → AllDivided g cs →
     pos g *ℤ dot (map (λ z. int_div z (pos g)) cs) us value ≡ dot cs us value

@@ -1,21 +1,26 @@
-pub mod Dot
+-- lemmas for the crates above
 pub mod PivotLaws
 pub mod Divide
-pub mod ListSteps
 pub mod Single
-pub mod CellSteps
 pub mod RowFacts
 pub mod MergedRow
 pub mod Keeps
 pub mod ReduceFacts
 pub mod ProperFacts
-pub mod Unique
-pub mod RowSteps
-pub mod PivotParts
 pub mod DenseFacts
-pub mod EnterSoFar
-pub mod FillSteps
 pub mod SlackRows
-pub mod Primitive
 pub mod SlackDictionary
 pub mod PushedRows
+mod Dot
+mod ListSteps
+mod CellSteps
+mod Unique
+mod RowSteps
+mod PivotParts
+mod EnterSoFar
+mod LeastSoFar
+mod FillSteps
+mod Primitive
+mod Bounded
+mod NarrowFacts
+mod ExtendFacts

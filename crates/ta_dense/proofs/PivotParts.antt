@@ -11,10 +11,13 @@ pub record Cut (rows : List TableauRow) (row : ℕ) (before : List TableauRow) (
   pub whole : rows ≡ before ++ chosen ∷ after
   pub long : length before ≡ row
 
-pub cut_of : (old before after : List DenseRow) (chosen : DenseRow) (row : ℕ) → old ≡ before ++ chosen ∷ after → length before ≡ row → Cut (views old) row (views before) (row_view chosen) (views after)
-cut_of old before after chosen row e l = record { whole = ap views e ∙ map-append row_view before (chosen ∷ after); long = length-map before row_view ∙ l }
+pub cut_by : {A : Type 0} (view : A → TableauRow) (old before after : List A) (chosen : A) (row : ℕ) → old ≡ before ++ chosen ∷ after → length before ≡ row → Cut (map view old) row (map view before) (view chosen) (map view after)
+cut_by view old before after chosen row e l = record { whole = ap (map view) e ∙ map-append view before (chosen ∷ after); long = length-map before view ∙ l }
 
-at_row : (rows before after : List TableauRow) (chosen : TableauRow) (row : ℕ) → Cut rows row before chosen after → get_or rows row no_row ≡ chosen
+pub cut_of : (old before after : List DenseRow) (chosen : DenseRow) (row : ℕ) → old ≡ before ++ chosen ∷ after → length before ≡ row → Cut (views old) row (views before) (row_view chosen) (views after)
+cut_of = cut_by row_view
+
+pub at_row : (rows before after : List TableauRow) (chosen : TableauRow) (row : ℕ) → Cut rows row before chosen after → get_or rows row no_row ≡ chosen
 at_row rows before after chosen row c = rw c.whole (get_or_at before chosen after no_row row c.long)
 
 at_before : (rows before after : List TableauRow) (chosen : TableauRow) (row i : ℕ) → Cut rows row before chosen after → i < row → get_or rows i no_row ≡ get_or before i no_row

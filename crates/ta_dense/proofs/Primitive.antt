@@ -4,7 +4,8 @@ use Rattle.std.specs.Int.{◌∣◌}
 use Rattle.std.proofs.lemmas.Int.{unsigned_abs-mul}
 use Rattle.std.proofs.lemmas.List.{length-map, length-set}
 use Rattle.std.proofs.Math.Nat.{dvd_of_mul-dvd-mul_left, mul-dvd-mul_left, eq-one_of_dvd-one}
-use Rattle.ta_linear.proofs.GcdLemmas.{IsGcd-gcd_of, gcd_of}
+use Rattle.ta_linear.proofs.GcdLemmas.{IsGcd-gcd_of}
+use Rattle.ta_linear.specs.Gcd.{gcd_of}
 use Rattle.ta_dense.specs.Valid.{IsPrimitive, AllDivided}
 use Rattle.ta_dense.specs.Tableau.{TableauRow, cell_of, turned, merged, reduced, divisor_of, gcd_with}
 use Rattle.ta_linear.proofs.Divide.{div_exact}

@@ -86,7 +86,7 @@ zero_or_not (pos (suc n)) = inr (λ e. cc)
 zero_or_not (negsuc n) = inr (λ e. cc)
 
 -- a merged row is proper where its products and differences are in range
-IsProper-merged : (n column : ℕ) (chosen r : TableauRow) → column < n → pos 0 <ℤ cell_of chosen column → IsProper n chosen → IsProper n r → MergesInRange column chosen r → IsProper n (merged column chosen r)
+pub IsProper-merged : (n column : ℕ) (chosen r : TableauRow) → column < n → pos 0 <ℤ cell_of chosen column → IsProper n chosen → IsProper n r → MergesInRange column chosen r → IsProper n (merged column chosen r)
 IsProper-merged n column chosen r h positive c k m =
     elim (zero_or_not (cell_of r column)) [
       | inl zero_cell ↦ rw (merged-zero column chosen r zero_cell) k
@@ -97,7 +97,7 @@ IsProper-merged n column chosen r h positive c k m =
           (factors_positive (cell_of chosen column) (cell_of r column) positive).1 c k (m apart)))
     ]
 
-IsProper-turned : (n column entering : ℕ) (r : TableauRow) → column < n → pos 0 <ℤ cell_of r column → IsProper n r → IsProper n (turned entering column r)
+pub IsProper-turned : (n column entering : ℕ) (r : TableauRow) → column < n → pos 0 <ℤ cell_of r column → IsProper n r → IsProper n (turned entering column r)
 IsProper-turned n column entering r h positive p =
     let long = length-map r.cells neg_ℤ in
     record {

@@ -17,7 +17,7 @@ divisor_positive r h =
     let divides = gcd_with_divides (r.constant ∷ r.cells) (unsigned_abs r.denominator) in
     (factor_positive (divisor_of r) (int_div r.denominator (pos (divisor_of r))) r.denominator (div_exact (divisor_of r) r.denominator divides.0) h).0
 
-div-one : (z : ℤ) → int_div z (pos 1) ≡ z
+pub div-one : (z : ℤ) → int_div z (pos 1) ≡ z
 div-one (pos a) = ap pos (omega arith)
 div-one (negsuc a) = let e : suc a / 1 ≡ suc a = omega arith in ap (λ (n : ℕ). neg_ℤ (pos n)) e
 

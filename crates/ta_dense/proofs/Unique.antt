@@ -15,7 +15,7 @@ use Rattle.ta_dense.proofs.Primitive.{primitive_divisor}
 use Rattle.ta_linear.proofs.Divide.{mul_cancel}
 use Rattle.ta_dense.proofs.Divide.{cancel_positive}
 use Rattle.ta_dense.proofs.RowFacts.{record_same}
-use Rattle.ta_linear.proofs.GcdLemmas.{gcd_within, gcd_of}
+use Rattle.ta_linear.specs.Gcd.{gcd_within, gcd_of}
 
 -- what divides the products with two numbers divides that with their greatest common divisor
 dvd-gcd_within : (k x n a b : ℕ) → k ∣ x * a → k ∣ x * b → k ∣ x * gcd_within n a b

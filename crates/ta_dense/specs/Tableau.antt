@@ -1,6 +1,6 @@
 -- Tables of rows, and the table after a pivot
 use Rattle.std.specs.Prelude.{ℕ, zero, List, [], ◌∷◌, ℤ, pos, neg_ℤ, ◌-ℤ◌, ◌*ℤ◌, int_div, unsigned_abs, map, set, get_or}
-use Rattle.ta_linear.proofs.GcdLemmas.{gcd_of}
+use Rattle.ta_linear.specs.Gcd.{gcd_of}
 
 -- the greatest common divisor of a number and a list's
 abbrev pub gcd_with : ℕ → List ℤ → ℕ

@@ -9,11 +9,23 @@ ghost use Rattle.ta_dense.specs.Merge.{CombinesInRange, AllCombineInRange};
 
 use ta_linear::{gcd_natural, minus, multiply};
 
+// `p * a`, where it is in range.
+fn scaled(p: i128, a: i128) -> Option<i128>
+    requires { InRange a }
+    ensures { SomeIff result (InRange (p *ℤ a)) (p *ℤ a) }
+{
+    if p == 1 { Some(a) } else { multiply(p, a) }
+}
+
 // `p * a - q * c`, where each part is in range.
 pub(crate) fn combined(p: i128, a: i128, q: i128, c: i128) -> Option<i128>
+    requires { InRange a }
     ensures { SomeIff result (CombinesInRange p a q c) (p *ℤ a -ℤ q *ℤ c) }
 {
-    let left = multiply(p, a)?;
+    let left = scaled(p, a)?;
+    if c == 0 {
+        return Some(left);
+    }
     let right = multiply(q, c)?;
     minus(left, right)
 }
@@ -27,7 +39,8 @@ pub(crate) fn combine_cells(
     column: usize,
     turned: i128,
 ) -> bool
-    requires { length cells.old ≡ length chosen.now }
+    requires long { length cells.old ≡ length chosen.now }
+    requires cells { All InRange cells.old }
     ensures within { IsTrue result ↔ AllCombineInRange p q cells.old chosen.now column }
     ensures value { OnTrue result (cells.new ≡ set (combine p q cells.old chosen.now) column turned) }
 {
@@ -53,6 +66,9 @@ pub(crate) fn gcd_of_cells(start: u128, cells: &[i128]) -> u128
 {
     let mut divisor = start;
     for cell in cells {
+        if divisor == 1 {
+            return 1;
+        }
         divisor = gcd_natural(divisor, cell.unsigned_abs());
     }
     divisor

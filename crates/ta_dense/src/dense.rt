@@ -8,7 +8,9 @@ ghost use Rattle.ta_dense.specs.Merge.{IsProper, AllMergeInRange};
 ghost use Rattle.ta_dense.specs.Fault.{IsOverflow};
 ghost use Rattle.ta_dense.specs.Rows.{row_view};
 
-use crate::dictionary::{Dictionary, PivotFault};
+use crate::dictionary::{Dictionary, ExtendFault, PivotFault};
+use crate::extending::{carry_rows, new_slack_rows, padded_row, raised_columns, widened_rows};
+use crate::kept::DensePivot;
 use crate::rows::{DenseRow, pivot_rows};
 use std::alloc::{AllocError, Global};
 use std::marker::Model;
@@ -45,7 +47,12 @@ fn fill_cells(cells: &mut [i128], terms: &[(u32, i128)])
 }
 
 // The row solved for its slack.
-fn slack_row(alloc: Global, row: &Row, unknowns: u32, slack: u32) -> Result<DenseRow, AllocError>
+pub(crate) fn slack_row(
+    alloc: Global,
+    row: &Row,
+    unknowns: u32,
+    slack: u32,
+) -> Result<DenseRow, AllocError>
     requires { IsNormal 0 unknowns row.now.form.terms }
     ensures value { IfOk result (λ r. row_view r ≡ slack_row_of unknowns slack row.now) }
     ensures proper { IfOk result (λ r. IsProper unknowns (row_view r)) }
@@ -60,20 +67,48 @@ fn slack_row(alloc: Global, row: &Row, unknowns: u32, slack: u32) -> Result<Dens
     })
 }
 
+impl DenseDictionary {
+    ghost use Rattle.std.specs.Prelude.{◌^◌};
+    ghost use Rattle.ta_dense.specs.Rows.{views, AreProper};
+
+    pub(crate) fn from_rows(non_basic: Vec<u32>, rows: Vec<DenseRow>) -> DenseDictionary
+        requires proper { AreProper (length non_basic.items) rows.items }
+        requires rows_fit { length rows.items < 2 ^ 32 }
+        requires columns_fit { length non_basic.items < 2 ^ 32 }
+        ensures { result ≡ record { non_basic = non_basic.items; rows = views rows.items } }
+    {
+        DenseDictionary { non_basic, rows }
+    }
+
+    pub(crate) fn row_list(&self) -> &[DenseRow]
+        ensures view { views result.now ≡ self.now.rows }
+        ensures proper { AreProper (length self.now.non_basic) result.now }
+        ensures few { length result.now < 2 ^ 32 }
+    {
+        &self.rows
+    }
+
+    pub(crate) fn non_basic_list(&self) -> &[u32]
+        ensures value { result.now ≡ self.now.non_basic }
+        ensures few { length result.now < 2 ^ 32 }
+    {
+        &self.non_basic
+    }
+}
+
 impl Dictionary for DenseDictionary {
+    type Kept = DensePivot;
+
     ghost tableau = { λ d. d };
+
+    ghost pivot_of = { λ k. k };
 
     fn from_system(alloc: Global, system: &System) -> Result<Self, AllocError> {
         let mut non_basic = Vec::new(alloc);
         for unknown in 0..system.unknowns {
             non_basic.push(unknown)?;
         }
-        let mut rows = Vec::new(alloc);
-        let mut slack = system.unknowns;
-        for row in system.rows.as_slice() {
-            rows.push(slack_row(alloc, row, system.unknowns, slack)?)?;
-            slack += 1;
-        }
+        let rows = new_slack_rows(alloc, system, 0)?;
         Ok(DenseDictionary { non_basic, rows })
     }
 
@@ -105,6 +140,26 @@ impl Dictionary for DenseDictionary {
         self.rows[row as usize].cells[column as usize]
     }
 
+    fn bytes(&self) -> usize {
+        self.rows
+            .len()
+            .saturating_mul(self.non_basic.len() + 4)
+            .saturating_mul(16)
+    }
+
+    fn leaving(&self) -> Option<u32> {
+        let mut least = None;
+        for row in 0..self.rows() {
+            if self.constant(row) < 0 {
+                least = match least {
+                    Some(best) if self.basic(best) < self.basic(row) => Some(best),
+                    _ => Some(row),
+                };
+            }
+        }
+        least
+    }
+
     fn entering(&self, row: u32) -> Option<u32> {
         let mut least = None;
         for column in 0..self.columns() {
@@ -116,6 +171,12 @@ impl Dictionary for DenseDictionary {
             }
         }
         least
+    }
+
+    fn keep(&self, alloc: Global, row: u32, column: u32) -> Result<DensePivot, AllocError> {
+        let chosen = &self.rows[row as usize];
+        let copy = padded_row(alloc, chosen, chosen.basic, chosen.cells.len())?;
+        Ok(DensePivot::of_row(row, column, copy))
     }
 
     fn pivot(self, _alloc: Global, row: u32, column: u32) -> Result<Self, PivotFault>
@@ -136,6 +197,29 @@ impl Dictionary for DenseDictionary {
             return Err(PivotFault::Overflow { row: at as u32 });
         }
         non_basic[column as usize] = leaving;
+        Ok(DenseDictionary { non_basic, rows })
+    }
+
+    fn extend(
+        &self,
+        alloc: Global,
+        longer: &System,
+        kept: &[DensePivot],
+    ) -> Result<Self, ExtendFault> {
+        let first = self.rows();
+        let columns = self.columns();
+        let mut carried = new_slack_rows(alloc, longer, first)?;
+        if let Some(refusal) = carry_rows(alloc, &mut carried, longer.unknowns, kept)? {
+            let row = first + refusal.row as u32;
+            return Err(ExtendFault::Overflow {
+                pivot: refusal.pivot,
+                row,
+            });
+        }
+        let new = longer.unknowns - columns;
+        let mut rows = widened_rows(alloc, &self.rows, columns, new)?;
+        rows.append(&mut carried)?;
+        let non_basic = raised_columns(alloc, &self.non_basic, columns, new)?;
         Ok(DenseDictionary { non_basic, rows })
     }
 }

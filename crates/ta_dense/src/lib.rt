@@ -4,9 +4,23 @@
 mod cells;
 mod dense;
 mod dictionary;
+mod extending;
+mod kept;
 mod laws;
+mod narrow;
+mod narrow_cells;
+mod narrow_extending;
+mod narrow_rows;
 mod rows;
+mod small;
+mod small_pivot;
 
 pub use dense::DenseDictionary;
-pub use dictionary::{Dictionary, PivotFault};
+pub use dictionary::{Dictionary, ExtendFault, PivotFault};
+pub use kept::DensePivot;
 pub use laws::{pivots_keep_dictionaries, rows_are_unique, slacks_are_a_dictionary};
+pub use narrow::NarrowDictionary;
+pub use small_pivot::NarrowPivot;
+
+#[cfg(test)]
+mod tests;

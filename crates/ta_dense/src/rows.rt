@@ -1,6 +1,6 @@
 //! A row of a dense dictionary.
 
-ghost use Rattle.std.specs.Prelude.{◌≡◌, ◌<◌, ◌^◌, pos, ◌<ℤ◌, unsigned_abs, int_div, length, map, IsTrue, IfSome, IfNone, ◌↔◌};
+ghost use Rattle.std.specs.Prelude.{◌≡◌, ◌<◌, ◌^◌, pos, ◌<ℤ◌, unsigned_abs, int_div, length, map, All, IsTrue, IfSome, IfNone, ◌↔◌};
 ghost use Rattle.std.specs.Bool.{OnTrue};
 ghost use Rattle.ta_linear.specs.Numbers.{InRange};
 ghost use Rattle.ta_dense.specs.Tableau.{merged_by, divided, divisor_of, reduced, merged, turned, pivoted_rows, cell_of, factor_divisor};
@@ -22,6 +22,8 @@ pub(crate) struct DenseRow {
 // `p` times the row minus `q` times the chosen row. A row that is refused is of no use.
 fn merge_by(p: i128, q: i128, column: usize, chosen: &DenseRow, row: &mut DenseRow) -> bool
     requires long { length row.old.cells.items ≡ length chosen.now.cells.items }
+    requires constant { InRange row.old.constant }
+    requires cells { All InRange row.old.cells.items }
     ensures within { IsTrue result ↔ MergesByInRange p q column (row_view chosen.now) (row_view row.old) }
     ensures value { OnTrue result (row_view row.new ≡ merged_by p q column (row_view chosen.now) (row_view row.old)) }
 {
@@ -46,6 +48,9 @@ fn divisor_of_row(row: &DenseRow) -> u128
     ensures positive { 0 < result }
     ensures bound { result < 2 ^ 127 }
 {
+    if row.denominator == 1 {
+        return 1;
+    }
     let first = gcd_natural(row.denominator.unsigned_abs(), row.constant.unsigned_abs());
     gcd_of_cells(first, &row.cells)
 }

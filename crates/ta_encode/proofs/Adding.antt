@@ -15,7 +15,8 @@ use Rattle.ta_automaton.specs.Places.{location_place}
 use Rattle.ta_encode.specs.Unknowns.{Meaning, place_coefficient}
 use Rattle.ta_encode.specs.System.{LinearRow, negated, form_row, counter_row, processes_row, guard_rows, start_guard_rows, start_coefficient}
 use Rattle.ta_encode.specs.Code.{RowOf, RowsOf}
-use Rattle.ta_encode.specs.Lines.{Written, Adds, line_row, line_coefficient, turned, in_sense, constant_in_sense, turned_row, start_sense}
+use Rattle.ta_encode.specs.Lines.{line_row, line_coefficient, turned}
+use Rattle.ta_encode.specs.Inside.Lines.{Written, IsBehind, Adds, in_sense, constant_in_sense, turned_row, start_sense}
 use Rattle.ta_encode.specs.declared.line.Sense.{Sense}
 use Rattle.ta_encode.specs.declared.line.Sense.TheVariants.{Same, Opposite}
 
@@ -67,8 +68,11 @@ append_nil : {X : Type 0} (xs : List X) → xs ++ [] ≡ xs
 append_nil [] = refl
 append_nil (x ∷ xs) = ap (λ ys. x ∷ ys) (append_nil xs)
 
+pub behind_join : {X : Type 0} (before middle after : List X) → IsBehind before middle → IsBehind middle after → IsBehind before after
+behind_join {X = X} before middle after h g = record { more = h.more ++ g.more; is = g.is ∙ ap (λ (xs : List X). xs ++ g.more) h.is ∙ append_assoc before h.more g.more }
+
 pub adds_none : (n : ℕ) (before : List Row) → Adds [] n before before
-adds_none n before = record { rows = λ done h. subst (λ (ls : List LinearRow). Written ls n before) (sym (append_nil done)) h }
+adds_none n before = record { rows = λ done h. subst (λ (ls : List LinearRow). Written ls n before) (sym (append_nil done)) h; behind = record { more = []; is = sym (append_nil before) } }
 
 pub adds_one : (n : ℕ) (before after : List Row) (l : LinearRow) (row : Row) → RowOf l row → IsNormal 0 n row.form.terms → after ≡ before ++ row ∷ [] → Adds (l ∷ []) n before after
 adds_one n before after l row is below e = record {
@@ -76,10 +80,11 @@ adds_one n before after l row is below e = record {
     rows_of = subst (RowsOf (done ++ l ∷ [])) (sym e) (RowsOf-append done (l ∷ []) before (row ∷ []) h.rows_of (is, tt));
     below = subst (AllBelow n) (sym e) (AllBelow-append n before (row ∷ []) h.below (below, tt));
   };
+  behind = record { more = row ∷ []; is = e };
 }
 
 pub adds_join : (ls ms : List LinearRow) (n : ℕ) (before middle after : List Row) → Adds ls n before middle → Adds ms n middle after → Adds (ls ++ ms) n before after
-adds_join ls ms n before middle after h g = record { rows = λ done w. subst (λ (xs : List LinearRow). Written xs n after) (append_assoc done ls ms) (g.rows (done ++ ls) (h.rows done w)) }
+adds_join ls ms n before middle after h g = record { rows = λ done w. subst (λ (xs : List LinearRow). Written xs n after) (append_assoc done ls ms) (g.rows (done ++ ls) (h.rows done w)); behind = behind_join before middle after h.behind g.behind }
 
 pub adds_same : (ls ms : List LinearRow) (n : ℕ) (before after : List Row) → ls ≡ ms → Adds ls n before after → Adds ms n before after
 adds_same ls ms n before after e h = subst (λ xs. Adds xs n before after) e h

@@ -19,8 +19,8 @@ use Rattle.ta_encode.specs.Unknowns.{Meaning, Parameter, Start, start_locations,
 use Rattle.ta_automaton.specs.Places.{one_if, location_place}
 use Rattle.ta_encode.specs.System.{opposite, processes_row, start_coefficient, condition_rows, start_guard_rows, start_rows, word_rows, combine, AllHold}
 use Rattle.ta_automaton.specs.Sums.{total}
-use Rattle.ta_automaton.proofs.Sums.{total-zero, total-same, one_inside}
-use Rattle.ta_encode.proofs.Combine.{combine-zero, combine-add, combine-minus, combine-terms, terms_value-same}
+use Rattle.ta_automaton.proofs.Sums.{total-zero, total-same, one_inside, terms_value-same}
+use Rattle.ta_encode.proofs.Combine.{combine-zero, combine-add, combine-minus, combine-terms}
 use Rattle.ta_automaton.proofs.Fired.{times_one}
 use Rattle.ta_encode.proofs.Moments.{opposite_value}
 use Rattle.ta_automaton.proofs.Moves.{place_cases, value_at-parameter, value_at-shared, value_at-location, one_if-ne, one_if-shift}

@@ -5,7 +5,8 @@ use Rattle.ta_linear.specs.Terms.{coefficient}
 use Rattle.ta_automaton.specs.Masks.{numbers_from}
 use Rattle.ta_automaton.proofs.Fire.{length_numbers}
 use Rattle.ta_encode.specs.System.{Bound, Side, Low, High, only_at, side_row, bound_row}
-use Rattle.ta_encode.specs.Lines.{block_row, bound_constant, bound_sense, turned}
+use Rattle.ta_encode.specs.Lines.{turned}
+use Rattle.ta_encode.specs.Inside.Lines.{block_row, bound_constant, bound_sense}
 use Rattle.ta_encode.specs.declared.line.Sense.{Sense}
 use Rattle.ta_encode.specs.declared.line.Sense.TheVariants.{Same, Opposite}
 use Rattle.std.proofs.lemmas.Int.{ints}

@@ -1,5 +1,5 @@
 -- coefficients times values
-use Rattle.std.proofs.Common.{◌≡◌, ℕ, ℤ, pos, ◌+ℤ◌, ◌-ℤ◌, ◌*ℤ◌, List, [], ◌∷◌, ◌++◌, map, length, arith, sym, ap, refl}
+use Rattle.std.proofs.Common.{◌≡◌, ℕ, ℤ, pos, ◌+ℤ◌, ◌-ℤ◌, ◌*ℤ◌, List, [], ◌∷◌, ◌++◌, map, length, arith, sym, refl}
 use Rattle.std.proofs.lemmas.Int.{ints}
 use Rattle.std.proofs.Math.IntN.{zero-*ℤ, *ℤ-zero}
 use Rattle.ta_linear.proofs.Integers.{distributes, distributes_right, minus_times, times_assoc}
@@ -60,10 +60,6 @@ pub combine-terms : {X : Type 0} (f : X → ℕ → ℤ) (ms : List X) (vs : Lis
 combine-terms f ms vs [] = combine-zero ms vs
 combine-terms f ms vs (t ∷ ts) =
     omega (arith, ints, combine-add (λ m. t.1 *ℤ f m t.0) (λ m. terms_value (f m) ts) ms vs, combine-times t.1 (λ m. f m t.0) ms vs, combine-terms f ms vs ts)
-
-pub terms_value-same : (ts : List (ℕ × ℤ)) (f g : ℕ → ℤ) → ((i : ℕ) → f i ≡ g i) → terms_value f ts ≡ terms_value g ts
-terms_value-same [] f g h = refl
-terms_value-same (t ∷ ts) f g h = omega (arith, ints, ap (λ z. t.1 *ℤ z) (h t.0), terms_value-same ts f g h)
 
 pub combine-concat : (cs ds : List ℤ) (vs ws : List ℕ) → length vs ≡ length cs → combine (cs ++ ds) (vs ++ ws) ≡ (combine cs vs +ℤ combine ds ws)
 unfolding combine

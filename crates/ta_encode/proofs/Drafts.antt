@@ -18,9 +18,9 @@ use Rattle.ta_words.specs.declared.element.Element.TheVariants.{Event, Rise, Fal
 use Rattle.ta_words.specs.Words.{may_fire, allowed_rules, has_fallen}
 use Rattle.ta_encode.specs.Unknowns.{Meaning, Count, Single, Start, Parameter, meanings, start_meanings, start_locations, counts_after, singles_after}
 use Rattle.ta_encode.specs.System.{LinearRow, Bound, bound_row, system_rows, opposite, negated, singles_row, start_rows, event_rows, guard_rows, standing_rows, rise_rows, happening_rows, fall_rows, word_rows, condition_rows, processes_row, start_guard_rows}
-use Rattle.ta_encode.specs.Lines.{Written, Adds, SmallEvents, block_row, counters_outside}
-use Rattle.ta_encode.specs.Firings.{firing}
-use Rattle.ta_encode.specs.Draft.{Drafted}
+use Rattle.ta_encode.specs.Inside.Lines.{Written, Adds, SmallEvents, block_row, counters_outside}
+use Rattle.ta_encode.specs.Inside.Firings.{firing}
+use Rattle.ta_encode.specs.Inside.Draft.{Drafted}
 use Rattle.ta_encode.specs.declared.line.Sense.TheVariants.{Same, Opposite}
 use Rattle.ta_words.proofs.Bits.{has_or}
 use Rattle.ta_encode.proofs.Adding.{guards_same, map_twice}

@@ -1,28 +1,30 @@
-pub mod Running
-pub mod Changes
-pub mod Sparse
-pub mod Adding
-pub mod Smallness
-pub mod Masked
-pub mod Blocks
+-- lemmas for the crates above
 pub mod Drafts
 pub mod Counting
-pub mod Combine
-pub mod Moments
-pub mod State
-pub mod Start
-pub mod RowSums
 pub mod Switch
-pub mod Reorder
-pub mod Safety
 pub mod InOrder
 pub mod Prefixes
-pub mod Segment
-pub mod Values
-pub mod Unwind
-pub mod Begin
-pub mod Starts
-pub mod Realize
 pub mod Theorems
 pub mod CodeRows
 pub mod Preorders
+pub mod Marking
+mod Running
+mod Changes
+mod Sparse
+mod Adding
+mod Smallness
+mod Masked
+mod Blocks
+mod Combine
+mod Moments
+mod State
+mod Start
+mod RowSums
+mod Reorder
+mod Safety
+mod Segment
+mod Values
+mod Unwind
+mod Begin
+mod Starts
+mod Realize

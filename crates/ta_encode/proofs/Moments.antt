@@ -7,12 +7,13 @@ use Rattle.ta_linear.specs.declared.form.Form.{Form}
 use Rattle.ta_linear.specs.declared.row.Row.{Row}
 use Rattle.ta_automaton.specs.declared.condition.Comparison.{Comparison}
 use Rattle.ta_automaton.specs.declared.automaton.Automaton.{Automaton}
+use Rattle.ta_automaton.proofs.Sums.{terms_value-same}
 use Rattle.ta_automaton.specs.Runs.{Config, value_at}
 use Rattle.ta_automaton.specs.Masks.{has_bit}
 use Rattle.ta_encode.specs.Unknowns.{Meaning, place_coefficient}
 use Rattle.ta_automaton.specs.Places.{location_place}
 use Rattle.ta_encode.specs.System.{LinearRow, opposite, negated, form_row, counter_row, condition_rows, guard_rows, start_guard_rows, combine, row_value, AllHold}
-use Rattle.ta_encode.proofs.Combine.{combine-extra, combine-terms, combine-opposite, terms_value-same}
+use Rattle.ta_encode.proofs.Combine.{combine-extra, combine-terms, combine-opposite}
 
 -- the values so far give each place its value in a configuration
 pub record Moment (a : Automaton) (ms : List Meaning) (vs : List ℕ) (d : Config) : Type 0 where

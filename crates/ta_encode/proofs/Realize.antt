@@ -5,11 +5,12 @@ use Rattle.std.proofs.lemmas.Option.{slice_get_within, slice_get-get_or}
 use Rattle.ta_automaton.specs.declared.automaton.Automaton.{Automaton}
 use Rattle.ta_automaton.specs.declared.pattern.Pattern.{Pattern}
 use Rattle.ta_automaton.specs.Masks.{numbers_from}
+use Rattle.ta_automaton.specs.Runs.{InScope}
 use Rattle.ta_words.specs.declared.element.Element.{Element}
 use Rattle.ta_words.specs.Words.{Legal, is_complete, has_event}
 use Rattle.ta_encode.specs.Unknowns.{start_meanings}
 use Rattle.ta_encode.specs.System.{word_rows, AllHold}
-use Rattle.ta_encode.specs.Laws.{Forward, HasRun}
+use Rattle.ta_encode.specs.Laws.{HasRun}
 use Rattle.ta_automaton.proofs.MaskTests.{all_below-at, bit_true}
 use Rattle.ta_automaton.proofs.Fire.{length_numbers, at_index}
 use Rattle.ta_encode.proofs.Values.{condition_back}
@@ -18,11 +19,11 @@ use Rattle.ta_encode.proofs.Unwind.{unwind}
 use Rattle.ta_encode.proofs.Begin.{first_of, first_rows_of, first_initial, first_values, begin_at, begin_rows}
 use Rattle.ta_encode.proofs.Starts.{first_starts}
 
-pub solution_runs : (a : Automaton) (p : Pattern) → AfterEarlier p → (rank : ℕ → ℕ) → Forward a rank → (start : ℕ) (past : List Element) (vs : List ℕ) → Legal a p start past → is_complete p past ≡ true → AllHold vs (word_rows a p start past) → length (start_meanings a p) ≤ length vs → HasRun a p vs
-solution_runs a p earlier rank forward start past vs legal complete rows enough =
+pub solution_runs : (a : Automaton) (p : Pattern) → AfterEarlier p → InScope a → (start : ℕ) (past : List Element) (vs : List ℕ) → Legal a p start past → is_complete p past ≡ true → AllHold vs (word_rows a p start past) → length (start_meanings a p) ≤ length vs → HasRun a p vs
+solution_runs a p earlier scope start past vs legal complete rows enough =
     let c = first_of a p vs in
     let h = first_rows_of a p start vs (begin_rows a p start past vs rows) in
-    let u = unwind a p start past vs c rank forward (begin_at a p start vs) legal rows in
+    let u = unwind a p start past vs c scope (begin_at a p start vs) legal rows in
     let n = length p.events in
     let positions = map u.position (numbers_from 0 n) in
     let all : (e : ℕ) → e < n → has_event past e ≡ true = (λ e b. all_below-at n (has_event past) complete e b) in

@@ -8,7 +8,7 @@ use Rattle.ta_automaton.specs.declared.condition.Comparison.{Comparison}
 use Rattle.ta_automaton.specs.declared.condition.Condition.{Condition}
 use Rattle.ta_automaton.specs.Forms.{FormOver, RowOver, ConditionOver, RiseRow, FallRow}
 use Rattle.ta_automaton.specs.Lists.{Each}
-use Rattle.ta_encode.specs.Lines.{SmallForm, SmallRows, SmallCondition}
+use Rattle.ta_encode.specs.Inside.Lines.{SmallForm, SmallRows, SmallCondition}
 
 normal_length : (low high : ℕ) (ts : List (ℕ × ℤ)) → IsNormal low high ts → low + length ts ≤ high
 normal_length low high [] h = omega (arith, h)

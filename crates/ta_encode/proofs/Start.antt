@@ -20,8 +20,8 @@ use Rattle.ta_encode.specs.Unknowns.{Meaning, Parameter, Start, start_locations,
 use Rattle.ta_automaton.specs.Places.{one_if, location_place}
 use Rattle.ta_encode.specs.System.{opposite, processes_row, start_coefficient, condition_rows, start_guard_rows, start_rows, word_rows, combine, row_value, AllHold}
 use Rattle.ta_automaton.specs.Sums.{total}
-use Rattle.ta_automaton.proofs.Sums.{total-zero, total-same, total-swap, one_times, one_inside, one_outside, one_if-same, one_if-other}
-use Rattle.ta_encode.proofs.Combine.{combine-append, combine-extra, combine-map, combine-minus, combine-terms, terms_value-same}
+use Rattle.ta_automaton.proofs.Sums.{total-zero, total-same, total-swap, one_times, one_inside, one_outside, one_if-same, one_if-other, terms_value-same}
+use Rattle.ta_encode.proofs.Combine.{combine-append, combine-extra, combine-map, combine-minus, combine-terms}
 use Rattle.ta_encode.proofs.Moments.{Moment, RowFails, AllHold-append, condition_holds, start_guards, opposite_value}
 use Rattle.ta_automaton.proofs.Moves.{Fits, place_cases, value_at-parameter, value_at-shared, value_at-location, one_if-ne, one_if-shift}
 use Rattle.ta_automaton.proofs.MaskTests.{In-filter, not_true, mask_of, mask_of-bit}

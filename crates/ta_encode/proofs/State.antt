@@ -1,5 +1,5 @@
 -- a word that describes the first steps of a run, and the steps since its last element
-use Rattle.std.proofs.Common.{◌≡◌, inl, inr, ℕ, ◌+◌, ◌^◌, ◌<◌, ◌≤◌, ℤ, pos, ◌+ℤ◌, ◌≤ℤ◌, ◌<ℤ◌, List, [], ◌∷◌, ◌++◌, map, length, eqb, Bool, true, false, not, ◌||◌, arith, sym, ap, ◌∙◌, refl, subst, slice_get, Some, Option, append_assoc, length-append, zero-add}
+use Rattle.std.proofs.Common.{◌≡◌, inl, inr, ℕ, ◌+◌, ◌^◌, ◌<◌, ◌≤◌, pos, ◌+ℤ◌, ◌≤ℤ◌, ◌<ℤ◌, List, [], ◌∷◌, ◌++◌, map, length, eqb, Bool, true, false, not, ◌||◌, arith, sym, ap, ◌∙◌, refl, subst, slice_get, Some, Option, append_assoc, length-append, zero-add}
 use Rattle.std.proofs.lemmas.List.{length-map}
 use Rattle.std.specs.List.{filter}
 use Rattle.std.proofs.lemmas.Int.{ints}
@@ -8,6 +8,8 @@ use Rattle.std.proofs.lemmas.Option.{slice_get_within}
 use Rattle.ta_linear.specs.Values.{value_of, RowHolds}
 use Rattle.ta_linear.specs.declared.row.Row.{Row}
 use Rattle.ta_automaton.specs.declared.automaton.Automaton.{Automaton}
+pub use Rattle.ta_automaton.proofs.Onward.{change_of}
+use Rattle.ta_automaton.proofs.Sums.{terms_value-same}
 use Rattle.ta_automaton.specs.declared.pattern.Event.{Event as PatternEvent}
 use Rattle.ta_automaton.specs.declared.pattern.Pattern.{Pattern}
 use Rattle.ta_automaton.specs.Runs.{Config, value_at, Holds}
@@ -16,18 +18,14 @@ use Rattle.ta_words.specs.declared.element.Element.{Element}
 use Rattle.ta_words.specs.declared.element.Element.TheVariants.{Event, Rise, Fall}
 use Rattle.ta_words.specs.Words.{has_rise, has_fallen, is_complete, is_ready, is_standing, Legal, allowed_rules}
 use Rattle.ta_encode.specs.Unknowns.{Meaning, Count, Single, meanings, counts_after, singles_after, place_coefficient}
-use Rattle.ta_automaton.specs.Places.{rule_change}
 use Rattle.ta_encode.specs.System.{LinearRow, opposite, negated, counter_rows, guard_rows, standing_rows, singles_row, event_rows, rise_rows, happening_rows, fall_rows, word_rows, combine, row_value, AllHold}
 use Rattle.ta_automaton.specs.Sums.{total, times_in}
-use Rattle.ta_encode.proofs.Combine.{combine-append, combine-extra, combine-map, combine-zero, combine-concat, combine-own, terms_value-same}
+use Rattle.ta_encode.proofs.Combine.{combine-append, combine-extra, combine-map, combine-zero, combine-concat, combine-own}
 use Rattle.ta_automaton.proofs.Fired.{EachOnce, firings}
 use Rattle.ta_encode.proofs.Moments.{Moment, RowFails, AllHold-append, counters_hold, condition_holds, guards_hold, guards_fail, opposite_value}
 use Rattle.ta_automaton.proofs.Moves.{Fits}
 use Rattle.ta_automaton.proofs.MaskTests.{true_not, implies-at, all_below-at}
 use Rattle.ta_words.proofs.Listed.{event_child, rise_child, fall_child}
-
-abbrev pub change_of : Automaton → ℕ → ℕ → ℤ
-change_of a i r = rule_change a (slice_get a.rules r) i
 
 pub record State (a : Automaton) (p : Pattern) (start : ℕ) (past : List Element) (vs : List ℕ) (fired : List ℕ) (d : Config) : Type 0 where
   pub legal : Legal a p start past

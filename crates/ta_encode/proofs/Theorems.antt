@@ -82,8 +82,8 @@ no_solution a p trees proof start b word vs s =
 
 pub runs : SolutionsBecomeRuns
 unfolding meanings
-runs file n p at rank forward start word vs s =
+runs file n p at scope start word vs s =
     let a = file.automaton in
     let f = take_apart (reverse word) [] in
     let fewer : length (start_meanings a p) ≤ length (meanings a p start (reverse word)) = subst (λ (q : List Element). length (start_meanings a p) ≤ length (meanings a p start q)) f.1 (prefix_fewer a p start [] f.0) in
-    solution_runs a p (earlier file n p at) rank forward start (reverse word) vs s.legal s.complete (AllHold-left vs (word_rows a p start (reverse word)) [] s.solves.rows_hold) (omega (arith, s.solves.count))
+    solution_runs a p (earlier file n p at) scope start (reverse word) vs s.legal s.complete (AllHold-left vs (word_rows a p start (reverse word)) [] s.solves.rows_hold) (omega (arith, s.solves.count))

@@ -8,9 +8,10 @@ use Rattle.ta_linear.specs.Values.{value_of, RowHolds}
 use Rattle.ta_linear.specs.declared.row.Row.{Row}
 use Rattle.ta_automaton.specs.declared.rule.Rule.{Rule}
 use Rattle.ta_automaton.specs.declared.automaton.Automaton.{Automaton}
+use Rattle.ta_automaton.proofs.Sums.{terms_value-same}
 use Rattle.ta_automaton.specs.declared.pattern.Event.{Event as PatternEvent}
 use Rattle.ta_automaton.specs.declared.pattern.Pattern.{Pattern}
-use Rattle.ta_automaton.specs.Runs.{Config, value_at, Holds}
+use Rattle.ta_automaton.specs.Runs.{Config, value_at, Holds, InScope}
 use Rattle.ta_automaton.specs.Masks.{has_bit, implies, In}
 use Rattle.ta_words.specs.declared.element.Element.{Element}
 use Rattle.ta_words.specs.declared.element.Element.TheVariants.{Event, Rise, Fall}
@@ -18,9 +19,8 @@ use Rattle.ta_words.specs.Words.{has_event, has_rise, has_fallen, follows, child
 use Rattle.ta_automaton.specs.Places.{one_if, location_place}
 use Rattle.ta_encode.specs.Unknowns.{Meaning, Count, Single, meanings, counts_after, singles_after, place_coefficient}
 use Rattle.ta_encode.specs.System.{opposite, negated, counter_rows, guard_rows, standing_rows, singles_row, event_rows, rise_rows, happening_rows, fall_rows, word_rows, combine, AllHold}
-use Rattle.ta_encode.specs.Laws.{Forward}
 use Rattle.ta_automaton.specs.Sums.{total}
-use Rattle.ta_encode.proofs.Combine.{terms_value-same, combine-zero}
+use Rattle.ta_encode.proofs.Combine.{combine-zero}
 use Rattle.ta_encode.proofs.Moments.{opposite_value}
 use Rattle.ta_automaton.proofs.Moves.{move_at, value_at-location, one_if-ne}
 use Rattle.ta_automaton.proofs.MaskTests.{all_below-at, implies-at, not_true, true_not, or_right, bit_true}
@@ -29,7 +29,8 @@ use Rattle.ta_encode.proofs.Switch.{KeptEmpty}
 use Rattle.ta_automaton.proofs.Thresholds.{falls as falls_rows, rises as rises_rows, from_within}
 use Rattle.ta_automaton.proofs.Fire.{Whole}
 use Rattle.ta_automaton.proofs.Trails.{Trail, trail_push}
-use Rattle.ta_encode.proofs.Segment.{Segment, Fired, EachMay, later_total, fire_all, fire_one, fits_whole, may_parts, change_location}
+use Rattle.ta_encode.proofs.Segment.{Segment, Fired, EachMay, may_rules, fire_all, fire_one, fits_whole, may_parts}
+use Rattle.ta_automaton.proofs.Onward.{later_after, change_location}
 use Rattle.ta_automaton.proofs.Thresholds.{fall_back, rise_on}
 use Rattle.ta_encode.proofs.Values.{place_value, counter_natural, guard_holds, condition_back, AllHold-right, left_part, combine-split, unfolded, unfolded-total, unfolded-count, unfolded-may, allowed_may, event_ready}
 
@@ -54,7 +55,7 @@ go_on a p start past vs ms first t os may f ns same = record {
   values = λ i. omega (arith, ints, f.values i, t.values i, same i);
   rises = λ i row at h.
       let was : pos 0 ≤ℤ value_of (value_at t.config) row.form = t.rises i row at h in
-      omega (arith, ints, was, rise_on a (value_at t.config) (λ k. value_at t.config k +ℤ total (change_of a k) os) (later_total a p start past os (value_at t.config) may) row.form.terms (rises_rows a i row at), terms_value-same row.form.terms (value_at f.end) (λ k. value_at t.config k +ℤ total (change_of a k) os) f.values);
+      omega (arith, ints, was, rise_on a (value_at t.config) (λ k. value_at t.config k +ℤ total (change_of a k) os) (later_after a (value_at t.config) os (may_rules a p start past os may)) row.form.terms (rises_rows a i row at), terms_value-same row.form.terms (value_at f.end) (λ k. value_at t.config k +ℤ total (change_of a k) os) f.values);
   position = t.position;
   happened = λ e event h at. let w = t.happened e event h at in (w.0, f.grows.kept (t.position e) w.0 w.1, w.2);
   bounded = λ e h. omega (arith, t.bounded e h, f.grows.longer);
@@ -73,8 +74,8 @@ trail_empty : (a : Automaton) (p : Pattern) (first d : Config) (t : Trail a (Kep
 trail_empty a p first d t = t.all_good (length t.rules) d t.last
 
 -- the Counts of an element
-do_counts : (a : Automaton) (p : Pattern) (start : ℕ) (past : List Element) (vs : List ℕ) (first : Config) → (rank : ℕ → ℕ) → Forward a rank → At a p start past vs (meanings a p start past) first → AllHold vs (counter_rows a p (meanings a p start past ++ counts_after a p start past)) → ((j : ℕ) (row : Row) → slice_get a.fall j ≡ Some row → has_fallen start past j ≡ false → pos 0 ≤ℤ value_of (place_value a (meanings a p start past ++ counts_after a p start past) vs) row.form) → At a p start past vs (meanings a p start past ++ counts_after a p start past) first
-do_counts a p start past vs first rank forward t counters falls =
+do_counts : (a : Automaton) (p : Pattern) (start : ℕ) (past : List Element) (vs : List ℕ) (first : Config) → InScope a → At a p start past vs (meanings a p start past) first → AllHold vs (counter_rows a p (meanings a p start past ++ counts_after a p start past)) → ((j : ℕ) (row : Row) → slice_get a.fall j ≡ Some row → has_fallen start past j ≡ false → pos 0 ≤ℤ value_of (place_value a (meanings a p start past ++ counts_after a p start past) vs) row.form) → At a p start past vs (meanings a p start past ++ counts_after a p start past) first
+do_counts a p start past vs first scope t counters falls =
     let ms = meanings a p start past in
     let os = unfolded (allowed_rules a p start past) (drop (length ms) vs) in
     let may : EachMay a p start past os = unfolded-may a p start past (allowed_rules a p start past) (drop (length ms) vs) (allowed_may a p start past) in
@@ -87,21 +88,21 @@ do_counts a p start past vs first rank forward t counters falls =
       ends = λ l b e. omega (arith, ints, same (location_place a l), counter_natural a p (ms ++ counts_after a p start past) vs counters l b e);
       empty = trail_empty a p first t.config t.trail;
     } in
-    go_on a p start past vs ms first t os may (fire_all a p start past first rank forward (length os) os t.config t.trail refl s) (ms ++ counts_after a p start past) (counts_move a p start past vs ms)
+    go_on a p start past vs ms first t os may (fire_all a p start past first scope os t.config t.trail s) (ms ++ counts_after a p start past) (counts_move a p start past vs ms)
 
 stand : (a : Automaton) (start : ℕ) (past : List Element) (ms : List Meaning) (vs : List ℕ) → AllHold vs (standing_rows a start past ms) → (j : ℕ) (row : Row) → slice_get a.fall j ≡ Some row → has_fallen start past j ≡ false → pos 0 ≤ℤ value_of (place_value a ms vs) row.form
 stand a start past ms vs h j row at f =
     guard_holds a ms vs (λ k. not (has_fallen start past k)) 0 a.fall h j row at (not_true _ (ap (has_fallen start past) (zero-add j) ∙ f))
 
-do_rise : (a : Automaton) (p : Pattern) (start : ℕ) (past : List Element) (vs : List ℕ) (first : Config) (i : ℕ) → (rank : ℕ → ℕ) → Forward a rank → At a p start past vs (meanings a p start past) first → AllHold vs (rise_rows a p start past (meanings a p start (Rise i ∷ past)) i) → At a p start (Rise i ∷ past) vs (meanings a p start (Rise i ∷ past)) first
+do_rise : (a : Automaton) (p : Pattern) (start : ℕ) (past : List Element) (vs : List ℕ) (first : Config) (i : ℕ) → InScope a → At a p start past vs (meanings a p start past) first → AllHold vs (rise_rows a p start past (meanings a p start (Rise i ∷ past)) i) → At a p start (Rise i ∷ past) vs (meanings a p start (Rise i ∷ past)) first
 unfolding meanings rise_rows has_rise has_event
-do_rise a p start past vs first i rank forward t h =
+do_rise a p start past vs first i scope t h =
     let ms = meanings a p start past ++ counts_after a p start past in
     let counters = left_part vs (counter_rows a p ms) (guard_rows a ms (λ k. eqb k i) 0 a.rise ++ standing_rows a start past ms) h in
     let others = AllHold-right vs (counter_rows a p ms) (guard_rows a ms (λ k. eqb k i) 0 a.rise ++ standing_rows a start past ms) h in
     let guard = left_part vs (guard_rows a ms (λ k. eqb k i) 0 a.rise) (standing_rows a start past ms) others in
     let standing = AllHold-right vs (guard_rows a ms (λ k. eqb k i) 0 a.rise) (standing_rows a start past ms) others in
-    let u = do_counts a p start past vs first rank forward t counters (stand a start past ms vs standing) in
+    let u = do_counts a p start past vs first scope t counters (stand a start past ms vs standing) in
     record {
       config = u.config;
       trail = u.trail;
@@ -125,16 +126,16 @@ position_here x e n m q = let s : eqb x e ≡ true = grind (arith, nat_tests) in
 position_other : (x e n m : ℕ) → x ≢ e → cond (eqb x e) n m ≡ m
 position_other x e n m q = let s : eqb x e ≡ false = grind (arith, nat_tests) in rw s refl
 
-do_event : (a : Automaton) (p : Pattern) (start : ℕ) (past : List Element) (vs : List ℕ) (first : Config) (e : ℕ) → (rank : ℕ → ℕ) → Forward a rank → In (Event e) (children a p start past) → At a p start past vs (meanings a p start past) first → AllHold vs (happening_rows a p start past (meanings a p start (Event e ∷ past)) e) → At a p start (Event e ∷ past) vs (meanings a p start (Event e ∷ past)) first
+do_event : (a : Automaton) (p : Pattern) (start : ℕ) (past : List Element) (vs : List ℕ) (first : Config) (e : ℕ) → InScope a → In (Event e) (children a p start past) → At a p start past vs (meanings a p start past) first → AllHold vs (happening_rows a p start past (meanings a p start (Event e ∷ past)) e) → At a p start (Event e ∷ past) vs (meanings a p start (Event e ∷ past)) first
 unfolding meanings happening_rows has_rise has_event
-do_event a p start past vs first e rank forward child t h =
+do_event a p start past vs first e scope child t h =
     let ms = meanings a p start past ++ counts_after a p start past in
     let rows = event_rows a ms (slice_get p.events e) in
     let counters = left_part vs (counter_rows a p ms) (rows ++ standing_rows a start past ms) h in
     let others = AllHold-right vs (counter_rows a p ms) (rows ++ standing_rows a start past ms) h in
     let mine = left_part vs rows (standing_rows a start past ms) others in
     let standing = AllHold-right vs rows (standing_rows a start past ms) others in
-    let u = do_counts a p start past vs first rank forward t counters (stand a start past ms vs standing) in
+    let u = do_counts a p start past vs first scope t counters (stand a start past ms vs standing) in
     let n = length u.trail.rules in
     let ready = and_parts (not (has_event past e)) (follows p past (slice_get p.events e)) (event_ready a p start past e child) in
     let new = true_not (has_event past e) ready.0 in
@@ -189,9 +190,9 @@ one_single before al vs h =
     let sum : pos (length (unfolded al (drop (length before) vs))) ≡ pos 1 = omega (arith, ints, cut, len, combine-zero before vs, unfolded-count al (drop (length before) vs), h.0, h.1.0, opposite_value vs (singles_row before al)) in
     omega (arith, ints, sum)
 
-do_fall : (a : Automaton) (p : Pattern) (start : ℕ) (past : List Element) (vs : List ℕ) (first : Config) (mask : ℕ) → (rank : ℕ → ℕ) → Forward a rank → At a p start past vs (meanings a p start past) first → AllHold vs (fall_rows a p start past (meanings a p start past ++ counts_after a p start past) (meanings a p start (Fall mask ∷ past)) mask) → At a p start (Fall mask ∷ past) vs (meanings a p start (Fall mask ∷ past)) first
+do_fall : (a : Automaton) (p : Pattern) (start : ℕ) (past : List Element) (vs : List ℕ) (first : Config) (mask : ℕ) → InScope a → At a p start past vs (meanings a p start past) first → AllHold vs (fall_rows a p start past (meanings a p start past ++ counts_after a p start past) (meanings a p start (Fall mask ∷ past)) mask) → At a p start (Fall mask ∷ past) vs (meanings a p start (Fall mask ∷ past)) first
 unfolding meanings fall_rows has_rise has_event has_fallen total
-do_fall a p start past vs first mask rank forward t h =
+do_fall a p start past vs first mask scope t h =
     let al = allowed_rules a p start past in
     let before = meanings a p start past ++ counts_after a p start past in
     let end = before ++ singles_after a p start past in
@@ -219,10 +220,10 @@ do_fall a p start past vs first mask rank forward t h =
             ints,
             stand a start (Fall mask ∷ past) end vs h5 j row at neither,
             terms_value-same row.form.terms (λ i. place_value a before vs i +ℤ total (change_of a i) os) (place_value a end vs) (singles_move a p start past vs before),
-            fall_back a (place_value a before vs) (λ i. place_value a before vs i +ℤ total (change_of a i) os) (later_total a p start past os (place_value a before vs) may) row.form.terms (falls_rows a j row at),
+            fall_back a (place_value a before vs) (λ i. place_value a before vs i +ℤ total (change_of a i) os) (later_after a (place_value a before vs) os (may_rules a p start past os may)) row.form.terms (falls_rows a j row at),
           ))
     ]) in
-    let u = do_counts a p start past vs first rank forward t h1 falls in
+    let u = do_counts a p start past vs first scope t h1 falls in
     let one = only_item os (one_single before al vs h3) in
     let r = one.0 in
     let can : may_fire a p start past (slice_get a.rules r) ≡ true = (subst (EachMay a p start past) one.1 may).0 in
@@ -254,12 +255,12 @@ do_fall a p start past vs first mask rank forward t h =
     }
 
 -- the run of a legal word with a solution
-pub unwind : (a : Automaton) (p : Pattern) (start : ℕ) (past : List Element) (vs : List ℕ) (first : Config) → (rank : ℕ → ℕ) → Forward a rank → At a p start [] vs (meanings a p start []) first → Legal a p start past → AllHold vs (word_rows a p start past) → At a p start past vs (meanings a p start past) first
+pub unwind : (a : Automaton) (p : Pattern) (start : ℕ) (past : List Element) (vs : List ℕ) (first : Config) → InScope a → At a p start [] vs (meanings a p start []) first → Legal a p start past → AllHold vs (word_rows a p start past) → At a p start past vs (meanings a p start past) first
 unfolding word_rows
-unwind a p start [] vs first rank forward begin legal h = begin
-unwind a p start (Event e ∷ past) vs first rank forward begin legal h =
-    do_event a p start past vs first e rank forward legal.0 (unwind a p start past vs first rank forward begin legal.1 (left_part vs (word_rows a p start past) _ h)) (AllHold-right vs (word_rows a p start past) _ h)
-unwind a p start (Rise i ∷ past) vs first rank forward begin legal h =
-    do_rise a p start past vs first i rank forward (unwind a p start past vs first rank forward begin legal.1 (left_part vs (word_rows a p start past) _ h)) (AllHold-right vs (word_rows a p start past) _ h)
-unwind a p start (Fall mask ∷ past) vs first rank forward begin legal h =
-    do_fall a p start past vs first mask rank forward (unwind a p start past vs first rank forward begin legal.1 (left_part vs (word_rows a p start past) _ h)) (AllHold-right vs (word_rows a p start past) _ h)
+unwind a p start [] vs first scope begin legal h = begin
+unwind a p start (Event e ∷ past) vs first scope begin legal h =
+    do_event a p start past vs first e scope legal.0 (unwind a p start past vs first scope begin legal.1 (left_part vs (word_rows a p start past) _ h)) (AllHold-right vs (word_rows a p start past) _ h)
+unwind a p start (Rise i ∷ past) vs first scope begin legal h =
+    do_rise a p start past vs first i scope (unwind a p start past vs first scope begin legal.1 (left_part vs (word_rows a p start past) _ h)) (AllHold-right vs (word_rows a p start past) _ h)
+unwind a p start (Fall mask ∷ past) vs first scope begin legal h =
+    do_fall a p start past vs first mask scope (unwind a p start past vs first scope begin legal.1 (left_part vs (word_rows a p start past) _ h)) (AllHold-right vs (word_rows a p start past) _ h)

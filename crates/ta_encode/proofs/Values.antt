@@ -20,8 +20,8 @@ use Rattle.ta_encode.specs.Unknowns.{Meaning, place_coefficient}
 use Rattle.ta_automaton.specs.Places.{location_place}
 use Rattle.ta_encode.specs.System.{LinearRow, form_row, counter_row, counter_rows, condition_rows, guard_rows, combine, row_value, AllHold}
 use Rattle.ta_automaton.specs.Sums.{total}
-use Rattle.ta_automaton.proofs.Sums.{one_times}
-use Rattle.ta_encode.proofs.Combine.{combine-terms, terms_value-same}
+use Rattle.ta_automaton.proofs.Sums.{one_times, terms_value-same}
+use Rattle.ta_encode.proofs.Combine.{combine-terms}
 use Rattle.ta_automaton.proofs.MaskTests.{In-filter, In-numbers, not_true}
 use Rattle.ta_encode.proofs.Segment.{EachMay}
 

@@ -1,11 +1,10 @@
 -- What words, their systems and their refutations say of runs (the reordering theorem after POPL 2017, with start sets
 -- and joint falls as this project's own)
-use Rattle.std.specs.Prelude.{ℕ, ◌<◌, ◌^◌, ◌≡◌, ◌≢◌, true, List, [], ◌++◌, length, map, reverse, take, slice_get, slice_index, Some}
-use Rattle.ta_automaton.specs.declared.rule.Rule.{Rule}
+use Rattle.std.specs.Prelude.{ℕ, ◌<◌, ◌^◌, ◌≡◌, true, List, [], ◌++◌, length, map, reverse, take, slice_get, slice_index, Some}
 use Rattle.ta_automaton.specs.declared.automaton.Automaton.{Automaton}
 use Rattle.ta_automaton.specs.declared.pattern.Pattern.{Pattern}
 use Rattle.ta_automaton.specs.declared.file.File.{File}
-use Rattle.ta_automaton.specs.Runs.{Config, LoopsPure, Occurs, Safe}
+use Rattle.ta_automaton.specs.Runs.{Config, InScope, LoopsPure, Occurs, Safe}
 use Rattle.ta_cert.specs.Tree.{Tree}
 use Rattle.ta_words.specs.declared.element.Element.{Element}
 use Rattle.ta_words.specs.Words.{Legal, is_complete}
@@ -62,10 +61,6 @@ ProofsLeaveNoSolution =
     → (word : List Element) (values : List ℕ) → SolvedWord a p start word values
     → ⊥
 
--- each rule between two locations leads to one of higher rank (POPL 2017, automata without cycles)
-abbrev pub Forward : Automaton → (ℕ → ℕ) → Type 0
-Forward a rank = (r : ℕ) (rule : Rule) → slice_get a.rules r ≡ Some rule → rule.from ≢ rule.to → rank rule.from < rank rule.to
-
 -- a run in which the pattern occurs, from a configuration that has the parameters and the start counts of an assignment
 pub record HasRun (a : Automaton) (p : Pattern) (values : List ℕ) : Type 0 where
   pub first : Config
@@ -73,10 +68,10 @@ pub record HasRun (a : Automaton) (p : Pattern) (values : List ℕ) : Type 0 whe
   pub begins : start_values a p first ≡ take (length (start_meanings a p)) values
   pub occurs : Occurs a p first rules
 
--- where rules go forward, a complete legal word with a natural solution gives a run in which the pattern occurs
+-- where no rule with an update is on a cycle, a complete legal word with a natural solution gives a run in which the pattern occurs
 abbrev pub SolutionsBecomeRuns : Type 0
 SolutionsBecomeRuns =
     (file : File) (n : ℕ) (p : Pattern) → slice_get file.patterns n ≡ Some p
-    → (rank : ℕ → ℕ) → Forward file.automaton rank
+    → InScope file.automaton
     → (start : ℕ) (word : List Element) (values : List ℕ) → SolvedWord file.automaton p start word values
     → HasRun file.automaton p values

@@ -4,6 +4,6 @@ pub mod Refutes
 pub mod Laws
 pub mod Code
 pub mod Lines
-pub mod Firings
-pub mod Draft
+pub mod Marks
 pub mod InPreorder
+pub mod Inside

@@ -33,59 +33,6 @@ line_coefficient a terms less_starts sense m = turned sense (terms_value (place_
 abbrev pub line_row : Automaton → List Meaning → List (ℕ × ℤ) → Bool → Sense → ℤ → LinearRow
 line_row a ms terms less_starts sense constant = record { constant = constant; coefficients = map (line_coefficient a terms less_starts sense) ms }
 
--- code rows of the first n unknowns
-pub record Written (ls : List LinearRow) (n : ℕ) (rows : List Row) : Type 0 where
-  pub rows_of : RowsOf ls rows
-  pub below : AllBelow n rows
-
--- writing these rows of the first n unknowns after others
-pub record Adds (ls : List LinearRow) (n : ℕ) (before after : List Row) : Type 0 where
-  pub rows : (done : List LinearRow) → Written done n before → Written (done ++ ls) n after
-
--- a form whose numbers are at most 1,000,000,000 in absolute value
-pub record SmallForm (form : Form) : Type 0 where
-  pub terms : SmallTerms form.terms
-  pub constant : unsigned_abs form.constant ≤ 1000000000
-
-abbrev pub SmallRows : List Row → Type 0
-SmallRows rows = Each (λ (r : Row). SmallForm r.form) rows
-
-abbrev pub SmallCondition : Condition → Type 0
-SmallCondition condition = Each (λ (k : Comparison). SmallRows k.rows) condition.comparisons
-
--- rows as they are, or negated
-abbrev pub in_sense : Sense → LinearRow → LinearRow
-in_sense Same row = row
-in_sense Opposite row = negated row
-
--- the constant of a row or of its negation
-abbrev pub constant_in_sense : Sense → ℤ → ℤ
-constant_in_sense Same z = z
-constant_in_sense Opposite z = (pos 0 -ℤ z) -ℤ pos 1
-
--- a row or its opposite
-abbrev pub turned_row : Sense → LinearRow → LinearRow
-turned_row Same row = row
-turned_row Opposite row = opposite row
-
--- the fall guards of the start set are negated
-abbrev pub start_sense : Bool → Sense
-start_sense true = Opposite
-start_sense false = Same
-
--- a constant and the sum of the unknowns from one number to another, or its opposite
-abbrev pub block_row : ℤ → ℕ → ℕ → Sense → LinearRow
-block_row constant from to sense = record { constant = constant; coefficients = map (λ k. pos 0) (numbers_from 0 from) ++ map (λ k. turned sense (pos 1)) (numbers_from from (to - from)) }
-
--- the row of a bound, as a block of one unknown
-abbrev pub bound_constant : Side → ℤ → ℤ
-bound_constant Low floor = floor
-bound_constant High floor = (pos 0 -ℤ floor) -ℤ pos 1
-
-abbrev pub bound_sense : Side → Sense
-bound_sense Low = Opposite
-bound_sense High = Same
-
 -- a bound of an unknown of the system, at a floor below 2^126
 pub record BoundWithin (unknowns : ℕ) (bound : Bound) : Type 0 where
   pub exists : bound.unknown < unknowns
@@ -94,11 +41,3 @@ pub record BoundWithin (unknowns : ℕ) (bound : Bound) : Type 0 where
 
 abbrev pub BoundsWithin : ℕ → List Bound → Type 0
 BoundsWithin unknowns bounds = Each (BoundWithin unknowns) bounds
-
--- the counters of the locations outside a set
-abbrev pub counters_outside : Automaton → List Meaning → ℕ → List LinearRow
-counters_outside a ms empty = map (counter_row a ms) (filter (λ l. not (has_bit empty l)) (numbers_from 0 (length a.locations)))
-
--- the conditions of a pattern's events have small numbers
-pub record SmallEvents (p : Pattern) : Type 0 where
-  pub small : (e : ℕ) (event : Event) → slice_get p.events e ≡ Some event → SmallCondition event.condition

@@ -3,8 +3,8 @@
 
 ghost use Rattle.std.specs.Prelude.{ℕ, ◌^◌, ◌≡◌, ◌≤◌, ◌<◌, ◌∷◌, [], OnOk, length, reverse};
 ghost use Rattle.ta_words.specs.Calls.{OfPattern};
-ghost use Rattle.ta_encode.specs.Draft.{Drafted};
-ghost use Rattle.ta_encode.specs.Lines.{SmallCondition};
+ghost use Rattle.ta_encode.specs.Inside.Draft.{Drafted};
+ghost use Rattle.ta_encode.specs.Inside.Lines.{IsBehind, SmallCondition};
 ghost use Rattle.ta_encode.specs.Unknowns.{start_meanings};
 
 use crate::elements::{push_event, push_fallen, push_falling, push_rise};
@@ -52,7 +52,9 @@ pub(crate) fn push_element(
     requires exists { pattern < length file.now.patterns }
     requires few { length before.now < 30 }
     requires drafted { OfPattern file.now pattern (λ p. Drafted file.now.automaton p start_mask (reverse before.now) meanings.old.items rows.old.items) }
-    ensures { OnOk result (OfPattern file.now pattern (λ p. Drafted file.now.automaton p start_mask (element ∷ reverse before.now) meanings.new.items rows.new.items)) }
+    ensures drafted { OnOk result (OfPattern file.now pattern (λ p. Drafted file.now.automaton p start_mask (element ∷ reverse before.now) meanings.new.items rows.new.items)) }
+    ensures unknowns { OnOk result (IsBehind meanings.old.items meanings.new.items) }
+    ensures rows { OnOk result (IsBehind rows.old.items rows.new.items) }
 {
     let automaton = &file.automaton;
     let rules = automaton.rules.as_slice().len();

@@ -3,7 +3,7 @@
 
 ghost use Rattle.std.specs.Prelude.{ℕ, ◌^◌, ◌==◌, ◌≡◌, ◌≤◌, ◌<◌, ◌++◌, OnOk, length, map, not, slice_get};
 ghost use Rattle.ta_automaton.specs.Masks.{has_bit};
-ghost use Rattle.ta_encode.specs.Lines.{Adds, SmallEvents, counters_outside};
+ghost use Rattle.ta_encode.specs.Inside.Lines.{Adds, SmallEvents, counters_outside};
 ghost use Rattle.ta_encode.specs.System.{event_rows, guard_rows, negated};
 
 use crate::line::Sense;

@@ -4,7 +4,8 @@
 ghost use Rattle.std.specs.Prelude.{ℕ, ◌+◌, ◌*◌, ◌^◌, ◌≡◌, ◌≤◌, ◌<◌, ◌≤ℤ◌, ◌<ℤ◌, ◌∷◌, [], OnOk, filter, length, map, negsuc, not, pos, unsigned_abs};
 ghost use Rattle.ta_linear.specs.Numbers.{InRange};
 ghost use Rattle.ta_automaton.specs.Masks.{has_bit, numbers_from};
-ghost use Rattle.ta_encode.specs.Lines.{Adds, BoundsWithin, SmallCondition, SmallForm, SmallRows, block_row, bound_constant, bound_sense, constant_in_sense, in_sense, start_sense, turned_row};
+ghost use Rattle.ta_encode.specs.Lines.{BoundsWithin};
+ghost use Rattle.ta_encode.specs.Inside.Lines.{Adds, SmallCondition, SmallForm, SmallRows, block_row, bound_constant, bound_sense, constant_in_sense, in_sense, start_sense, turned_row};
 ghost use Rattle.ta_encode.specs.declared.line.Sense.TheVariants.{Opposite, Same};
 ghost use Rattle.ta_encode.specs.System.{bound_row, condition_rows, counter_row, form_row, guard_rows, opposite, processes_row, start_guard_rows};
 

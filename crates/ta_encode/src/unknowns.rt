@@ -4,7 +4,7 @@
 ghost use Rattle.std.specs.Prelude.{ℕ, ◌≡◌, ◌≤◌, ◌++◌, IfOk, OnOk, filter, length, map, not};
 ghost use Rattle.ta_automaton.specs.Masks.{has_bit, numbers_from};
 ghost use Rattle.ta_encode.specs.Unknowns.{Parameter, Start, start_meanings};
-ghost use Rattle.ta_encode.specs.Firings.{firing};
+ghost use Rattle.ta_encode.specs.Inside.Firings.{firing};
 
 use crate::meaning::Meaning;
 use std::alloc::{AllocError, Global};

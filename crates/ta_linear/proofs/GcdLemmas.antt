@@ -1,18 +1,9 @@
--- the greatest common divisor as a function, by Euclid's recursion, and what ties it to the relation IsGcd
+-- what ties the greatest common divisor by Euclid's recursion to the relation IsGcd
 use Rattle.std.proofs.Common.{◌≡◌, ℕ, zero, suc, ◌<◌, ◌%◌, arith, refl, sym, ℤ, pos, unsigned_abs}
 use Rattle.std.specs.Int.{IsGcd}
+use Rattle.ta_linear.specs.Gcd.{gcd_within, gcd_of}
 use Rattle.std.proofs.lemmas.Nat.Gcd.{IsGcd-from_zero, IsGcd-from_mod, same_from_IsGcd}
 use Rattle.std.proofs.lemmas.Nat.{mod_below}
-
--- the last number that is not 0 of Euclid's remainders, within n steps
-abbrev pub gcd_within : ℕ → ℕ → ℕ → ℕ
-gcd_within zero a b = a
-gcd_within (suc n) a zero = a
-gcd_within (suc n) a (suc b) = gcd_within n (suc b) (a % suc b)
-
--- the greatest common divisor; that of 0 and 0 is 0
-unfoldable pub gcd_of : ℕ → ℕ → ℕ
-gcd_of a b = gcd_within (suc b) a b
 
 IsGcd-gcd_within : (n a b : ℕ) → b < n → IsGcd a b (gcd_within n a b)
 IsGcd-gcd_within zero a b h = absurd (omega arith)

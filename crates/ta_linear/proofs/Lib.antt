@@ -1,11 +1,12 @@
+-- lemmas for the crates above
 pub mod Integers
 pub mod Signs
-pub mod SmallProduct
 pub mod GcdLemmas
 pub mod Floor
 pub mod Divide
 pub mod TermLemmas
-pub mod LeastTerm
-pub mod SumLemmas
 pub mod RangeSum
 pub mod Farkas
+mod SmallProduct
+mod LeastTerm
+mod SumLemmas

@@ -6,3 +6,4 @@ pub mod Values
 pub mod Sums
 pub mod Leaf
 pub mod Laws
+pub mod Gcd

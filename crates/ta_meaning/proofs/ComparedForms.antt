@@ -21,8 +21,9 @@ use Rattle.ta_automaton.specs.declared.condition.Condition.{Condition}
 use Rattle.ta_meaning.specs.Sums.{sum_coefficient, sum_constant, sum_uses}
 use Rattle.ta_meaning.specs.Linear.{Difference, FormOf, RowOf, Pairwise, linear_sum, linear_difference, differences_by, comparison_rows, any_large, MeansComparison, is_large_linear}
 use Rattle.ta_meaning.specs.Faults.{Scope, FirstOrMemory, Answers, where_, else_, sum_faults, comparison_faults, condition_faults}
-use Rattle.ta_meaning.specs.Resolved.{ResolvedForm, ResolvedComparison, ResolvedCondition}
-use Rattle.ta_meaning.specs.SumParts.{PartOf, is_large_form, any_large_row, IsDifference, form_differences, RowOfDifference}
+use Rattle.ta_meaning.specs.Inside.Resolved.{ResolvedForm, ResolvedComparison, ResolvedCondition}
+use Rattle.ta_meaning.specs.SumParts.{IsDifference}
+use Rattle.ta_meaning.specs.Inside.SumParts.{PartOf, is_large_form, any_large_row, form_differences, RowOfDifference}
 use Rattle.ta_meaning.proofs.ListItems.{each_push}
 use Rattle.ta_meaning.proofs.Answering.{else-left-none, not-where, answers-along, answers-knowing, answers-otherwise, append-none, append-left-none, append-left-first, else-left-first}
 use Rattle.ta_meaning.proofs.LargeNumbers.{same_large, same_large_rows, form_over, rows_over}

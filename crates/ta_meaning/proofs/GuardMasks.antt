@@ -6,7 +6,7 @@ use Rattle.std.proofs.lemmas.Nat.Bits.{bit_at-zero, bit_at_above, bit_at_cat_low
 use Rattle.std.proofs.lemmas.Bool.Decides.{eqb_tells}
 use Rattle.std.proofs.lemmas.Bool.{cases_lt}
 use Rattle.ta_scope.proofs.Reaching.{set_at, at_set}
-use Rattle.ta_meaning.specs.Numbering.{WithBit}
+use Rattle.ta_meaning.specs.Inside.Numbering.{WithBit}
 
 -- a mask that differs at one bit, which is set
 pub with_bit : (mask n more : ℕ) → bit_at more n ≡ 1 → ((i : ℕ) → i ≢ n → bit_at more i ≡ bit_at mask i) → WithBit mask n more

@@ -16,8 +16,8 @@ use Rattle.ta_meaning.specs.Names.{Names, guard_names}
 use Rattle.ta_meaning.specs.Linear.{Linear, comparison_rows, differences_by, any_number}
 use Rattle.ta_meaning.specs.Guards.{Guards, is_negative, is_positive, falls, has_row, with_row, shared_part, is_no_threshold, is_one_more}
 use Rattle.ta_meaning.specs.Faults.{FirstOrMemory, where_, else_, in_guards, comparison_faults, guard_faults}
-use Rattle.ta_meaning.specs.Resolved.{ResolvedComparison}
-use Rattle.ta_meaning.specs.Numbering.{any_shared, is_no_guard, Has, RowAnswers, linear_of, guards_so_far, GuardsKept, GuardNumbered}
+use Rattle.ta_meaning.specs.Inside.Resolved.{ResolvedComparison}
+use Rattle.ta_meaning.specs.Inside.Numbering.{any_shared, is_no_guard, Has, RowAnswers, linear_of, guards_so_far, GuardsKept, GuardNumbered}
 use Rattle.ta_meaning.specs.declared.guards.GuardList.{GuardList}
 use Rattle.ta_meaning.specs.declared.guards.GuardNumber.TheVariants as number
 use Rattle.ta_meaning.proofs.ComparedForms.{each_length}

@@ -8,7 +8,7 @@ use Rattle.ta_automaton.specs.declared.condition.Comparison.{Comparison}
 use Rattle.ta_meaning.specs.Names.{guard_names}
 use Rattle.ta_meaning.specs.Guards.{Guards}
 use Rattle.ta_meaning.specs.Faults.{Scope, FirstOrMemory, in_guards, comparison_faults, guard_faults}
-use Rattle.ta_meaning.specs.Resolved.{kinds_of, first_places, ResolvedComparison}
+use Rattle.ta_meaning.specs.Inside.Resolved.{kinds_of, first_places, ResolvedComparison}
 use Rattle.ta_meaning.specs.declared.places.Places.{Places}
 use Rattle.ta_meaning.proofs.Answering.{else-left-first}
 use Rattle.ta_meaning.proofs.PlaceNames.{guard_names_are, in_guards_are}

@@ -13,7 +13,7 @@ use Rattle.ta_meaning.specs.Names.{Names, guard_names}
 use Rattle.ta_meaning.specs.Linear.{Linear, comparison_rows, UsesNames}
 use Rattle.ta_meaning.specs.Guards.{Guards, falls, with_row, with_guard, with_guards, rows_of, NamesGuards}
 use Rattle.ta_meaning.specs.Faults.{FirstOrMemory, in_guards, guard_faults, guards_faults}
-use Rattle.ta_meaning.specs.Numbering.{guards_so_far, GuardsKept, GuardNumbered, GuardsNumbered, AmongGuards, WithNumber, NumberFits, linear_of}
+use Rattle.ta_meaning.specs.Inside.Numbering.{guards_so_far, GuardsKept, GuardNumbered, GuardsNumbered, AmongGuards, WithNumber, NumberFits, linear_of}
 use Rattle.ta_meaning.specs.declared.guards.GuardList.{GuardList}
 use Rattle.ta_meaning.specs.declared.guards.GuardMasks.{GuardMasks}
 use Rattle.ta_meaning.specs.declared.guards.GuardNumber.{GuardNumber}

@@ -12,7 +12,7 @@ use Rattle.ta_automaton.specs.Lists.{Each}
 use Rattle.ta_automaton.specs.Forms.{RowOver}
 use Rattle.ta_meaning.specs.Linear.{Linear, Pairwise, RowOf, any_number}
 use Rattle.ta_meaning.specs.Guards.{is_negative, is_positive, falls, shared_part, is_no_threshold}
-use Rattle.ta_meaning.specs.Numbering.{any_shared, is_no_guard, linear_of}
+use Rattle.ta_meaning.specs.Inside.Numbering.{any_shared, is_no_guard, linear_of}
 use Rattle.ta_meaning.proofs.NormalTerms.{coefficient-first, coefficient-other, linear_at, length-numbers, linear_is}
 
 -- ---- terms

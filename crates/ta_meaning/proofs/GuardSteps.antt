@@ -11,7 +11,7 @@ use Rattle.ta_automaton.proofs.Trails.{get_left}
 use Rattle.ta_meaning.specs.Linear.{Linear, comparison_rows}
 use Rattle.ta_meaning.specs.Guards.{Guards, falls, has_row, with_row, with_guard, with_guards, rows_of, NamesGuards}
 use Rattle.ta_meaning.specs.Faults.{Scope, guards_with}
-use Rattle.ta_meaning.specs.Numbering.{IsNumber, AmongGuards, WithBit}
+use Rattle.ta_meaning.specs.Inside.Numbering.{IsNumber, AmongGuards, WithBit}
 use Rattle.ta_meaning.specs.declared.guards.GuardNumber.{GuardNumber}
 use Rattle.ta_meaning.specs.declared.guards.GuardNumber.TheVariants as number
 use Rattle.ta_meaning.proofs.DistinctItems.{distinct_at}

@@ -10,7 +10,8 @@ use Rattle.ta_linear.proofs.TermLemmas.{coefficient-below}
 use Rattle.ta_automaton.specs.Lists.{Each}
 use Rattle.ta_automaton.specs.Forms.{FormOver}
 use Rattle.ta_meaning.specs.Linear.{Linear, FormOf, Pairwise, RowOf, is_large, any_number, is_large_linear, any_large}
-use Rattle.ta_meaning.specs.SumParts.{Within, is_large_form, any_large_term, any_large_row}
+use Rattle.ta_meaning.specs.SumParts.{Within}
+use Rattle.ta_meaning.specs.Inside.SumParts.{is_large_form, any_large_term, any_large_row}
 use Rattle.ta_meaning.proofs.NormalTerms.{coefficient-first, coefficient-other}
 
 pub small_tells : (z : ℤ) → is_large z ≡ false → unsigned_abs z ≤ 1000000000

@@ -1,51 +1,52 @@
-pub mod Answering
-pub mod Exits
-pub mod ListItems
-pub mod DistinctItems
-pub mod PairwiseItems
-pub mod ListedNames
-pub mod UsedNames
-pub mod WrittenNumbers
-pub mod SmallForms
-pub mod TreeSums
-pub mod LinearSums
-pub mod NormalTerms
-pub mod LargeNumbers
-pub mod PartForms
-pub mod ComparedForms
-pub mod Declared
-pub mod DeclaredSteps
-pub mod DeclaredTrees
-pub mod PlaceNames
-pub mod PlaceScopes
-pub mod GuardMasks
-pub mod ListedSteps
-pub mod PatternSteps
-pub mod GuardRows
-pub mod GuardSigns
-pub mod GuardNumbers
-pub mod GuardPlaces
-pub mod GuardSteps
-pub mod GuardReading
-pub mod ListedPlaces
-pub mod UpdateReading
-pub mod RuleSteps
-pub mod RuleSequence
-pub mod Shapes
-pub mod Whole
-pub mod EqualParts
-pub mod OneFile
-pub mod SeenSums
-pub mod StartedParts
-pub mod SameOffsets
-pub mod OneSum
-pub mod OnePart
-pub mod SameFaults
+-- lemmas for the crates above
 pub mod OneTree
-pub mod OneReading
-pub mod CommasOutside
-pub mod OneFault
-pub mod InOrder
-pub mod SumsInOrder
-pub mod TreesInOrder
-pub mod TextInOrder
+mod Answering
+mod Exits
+mod ListItems
+mod DistinctItems
+mod PairwiseItems
+mod ListedNames
+mod UsedNames
+mod WrittenNumbers
+mod SmallForms
+mod TreeSums
+mod LinearSums
+mod NormalTerms
+mod LargeNumbers
+mod PartForms
+mod ComparedForms
+mod Declared
+mod DeclaredSteps
+mod DeclaredTrees
+mod PlaceNames
+mod PlaceScopes
+mod GuardMasks
+mod ListedSteps
+mod PatternSteps
+mod GuardRows
+mod GuardSigns
+mod GuardNumbers
+mod GuardPlaces
+mod GuardSteps
+mod GuardReading
+mod ListedPlaces
+mod UpdateReading
+mod RuleSteps
+mod RuleSequence
+mod Shapes
+mod Whole
+mod EqualParts
+mod OneFile
+mod SeenSums
+mod StartedParts
+mod SameOffsets
+mod OneSum
+mod OnePart
+mod SameFaults
+mod OneReading
+mod CommasOutside
+mod OneFault
+mod InOrder
+mod SumsInOrder
+mod TreesInOrder
+mod TextInOrder

@@ -13,8 +13,8 @@ use Rattle.ta_automaton.specs.Lists.{Each, Distinct}
 use Rattle.ta_meaning.specs.Names.{all_names}
 use Rattle.ta_meaning.specs.Sums.{has_name}
 use Rattle.ta_meaning.specs.Faults.{FirstOrMemory, where_, used_faults}
-use Rattle.ta_meaning.specs.Resolved.{kinds_of}
-use Rattle.ta_meaning.specs.Updating.{names_at, variable_faults, IsNewVariable}
+use Rattle.ta_meaning.specs.Inside.Resolved.{kinds_of}
+use Rattle.ta_meaning.specs.Inside.Updating.{names_at, variable_faults, IsNewVariable}
 use Rattle.ta_meaning.specs.declared.places.Places.{Places}
 use Rattle.ta_meaning.proofs.ListedNames.{has_name-at, has_name-where}
 use Rattle.ta_meaning.proofs.DistinctItems.{distinct_take, distinct_drop, distinct_at}

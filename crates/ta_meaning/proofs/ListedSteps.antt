@@ -18,7 +18,7 @@ use Rattle.ta_automaton.specs.Lists.{Each, Distinct}
 use Rattle.ta_automaton.proofs.Thresholds.{each_at}
 use Rattle.ta_scope.proofs.Reaching.{set_at, at_set}
 use Rattle.ta_meaning.specs.Sums.{has_name}
-use Rattle.ta_meaning.specs.Listed.{between, ListedMask}
+use Rattle.ta_meaning.specs.Inside.Listed.{between, ListedMask}
 use Rattle.ta_meaning.specs.Faults.{where_, else_, FirstOrMemory, used_faults, listed_faults}
 use Rattle.ta_meaning.proofs.GuardMasks.{none_set}
 use Rattle.ta_meaning.proofs.DistinctItems.{distinct_take, distinct_drop, distinct_at}

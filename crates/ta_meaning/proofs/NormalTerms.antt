@@ -9,7 +9,7 @@ use Rattle.ta_linear.specs.declared.row.Row.{Row}
 use Rattle.ta_linear.proofs.TermLemmas.{coefficient-below, coefficient-above}
 use Rattle.ta_automaton.specs.Masks.{numbers_from}
 use Rattle.ta_meaning.specs.Linear.{Linear, RowOf}
-use Rattle.ta_meaning.specs.Numbering.{linear_of, SameRow}
+use Rattle.ta_meaning.specs.Inside.Numbering.{linear_of, SameRow}
 
 pub coefficient-first : (high : ℕ) (t : ℕ × ℤ) (ts : List (ℕ × ℤ)) → IsNormal (t.0 + 1) high ts → coefficient (t ∷ ts) t.0 ≡ t.1
 coefficient-first high t ts n =

@@ -1,6 +1,5 @@
 -- A text has at most one first fault.
 use Rattle.std.proofs.Common.{◌≡◌, ℕ, List, [], ◌∷◌, ◌++◌, length, ◌⊎◌, inl, inr, ⊎_elim, Some, slice_get, ◌<◌, refl, sym, ap, subst, ◌∙◌, append_assoc, arith}
-use Rattle.std.proofs.lemmas.Option.{same_Some}
 use Rattle.ta_syntax.specs.Grammar.{FileText}
 use Rattle.ta_syntax.specs.Limits.{Counts, at_start, run, after, Within, IsDeep, IsMany}
 use Rattle.ta_syntax.specs.Faults.{kinds, SameStart, Begins, offset_of, IsWrong, IsPast, Stopped, FaultOfTokens}
@@ -11,18 +10,15 @@ use Rattle.ta_syntax.specs.declared.fault.FileFault.{FileFault}
 use Rattle.ta_syntax.specs.declared.fault.FileFault.TheVariants as fault
 use Rattle.ta_syntax.proofs.Steps.{kinds-append}
 use Rattle.ta_syntax.proofs.UniqueTokens.{tokens_unique, refused_unique, refused_no_tokens}
-use Rattle.ta_automaton.specs.declared.rule.Rule.{Rule}
 use Rattle.ta_automaton.specs.declared.automaton.Automaton.{Automaton}
 use Rattle.ta_automaton.specs.declared.file.File.{File}
 use Rattle.ta_scope.specs.Faults as scope
-use Rattle.ta_scope.specs.declared.fault.ScopeFault.{ScopeFault}
-use Rattle.ta_scope.specs.declared.fault.ScopeFault.TheVariants as scope_fault
 use Rattle.ta_meaning.specs.Meaning.{Means}
 use Rattle.ta_meaning.specs.FirstFault as first
 use Rattle.ta_meaning.specs.FirstFault.{OfText, OfMeaning, OfScope, FirstFault}
 use Rattle.ta_meaning.proofs.SameOffsets.{heads}
 use Rattle.ta_meaning.proofs.OneTree.{one_meaning, one_meant}
-use Rattle.ta_meaning.proofs.OneReading.{no-text, no-meaning, at-fault}
+use Rattle.ta_meaning.proofs.OneReading.{no-text, no-meaning}
 use Rattle.ta_meaning.proofs.CommasOutside.{not-both}
 
 -- ---- two places in one list
@@ -177,30 +173,15 @@ text-once bytes e d h k = both (text-cases bytes e h) (text-cases bytes d k)
 -- ---- rules
 
 -- the first rule at fault is one
-first-number : (a : Automaton) (f g : ScopeFault) (p : scope.FirstFault a f) (q : scope.FirstFault a g) → p.number ≡ q.number
-first-number a f g p q =
-    let not-less : ¬ (p.number < q.number) = λ less. q.first p.number p.rule less p.named (at-fault a p.number p.rule f p.at_fault) in
-    let not-more : ¬ (q.number < p.number) = λ less. p.first q.number q.rule less q.named (at-fault a q.number q.rule g q.at_fault) in
+first-number : (a : Automaton) (r s : ℕ) → scope.FirstFault a r → scope.FirstFault a s → r ≡ s
+first-number a r s p q =
+    let not-less : ¬ (r < s) = λ less. q.first r p.rule less p.named p.at_fault in
+    let not-more : ¬ (s < r) = λ less. p.first s q.rule less q.named q.at_fault in
     omega arith
 
-first-rule : (a : Automaton) (f g : ScopeFault) (p : scope.FirstFault a f) (q : scope.FirstFault a g) → p.rule ≡ q.rule
-first-rule a f g p q =
-    let there = subst (λ (n : ℕ). slice_get a.rules n ≡ Some q.rule) (sym (first-number a f g p q)) q.named in
-    same_Some p.rule q.rule (sym p.named ∙ there)
-
-loop-or-cycle : (a : Automaton) (r s : ℕ) → scope.FirstFault a (scope_fault.LoopUpdates r) → scope.FirstFault a (scope_fault.Cycle s) → ⊥
-loop-or-cycle a r s p q =
-    let same = first-rule a (scope_fault.LoopUpdates r) (scope_fault.Cycle s) p q in
-    let loop = subst (λ (rule : Rule). rule.from ≡ rule.to) same p.at_fault.1.loop in
-    q.at_fault.1.apart loop
-
 scope-once : (a : Automaton) (e d : FileFault) → first.ScopeFault a e → first.ScopeFault a d → e ≡ d
-scope-once a (fault.LoopUpdates r) (fault.LoopUpdates s) p q = ap fault.LoopUpdates (p.at_fault.0 ∙ first-number a (scope_fault.LoopUpdates r) (scope_fault.LoopUpdates s) p q ∙ sym q.at_fault.0)
-scope-once a (fault.LoopUpdates r) (fault.Cycle s) p q = absurd (loop-or-cycle a r s p q)
-scope-once a (fault.Cycle r) (fault.LoopUpdates s) p q = absurd (loop-or-cycle a s r q p)
-scope-once a (fault.Cycle r) (fault.Cycle s) p q = ap fault.Cycle (p.at_fault.0 ∙ first-number a (scope_fault.Cycle r) (scope_fault.Cycle s) p q ∙ sym q.at_fault.0)
-scope-once a (fault.LoopUpdates r) _ p q = absurd q
-scope-once a (fault.Cycle r) _ p q = absurd q
+scope-once a (fault.CycleUpdates r) (fault.CycleUpdates s) p q = ap fault.CycleUpdates (first-number a r s p q)
+scope-once a (fault.CycleUpdates r) _ p q = absurd q
 scope-once a _ d p q = absurd p
 
 -- ---- files

@@ -6,7 +6,6 @@ use Rattle.ta_syntax.specs.declared.tree.Tree.{Tree}
 use Rattle.ta_syntax.specs.declared.fault.FileFault.{FileFault}
 use Rattle.ta_syntax.specs.declared.fault.FileFault.TheVariants as fault
 use Rattle.ta_automaton.specs.Runs.{InScope}
-use Rattle.ta_automaton.specs.declared.rule.Rule.{Rule}
 use Rattle.ta_automaton.specs.declared.automaton.Automaton.{Automaton}
 use Rattle.ta_automaton.specs.declared.file.File.{File}
 use Rattle.ta_scope.specs.Faults as scope
@@ -28,8 +27,7 @@ meaning-fault bytes t e is (inl m) = inl m
 meaning-fault bytes t e is (inr h) = inr (inr (inl (record { tree = t; is_tree = is; later = h.0; first = h.1 })))
 
 of_scope : (a : Automaton) (f : ScopeFault) → scope.ScopeFaultOf a f → (file_fault f ≡ fault.Memory) ⊎ first.ScopeFault a (file_fault f)
-of_scope a (scope_fault.LoopUpdates r) h = inr h
-of_scope a (scope_fault.Cycle r) h = inr h
+of_scope a (scope_fault.CycleUpdates r) h = inr h
 of_scope a scope_fault.Memory h = inl refl
 
 pub scope-fault : (bytes : List ℕ) (t : Tree) (file : File) (f : ScopeFault) → IsTreeOf bytes t → meaning_faults t ≡ [] → MeansTree (plain_tree t) file → scope.ScopeFaultOf file.automaton f → (file_fault f ≡ fault.Memory) ⊎ FirstFault bytes (file_fault f)
@@ -47,17 +45,8 @@ no-text bytes t e is f = let m = no_text_fault bytes t e is f in cc
 pub no-meaning : (bytes : List ℕ) (t : Tree) (e : FileFault) → IsTreeOf bytes t → meaning_faults t ≡ [] → OfMeaning bytes e → ⊥
 no-meaning bytes t e is none f = let same = one_meaning bytes t f.tree is f.is_tree in let there = f.first in cc
 
-pub at-fault : (a : Automaton) (r : ℕ) (rule : Rule) (f : ScopeFault) → scope.FaultAt a r rule f → scope.AtFault a rule
-at-fault a r rule (scope_fault.LoopUpdates k) h = inl h.1
-at-fault a r rule (scope_fault.Cycle k) h = inr h.1
-at-fault a r rule scope_fault.Memory h = absurd h
-
-out-of-scope : (a : Automaton) (f : ScopeFault) → scope.FirstFault a f → ¬ InScope a
-out-of-scope a f h = fault_out a h.number h.rule h.named (at-fault a h.number h.rule f h.at_fault)
-
 in-scope : (a : Automaton) (e : FileFault) → first.ScopeFault a e → ¬ InScope a
-in-scope a (fault.LoopUpdates r) f = out-of-scope a (scope_fault.LoopUpdates r) f
-in-scope a (fault.Cycle r) f = out-of-scope a (scope_fault.Cycle r) f
+in-scope a (fault.CycleUpdates r) f = fault_out a r f.rule f.named f.at_fault
 in-scope a _ f = absurd f
 
 no-scope : (bytes : List ℕ) (file : File) (e : FileFault) → Means bytes file → InScope file.automaton → OfScope bytes e → ⊥

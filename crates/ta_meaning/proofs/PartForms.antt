@@ -20,7 +20,8 @@ use Rattle.ta_automaton.proofs.Sums.{one_times}
 use Rattle.ta_meaning.specs.Sums.{signed, number_of, sum_coefficient, term_coefficient, factor_coefficient, sum_constant, term_constant, sum_uses, term_uses, factor_uses}
 use Rattle.ta_meaning.specs.Linear.{Linear, FormOf, linear_sum, is_large_linear}
 use Rattle.ta_meaning.specs.Faults.{Scope, FirstOrMemory, Answers, where_, else_, linear_term, number_faults}
-use Rattle.ta_meaning.specs.SumParts.{judged_term, judged_factor, is_large_form, linear_factor, number_or, Within, PartOf, IsSignedSum}
+use Rattle.ta_meaning.specs.SumParts.{Within}
+use Rattle.ta_meaning.specs.Inside.SumParts.{judged_term, judged_factor, is_large_form, linear_factor, number_or, PartOf, IsSignedSum}
 use Rattle.ta_meaning.proofs.Answering.{append-left-none, append-none, append-left-first, else-none, else-left-first, where-false, not-where, answers-along, answers-knowing, answers-otherwise}
 use Rattle.ta_meaning.proofs.LargeNumbers.{small_within, linear_small, same_large}
 use Rattle.ta_meaning.proofs.ListedNames.{has_name-at}

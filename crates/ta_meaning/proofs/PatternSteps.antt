@@ -17,9 +17,9 @@ use Rattle.ta_meaning.specs.Names.{Names, all_names}
 use Rattle.ta_meaning.specs.Linear.{Pairwise}
 use Rattle.ta_meaning.specs.Meaning.{MeansEvent, MeansEvents, MeansPattern}
 use Rattle.ta_meaning.specs.Faults.{FirstOrMemory, in_conditions, declared_faults, listed_faults, condition_faults, event_faults, events_faults, pattern_faults, patterns_faults}
-use Rattle.ta_meaning.specs.Resolved.{ResolvedCondition, ResolvedPatterns}
-use Rattle.ta_meaning.specs.Listed.{ListedMask}
-use Rattle.ta_meaning.specs.PatternParts.{DeclaredNext, ResolvedEvent, ResolvedEvents, ResolvedPattern}
+use Rattle.ta_meaning.specs.Inside.Resolved.{ResolvedCondition, ResolvedPatterns}
+use Rattle.ta_meaning.specs.Inside.Listed.{ListedMask}
+use Rattle.ta_meaning.specs.Inside.PatternParts.{DeclaredNext, ResolvedEvent, ResolvedEvents, ResolvedPattern}
 use Rattle.ta_meaning.proofs.PairwiseItems.{pairwise_push}
 use Rattle.ta_meaning.proofs.ListItems.{each_append}
 use Rattle.ta_meaning.proofs.Answering.{append-none, append-left-none, append-left-first, append-right-first}

@@ -4,7 +4,7 @@ use Rattle.std.proofs.lemmas.List.{length-take-le, length-drop, take-append-drop
 use Rattle.std.proofs.Math.Seq.{take-add}
 use Rattle.ta_meaning.specs.Names.{guard_names, all_names}
 use Rattle.ta_meaning.specs.Faults.{in_parameters, in_guards}
-use Rattle.ta_meaning.specs.Resolved.{kinds_of, first_places}
+use Rattle.ta_meaning.specs.Inside.Resolved.{kinds_of, first_places}
 use Rattle.ta_meaning.specs.declared.places.Places.{Places}
 
 -- the names that a guard may speak of are the first ones

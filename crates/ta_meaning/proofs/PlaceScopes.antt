@@ -7,8 +7,8 @@ use Rattle.ta_syntax.specs.declared.tree.TreeComparison.{TreeComparison}
 use Rattle.ta_syntax.specs.declared.fault.FileFault.{FileFault}
 use Rattle.ta_automaton.specs.declared.condition.Condition.{Condition}
 use Rattle.ta_meaning.specs.Faults.{Scope, Answers, condition_faults, listed_faults}
-use Rattle.ta_meaning.specs.Listed.{between, ListedMask}
-use Rattle.ta_meaning.specs.Resolved.{first_places, ResolvedCondition}
+use Rattle.ta_meaning.specs.Inside.Listed.{between, ListedMask}
+use Rattle.ta_meaning.specs.Inside.Resolved.{first_places, ResolvedCondition}
 
 abbrev scope : List (List ℕ) → List (List ℕ) → Scope
 scope places allowed = record { places = places; allowed = allowed }

@@ -17,9 +17,9 @@ use Rattle.ta_meaning.specs.Linear.{Linear, Pairwise, RowOf}
 use Rattle.ta_meaning.specs.Guards.{Guards, no_guards, falls, has_row, with_guards, rows_of, guards_after, NamesGuards}
 use Rattle.ta_meaning.specs.Meaning.{MeansRule, guards_of}
 use Rattle.ta_meaning.specs.Faults.{FirstOrMemory, in_guards, declared_faults, guards_with, rule_faults, rules_faults}
-use Rattle.ta_meaning.specs.Resolved.{ResolvedGuards, ResolvedRules}
-use Rattle.ta_meaning.specs.Numbering.{linear_of, guards_so_far, GuardsKept, AmongGuards}
-use Rattle.ta_meaning.specs.RuleReading.{RuleSoFar, RuleRead}
+use Rattle.ta_meaning.specs.Inside.Resolved.{ResolvedGuards, ResolvedRules}
+use Rattle.ta_meaning.specs.Inside.Numbering.{linear_of, guards_so_far, GuardsKept, AmongGuards}
+use Rattle.ta_meaning.specs.Inside.RuleReading.{RuleSoFar, RuleRead}
 use Rattle.ta_meaning.specs.declared.guards.GuardList.{GuardList}
 use Rattle.ta_meaning.proofs.Declared.{declared-new}
 use Rattle.ta_meaning.proofs.PairwiseItems.{pairwise_with, pairwise_push, pairwise_each}

@@ -12,9 +12,9 @@ use Rattle.ta_meaning.specs.Names.{Names, all_names, guard_names}
 use Rattle.ta_meaning.specs.Linear.{Linear}
 use Rattle.ta_meaning.specs.Guards.{Guards, NamesGuards, rows_of}
 use Rattle.ta_meaning.specs.Faults.{FirstOrMemory, declared_faults, used_faults, in_guards, guards_faults, updates_faults, rule_faults}
-use Rattle.ta_meaning.specs.Numbering.{linear_of, guards_so_far, GuardsNumbered}
-use Rattle.ta_meaning.specs.Updating.{UpdatesRead}
-use Rattle.ta_meaning.specs.RuleReading.{RuleRead}
+use Rattle.ta_meaning.specs.Inside.Numbering.{linear_of, guards_so_far, GuardsNumbered}
+use Rattle.ta_meaning.specs.Inside.Updating.{UpdatesRead}
+use Rattle.ta_meaning.specs.Inside.RuleReading.{RuleRead}
 use Rattle.ta_meaning.specs.declared.guards.GuardList.{GuardList}
 use Rattle.ta_meaning.specs.declared.guards.GuardMasks.{GuardMasks}
 use Rattle.ta_meaning.proofs.Declared.{declared-legal}

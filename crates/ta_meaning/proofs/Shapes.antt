@@ -15,7 +15,7 @@ use Rattle.ta_automaton.specs.declared.condition.Condition.{Condition}
 use Rattle.ta_automaton.specs.declared.rule.Rule.{Rule}
 use Rattle.ta_automaton.specs.Shape.{AutomatonShape}
 use Rattle.ta_meaning.specs.Names.{names_of, location_name}
-use Rattle.ta_meaning.specs.Resolved.{ResolvedForm, ResolvedCondition, ResolvedRules}
+use Rattle.ta_meaning.specs.Inside.Resolved.{ResolvedForm, ResolvedCondition, ResolvedRules}
 use Rattle.ta_meaning.specs.Faults.{any_initial, names_faults}
 use Rattle.ta_meaning.proofs.PairwiseItems.{pairwise_length}
 use Rattle.ta_meaning.proofs.Declared.{name-legal, names-legal, names-distinct, some_initial}

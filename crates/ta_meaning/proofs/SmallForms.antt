@@ -12,7 +12,8 @@ use Rattle.std.proofs.Common.{Result, Ok, Err}
 use Rattle.std.specs.Prelude.{MatchResult}
 use Rattle.ta_syntax.specs.declared.fault.FileFault.{FileFault}
 use Rattle.ta_syntax.specs.declared.fault.FileFault.TheVariants as fault
-use Rattle.ta_meaning.specs.SumParts.{Within, IsDifference, IsSignedSum}
+use Rattle.ta_meaning.specs.SumParts.{Within, IsDifference}
+use Rattle.ta_meaning.specs.Inside.SumParts.{IsSignedSum}
 
 small_times : (z x : ℤ) → unsigned_abs z ≤ 1000000000 → unsigned_abs x ≤ 2 ^ 94 → InRange (z *ℤ x)
 small_times z x h k = rw (unsigned_abs-mul z x) (omega (arith, mul-le-mul h k))

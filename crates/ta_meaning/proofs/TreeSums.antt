@@ -16,7 +16,7 @@ use Rattle.ta_syntax.specs.declared.fault.FileFault.{FileFault}
 use Rattle.ta_meaning.specs.Faults.{Scope, Judged, judged_sum, judged_terms, factor_judged, sum_judged, term_judged, sum_faults, used_faults, number_faults, else_, where_, linear_term}
 use Rattle.ta_meaning.specs.Linear.{is_large_linear}
 use Rattle.ta_syntax.specs.declared.fault.FileFault.TheVariants as fault
-use Rattle.ta_meaning.specs.SumParts.{judged_term, judged_factor}
+use Rattle.ta_meaning.specs.Inside.SumParts.{judged_term, judged_factor}
 
 -- the plain part of what is judged is the plain part
 abbrev SameFactor : Scope → TreeFactor → Type 0

@@ -18,7 +18,7 @@ use Rattle.ta_meaning.specs.Names.{Names}
 use Rattle.ta_meaning.specs.Sums.{number_of}
 use Rattle.ta_meaning.specs.Faults.{FirstOrMemory, digits_faults, updates_faults}
 use Rattle.ta_meaning.specs.Meaning.{MeansUpdates}
-use Rattle.ta_meaning.specs.Updating.{names_at, variable_faults, IsNewVariable, UpdatesRead}
+use Rattle.ta_meaning.specs.Inside.Updating.{names_at, variable_faults, IsNewVariable, UpdatesRead}
 use Rattle.ta_meaning.proofs.DistinctItems.{distinct_push}
 use Rattle.ta_meaning.proofs.ListItems.{contains_at, each_push, each_with}
 use Rattle.ta_meaning.proofs.Answering.{append-left-none, append-left-first, append-right-first, not-where}

@@ -18,7 +18,7 @@ use Rattle.ta_meaning.specs.Names.{Names, guard_names, all_names, names_of}
 use Rattle.ta_meaning.specs.Linear.{linear_sum, is_large_linear}
 use Rattle.ta_meaning.specs.Guards.{no_guards}
 use Rattle.ta_meaning.specs.Faults.{where_, else_, sum_faults, condition_faults, processes_faults, in_parameters, rules_faults, patterns_faults, names_faults, meaning_faults, Scope, FirstOrMemory, Answers}
-use Rattle.ta_meaning.specs.Resolved.{kinds_of, first_places, ResolvedForm, ResolvedCondition, ResolvedRules, ResolvedPatterns}
+use Rattle.ta_meaning.specs.Inside.Resolved.{kinds_of, first_places, ResolvedForm, ResolvedCondition, ResolvedRules, ResolvedPatterns}
 use Rattle.ta_meaning.proofs.Answering.{append-left-first, append-right-first, append-none}
 use Rattle.ta_meaning.proofs.PlaceNames.{in_parameters_are}
 

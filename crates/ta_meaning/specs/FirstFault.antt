@@ -9,7 +9,6 @@ use Rattle.ta_syntax.specs.declared.fault.FileFault.TheVariants as fault
 use Rattle.ta_automaton.specs.declared.automaton.Automaton.{Automaton}
 use Rattle.ta_automaton.specs.declared.file.File.{File}
 use Rattle.ta_scope.specs.Faults as scope
-use Rattle.ta_scope.specs.declared.fault.ScopeFault.TheVariants as scope_fault
 use Rattle.ta_meaning.specs.Meaning.{MeansTree}
 use Rattle.ta_meaning.specs.Faults.{meaning_faults}
 
@@ -27,8 +26,7 @@ pub record OfMeaning (bytes : List ℕ) (e : FileFault) : Type 0 where
 
 -- the first rule that puts an automaton out of scope
 abbrev pub ScopeFault : Automaton → FileFault → Type 0
-ScopeFault a (fault.LoopUpdates r) = scope.FirstFault a (scope_fault.LoopUpdates r)
-ScopeFault a (fault.Cycle r) = scope.FirstFault a (scope_fault.Cycle r)
+ScopeFault a (fault.CycleUpdates r) = scope.FirstFault a r
 ScopeFault a _ = ⊥
 
 -- the text means a file whose automaton is out of scope

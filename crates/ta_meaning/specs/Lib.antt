@@ -6,12 +6,7 @@ pub mod Meaning
 pub mod Faults
 pub mod FirstFault
 pub mod Reading
-pub mod Resolved
 pub mod SumParts
-pub mod Numbering
-pub mod Updating
-pub mod RuleReading
-pub mod Listed
-pub mod PatternParts
 pub mod Laws
 pub mod Offsets
+pub mod Inside

@@ -19,8 +19,7 @@ offset_of (fault.TooLarge at) = at
 offset_of (fault.TooMany at) = at
 offset_of (fault.TooDeep at) = at
 offset_of (fault.NotThreshold at) = at
-offset_of (fault.LoopUpdates rule) = rule
-offset_of (fault.Cycle rule) = rule
+offset_of (fault.CycleUpdates rule) = rule
 offset_of (fault.NoInitial at) = at
 offset_of fault.Memory = 0
 
@@ -49,8 +48,7 @@ IsOfMeaning (fault.NoInitial at) = Unit {0}
 IsOfMeaning (fault.Byte at) = ⊥
 IsOfMeaning (fault.Syntax at) = ⊥
 IsOfMeaning (fault.TooDeep at) = ⊥
-IsOfMeaning (fault.LoopUpdates rule) = ⊥
-IsOfMeaning (fault.Cycle rule) = ⊥
+IsOfMeaning (fault.CycleUpdates rule) = ⊥
 IsOfMeaning fault.Memory = ⊥
 
 -- each fault of a tree is one that meaning may have

@@ -21,6 +21,5 @@ Reads bytes (Err e) = (e ≡ fault.Memory) ⊎ FirstFault bytes e
 
 -- the fault of the file that a fault of scope is
 abbrev pub file_fault : ScopeFault → FileFault
-file_fault (scope_fault.LoopUpdates r) = fault.LoopUpdates r
-file_fault (scope_fault.Cycle r) = fault.Cycle r
+file_fault (scope_fault.CycleUpdates r) = fault.CycleUpdates r
 file_fault scope_fault.Memory = fault.Memory

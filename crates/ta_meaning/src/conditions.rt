@@ -6,8 +6,9 @@ ghost use Rattle.ta_syntax.specs.PlainSums.{plain_sum};
 ghost use Rattle.ta_syntax.specs.PlainTrees.{plain_comparison};
 ghost use Rattle.ta_meaning.specs.Linear.{Pairwise, linear_sum, is_large_linear};
 ghost use Rattle.ta_meaning.specs.Faults.{Answers, else_, where_, sum_faults, comparison_faults, condition_faults};
-ghost use Rattle.ta_meaning.specs.Resolved.{first_places, ResolvedForm, ResolvedComparison, ResolvedCondition};
-ghost use Rattle.ta_meaning.specs.SumParts.{Within, any_large_row, form_differences, RowOfDifference};
+ghost use Rattle.ta_meaning.specs.Inside.Resolved.{first_places, ResolvedForm, ResolvedComparison, ResolvedCondition};
+ghost use Rattle.ta_meaning.specs.SumParts.{Within};
+ghost use Rattle.ta_meaning.specs.Inside.SumParts.{any_large_row, form_differences, RowOfDifference};
 
 use crate::forms::{difference, is_large_form};
 use crate::places::Places;

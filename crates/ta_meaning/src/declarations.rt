@@ -6,7 +6,7 @@ ghost use Rattle.std.specs.List.{list_any};
 ghost use Rattle.ta_syntax.specs.PlainTrees.{plain_name};
 ghost use Rattle.ta_meaning.specs.Names.{all_names, names_of};
 ghost use Rattle.ta_meaning.specs.Faults.{Answers, where_, is_long, any_initial, location_spelled, declarations_faults, names_faults};
-ghost use Rattle.ta_meaning.specs.Resolved.{kinds_of};
+ghost use Rattle.ta_meaning.specs.Inside.Resolved.{kinds_of};
 
 use crate::names::NameList;
 use crate::places::Places;

@@ -7,7 +7,7 @@ ghost use Rattle.ta_syntax.specs.PlainTrees.{plain_tree, plain_name, plain_locat
 ghost use Rattle.ta_meaning.specs.Names.{names_of, location_name};
 ghost use Rattle.ta_meaning.specs.Faults.{Answers, names_faults, meaning_faults};
 ghost use Rattle.ta_meaning.specs.Meaning.{MeansAutomaton, MeansTree, initial_from};
-ghost use Rattle.ta_meaning.specs.Resolved.{ResolvedForm, ResolvedCondition, ResolvedRules};
+ghost use Rattle.ta_meaning.specs.Inside.Resolved.{ResolvedForm, ResolvedCondition, ResolvedRules};
 
 use crate::conditions::{resolve_condition, resolve_sum};
 use crate::declarations::declare_places;

@@ -3,7 +3,8 @@
 
 ghost use Rattle.std.specs.Prelude.{◌≡◌, ◌≤◌, ◌^◌, pos, negsuc, MatchResult};
 ghost use Rattle.ta_linear.specs.Forms.{IsSum, IsMultiple};
-ghost use Rattle.ta_meaning.specs.SumParts.{Within, IsDifference, is_large_form};
+ghost use Rattle.ta_meaning.specs.SumParts.{Within, IsDifference};
+ghost use Rattle.ta_meaning.specs.Inside.SumParts.{is_large_form};
 ghost use Rattle.ta_meaning.specs.Linear.{is_large};
 
 use crate::numbers::LARGEST;

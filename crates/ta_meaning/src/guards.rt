@@ -4,8 +4,8 @@
 ghost use Rattle.std.specs.Prelude.{◌≡◌, ◌<◌, ◌≤◌, ◌↔◌, IsTrue, map, length, slice_get, Some, IfSome, IfNone, All};
 ghost use Rattle.ta_syntax.specs.PlainTrees.{plain_comparison};
 ghost use Rattle.ta_meaning.specs.Faults.{Answers, in_guards, guard_faults, guards_faults};
-ghost use Rattle.ta_meaning.specs.Resolved.{kinds_of};
-ghost use Rattle.ta_meaning.specs.Numbering.{SameRow, Has, SameAt, RowAnswers, guards_so_far, GuardsKept, GuardNumbered, GuardsNumbered, NumberFits, WithNumber};
+ghost use Rattle.ta_meaning.specs.Inside.Resolved.{kinds_of};
+ghost use Rattle.ta_meaning.specs.Inside.Numbering.{SameRow, Has, SameAt, RowAnswers, guards_so_far, GuardsKept, GuardNumbered, GuardsNumbered, NumberFits, WithNumber};
 
 use crate::conditions::resolve_comparison;
 use crate::places::Places;

@@ -5,7 +5,7 @@ ghost use Rattle.std.specs.Prelude.{◌-◌, ◌<◌, ◌≤◌, ◌↔◌, [], 
 ghost use Rattle.ta_syntax.specs.PlainTrees.{plain_name};
 ghost use Rattle.ta_automaton.specs.Lists.{Distinct};
 ghost use Rattle.ta_meaning.specs.Faults.{Answers, listed_faults};
-ghost use Rattle.ta_meaning.specs.Listed.{between, ListedMask};
+ghost use Rattle.ta_meaning.specs.Inside.Listed.{between, ListedMask};
 
 use crate::names::NameList;
 use ta_syntax::{FileFault, Spelled};

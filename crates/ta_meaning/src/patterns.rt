@@ -6,9 +6,9 @@ ghost use Rattle.ta_syntax.specs.PlainTrees.{plain_name, plain_comparison, plain
 ghost use Rattle.ta_automaton.specs.Lists.{Distinct};
 ghost use Rattle.ta_meaning.specs.Names.{all_names};
 ghost use Rattle.ta_meaning.specs.Faults.{Answers, in_conditions, condition_faults, listed_faults, event_faults, events_faults, pattern_faults, patterns_faults};
-ghost use Rattle.ta_meaning.specs.Resolved.{kinds_of, ResolvedCondition, ResolvedPatterns};
-ghost use Rattle.ta_meaning.specs.Listed.{ListedMask};
-ghost use Rattle.ta_meaning.specs.PatternParts.{ResolvedEvent, ResolvedEvents, ResolvedPattern};
+ghost use Rattle.ta_meaning.specs.Inside.Resolved.{kinds_of, ResolvedCondition, ResolvedPatterns};
+ghost use Rattle.ta_meaning.specs.Inside.Listed.{ListedMask};
+ghost use Rattle.ta_meaning.specs.Inside.PatternParts.{ResolvedEvent, ResolvedEvents, ResolvedPattern};
 
 use crate::conditions::resolve_condition;
 use crate::file::text_of;

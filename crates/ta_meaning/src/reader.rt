@@ -29,8 +29,7 @@ fn fault_of(fault: ScopeFault) -> FileFault
     ensures { result ≡ file_fault fault }
 {
     match fault {
-        ScopeFault::LoopUpdates(rule) => FileFault::LoopUpdates(rule),
-        ScopeFault::Cycle(rule) => FileFault::Cycle(rule),
+        ScopeFault::CycleUpdates(rule) => FileFault::CycleUpdates(rule),
         ScopeFault::Memory => FileFault::Memory,
     }
 }

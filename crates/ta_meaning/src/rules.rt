@@ -6,9 +6,9 @@ ghost use Rattle.ta_syntax.specs.PlainTrees.{plain_rule};
 ghost use Rattle.ta_meaning.specs.Guards.{no_guards};
 ghost use Rattle.ta_meaning.specs.Faults.{Answers, used_faults, rule_faults, rules_faults};
 ghost use Rattle.ta_meaning.specs.Names.{all_names};
-ghost use Rattle.ta_meaning.specs.Numbering.{guards_so_far, GuardsKept};
-ghost use Rattle.ta_meaning.specs.RuleReading.{RuleRead};
-ghost use Rattle.ta_meaning.specs.Resolved.{kinds_of, ResolvedRules};
+ghost use Rattle.ta_meaning.specs.Inside.Numbering.{guards_so_far, GuardsKept};
+ghost use Rattle.ta_meaning.specs.Inside.RuleReading.{RuleRead};
+ghost use Rattle.ta_meaning.specs.Inside.Resolved.{kinds_of, ResolvedRules};
 
 use crate::file::text_of;
 use crate::guards::{GuardList, number_guards};

@@ -7,8 +7,9 @@ ghost use Rattle.ta_syntax.specs.PlainSums.{plain_sum, plain_term, plain_factor}
 ghost use Rattle.ta_meaning.specs.Sums.{sum_uses, term_uses, factor_uses};
 ghost use Rattle.ta_meaning.specs.Linear.{linear_sum};
 ghost use Rattle.ta_meaning.specs.Faults.{Answers, where_, used_faults, number_faults, linear_term, sum_faults};
-ghost use Rattle.ta_meaning.specs.Resolved.{first_places};
-ghost use Rattle.ta_meaning.specs.SumParts.{judged_term, judged_factor, linear_factor, number_or, PartOf, Within, IsSignedSum, is_large_form};
+ghost use Rattle.ta_meaning.specs.Inside.Resolved.{first_places};
+ghost use Rattle.ta_meaning.specs.SumParts.{Within};
+ghost use Rattle.ta_meaning.specs.Inside.SumParts.{judged_term, judged_factor, linear_factor, number_or, PartOf, IsSignedSum, is_large_form};
 
 use crate::forms::{is_large_form, negative, plus, times};
 use crate::numbers::read_number;

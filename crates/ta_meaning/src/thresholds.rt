@@ -3,7 +3,7 @@
 
 ghost use Rattle.std.specs.Prelude.{◌≡◌, ◌≢◌, true, [], ◌∷◌, length, IfSome, IfNone};
 ghost use Rattle.ta_meaning.specs.Guards.{is_negative, is_positive};
-ghost use Rattle.ta_meaning.specs.Numbering.{any_shared, is_no_guard, GuardOf};
+ghost use Rattle.ta_meaning.specs.Inside.Numbering.{any_shared, is_no_guard, GuardOf};
 
 use ta_automaton::Comparison;
 use ta_linear::Row;

@@ -6,8 +6,8 @@ ghost use Rattle.ta_syntax.specs.PlainTrees.{plain_update};
 ghost use Rattle.ta_automaton.specs.Lists.{Each};
 ghost use Rattle.ta_meaning.specs.Names.{all_names};
 ghost use Rattle.ta_meaning.specs.Faults.{Answers, else_, where_, used_faults, updates_faults};
-ghost use Rattle.ta_meaning.specs.Resolved.{kinds_of};
-ghost use Rattle.ta_meaning.specs.Updating.{names_at, variable_faults, IsNewVariable, UpdatesRead, WithUpdate};
+ghost use Rattle.ta_meaning.specs.Inside.Resolved.{kinds_of};
+ghost use Rattle.ta_meaning.specs.Inside.Updating.{names_at, variable_faults, IsNewVariable, UpdatesRead, WithUpdate};
 
 use crate::numbers::read_number;
 use crate::places::Places;

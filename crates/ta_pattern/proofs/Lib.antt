@@ -1,1 +1,2 @@
+-- lemmas for the crates above
 pub mod Agreeing

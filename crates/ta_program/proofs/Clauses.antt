@@ -1,360 +1,282 @@
--- from what a status says to the clauses of `run`
-use Rattle.std.proofs.Common.{◌≡◌, ◌≢◌, ◌⊎◌, ◌≤◌, ◌<◌, ℕ, List, [], ◌∷◌, get_or, Option, None, Some, refl, sym, ap, subst, ◌∙◌, inl, inr, arith}
-use Rattle.std.specs.Prelude.{codes}
-use Rattle.ta_shelf.specs.Counts.{Faulted, Stalled}
-use Rattle.ta_program.specs.declared.status.Trouble.{Trouble}
-use Rattle.ta_program.specs.declared.status.Trouble.TheVariants as trouble
-use Rattle.ta_program.specs.declared.status.Status.{Status}
-use Rattle.ta_program.specs.declared.status.Status.TheVariants as status
-use Rattle.ta_program.specs.Words.{Asks, AsksCheck, AsksReplay, AsksVerify, BudgetIs, IsLegal, VerifyWords, verify_words}
-use Rattle.ta_program.specs.Contents.{Files, TroubleCause}
-use Rattle.ta_program.specs.Lines.{status_number}
-use Rattle.ta_program.specs.Troubles.{trouble_number}
-use Rattle.ta_program.specs.Outcome.{ShelfCause, WriteCause}
-use Rattle.ta_program.specs.Told.{Ended, EndsAs}
-use Rattle.ta_program.specs.Check.{CheckSays}
-use Rattle.ta_program.specs.Replay.{ReplaySays}
-use Rattle.ta_program.specs.Verify.{ReportHolds, VerifySays}
-use Rattle.ta_program.specs.Program.{CheckProves, Outcome, Quiet, ReplayShows, Says, SinkState, UsageExactly, VerifyReports}
+-- from how a run ends to its clauses
+use Rattle.std.proofs.Common.{◌≡◌, ◌≢◌, ◌≤◌, ◌+◌, ◌||◌, ℕ, zero, suc, nat_eq, Bool, true, false, List, [], ◌∷◌, Option, None, Some, slice_get, refl, sym, ap, subst, ◌∙◌, inl, inr, arith}
+use Rattle.std.specs.Prelude.{codes, if◌then◌else◌}
+use Rattle.std.specs.List.{list_any}
+use Rattle.std.proofs.lemmas.Bool.{eqb-true}
+use Rattle.ta_automaton.specs.declared.file.File.{File}
+use Rattle.ta_automaton.specs.declared.pattern.Pattern.{Pattern}
+use Rattle.ta_automaton.specs.Lists.{Each}
+use Rattle.ta_automaton.specs.Runs as runs
+use Rattle.ta_check.specs.Certificate.{PatternSafe}
+use Rattle.ta_meaning.proofs.OneTree.{one_legal}
+use Rattle.ta_report.proofs.Printed.{printed_proved, printed_safe}
+use Rattle.ta_report.specs.Check.{check_text}
+use Rattle.ta_report.specs.Report.{report_text}
+use Rattle.ta_report.specs.declared.verdict.Verdict.{Verdict}
+use Rattle.ta_report.specs.declared.verdict.Verdict.TheVariants.{Safe, Found, Spent, Overflow}
+use Rattle.ta_shelf.specs.Calls.{Grew}
+use Rattle.ta_shelf.specs.Put.{Told}
+use Rattle.ta_shelf.specs.Sink.{with_text}
+use Rattle.ta_shell.proofs.Clauses.{answered, hindered, never_five}
+use Rattle.ta_shell.proofs.Read.{no_hindrance, replies_monotone}
+use Rattle.ta_shell.proofs.Views.{whole_one}
+use Rattle.ta_shell.specs.Ends.{Answered, Performs, Quiet, ShelfState, SinkState, State}
+use Rattle.ta_shell.specs.Sights.{View, in_files, seen}
+use Rattle.ta_shell.specs.Stages.{replies}
+use Rattle.ta_syntax.specs.PlainTrees.{plain_tree}
+use Rattle.ta_program.specs.Check.{CheckHolds, proved_meaning}
+use Rattle.ta_program.specs.Headline.{EachPatternSafe, EachPrintedSafe, HoldsFile, ZeroIsSafe}
+use Rattle.ta_program.specs.Kinds.{IsFile, file_kind}
+use Rattle.ta_program.specs.Program.{CheckProves, Completes, ExactlySo, Opens, PrintedIsSafe, ReplayShows, Runs, Tellings, UsageExactly, VerifyReports}
+use Rattle.ta_program.specs.Replay.{ReplayHolds, shown_meaning}
+use Rattle.ta_program.specs.Requests.{file_of, meaning_of}
+use Rattle.ta_program.specs.Verify.{IsKnown, ReportHolds, Reports, VerdictHolds, VerdictsHold, is_found, is_unknown}
+use Rattle.ta_program.specs.Words.{Asked, request_of}
+use Rattle.ta_program.specs.Words.Asked.{Check, Replay, Verify}
+use Rattle.ta_program.proofs.Meanings.{decided, proved_monotone, shown_monotone}
 
--- words ask for one thing
-pub record SameRequest (command first second command' first' second' : List ℕ) : Type 0 where
-  pub command_same : command ≡ command'
-  pub first_same : first ≡ first'
-  pub second_same : second ≡ second'
+-- one of two tests fails only where both fail
+neither : (a b : Bool) → (a || b) ≡ false → (a ≡ false) × (b ≡ false)
+neither true b e = absurd (cc)
+neither false b e = (refl, e)
 
-asks_one : (command command' : List ℕ) (words : List (List ℕ)) (first second first' second' : List ℕ) → Asks command words first second → Asks command' words first' second' → SameRequest command first second command' first' second'
-asks_one command command' words first second first' second' a b =
-    let heads : command ∷ a.rest ≡ command' ∷ b.rest = sym a.words_are ∙ b.words_are in
-    let rests : a.rest ≡ b.rest = cc in
-    let pairs : Some (first ∷ second ∷ []) ≡ Some (first' ∷ second' ∷ []) = cc (a.plain, b.plain) in
-    record { command_same = cc; first_same = cc; second_same = cc }
+-- the number of a report is 0 only where nothing is found and nothing unknown, and 2 only where something is unknown
+abbrev number_by : Bool → Bool → ℕ
+number_by found unknown = if found then 1 else (if unknown then 2 else 0)
 
-other_command : codes "check" ≡ codes "replay" → ⊥
-other_command e = cc
+kinds_of_zero : (found unknown : Bool) → number_by found unknown ≡ 0 → (found ≡ false) × (unknown ≡ false)
+kinds_of_zero true unknown e = absurd (omega (arith, e))
+kinds_of_zero false true e = absurd (omega (arith, e))
+kinds_of_zero false false e = (refl, refl)
 
--- words ask for one file and one budget
-pub record SameVerify (file file' : List ℕ) (budget budget' : ℕ) : Type 0 where
-  pub file_same : file ≡ file'
-  pub budget_same : budget ≡ budget'
+kinds_of_two : (found unknown : Bool) → number_by found unknown ≡ 2 → unknown ≡ true
+kinds_of_two true unknown e = absurd (omega (arith, e))
+kinds_of_two false true e = refl
+kinds_of_two false false e = absurd (omega (arith, e))
 
-budget_one : (nodes : Option (List ℕ)) (budget budget' : ℕ) → BudgetIs nodes budget → BudgetIs nodes budget' → budget ≡ budget'
-budget_one None budget budget' a b = a ∙ sym b
-budget_one (Some text) budget budget' a b = a.value ∙ sym b.value
+-- a verdict that holds and is neither found nor unknown says safe
+safe_of : (file : File) (budget number : ℕ) (p : Pattern) (v : Verdict) → is_found v ≡ false → is_unknown v ≡ false → VerdictHolds file budget number p v → runs.Safe file.automaton p
+safe_of file budget number p (Safe nodes leaves) f u h = h.safe
+safe_of file budget number p (Found nodes) f u h = absurd (cc)
+safe_of file budget number p (Spent nodes) f u h = absurd (cc)
+safe_of file budget number p (Overflow node kind) f u h = absurd (cc)
 
-verify_one : (words : List (List ℕ)) (file file' : List ℕ) (budget budget' : ℕ) → AsksVerify words file budget → AsksVerify words file' budget' → SameVerify file file' budget budget'
-verify_one words file file' budget budget' a b =
-    let heads : codes "verify" ∷ a.rest ≡ codes "verify" ∷ b.rest = sym a.words_are ∙ b.words_are in
-    let rests : a.rest ≡ b.rest = cc in
-    let somes : Some a.read ≡ Some b.read = sym a.read_is ∙ ap verify_words rests ∙ b.read_is in
-    let reads : a.read ≡ b.read = cc in
-    let plain : file ∷ [] ≡ file' ∷ [] = sym a.one_plain ∙ ap (λ (w : VerifyWords). w.plain) reads ∙ b.one_plain in
-    record { file_same = cc; budget_same = budget_one b.read.nodes budget budget' (subst (λ (w : VerifyWords). BudgetIs w.nodes budget) reads a.budget_is) b.budget_is }
+each_safe : (file : File) (budget number : ℕ) (ps : List Pattern) (vs : List Verdict) → list_any is_found vs ≡ false → list_any is_unknown vs ≡ false → VerdictsHold file budget number ps vs → Each (runs.Safe file.automaton) ps
+each_safe file budget number [] vs f u h = tt
+each_safe file budget number (p ∷ ps) [] f u h = absurd h
+each_safe file budget number (p ∷ ps) (v ∷ vs) f u h =
+    let found = neither (is_found v) (list_any is_found vs) f in
+    let unknown = neither (is_unknown v) (list_any is_unknown vs) u in
+    (safe_of file budget number p v found.0 unknown.0 h.0, each_safe file budget (number + 1) ps vs found.1 unknown.1 h.1)
 
--- words of `verify` are no other command's
-no_verify : (command : List ℕ) (words : List (List ℕ)) (first second file : List ℕ) (budget : ℕ) → (command ≡ codes "verify" → ⊥) → Asks command words first second → AsksVerify words file budget → ⊥
-no_verify command words first second file budget other a b =
-    let heads : command ∷ a.rest ≡ codes "verify" ∷ b.rest = sym a.words_are ∙ b.words_are in
-    let commands : command ≡ codes "verify" = cc in
-    other commands
+-- the verdict on the pattern of a number
+hold_at : (file : File) (budget number : ℕ) (ps : List Pattern) (vs : List Verdict) (k : ℕ) (p : Pattern) (v : Verdict) → VerdictsHold file budget number ps vs → slice_get ps k ≡ Some p → slice_get vs k ≡ Some v → VerdictHolds file budget (number + k) p v
+hold_at file budget number [] vs k p v h named given = absurd (cc)
+hold_at file budget number (q ∷ ps) [] k p v h named given = absurd h
+hold_at file budget number (q ∷ ps) (w ∷ vs) zero p v h named given =
+    let same : q ≡ p = cc in
+    let said : w ≡ v = cc in
+    let here : number ≡ number + 0 = omega arith in
+    subst (λ (n : ℕ). VerdictHolds file budget n p v) here (subst (VerdictHolds file budget number p) said (subst (λ (r : Pattern). VerdictHolds file budget number r w) same h.0))
+hold_at file budget number (q ∷ ps) (w ∷ vs) (suc k) p v h named given =
+    let there : (number + 1) + k ≡ number + suc k = omega arith in
+    subst (λ (n : ℕ). VerdictHolds file budget n p v) there (hold_at file budget (number + 1) ps vs k p v h.1 named given)
 
-check_no_verify : (words : List (List ℕ)) (first second file : List ℕ) (budget : ℕ) → AsksCheck words first second → AsksVerify words file budget → ⊥
-check_no_verify words first second file budget = no_verify (codes "check") words first second file budget (λ e. let firsts : 99 ≡ 118 = ap (λ (s : List ℕ). get_or s 0 0) e in absurd (omega arith))
+-- some pattern is unknown only where a verdict that holds says so
+some_unknown : (file : File) (budget number : ℕ) (ps : List Pattern) (vs : List Verdict) → VerdictsHold file budget number ps vs → ((k : ℕ) (p : Pattern) (v : Verdict) → slice_get ps k ≡ Some p → is_unknown v ≡ true → ¬ VerdictHolds file budget (number + k) p v) → list_any is_unknown vs ≡ false
+some_unknown file budget number [] [] h known = refl
+some_unknown file budget number [] (v ∷ vs) h known = absurd h
+some_unknown file budget number (p ∷ ps) [] h known = absurd h
+some_unknown file budget number (p ∷ ps) (v ∷ vs) h known =
+    let here : number ≡ number + 0 = omega arith in
+    let head = not_true (is_unknown v) (λ unknown. known 0 p v refl unknown (subst (λ (n : ℕ). VerdictHolds file budget n p v) here h.0)) in
+    let tail = some_unknown file budget (number + 1) ps vs h.1 (λ k q w named unknown holds. let there : (number + 1) + k ≡ number + suc k = omega arith in known (suc k) q w named unknown (subst (λ (n : ℕ). VerdictHolds file budget n q w) there holds)) in
+    rw (head, tail) refl
+  where
+    not_true : (b : Bool) → ¬ (b ≡ true) → b ≡ false
+    not_true true never = absurd (never refl)
+    not_true false never = refl
 
-replay_no_verify : (words : List (List ℕ)) (first second file : List ℕ) (budget : ℕ) → AsksReplay words first second → AsksVerify words file budget → ⊥
-replay_no_verify words first second file budget = no_verify (codes "replay") words first second file budget (λ e. let firsts : 114 ≡ 118 = ap (λ (s : List ℕ). get_or s 0 0) e in absurd (omega arith))
+-- a pattern that is among the proved ones is safe
+listed_in : (P : ℕ → Type 0) (x y : ℕ) (rest first : Bool) → first ≡ nat_eq y x → P y → (rest ≡ true → P x) → (first || rest) ≡ true → P x
+listed_in P x y rest true is here later among = subst P (eqb-true y x (sym is)) here
+listed_in P x y rest false is here later among = later among
 
--- a status says something of the files where the words are those of a command
-pub of_check : (end : Status) (words : List (List ℕ)) (files : Files) (before after : Option (List ℕ)) (file certificate : List ℕ) → AsksCheck words file certificate → Says end words files before after → CheckSays end files file certificate before after
-of_check end words files before after file certificate asked h =
-    elim h [
-      | inl none ↦ absurd (none.no_command (inl (file, certificate, inl asked)))
-      | inr some ↦ elim some [
-        | inl c ↦ let same = asks_one _ _ _ _ _ _ _ c.asked asked in rw (sym same.first_same, sym same.second_same) c.says
-        | inr rest ↦ elim rest [
-          | inl r ↦ absurd (other_command (asks_one _ _ _ _ _ _ _ asked r.asked).command_same)
-          | inr v ↦ absurd (check_no_verify _ _ _ _ _ asked v.asked)
-        ]
-      ]
+listed : (P : ℕ → Type 0) (x : ℕ) (xs : List ℕ) → Each P xs → list_any (λ y. nat_eq y x) xs ≡ true → P x
+listed P x [] each among = absurd (cc)
+listed P x (y ∷ xs) each among = listed_in P x y (list_any (λ z. nat_eq z x) xs) (nat_eq y x) refl each.0 (listed P x xs each.1) among
+
+-- the command that was asked for was done
+performed : (words : List (List ℕ)) (asked : Asked) (number : ℕ) (before after : State) → Runs (request_of words) number before after → request_of words ≡ Some asked → Performs (meaning_of asked) number before after
+performed words asked number before after h is = subst (λ (o : Option Asked). Runs o number before after) is h
+
+holds_file : (view : View) (name : List ℕ) (file : File) → IsFile view name file → HoldsFile view name file
+holds_file view name file h =
+    let tree = h.means.means.is_tree in
+    record {
+      bytes = h.bytes;
+      held = h.had.seen;
+      tree = plain_tree h.means.means.tree;
+      text = record { tokens = tree.tokens; are = tree.are; spelled = tree.spelled; legal = tree.legal };
+      means = h.means.means.means;
+    }
+
+module _ (words : List (List ℕ)) (number : ℕ) (before after : State) (h : Runs (request_of words) number before after) where
+  -- what an answer of a command says, of what is seen in the calls of the run and in the files
+  gives : (asked : Asked) → request_of words ≡ Some asked → number ≤ 2 → (Of : View → Type 0) → ((view : View) → Answered (meaning_of asked) view number before after → Of view) → Grew (λ read. Of (seen before.shelf.files read)) before.shelf.calls after.shelf.calls
+  gives asked is low Of from =
+      let ends = (performed words asked number before after h is).ends in
+      record { added = ends.read; grown = ends.grown; such = from (seen before.shelf.files ends.read) (answered (meaning_of asked) (seen before.shelf.files ends.read) number before after ends.end low) }
+
+  reported : (name : List ℕ) (budget : ℕ) (view : View) → Answered (meaning_of (Verify name budget)) view number before after → ReportHolds number view name budget before.out.written after.out.written
+  reported name budget view a =
+      let file = a.holds.holds.0 in
+      let reports = a.holds.holds.2 in
+      record { file = file; is_file = a.holds.holds.1; verdicts = reports.verdicts; are = reports.are; numbered = sym reports.writes.numbered ∙ sym a.numbered; wrote = a.written ∙ ap (with_text before.out.written) reports.writes.written }
+
+  pub verify_reports : VerifyReports number words before.shelf.files before.shelf.calls after.shelf.calls before.out.written after.out.written
+  verify_reports name budget is low = gives (Verify name budget) is low (λ view. ReportHolds number view name budget before.out.written after.out.written) (reported name budget)
+
+  proved : (name certificate : List ℕ) (view : View) → Answered (meaning_of (Check name certificate)) view number before after → CheckHolds view name certificate before.out.written after.out.written
+  proved name certificate view a =
+      let rest = a.holds.holds.2 in
+      record { file = a.holds.holds.0; is_file = a.holds.holds.1; numbers = rest.0; certificate = rest.1; wrote = a.written ∙ ap (with_text before.out.written) rest.2.written }
+
+  pub check_proves : CheckProves number words before.shelf.files before.shelf.calls after.shelf.calls before.out.written after.out.written
+  check_proves name certificate is none = gives (Check name certificate) is (omega (arith, none)) (λ view. CheckHolds view name certificate before.out.written after.out.written) (proved name certificate)
+
+  shown : (name run : List ℕ) (view : View) → Answered (meaning_of (Replay name run)) view number before after → ReplayHolds view name run before.out.written after.out.written
+  shown name run view a =
+      let rest = a.holds.holds.2 in
+      record { file = a.holds.holds.0; is_file = a.holds.holds.1; run = rest.0; is_run = rest.1; pattern = rest.2.pattern; named = rest.2.named; wrote = a.written ∙ ap (with_text before.out.written) rest.2.writes.written }
+
+  pub replay_shows : ReplayShows number words before.shelf.files before.shelf.calls after.shelf.calls before.out.written after.out.written
+  replay_shows name run is none = gives (Replay name run) is (omega (arith, none)) (λ view. ReplayHolds view name run before.out.written after.out.written) (shown name run)
+
+  printed_verify : (name : List ℕ) (budget : ℕ) (view : View) → ReportHolds number view name budget before.out.written after.out.written → EachPrintedSafe (codes "safe, ") view name before.out.written after.out.written
+  printed_verify name budget view r = record {
+    file = r.file;
+    holds = holds_file view name r.file r.is_file;
+    text = report_text r.file r.verdicts;
+    gained = r.wrote;
+    safe = λ k p named line.
+        let said = printed_safe r.file r.verdicts k p named r.are.fit line in
+        (hold_at r.file budget 0 r.file.patterns r.verdicts k p (Safe said.0 said.1) r.are.hold named said.2).safe;
+  }
+
+  printed_check : (name certificate : List ℕ) (view : View) → CheckHolds view name certificate before.out.written after.out.written → EachPrintedSafe (codes "proved") view name before.out.written after.out.written
+  printed_check name certificate view r = record {
+    file = r.file;
+    holds = holds_file view name r.file r.is_file;
+    text = check_text r.file r.numbers;
+    gained = r.wrote;
+    safe = λ k p named line.
+        let found : PatternSafe r.file k = listed (PatternSafe r.file) k r.numbers r.certificate.means.safe (printed_proved r.file r.numbers k p named line) in
+        let same : Some found.pattern ≡ Some p = sym found.named ∙ named in
+        let is : found.pattern ≡ p = cc in
+        subst (runs.Safe r.file.automaton) is found.safe;
+  }
+
+  pub printed_is_safe : PrintedIsSafe number words before.shelf.files before.shelf.calls after.shelf.calls before.out.written after.out.written
+  printed_is_safe = record {
+    verify = λ name budget is low. gives (Verify name budget) is low (λ view. EachPrintedSafe (codes "safe, ") view name before.out.written after.out.written) (λ view a. printed_verify name budget view (reported name budget view a));
+    check = λ name certificate is none. gives (Check name certificate) is (omega (arith, none)) (λ view. EachPrintedSafe (codes "proved") view name before.out.written after.out.written) (λ view a. printed_check name certificate view (proved name certificate view a));
+  }
+
+  pub zero_is_safe : ZeroIsSafe number words before.shelf.files before.shelf.calls after.shelf.calls before.out.written after.out.written
+  zero_is_safe = record {
+    verify = λ name budget is none. gives (Verify name budget) is (omega (arith, none)) (λ view. EachPatternSafe view name) (λ view a.
+        let r = reported name budget view a in
+        let kinds = kinds_of_zero (list_any is_found r.verdicts) (list_any is_unknown r.verdicts) (r.numbered ∙ none) in
+        record { file = r.file; holds = holds_file view name r.file r.is_file; safe = each_safe r.file budget 0 r.file.patterns r.verdicts kinds.0 kinds.1 r.are.hold });
+    check = printed_is_safe.check;
+  }
+
+-- by whether something is asked for
+usage_of : (o : Option Asked) (number : ℕ) (before after : State) → Runs o number before after → (number ≡ 5 → o ≡ None) × (number ≢ 5 → o ≢ None)
+usage_of None number before after h = (λ five. refl, λ other none. other h.five)
+usage_of (Some asked) number before after h = (λ five. absurd (never_five (meaning_of asked) number before after h.ends five), λ other none. cc)
+
+pub usage_exactly : (words : List (List ℕ)) (number : ℕ) (before after : State) → Runs (request_of words) number before after → UsageExactly number words
+usage_exactly words number before after h = let usage = usage_of (request_of words) number before after h in record { no_command = usage.0; command = usage.1 }
+
+pub quiet : (o : Option Asked) (number : ℕ) (before after : State) → Runs o number before after → Quiet number before after
+quiet None number before after h =
+    let five = h.five in
+    record {
+      nothing_written = λ above other. ap (λ (s : SinkState). s.written) h.out;
+      shelf_kept = λ other. ap (λ (s : ShelfState). s.faults) h.shelf;
+      out_calm = λ other. (ap (λ (s : SinkState). s.faults) h.out, ap (λ (s : SinkState). s.stalls) h.out);
+      failed = λ six. absurd (omega arith);
+    }
+quiet (Some asked) number before after h = h.quiet
+
+pub tellings : (o : Option Asked) (number : ℕ) (before after : State) → Runs o number before after → Tellings o number before after
+tellings None number before after h = (h.five, h.told)
+tellings (Some asked) number before after h = h.telling
+
+pub exactly_so : (words : List (List ℕ)) (number : ℕ) (before after : State) → Runs (request_of words) number before after → ExactlySo number words before.shelf.files
+exactly_so words number before after h asked is = (performed words asked number before after h is).exact (decided asked)
+
+pub opens : (o : Option Asked) (number : ℕ) (before after : State) → Runs o number before after → Opens o before.shelf.calls after.shelf.calls
+opens None number before after h = ap (λ (s : ShelfState). s.calls) h.shelf
+opens (Some asked) number before after h = record { added = h.ends.read; grown = h.ends.grown; such = h.ends.opened }
+
+kept_by : (asked : Asked) (number : ℕ) (before after : State) → Performs (meaning_of asked) number before after → after.shelf.files ≡ before.shelf.files
+kept_by (Check name certificate) number before after h = h.kept
+kept_by (Replay name run) number before after h = h.kept
+kept_by (Verify name budget) number before after h = h.kept
+
+pub kept : (o : Option Asked) (number : ℕ) (before after : State) → Runs o number before after → after.shelf.files ≡ before.shelf.files
+kept None number before after h = ap (λ (s : ShelfState). s.files) h.shelf
+kept (Some asked) number before after h = kept_by asked number before after h
+
+-- where FILE is legal nothing hinders with 3
+no_three : (told : Told) (asked : Asked) (file : File) (line : List ℕ) → IsFile (in_files told) (file_of asked) file → ¬ (meaning_of asked).refuses (in_files told) 3 line
+no_three told (Check name certificate) file line is refuses =
+    elim refuses [
+      | inl own ↦ no_hindrance file_kind name [] (λ f. proved_meaning f certificate) (λ f. proved_monotone f certificate) told (λ bytes f fault legal found. legal.no_fault fault found) file 3 line is own
+      | inr rest ↦ elim rest.2 [ inl hinders ↦ let four = hinders.numbered in absurd (omega (arith, four)) | inr none ↦ none.2 ]
+    ]
+no_three told (Replay name run) file line is refuses =
+    elim refuses [
+      | inl own ↦ no_hindrance file_kind name [] (λ f. shown_meaning f run) (λ f. shown_monotone f run) told (λ bytes f fault legal found. legal.no_fault fault found) file 3 line is own
+      | inr rest ↦ elim rest.2 [ inl hinders ↦ let four = hinders.numbered in absurd (omega (arith, four)) | inr none ↦ none.2 ]
+    ]
+no_three told (Verify name budget) file line is refuses =
+    elim refuses [
+      | inl own ↦ no_hindrance file_kind name [] (λ f. replies [] (Reports f budget)) (λ f. replies_monotone [] (Reports f budget)) told (λ bytes f fault legal found. legal.no_fault fault found) file 3 line is own
+      | inr rest ↦ rest.2
     ]
 
-pub of_replay : (end : Status) (words : List (List ℕ)) (files : Files) (before after : Option (List ℕ)) (file run : List ℕ) → AsksReplay words file run → Says end words files before after → ReplaySays end files file run before after
-of_replay end words files before after file run asked h =
-    elim h [
-      | inl none ↦ absurd (none.no_command (inl (file, run, inr asked)))
-      | inr some ↦ elim some [
-        | inl c ↦ absurd (other_command (asks_one _ _ _ _ _ _ _ c.asked asked).command_same)
-        | inr rest ↦ elim rest [
-          | inl r ↦ let same = asks_one _ _ _ _ _ _ _ r.asked asked in rw (sym same.first_same, sym same.second_same) r.says
-          | inr v ↦ absurd (replay_no_verify _ _ _ _ _ asked v.asked)
-        ]
-      ]
-    ]
+passes : (told : Told) (asked : Asked) (file : File) (number : ℕ) (before after : State) → before.shelf.files ≡ Some told → Performs (meaning_of asked) number before after → IsFile (in_files told) (file_of asked) file → number ≢ 3
+passes told asked file number before after is h is_file three =
+    let m = meaning_of asked in
+    let hinders = hindered m number before after h.ends (omega (arith, three)) (omega (arith, three)) in
+    let seen_told = subst (λ (o : Option Told). m.refuses (seen o h.ends.read) number hinders.0) is hinders.1 in
+    let refuses = (decided asked).refuses told h.ends.read number hinders.0 seen_told in
+    no_three told asked file hinders.0 is_file (subst (λ (n : ℕ). m.refuses (in_files told) n hinders.0) three refuses)
 
-pub of_verify : (end : Status) (words : List (List ℕ)) (files : Files) (before after : Option (List ℕ)) (file : List ℕ) (budget : ℕ) → AsksVerify words file budget → Says end words files before after → VerifySays end files file budget before after
-of_verify end words files before after file budget asked h =
-    elim h [
-      | inl none ↦ absurd (none.no_command (inr (file, budget, asked)))
-      | inr some ↦ elim some [
-        | inl c ↦ absurd (check_no_verify _ _ _ _ _ c.asked asked)
-        | inr rest ↦ elim rest [
-          | inl r ↦ absurd (replay_no_verify _ _ _ _ _ r.asked asked)
-          | inr v ↦ let same = verify_one _ _ _ _ _ v.asked asked in rw (sym same.file_same, sym same.budget_same) v.says
-        ]
-      ]
-    ]
+known : (told : Told) (name : List ℕ) (budget : ℕ) (file : File) (number : ℕ) (before after : State) → before.shelf.files ≡ Some told → Performs (meaning_of (Verify name budget)) number before after → IsFile (in_files told) name file → IsKnown file budget → number ≢ 2
+known told name budget file number before after is h is_file none two =
+    let m = meaning_of (Verify name budget) in
+    let a = answered m (seen before.shelf.files h.ends.read) number before after h.ends.end (omega (arith, two)) in
+    let seen_told = subst (λ (o : Option Told). m.answers (seen o h.ends.read) a.answer) is a.holds.holds in
+    let answers = (decided (Verify name budget)).answers told h.ends.read a.answer seen_told in
+    let other = answers.1 in
+    let reports = answers.2 in
+    let same : answers.0 ≡ file = one_legal is_file.bytes answers.0 file (subst (λ (bytes : List ℕ). file_kind.means bytes answers.0) (whole_one told name file_kind.limit.bytes other.bytes is_file.bytes other.had is_file.had) other.means) is_file.means in
+    let r : Reports file budget a.answer = subst (λ (f : File). Reports f budget a.answer) same reports in
+    let unknown = kinds_of_two (list_any is_found r.verdicts) (list_any is_unknown r.verdicts) (sym r.writes.numbered ∙ sym a.numbered ∙ two) in
+    let nothing = some_unknown file budget 0 file.patterns r.verdicts r.are.hold (λ k p v named is_one holds. let here : 0 + k ≡ k = omega arith in none k p v named is_one (subst (λ (n : ℕ). VerdictHolds file budget n p v) here holds)) in
+    let e : true ≡ false = sym unknown ∙ nothing in
+    cc
 
--- the numbers of what hinders
-trouble_is : {F : Type 0} (refused : ℕ) (t : Trouble F) → (trouble_number refused t ≡ refused) ⊎ ((trouble_number refused t ≡ 6) ⊎ (trouble_number refused t ≡ 7))
-trouble_is refused trouble.Missing = inl refl
-trouble_is refused trouble.TooLong = inl refl
-trouble_is refused (trouble.Fault fault) = inl refl
-trouble_is refused trouble.ReadFailed = inr (inl refl)
-trouble_is refused trouble.Memory = inr (inr refl)
-
-no_trouble : {F : Type 0} (refused n : ℕ) (t : Trouble F) → n ≢ refused → n ≢ 6 → n ≢ 7 → trouble_number refused t ≡ n → ⊥
-no_trouble refused n t a b c e =
-    elim (trouble_is refused t) [ inl h ↦ a (sym e ∙ h) | inr s ↦ elim s [ inl h ↦ b (sym e ∙ h) | inr h ↦ c (sym e ∙ h) ] ]
-
--- only Done has the number 0
-is_done : (end : Status) → status_number end ≡ 0 → end ≡ status.Done
-is_done status.Done e = refl
-is_done status.Found e = absurd (omega arith)
-is_done status.Unknown e = absurd (omega arith)
-is_done status.Usage e = absurd (omega arith)
-is_done (status.File name t) e = absurd (no_trouble 3 0 t (omega arith) (omega arith) (omega arith) e)
-is_done (status.Certificate name t) e = absurd (no_trouble 4 0 t (omega arith) (omega arith) (omega arith) e)
-is_done (status.Run name t) e = absurd (no_trouble 4 0 t (omega arith) (omega arith) (omega arith) e)
-is_done status.OutputFailed e = absurd (omega arith)
-is_done status.Memory e = absurd (omega arith)
-
--- only Usage has the number 5
-is_usage : (end : Status) → status_number end ≡ 5 → end ≡ status.Usage
-is_usage status.Done e = absurd (omega arith)
-is_usage status.Found e = absurd (omega arith)
-is_usage status.Unknown e = absurd (omega arith)
-is_usage status.Usage e = refl
-is_usage (status.File name t) e = absurd (no_trouble 3 5 t (omega arith) (omega arith) (omega arith) e)
-is_usage (status.Certificate name t) e = absurd (no_trouble 4 5 t (omega arith) (omega arith) (omega arith) e)
-is_usage (status.Run name t) e = absurd (no_trouble 4 5 t (omega arith) (omega arith) (omega arith) e)
-is_usage status.OutputFailed e = absurd (omega arith)
-is_usage status.Memory e = absurd (omega arith)
-
--- what is said stands where want of memory takes the place of a line
-says_memory : (begun : Status) (words : List (List ℕ)) (files : Files) (before after : Option (List ℕ)) → begun ≢ status.Usage → ((f s : List ℕ) → CheckSays begun files f s before after → after ≡ before) → ((f s : List ℕ) → ReplaySays begun files f s before after → after ≡ before) → ((f : List ℕ) (n : ℕ) → VerifySays begun files f n before after → after ≡ before) → Says begun words files before after → Says status.Memory words files before after
-says_memory begun words files before after other from_check from_replay from_verify h =
-    elim h [
-      | inl none ↦ absurd (other none.ended)
-      | inr some ↦ elim some [
-        | inl c ↦ inr (inl (record { file_name = c.file_name; certificate_name = c.certificate_name; asked = c.asked; says = from_check _ _ c.says }))
-        | inr rest ↦ elim rest [
-          | inl r ↦ inr (inr (inl (record { file_name = r.file_name; run_name = r.run_name; asked = r.asked; says = from_replay _ _ r.says })))
-          | inr v ↦ inr (inr (inr (record { file_name = v.file_name; budget = v.budget; asked = v.asked; says = from_verify _ _ v.says })))
-        ]
-      ]
-    ]
-
-same_or : (P : Status → Type 0) (begun end other : Status) → P begun → P other → (end ≡ begun) ⊎ (end ≡ other) → P end
-same_or P begun end other p q h = elim h [ inl e ↦ subst P (sym e) p | inr e ↦ subst P (sym e) q ]
-
-says_end : (begun end : Status) (words : List (List ℕ)) (files : Files) (before after : Option (List ℕ)) → EndsAs begun end → Says begun words files before after → Says end words files before after
-says_end status.Done end words files before after e h = rw e h
-says_end status.Found end words files before after e h = rw e h
-says_end status.Unknown end words files before after e h = rw e h
-says_end status.Usage end words files before after e h = rw e h
-says_end (status.File name t) end words files before after e h = same_or (λ s. Says s words files before after) _ _ _ h (says_memory (status.File name t) words files before after (λ x. cc) (λ f s c. c.2) (λ f s r. r.2) (λ f n v. v.2) h) e
-says_end (status.Certificate name t) end words files before after e h = same_or (λ s. Says s words files before after) _ _ _ h (says_memory (status.Certificate name t) words files before after (λ x. cc) (λ f s c. c.2) (λ f s r. absurd r) (λ f n v. absurd v) h) e
-says_end (status.Run name t) end words files before after e h = same_or (λ s. Says s words files before after) _ _ _ h (says_memory (status.Run name t) words files before after (λ x. cc) (λ f s c. absurd c) (λ f s r. r.2) (λ f n v. absurd v) h) e
-says_end status.OutputFailed end words files before after e h = rw e h
-says_end status.Memory end words files before after e h = rw e h
-
-shelf_end : (begun end : Status) (shelf shelf' : ℕ) → EndsAs begun end → ShelfCause begun shelf shelf' → ShelfCause end shelf shelf'
-shelf_end status.Done end shelf shelf' e h = rw e h
-shelf_end status.Found end shelf shelf' e h = rw e h
-shelf_end status.Unknown end shelf shelf' e h = rw e h
-shelf_end status.Usage end shelf shelf' e h = rw e h
-shelf_end (status.File name t) end shelf shelf' e h = same_or (λ s. ShelfCause s shelf shelf') (status.File name t) end status.Memory h tt e
-shelf_end (status.Certificate name t) end shelf shelf' e h = same_or (λ s. ShelfCause s shelf shelf') (status.Certificate name t) end status.Memory h tt e
-shelf_end (status.Run name t) end shelf shelf' e h = same_or (λ s. ShelfCause s shelf shelf') (status.Run name t) end status.Memory h tt e
-shelf_end status.OutputFailed end shelf shelf' e h = rw e h
-shelf_end status.Memory end shelf shelf' e h = rw e h
-
-out_end : (begun end : Status) (f f' s s' : ℕ) → EndsAs begun end → WriteCause begun f f' s s' → WriteCause end f f' s s'
-out_end status.Done end f f' s s' e h = rw e h
-out_end status.Found end f f' s s' e h = rw e h
-out_end status.Unknown end f f' s s' e h = rw e h
-out_end status.Usage end f f' s s' e h = rw e h
-out_end (status.File name t) end f f' s s' e h = same_or (λ x. WriteCause x f f' s s') (status.File name t) end status.Memory h h e
-out_end (status.Certificate name t) end f f' s s' e h = same_or (λ x. WriteCause x f f' s s') (status.Certificate name t) end status.Memory h h e
-out_end (status.Run name t) end f f' s s' e h = same_or (λ x. WriteCause x f f' s s') (status.Run name t) end status.Memory h h e
-out_end status.OutputFailed end f f' s s' e h = rw e h
-out_end status.Memory end f f' s s' e h = rw e h
-
-pub outcome : (begun : Status) (number : ℕ) (words : List (List ℕ)) (files : Files) (shelf shelf' : ℕ) (out out' err err' : SinkState) → Says begun words files out.written out'.written → ShelfCause begun shelf shelf' → WriteCause begun out.faults out'.faults out.stalls out'.stalls → Ended begun number err.written err'.written err.faults err'.faults err.stalls err'.stalls → Outcome number words files shelf shelf' out out' err err'
-outcome begun number words files shelf shelf' out out' err err' says shelf_cause out_cause ended = record {
-  end = ended.end;
-  numbered = ended.numbered;
-  says = says_end begun ended.end _ _ _ _ ended.ends says;
-  shelf_cause = shelf_end begun ended.end _ _ ended.ends shelf_cause;
-  out_cause = out_end begun ended.end _ _ _ _ ended.ends out_cause;
-  told = ended.told;
-}
-
-pub check_proves : (number : ℕ) (words : List (List ℕ)) (files : Files) (shelf shelf' : ℕ) (out out' err err' : SinkState) → Outcome number words files shelf shelf' out out' err err' → CheckProves number words files out.written out'.written
-check_proves number words files shelf shelf' out out' err err' o file certificate asked zero =
-    subst (λ (s : Status). CheckSays s files file certificate out.written out'.written) (is_done o.end (sym o.numbered ∙ zero)) (of_check _ _ _ _ _ _ _ asked o.says)
-
-pub replay_shows : (number : ℕ) (words : List (List ℕ)) (files : Files) (shelf shelf' : ℕ) (out out' err err' : SinkState) → Outcome number words files shelf shelf' out out' err err' → ReplayShows number words files out.written out'.written
-replay_shows number words files shelf shelf' out out' err err' o file run asked zero =
-    subst (λ (s : Status). ReplaySays s files file run out.written out'.written) (is_done o.end (sym o.numbered ∙ zero)) (of_replay _ _ _ _ _ _ _ asked o.says)
-
--- what hinders has a number above 2
-trouble_above : {F : Type 0} (refused : ℕ) (t : Trouble F) → 2 < refused → trouble_number refused t ≤ 2 → ⊥
-trouble_above refused trouble.Missing high low = omega arith
-trouble_above refused trouble.TooLong high low = omega arith
-trouble_above refused (trouble.Fault fault) high low = omega arith
-trouble_above refused trouble.ReadFailed high low = omega arith
-trouble_above refused trouble.Memory high low = omega arith
-
--- a report is written with 0, 1 and 2
-report_holds : (end : Status) (files : Files) (file : List ℕ) (budget : ℕ) (before after : Option (List ℕ)) → status_number end ≤ 2 → VerifySays end files file budget before after → ReportHolds (status_number end) files file budget before after
-report_holds status.Done files file budget before after low h = record { file = h.file; verdicts = h.verdicts; verified = h.verified; numbered = h.numbered; wrote = h.wrote }
-report_holds status.Found files file budget before after low h = record { file = h.file; verdicts = h.verdicts; verified = h.verified; numbered = h.numbered; wrote = h.wrote }
-report_holds status.Unknown files file budget before after low h = record { file = h.file; verdicts = h.verdicts; verified = h.verified; numbered = h.numbered; wrote = h.wrote }
-report_holds status.Usage files file budget before after low h = absurd h
-report_holds (status.File name t) files file budget before after low h = absurd (trouble_above 3 t (omega arith) low)
-report_holds (status.Certificate name t) files file budget before after low h = absurd h
-report_holds (status.Run name t) files file budget before after low h = absurd h
-report_holds status.OutputFailed files file budget before after low h = absurd (omega arith)
-report_holds status.Memory files file budget before after low h = absurd (omega arith)
-
-pub verify_reports : (number : ℕ) (words : List (List ℕ)) (files : Files) (shelf shelf' : ℕ) (out out' err err' : SinkState) → Outcome number words files shelf shelf' out out' err err' → VerifyReports number words files out.written out'.written
-verify_reports number words files shelf shelf' out out' err err' o file budget asked low =
-    subst (λ (n : ℕ). ReportHolds n files file budget out.written out'.written) (sym o.numbered) (report_holds o.end files file budget _ _ (rw o.numbered at low) (of_verify _ _ _ _ _ _ _ asked o.says))
-
--- what is said by Usage is that the words are no command's
-usage_says : (words : List (List ℕ)) (files : Files) (before after : Option (List ℕ)) → Says status.Usage words files before after → ¬ IsLegal words
-usage_says words files before after h =
-    elim h [ inl none ↦ none.no_command | inr some ↦ elim some [ inl c ↦ absurd c.says | inr rest ↦ elim rest [ inl r ↦ absurd r.says | inr v ↦ absurd v.says ] ] ]
-
-other_says : (end : Status) (words : List (List ℕ)) (files : Files) (before after : Option (List ℕ)) → end ≢ status.Usage → Says end words files before after → IsLegal words
-other_says end words files before after other h =
-    elim h [
-      | inl none ↦ absurd (other none.ended)
-      | inr some ↦ elim some [
-        | inl c ↦ inl (c.file_name, c.certificate_name, inl c.asked)
-        | inr rest ↦ elim rest [
-          | inl r ↦ inl (r.file_name, r.run_name, inr r.asked)
-          | inr v ↦ inr (v.file_name, v.budget, v.asked)
-        ]
-      ]
-    ]
-
-pub usage_exactly : (number : ℕ) (words : List (List ℕ)) (files : Files) (shelf shelf' : ℕ) (out out' err err' : SinkState) → Outcome number words files shelf shelf' out out' err err' → UsageExactly number words
-usage_exactly number words files shelf shelf' out out' err err' o = record {
-  no_command = λ five. usage_says words files out.written out'.written (subst (λ (s : Status). Says s words files out.written out'.written) (is_usage o.end (sym o.numbered ∙ five)) o.says);
-  command = λ other. other_says o.end words files out.written out'.written (λ e. other (o.numbered ∙ ap status_number e)) o.says;
-}
-
--- nothing is written but with 0, 1 and 2 and where the output failed
-check_nothing : (end : Status) (files : Files) (f s : List ℕ) (before after : Option (List ℕ)) → 2 < status_number end → status_number end ≢ 6 → CheckSays end files f s before after → after ≡ before
-check_nothing status.Done files f s before after above other h = absurd (omega arith)
-check_nothing status.Found files f s before after above other h = absurd (omega arith)
-check_nothing status.Unknown files f s before after above other h = absurd (omega arith)
-check_nothing status.Usage files f s before after above other h = absurd h
-check_nothing (status.File name t) files f s before after above other h = h.2
-check_nothing (status.Certificate name t) files f s before after above other h = h.2
-check_nothing (status.Run name t) files f s before after above other h = absurd h
-check_nothing status.OutputFailed files f s before after above other h = absurd (other refl)
-check_nothing status.Memory files f s before after above other h = h
-
-replay_nothing : (end : Status) (files : Files) (f s : List ℕ) (before after : Option (List ℕ)) → 2 < status_number end → status_number end ≢ 6 → ReplaySays end files f s before after → after ≡ before
-replay_nothing status.Done files f s before after above other h = absurd (omega arith)
-replay_nothing status.Found files f s before after above other h = absurd (omega arith)
-replay_nothing status.Unknown files f s before after above other h = absurd (omega arith)
-replay_nothing status.Usage files f s before after above other h = absurd h
-replay_nothing (status.File name t) files f s before after above other h = h.2
-replay_nothing (status.Certificate name t) files f s before after above other h = absurd h
-replay_nothing (status.Run name t) files f s before after above other h = h.2
-replay_nothing status.OutputFailed files f s before after above other h = absurd (other refl)
-replay_nothing status.Memory files f s before after above other h = h
-
-verify_nothing : (end : Status) (files : Files) (f : List ℕ) (n : ℕ) (before after : Option (List ℕ)) → 2 < status_number end → status_number end ≢ 6 → VerifySays end files f n before after → after ≡ before
-verify_nothing status.Done files f n before after above other h = absurd (omega arith)
-verify_nothing status.Found files f n before after above other h = absurd (omega arith)
-verify_nothing status.Unknown files f n before after above other h = absurd (omega arith)
-verify_nothing status.Usage files f n before after above other h = absurd h
-verify_nothing (status.File name t) files f n before after above other h = h.2
-verify_nothing (status.Certificate name t) files f n before after above other h = absurd h
-verify_nothing (status.Run name t) files f n before after above other h = absurd h
-verify_nothing status.OutputFailed files f n before after above other h = absurd (other refl)
-verify_nothing status.Memory files f n before after above other h = h
-
-nothing : (end : Status) (words : List (List ℕ)) (files : Files) (before after : Option (List ℕ)) → 2 < status_number end → status_number end ≢ 6 → Says end words files before after → after ≡ before
-nothing end words files before after above other h =
-    elim h [
-      | inl none ↦ none.nothing
-      | inr some ↦ elim some [
-        | inl c ↦ check_nothing end files _ _ _ _ above other c.says
-        | inr rest ↦ elim rest [
-          | inl r ↦ replay_nothing end files _ _ _ _ above other r.says
-          | inr v ↦ verify_nothing end files _ _ _ _ above other v.says
-        ]
-      ]
-    ]
-
-trouble_kept : {F : Type 0} (refused : ℕ) (t : Trouble F) (before after : ℕ) → trouble_number refused t ≤ 5 → TroubleCause t before after → after ≡ before
-trouble_kept refused trouble.Missing before after low h = h
-trouble_kept refused trouble.TooLong before after low h = h
-trouble_kept refused (trouble.Fault fault) before after low h = h
-trouble_kept refused trouble.ReadFailed before after low h = absurd (omega arith)
-trouble_kept refused trouble.Memory before after low h = h
-
-shelf_kept : (end : Status) (before after : ℕ) → status_number end ≤ 5 → ShelfCause end before after → after ≡ before
-shelf_kept status.Done before after low h = h
-shelf_kept status.Found before after low h = h
-shelf_kept status.Unknown before after low h = h
-shelf_kept status.Usage before after low h = h
-shelf_kept (status.File name t) before after low h = trouble_kept 3 t before after low h
-shelf_kept (status.Certificate name t) before after low h = trouble_kept 4 t before after low h
-shelf_kept (status.Run name t) before after low h = trouble_kept 4 t before after low h
-shelf_kept status.OutputFailed before after low h = h
-shelf_kept status.Memory before after low h = absurd (omega arith)
-
-out_kept : (end : Status) (f f' s s' : ℕ) → status_number end ≤ 5 → WriteCause end f f' s s' → (f' ≡ f) × (s' ≡ s)
-out_kept status.Done f f' s s' low h = h
-out_kept status.Found f f' s s' low h = h
-out_kept status.Unknown f f' s s' low h = h
-out_kept status.Usage f f' s s' low h = h
-out_kept (status.File name t) f f' s s' low h = h
-out_kept (status.Certificate name t) f f' s s' low h = h
-out_kept (status.Run name t) f f' s s' low h = h
-out_kept status.OutputFailed f f' s s' low h = absurd (omega arith)
-out_kept status.Memory f f' s s' low h = h
-
-trouble_failed : {F : Type 0} (refused : ℕ) (t : Trouble F) (before after : ℕ) → refused ≢ 6 → trouble_number refused t ≡ 6 → TroubleCause t before after → Faulted before after
-trouble_failed refused trouble.Missing before after other six h = absurd (other six)
-trouble_failed refused trouble.TooLong before after other six h = absurd (other six)
-trouble_failed refused (trouble.Fault fault) before after other six h = absurd (other six)
-trouble_failed refused trouble.ReadFailed before after other six h = h
-trouble_failed refused trouble.Memory before after other six h = absurd (omega arith)
-
-failed : (end : Status) (shelf shelf' f f' s s' : ℕ) → status_number end ≡ 6 → ShelfCause end shelf shelf' → WriteCause end f f' s s' → Faulted shelf shelf' ⊎ (Faulted f f' ⊎ Stalled s s')
-failed status.Done shelf shelf' f f' s s' six a b = absurd (omega arith)
-failed status.Found shelf shelf' f f' s s' six a b = absurd (omega arith)
-failed status.Unknown shelf shelf' f f' s s' six a b = absurd (omega arith)
-failed status.Usage shelf shelf' f f' s s' six a b = absurd (omega arith)
-failed (status.File name t) shelf shelf' f f' s s' six a b = inl (trouble_failed 3 t shelf shelf' (omega arith) six a)
-failed (status.Certificate name t) shelf shelf' f f' s s' six a b = inl (trouble_failed 4 t shelf shelf' (omega arith) six a)
-failed (status.Run name t) shelf shelf' f f' s s' six a b = inl (trouble_failed 4 t shelf shelf' (omega arith) six a)
-failed status.OutputFailed shelf shelf' f f' s s' six a b = inr b
-failed status.Memory shelf shelf' f f' s s' six a b = absurd (omega arith)
-
-pub quiet : (number : ℕ) (words : List (List ℕ)) (files : Files) (shelf shelf' : ℕ) (out out' err err' : SinkState) → Outcome number words files shelf shelf' out out' err err' → Quiet number shelf shelf' out out'
-quiet number words files shelf shelf' out out' err err' o = record {
-  nothing_written = λ above other. nothing o.end words files out.written out'.written (rw o.numbered at above) (λ e. other (o.numbered ∙ e)) o.says;
-  shelf_kept = λ low. shelf_kept o.end shelf shelf' (rw o.numbered at low) o.shelf_cause;
-  faults_kept = λ low. (out_kept o.end _ _ _ _ (rw o.numbered at low) o.out_cause).0;
-  stalls_kept = λ low. (out_kept o.end _ _ _ _ (rw o.numbered at low) o.out_cause).1;
-  failed = λ six. failed o.end shelf shelf' _ _ _ _ (sym o.numbered ∙ six) o.shelf_cause o.out_cause;
+pub completes : (words : List (List ℕ)) (number : ℕ) (before after : State) → Runs (request_of words) number before after → Completes number words before after
+completes words number before after h = record {
+  passes = λ told asked file is asks is_file.
+      let p = performed words asked number before after h asks in
+      (passes told asked file number before after is p is_file, never_five (meaning_of asked) number before after p.ends);
+  calm = λ shelf out six. elim ((quiet (request_of words) number before after h).failed six) [ inl faulted ↦ shelf faulted | inr failed ↦ out failed ];
+  known = λ told name budget file is asks is_file none. known told name budget file number before after is (performed words (Verify name budget) number before after h asks) is_file none;
 }

@@ -1,8 +1,6 @@
-pub mod Ends
-pub mod Says
-pub mod Clauses
-pub mod VerdictsOnce
-pub mod Exact
-pub mod WordsRead
-pub mod WordsBudget
-pub mod VerdictsMade
+mod WordsTaken
+mod WordsBudget
+mod VerdictsMade
+mod VerdictsOnce
+mod Meanings
+mod Clauses

@@ -1,18 +1,15 @@
 -- what is known of verdicts as they are made and counted
-use Rattle.std.proofs.Common.{◌≡◌, ℕ, suc, ◌+◌, ◌<◌, ◌≤◌, List, [], ◌∷◌, ◌++◌, Bool, true, false, length, take, arith, refl, sym, ap, subst, ◌∙◌, Some, slice_get, Option, get_or, Err}
+use Rattle.std.proofs.Common.{◌≡◌, ℕ, suc, ◌+◌, ◌<◌, ◌≤◌, List, [], ◌∷◌, ◌++◌, Bool, true, false, length, take, arith, refl, sym, ap, subst, ◌∙◌, Some, slice_get, get_or}
 use Rattle.std.specs.Prelude.{filter}
+use Rattle.std.proofs.Math.Seq.{take-length}
 use Rattle.std.proofs.lemmas.List.{length-take-le, take_more}
 use Rattle.std.proofs.lemmas.Option.{get_or_from_slice_get}
-use Rattle.ta_shelf.specs.WriteWhole.{AddsPrefix, AddsWhole}
-use Rattle.ta_shelf.specs.declared.fault.SinkFault.{SinkFault}
-use Rattle.ta_shelf.specs.declared.fault.SinkFault.TheVariants as fault
 use Rattle.ta_automaton.specs.declared.file.File.{File}
 use Rattle.ta_automaton.specs.declared.pattern.Pattern.{Pattern}
-use Rattle.ta_automaton.specs.Runs.{LoopsPure}
+use Rattle.ta_automaton.specs.Lists.{Each}
+use Rattle.ta_automaton.specs.Runs.{InScope, LoopsPure}
 use Rattle.ta_cert.specs.declared.line.Node.{Node}
 use Rattle.ta_cert.specs.declared.line.Node.TheVariants as node
-use Rattle.ta_scope.specs.Order.{IsOrder, rank_of}
-use Rattle.ta_scope.proofs.OrderLaws.{goes_forward}
 use Rattle.ta_words.specs.Calls.{OfPattern}
 use Rattle.ta_encode.specs.declared.encoded.Solution.{Solution}
 use Rattle.ta_encode.proofs.Switch.{some_at}
@@ -21,12 +18,8 @@ use Rattle.ta_walk.specs.Ends.{NodeOf, SolutionAt, TreeIs}
 use Rattle.ta_walk.proofs.ProofsMade.{refuted_safe}
 use Rattle.ta_walk.proofs.WordsSolved.{found_solved}
 use Rattle.ta_report.specs.declared.verdict.Verdict.{Verdict}
-use Rattle.ta_report.specs.Report.{report_text}
-use Rattle.ta_program.specs.declared.status.Status.{Status}
-use Rattle.ta_program.specs.declared.status.Status.TheVariants as status
-use Rattle.ta_program.specs.Contents.{Files}
-use Rattle.ta_program.specs.Check.{IsFile}
-use Rattle.ta_program.specs.Verify.{FoundHolds, ReportEnds, ReportSays, SafeHolds, VerdictHolds, VerdictsHold, VerifyEnds, VerifySays, leaf_count, verdicts_number}
+use Rattle.ta_report.specs.Report.{VerdictFits}
+use Rattle.ta_program.specs.Verify.{AreVerdicts, FoundHolds, SafeHolds, VerdictHolds, VerdictsHold, leaf_count}
 
 -- whether a node is a leaf
 abbrev pub is_leaf : Node → Bool
@@ -46,8 +39,8 @@ safe_holds file number p at loops budget within tree nodes leaves is counted =
     record { safe = (refuted_safe file number p at loops budget within tree nodes is).1; tree = tree; is = is; counted = counted }
 
 -- a pattern whose word has a solution occurs in a run
-pub found_holds : (file : File) (number : ℕ) (p : Pattern) → slice_get file.patterns number ≡ Some p → (order : List ℕ) → IsOrder file.automaton order → (budget nodes : ℕ) (solution : Solution) → NodeOf file.automaton p budget nodes (SolutionAt file.automaton p number solution) → FoundHolds file number p budget nodes
-found_holds file number p at order ordered budget nodes solution found =
+pub found_holds : (file : File) (number : ℕ) (p : Pattern) → slice_get file.patterns number ≡ Some p → InScope file.automaton → (budget nodes : ℕ) (solution : Solution) → NodeOf file.automaton p budget nodes (SolutionAt file.automaton p number solution) → FoundHolds file number p budget nodes
+found_holds file number p at scope budget nodes solution found =
     let solved = found_solved file.automaton p number budget nodes solution found in
     record {
       solution = solution;
@@ -55,7 +48,7 @@ found_holds file number p at order ordered budget nodes solution found =
       values = solved.0;
       are = solved.1;
       solved = solved.3;
-      run = runs file number p at (rank_of order) (goes_forward file.automaton order ordered) solution.start_mask solution.word solved.0 solved.3;
+      run = runs file number p at scope solution.start_mask solution.word solved.0 solved.3;
     }
 
 -- one more verdict at the end
@@ -78,9 +71,14 @@ as_many file budget number (p ∷ ps) (v ∷ vs) hold = ap suc (as_many file bud
 pub record VerdictsSoFar (file : File) (budget count done : ℕ) (vs : List Verdict) : Type 0 where
   pub counted : count ≡ length file.patterns
   pub hold : VerdictsHold file budget 0 (take done file.patterns) vs
+  pub fit : Each VerdictFits vs
 
-pub so_far_more : (file : File) (budget count done : ℕ) (vs : List Verdict) (v : Verdict) → VerdictsSoFar file budget count done vs → done < count → OfPattern file done (λ p. VerdictHolds file budget done p v) → VerdictsSoFar file budget count (done + 1) (vs ++ v ∷ [])
-so_far_more file budget count done vs v so below here =
+fit_more : (vs : List Verdict) (v : Verdict) → Each VerdictFits vs → VerdictFits v → Each VerdictFits (vs ++ v ∷ [])
+fit_more [] v fit fits = (fits, tt)
+fit_more (w ∷ vs) v fit fits = (fit.0, fit_more vs v fit.1 fits)
+
+pub so_far_more : (file : File) (budget count done : ℕ) (vs : List Verdict) (v : Verdict) → VerdictsSoFar file budget count done vs → done < count → OfPattern file done (λ p. VerdictHolds file budget done p v) → VerdictFits v → VerdictsSoFar file budget count (done + 1) (vs ++ v ∷ [])
+so_far_more file budget count done vs v so below here fits =
     let ps = file.patterns in
     let counted = so.counted in
     let within : done < length ps = omega arith in
@@ -93,31 +91,11 @@ so_far_more file budget count done vs v so below here =
     record {
       counted = counted;
       hold = subst (λ (qs : List Pattern). VerdictsHold file budget 0 qs (vs ++ v ∷ [])) more (holds_more file budget 0 (take done ps) vs p v so.hold (subst (λ (k : ℕ). VerdictHolds file budget k p v) number (here p at.1)));
+      fit = fit_more vs v so.fit fits;
     }
 
--- a write that failed added a prefix
-adds_prefix : (e : SinkFault) (text : List ℕ) (before after : Option (List ℕ)) → AddsWhole (Err e) text before after → AddsPrefix text before after
-adds_prefix fault.Failed text before after h = h
-adds_prefix (fault.Stuck at) text before after h = (let below = h.0 in record { count = at; within = omega arith; added = h.1 })
-
--- the report that was written in part, whatever number its verdicts give
-pub report_cut : (e : SinkFault) (file : File) (vs : List Verdict) (budget : ℕ) (before after : Option (List ℕ)) → AddsWhole (Err e) (report_text file vs) before after → VerdictsHold file budget 0 file.patterns vs → ReportSays status.OutputFailed file budget before after
-report_cut e file vs budget before after wrote hold =
-    (verdicts_number vs, record { verdicts = vs; hold = hold; numbered = refl; wrote = adds_prefix e (report_text file vs) before after wrote })
-
--- the verdicts of a legal file
-verify_ends : (number : ℕ) (end : Status) (files : Files) (name : List ℕ) (file : File) (budget : ℕ) (before after : Option (List ℕ)) → IsFile files name file → ReportEnds number end file budget before after → VerifyEnds number end files name budget before after
-verify_ends number end files name file budget before after is_file h =
-    record { file = file; verdicts = h.verdicts; verified = record { is_file = is_file; hold = h.hold }; numbered = h.numbered; wrote = h.wrote }
-
--- what the command says, once the file is legal
-pub verify_says : (end : Status) (files : Files) (name : List ℕ) (file : File) (budget : ℕ) (before after : Option (List ℕ)) → IsFile files name file → ReportSays end file budget before after → VerifySays end files name budget before after
-verify_says status.Done files name file budget before after is_file h = verify_ends 0 status.Done files name file budget before after is_file h
-verify_says status.Found files name file budget before after is_file h = verify_ends 1 status.Found files name file budget before after is_file h
-verify_says status.Unknown files name file budget before after is_file h = verify_ends 2 status.Unknown files name file budget before after is_file h
-verify_says status.Usage files name file budget before after is_file h = absurd h
-verify_says (status.File word trouble) files name file budget before after is_file h = absurd h
-verify_says (status.Certificate word trouble) files name file budget before after is_file h = absurd h
-verify_says (status.Run word trouble) files name file budget before after is_file h = absurd h
-verify_says status.OutputFailed files name file budget before after is_file h = record { number = h.0; ends = verify_ends h.0 status.OutputFailed files name file budget before after is_file h.1 }
-verify_says status.Memory files name file budget before after is_file h = h
+-- a verdict on each of all patterns
+pub all_made : (file : File) (budget count : ℕ) (vs : List Verdict) → VerdictsSoFar file budget count count vs → AreVerdicts file budget vs
+all_made file budget count vs so =
+    let all : take count file.patterns ≡ file.patterns = ap (λ (n : ℕ). take n file.patterns) so.counted ∙ take-length file.patterns in
+    record { hold = subst (λ (ps : List Pattern). VerdictsHold file budget 0 ps vs) all so.hold; fit = so.fit }

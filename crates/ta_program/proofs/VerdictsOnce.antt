@@ -41,10 +41,14 @@ record SameKinds (vs ws : List Verdict) : Type 0 where
   found : list_any is_found vs ≡ list_any is_found ws
   unknown : list_any is_unknown vs ≡ list_any is_unknown ws
 
+none_left : (file : File) (budget number : ℕ) (vs : List Verdict) → VerdictsHold file budget number [] vs → vs ≡ []
+none_left file budget number [] h = refl
+none_left file budget number (v ∷ vs) h = absurd h
+
 same_kinds : (file : File) (budget number : ℕ) (ps : List Pattern) (vs ws : List Verdict) → VerdictsHold file budget number ps vs → VerdictsHold file budget number ps ws → SameKinds vs ws
-same_kinds file budget number [] [] [] h k = record { found = refl; unknown = refl }
-same_kinds file budget number [] (v ∷ vs) ws h k = absurd h
-same_kinds file budget number [] [] (w ∷ ws) h k = absurd k
+same_kinds file budget number [] vs ws h k =
+    let same : vs ≡ ws = none_left file budget number vs h ∙ sym (none_left file budget number ws k) in
+    record { found = ap (list_any is_found) same; unknown = ap (list_any is_unknown) same }
 same_kinds file budget number (p ∷ ps) [] ws h k = absurd h
 same_kinds file budget number (p ∷ ps) (v ∷ vs) [] h k = absurd k
 same_kinds file budget number (p ∷ ps) (v ∷ vs) (w ∷ ws) h k =

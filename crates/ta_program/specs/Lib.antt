@@ -1,12 +1,9 @@
 pub mod Words
-pub mod Requests
-pub mod Troubles
-pub mod Texts
-pub mod Lines
-pub mod Told
-pub mod Contents
-pub mod Outcome
+pub mod Taken
+pub mod Kinds
 pub mod Check
 pub mod Replay
 pub mod Verify
+pub mod Requests
+pub mod Headline
 pub mod Program

@@ -1,132 +1,84 @@
 -- What a run of the program says (this project's profile)
-use Rattle.std.specs.Prelude.{ℕ, ◌<◌, ◌≡◌, ◌≢◌, ◌≤◌, ◌⊎◌, List, Option, Some}
+use Rattle.std.specs.Prelude.{ℕ, ◌≡◌, ◌≢◌, ◌≤◌, List, codes, Option, None, Some}
 use Rattle.ta_automaton.specs.declared.file.File.{File}
-use Rattle.ta_cert.specs.declared.fault.CertFault.{CertFault}
-use Rattle.ta_meaning.specs.FirstFault.{FirstFault}
-use Rattle.ta_replay.specs.declared.fault.RunFault.{RunFault}
-use Rattle.ta_replay.specs.declared.run.Run.{Run}
-use Rattle.ta_syntax.specs.declared.fault.FileFault.{FileFault}
-use Rattle.ta_shelf.specs.Counts.{Faulted, Stalled}
-use Rattle.ta_program.specs.declared.status.Trouble.{Trouble}
-use Rattle.ta_program.specs.declared.status.Status.{Status}
-use Rattle.ta_program.specs.declared.status.Status.TheVariants as status
-use Rattle.ta_program.specs.Words.{AsksCheck, AsksReplay, AsksVerify, IsLegal}
-use Rattle.ta_program.specs.Contents.{Files, Hinders}
-use Rattle.ta_program.specs.Lines.{file_limit, status_number}
-use Rattle.ta_program.specs.Troubles.{trouble_number}
-use Rattle.ta_program.specs.Outcome.{ShelfCause, WriteCause}
-use Rattle.ta_program.specs.Told.{Told}
-use Rattle.ta_program.specs.Check.{CertificateHinders, CheckSays, CheckWrites, IsCertificate, IsFile}
-use Rattle.ta_program.specs.Verify.{IsVerified, ReportHolds, VerifySays, verdicts_number}
-use Rattle.ta_report.specs.declared.verdict.Verdict.{Verdict}
-use Rattle.ta_program.specs.Replay.{IsShownRun, ReplaySays, ReplayWrites, RunHinders}
+use Rattle.ta_shelf.specs.Calls.{Call, Grew}
+use Rattle.ta_shelf.specs.Counts.{Faulted}
+use Rattle.ta_shelf.specs.Put.{Told}
+use Rattle.ta_shell.specs.Commands.{Exact}
+use Rattle.ta_shell.specs.Ends.{Failed, Performs, State, Telling, Tells}
+use Rattle.ta_shell.specs.Sights.{in_files, seen}
+use Rattle.ta_program.specs.Check.{CheckHolds}
+use Rattle.ta_program.specs.Headline.{EachPrintedSafe}
+use Rattle.ta_program.specs.Kinds.{IsFile}
+use Rattle.ta_program.specs.Replay.{ReplayHolds}
+use Rattle.ta_program.specs.Requests.{file_of, meaning_of}
+use Rattle.ta_program.specs.Verify.{IsKnown, ReportHolds}
+use Rattle.ta_program.specs.Words.{Asked, request_of}
+use Rattle.ta_program.specs.Words.Asked.{Check, Replay, Verify}
 
--- the words are no command's, and nothing was written
-pub record OfNoCommand (end : Status) (words : List (List ℕ)) (before after : Option (List ℕ)) : Type 0 where
-  pub ended : end ≡ status.Usage
-  pub no_command : ¬ IsLegal words
-  pub nothing : after ≡ before
+abbrev pub usage_line : List ℕ
+usage_line = codes "tav: usage: verify FILE [--nodes N] [--certificate OUT] [--json], check FILE CERT, replay FILE RUN, compress FILE RUN, bench K\n"
 
--- the words are those of `check`, which says this
-pub record OfCheck (end : Status) (words : List (List ℕ)) (files : Files) (before after : Option (List ℕ)) : Type 0 where
-  pub file_name : List ℕ
-  pub certificate_name : List ℕ
-  pub asked : AsksCheck words file_name certificate_name
-  pub says : CheckSays end files file_name certificate_name before after
+-- the words are no command's: nothing is read or written, and the line says so
+pub record OfNoCommand (number : ℕ) (before after : State) : Type 0 where
+  pub five : number ≡ 5
+  pub shelf : after.shelf ≡ before.shelf
+  pub out : after.out ≡ before.out
+  pub told : Tells usage_line before.err after.err
 
--- the words are those of `replay`, which says this
-pub record OfReplay (end : Status) (words : List (List ℕ)) (files : Files) (before after : Option (List ℕ)) : Type 0 where
-  pub file_name : List ℕ
-  pub run_name : List ℕ
-  pub asked : AsksReplay words file_name run_name
-  pub says : ReplaySays end files file_name run_name before after
+-- the command that is asked for is done
+abbrev pub Runs : Option Asked → ℕ → State → State → Type 0
+Runs None number before after = OfNoCommand number before after
+Runs (Some asked) number before after = Performs (meaning_of asked) number before after
 
--- the words are those of `verify`, which says this
-pub record OfVerify (end : Status) (words : List (List ℕ)) (files : Files) (before after : Option (List ℕ)) : Type 0 where
-  pub file_name : List ℕ
-  pub budget : ℕ
-  pub asked : AsksVerify words file_name budget
-  pub says : VerifySays end files file_name budget before after
+-- `verify FILE` with status 0, 1 or 2: FILE is legal, each verdict holds, they give the status, and the output gained the report: 1
+-- where some pattern is found, else 2 where some is unknown, else 0
+abbrev pub VerifyReports : ℕ → List (List ℕ) → Option Told → List Call → List Call → Option (List ℕ) → Option (List ℕ) → Type 0
+VerifyReports number words files calls calls' written written' =
+    (name : List ℕ) (budget : ℕ) → request_of words ≡ Some (Verify name budget) → number ≤ 2
+    → Grew (λ read. ReportHolds number (seen files read) name budget written written') calls calls'
 
--- what a status says of the words, of the files, and of what was written
-abbrev pub Says : Status → List (List ℕ) → Files → Option (List ℕ) → Option (List ℕ) → Type 0
-Says end words files before after = OfNoCommand end words before after ⊎ (OfCheck end words files before after ⊎ (OfReplay end words files before after ⊎ OfVerify end words files before after))
+-- `check FILE CERT` with status 0: FILE is legal, CERT is a certificate of it, each pattern that it proves is safe, and the output
+-- gained the text that says which these are
+abbrev pub CheckProves : ℕ → List (List ℕ) → Option Told → List Call → List Call → Option (List ℕ) → Option (List ℕ) → Type 0
+CheckProves number words files calls calls' written written' =
+    (name certificate : List ℕ) → request_of words ≡ Some (Check name certificate) → number ≡ 0
+    → Grew (λ read. CheckHolds (seen files read) name certificate written written') calls calls'
 
--- what was written to a sink so far, and its counts of faults and of stalls
-pub record SinkState : Type 0 where
-  pub written : Option (List ℕ)
-  pub faults : ℕ
-  pub stalls : ℕ
+-- `replay FILE RUN` with status 0: FILE is legal, RUN is the text of a run that shows its pattern, and the output gained the line
+-- that says so
+abbrev pub ReplayShows : ℕ → List (List ℕ) → Option Told → List Call → List Call → Option (List ℕ) → Option (List ℕ) → Type 0
+ReplayShows number words files calls calls' written written' =
+    (name run : List ℕ) → request_of words ≡ Some (Replay name run) → number ≡ 0
+    → Grew (λ read. ReplayHolds (seen files read) name run written written') calls calls'
 
--- the number is that of a status, which says what there is to say of the words and files, what was written, what failed, and
--- what was told
-pub record Outcome (number : ℕ) (words : List (List ℕ)) (files : Files) (shelf shelf' : ℕ) (out out' err err' : SinkState) : Type 0 where
-  pub end : Status
-  pub numbered : number ≡ status_number end
-  pub says : Says end words files out.written out'.written
-  pub shelf_cause : ShelfCause end shelf shelf'
-  pub out_cause : WriteCause end out.faults out'.faults out.stalls out'.stalls
-  pub told : Told end err.written err'.written err.faults err'.faults err.stalls err'.stalls
-
--- `check FILE CERT` with status 0: FILE is a legal file, CERT is a certificate of it, each pattern that it proves is safe, and
--- the output gained the text that says which these are
-abbrev pub CheckProves : ℕ → List (List ℕ) → Files → Option (List ℕ) → Option (List ℕ) → Type 0
-CheckProves number words files before after =
-    (file_name certificate_name : List ℕ) → AsksCheck words file_name certificate_name → number ≡ 0 → CheckWrites status.Done files file_name certificate_name before after
-
--- `replay FILE RUN` with status 0: FILE is a legal file, RUN is the text of a run that shows its pattern, and the output gained
--- the line that says so
-abbrev pub ReplayShows : ℕ → List (List ℕ) → Files → Option (List ℕ) → Option (List ℕ) → Type 0
-ReplayShows number words files before after =
-    (file_name run_name : List ℕ) → AsksReplay words file_name run_name → number ≡ 0 → ReplayWrites status.Done files file_name run_name before after
-
--- `verify FILE` with status 0, 1 or 2: FILE is a legal file, each verdict holds, they give the status, and the output gained the
--- report: 1 where some pattern is found, else 2 where some is unknown, else 0, so that with 0 every pattern is safe
-abbrev pub VerifyReports : ℕ → List (List ℕ) → Files → Option (List ℕ) → Option (List ℕ) → Type 0
-VerifyReports number words files before after =
-    (file_name : List ℕ) (budget : ℕ) → AsksVerify words file_name budget → number ≤ 2 → ReportHolds number files file_name budget before after
+-- with status 0, 1 or 2 of `verify` a pattern whose line says `safe` is safe, and with status 0 of `check` one that is `proved`
+pub record PrintedIsSafe (number : ℕ) (words : List (List ℕ)) (files : Option Told) (calls calls' : List Call) (written written' : Option (List ℕ)) : Type 0 where
+  pub verify : (name : List ℕ) (budget : ℕ) → request_of words ≡ Some (Verify name budget) → number ≤ 2 → Grew (λ read. EachPrintedSafe (codes "safe, ") (seen files read) name written written') calls calls'
+  pub check : (name certificate : List ℕ) → request_of words ≡ Some (Check name certificate) → number ≡ 0 → Grew (λ read. EachPrintedSafe (codes "proved") (seen files read) name written written') calls calls'
 
 -- 5 exactly where the words are no command's
 pub record UsageExactly (number : ℕ) (words : List (List ℕ)) : Type 0 where
-  pub no_command : number ≡ 5 → ¬ IsLegal words
-  pub command : number ≢ 5 → IsLegal words
+  pub no_command : number ≡ 5 → request_of words ≡ None
+  pub command : number ≢ 5 → request_of words ≢ None
 
--- nothing is written but with 0, 1, 2 and 6; no count rose with 0 to 5; and with 6 the shelf or the output failed or stood still
-pub record Quiet (number shelf shelf' : ℕ) (out out' : SinkState) : Type 0 where
-  pub nothing_written : 2 < number → number ≢ 6 → out'.written ≡ out.written
-  pub shelf_kept : number ≤ 5 → shelf' ≡ shelf
-  pub faults_kept : number ≤ 5 → out'.faults ≡ out.faults
-  pub stalls_kept : number ≤ 5 → out'.stalls ≡ out.stalls
-  pub failed : number ≡ 6 → Faulted shelf shelf' ⊎ (Faulted out.faults out'.faults ⊎ Stalled out.stalls out'.stalls)
+-- what is told on standard error
+abbrev pub Tellings : Option Asked → ℕ → State → State → Type 0
+Tellings None number before after = (number ≡ 5) × Tells usage_line before.err after.err
+Tellings (Some asked) number before after = Telling (meaning_of asked) number before after
 
--- a number, 6 and 7 aside
-abbrev pub IsAside : ℕ → ℕ → Type 0
-IsAside expected number = (number ≡ expected) ⊎ ((number ≡ 6) ⊎ (number ≡ 7))
+-- where the files are told, the number is the one that is so of them, 6 and 7 aside
+abbrev pub ExactlySo : ℕ → List (List ℕ) → Option Told → Type 0
+ExactlySo number words files = (asked : Asked) → request_of words ≡ Some asked → Exact (meaning_of asked) files number
 
--- the files are told
-abbrev pub AreTold : Files → Type 0
-AreTold files = (told : List ℕ → Option (List ℕ)) × (files ≡ Some told)
+-- the calls are those of the command that is asked for, and no others
+abbrev pub Opens : Option Asked → List Call → List Call → Type 0
+Opens None calls calls' = calls' ≡ calls
+Opens (Some asked) calls calls' = Grew ((meaning_of asked).opens) calls calls'
 
--- where the files are told, `check` answers 3, 4 and 0, 6 and 7 aside, wherever these have their cause
-pub record CheckExact (number : ℕ) (files : Files) (file_name certificate_name : List ℕ) : Type 0 where
-  pub file : (trouble : Trouble FileFault) → trouble_number 3 trouble ≡ 3 → Hinders FirstFault file_limit files file_name trouble → IsAside 3 number
-  pub certificate : (trouble : Trouble CertFault) → trouble_number 4 trouble ≡ 4 → CertificateHinders files file_name certificate_name trouble → IsAside 4 number
-  pub done : (file : File) (numbers : List ℕ) → IsFile files file_name file → IsCertificate files certificate_name file numbers → IsAside 0 number
-
--- where the files are told, `replay` answers 3, 4 and 0, 6 and 7 aside, wherever these have their cause
-pub record ReplayExact (number : ℕ) (files : Files) (file_name run_name : List ℕ) : Type 0 where
-  pub file : (trouble : Trouble FileFault) → trouble_number 3 trouble ≡ 3 → Hinders FirstFault file_limit files file_name trouble → IsAside 3 number
-  pub run : (trouble : Trouble RunFault) → trouble_number 4 trouble ≡ 4 → RunHinders files file_name run_name trouble → IsAside 4 number
-  pub done : (file : File) (run : Run) → IsFile files file_name file → IsShownRun files run_name file run → IsAside 0 number
-
--- where the files are told, `verify` answers 3, and the number of the verdicts, 6 and 7 aside, wherever these have their cause
-pub record VerifyExact (number : ℕ) (files : Files) (file_name : List ℕ) (budget : ℕ) : Type 0 where
-  pub file : (trouble : Trouble FileFault) → trouble_number 3 trouble ≡ 3 → Hinders FirstFault file_limit files file_name trouble → IsAside 3 number
-  pub done : (file : File) (verdicts : List Verdict) → IsVerified files file_name budget file verdicts → IsAside (verdicts_number verdicts) number
-
-abbrev pub Complete : ℕ → List (List ℕ) → Files → Type 0
-Complete number words files =
-    AreTold files
-    → ((file_name certificate_name : List ℕ) → AsksCheck words file_name certificate_name → CheckExact number files file_name certificate_name)
-    × ((file_name run_name : List ℕ) → AsksReplay words file_name run_name → ReplayExact number files file_name run_name)
-    × ((file_name : List ℕ) (budget : ℕ) → AsksVerify words file_name budget → VerifyExact number files file_name budget)
+-- a legal FILE passes: with told files, neither 3 nor 5; where no call failed or stood still, no 6; and of `verify`, where no
+-- verdict that leaves a pattern unknown holds, no 2
+pub record Completes (number : ℕ) (words : List (List ℕ)) (before after : State) : Type 0 where
+  pub passes : (told : Told) (asked : Asked) (file : File) → before.shelf.files ≡ Some told → request_of words ≡ Some asked → IsFile (in_files told) (file_of asked) file → (number ≢ 3) × (number ≢ 5)
+  pub calm : ¬ Faulted before.shelf.faults after.shelf.faults → ¬ Failed before.out after.out → number ≢ 6
+  pub known : (told : Told) (name : List ℕ) (budget : ℕ) (file : File) → before.shelf.files ≡ Some told → request_of words ≡ Some (Verify name budget) → IsFile (in_files told) name file → IsKnown file budget → number ≢ 2

@@ -1,14 +1,14 @@
 -- The command `verify` (this project's profile)
-use Rattle.std.specs.Prelude.{ℕ, pos, ◌+◌, ◌≡◌, Bool, true, false, List, [], ◌∷◌, map, Option, if◌then◌else◌}
+use Rattle.std.specs.Prelude.{ℕ, pos, ◌+◌, ◌≡◌, Bool, true, false, List, [], ◌∷◌, map, slice_get, Option, Some, if◌then◌else◌}
 use Rattle.std.specs.List.{list_any}
 use Rattle.ta_automaton.specs.declared.file.File.{File}
 use Rattle.ta_automaton.specs.declared.pattern.Pattern.{Pattern}
+use Rattle.ta_automaton.specs.Lists.{Each}
 use Rattle.ta_automaton.specs.Runs as runs
 use Rattle.ta_cert.specs.declared.line.Node.{Node}
 use Rattle.ta_cert.specs.declared.line.Node.TheVariants as node
 use Rattle.ta_encode.specs.declared.encoded.Solution.{Solution}
 use Rattle.ta_encode.specs.Laws.{HasRun, SolvedWord}
-use Rattle.ta_meaning.specs.FirstFault.{FirstFault}
 use Rattle.ta_shelf.specs.Sink.{with_text}
 use Rattle.ta_walk.specs.declared.end.PlaceKind.{PlaceKind}
 use Rattle.ta_walk.specs.declared.end.PlaceKind.TheVariants as place
@@ -18,13 +18,12 @@ use Rattle.ta_report.specs.declared.verdict.ReportKind.{ReportKind}
 use Rattle.ta_report.specs.declared.verdict.ReportKind.TheVariants as kind
 use Rattle.ta_report.specs.declared.verdict.Verdict.{Verdict}
 use Rattle.ta_report.specs.declared.verdict.Verdict.TheVariants.{Safe, Found, Spent, Overflow}
-use Rattle.ta_report.specs.Report.{report_text}
-use Rattle.ta_program.specs.declared.status.Status.{Status}
-use Rattle.ta_program.specs.declared.status.Status.TheVariants as status
-use Rattle.ta_program.specs.Contents.{Files, Hinders}
-use Rattle.ta_program.specs.Lines.{file_limit}
-use Rattle.ta_program.specs.Outcome.{Wrote}
-use Rattle.ta_program.specs.Check.{IsFile}
+use Rattle.ta_report.specs.Report.{VerdictFits, report_text}
+use Rattle.ta_shell.specs.declared.answer.Answer.{Answer}
+use Rattle.ta_shell.specs.Commands.{Meaning}
+use Rattle.ta_shell.specs.Sights.{View}
+use Rattle.ta_shell.specs.Stages.{Writes, after, replies}
+use Rattle.ta_program.specs.Kinds.{IsFile, file_kind}
 
 -- how many of some nodes are leaves
 abbrev pub leaf_count : List Node → ℕ
@@ -85,58 +84,30 @@ is_unknown (Overflow node kind) = true
 abbrev pub verdicts_number : List Verdict → ℕ
 verdicts_number vs = if list_any is_found vs then 1 else (if list_any is_unknown vs then 2 else 0)
 
--- a verdict on each pattern of the file that the bytes of a name mean, each of which holds
-pub record IsVerified (files : Files) (name : List ℕ) (budget : ℕ) (file : File) (verdicts : List Verdict) : Type 0 where
-  pub is_file : IsFile files name file
+-- a verdict on each pattern of a file, in order: each holds, and its numbers are below 2^64
+pub record AreVerdicts (file : File) (budget : ℕ) (verdicts : List Verdict) : Type 0 where
   pub hold : VerdictsHold file budget 0 file.patterns verdicts
+  pub fit : Each VerdictFits verdicts
 
--- FILE is legal, each verdict holds, these give the number, and the report was written as the status says
-pub record VerifyEnds (number : ℕ) (end : Status) (files : Files) (name : List ℕ) (budget : ℕ) (before after : Option (List ℕ)) : Type 0 where
+-- the report of such verdicts, with the number that they give
+pub record Reports (file : File) (budget : ℕ) (answer : Answer) : Type 0 where
+  pub verdicts : List Verdict
+  pub are : AreVerdicts file budget verdicts
+  pub writes : Writes (verdicts_number verdicts) (report_text file verdicts) answer
+
+-- FILE is read, and the report says what is known of each pattern
+abbrev pub verify_meaning : List ℕ → ℕ → Meaning
+verify_meaning name budget = after file_kind name [] (λ file. replies [] (Reports file budget))
+
+-- FILE is legal, each verdict holds, they give the number, and the output gained the report
+pub record ReportHolds (number : ℕ) (view : View) (name : List ℕ) (budget : ℕ) (written written' : Option (List ℕ)) : Type 0 where
   pub file : File
+  pub is_file : IsFile view name file
   pub verdicts : List Verdict
-  pub verified : IsVerified files name budget file verdicts
+  pub are : AreVerdicts file budget verdicts
   pub numbered : verdicts_number verdicts ≡ number
-  pub wrote : Wrote end (report_text file verdicts) before after
+  pub wrote : written' ≡ with_text written (report_text file verdicts)
 
--- the same, whatever number the verdicts give
-pub record VerifyWrites (end : Status) (files : Files) (name : List ℕ) (budget : ℕ) (before after : Option (List ℕ)) : Type 0 where
-  pub number : ℕ
-  pub ends : VerifyEnds number end files name budget before after
-
--- what `verify FILE` says by a status of the files, and of what it wrote
-abbrev pub VerifySays : Status → Files → List ℕ → ℕ → Option (List ℕ) → Option (List ℕ) → Type 0
-VerifySays status.Done files name budget before after = VerifyEnds 0 status.Done files name budget before after
-VerifySays status.Found files name budget before after = VerifyEnds 1 status.Found files name budget before after
-VerifySays status.Unknown files name budget before after = VerifyEnds 2 status.Unknown files name budget before after
-VerifySays status.Usage files name budget before after = ⊥
-VerifySays (status.File word trouble) files name budget before after =
-    (word.now ≡ name) × Hinders FirstFault file_limit files name trouble × (after ≡ before)
-VerifySays (status.Certificate word trouble) files name budget before after = ⊥
-VerifySays (status.Run word trouble) files name budget before after = ⊥
-VerifySays status.OutputFailed files name budget before after = VerifyWrites status.OutputFailed files name budget before after
-VerifySays status.Memory files name budget before after = after ≡ before
-
--- each verdict holds, these give the number, and the report was written as the status says
-pub record ReportEnds (number : ℕ) (end : Status) (file : File) (budget : ℕ) (before after : Option (List ℕ)) : Type 0 where
-  pub verdicts : List Verdict
-  pub hold : VerdictsHold file budget 0 file.patterns verdicts
-  pub numbered : verdicts_number verdicts ≡ number
-  pub wrote : Wrote end (report_text file verdicts) before after
-
--- the same once FILE is read
-abbrev pub ReportSays : Status → File → ℕ → Option (List ℕ) → Option (List ℕ) → Type 0
-ReportSays status.Done file budget before after = ReportEnds 0 status.Done file budget before after
-ReportSays status.Found file budget before after = ReportEnds 1 status.Found file budget before after
-ReportSays status.Unknown file budget before after = ReportEnds 2 status.Unknown file budget before after
-ReportSays status.OutputFailed file budget before after = (number : ℕ) × ReportEnds number status.OutputFailed file budget before after
-ReportSays status.Memory file budget before after = after ≡ before
-ReportSays end file budget before after = ⊥
-
--- the report that `verify` gives with status 0, 1 or 2: FILE is legal, each verdict holds, they give the status, and the output
--- gained the report
-pub record ReportHolds (number : ℕ) (files : Files) (name : List ℕ) (budget : ℕ) (before after : Option (List ℕ)) : Type 0 where
-  pub file : File
-  pub verdicts : List Verdict
-  pub verified : IsVerified files name budget file verdicts
-  pub numbered : verdicts_number verdicts ≡ number
-  pub wrote : after ≡ with_text before (report_text file verdicts)
+-- no verdict that leaves a pattern unknown holds
+abbrev pub IsKnown : File → ℕ → Type 0
+IsKnown file budget = (number : ℕ) (p : Pattern) (v : Verdict) → slice_get file.patterns number ≡ Some p → is_unknown v ≡ true → ¬ VerdictHolds file budget number p v

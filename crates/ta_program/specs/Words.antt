@@ -1,7 +1,26 @@
 -- The words of the command line (this project's profile)
-use Rattle.std.specs.Prelude.{ℕ, ◌<◌, ◌≤◌, ◌≡◌, ◌≢◌, ◌==◌, ◌⊎◌, Bool, false, List, [], ◌∷◌, codes, drop, take, length, is_none, Option, None, Some, if◌then◌else◌}
+use Rattle.std.specs.Prelude.{ℕ, ◌==◌, ◌&&◌, nat_lt, nat_le, Bool, true, false, List, [], ◌∷◌, codes, drop, take, length, is_none, Option, None, Some, if◌then◌else◌, option_and_then}
+use Rattle.std.specs.Char.{is_ascii_digit}
+use Rattle.std.specs.List.{list_all}
 use Rattle.std.specs.Str.{bytes_eq}
-use Rattle.std.specs.Str.Parse.{AllDigits, digits_value}
+use Rattle.std.specs.Str.Parse.{digits_value}
+use Rattle.ta_program.specs.declared.words.Command.{Command}
+use Rattle.ta_program.specs.declared.words.Command.TheVariants as command
+use Rattle.ta_program.specs.declared.words.Form.{Form}
+
+-- what words ask for
+pub data Asked : Type 0 where
+  Check : (file certificate : List ℕ) → Asked
+  Replay : (file run : List ℕ) → Asked
+  Verify : (file : List ℕ) (nodes : ℕ) → Asked
+
+-- the form of a command's words, one row a command: how many plain words there are, and whether `--nodes N` may be given
+abbrev pub form_of : List ℕ → Option Form
+form_of word =
+    if bytes_eq word (codes "check") then Some (record { command = command.Check; plain = 2; nodes = false })
+    else (if bytes_eq word (codes "replay") then Some (record { command = command.Replay; plain = 2; nodes = false })
+    else (if bytes_eq word (codes "verify") then Some (record { command = command.Verify; plain = 1; nodes = true })
+    else None))
 
 -- begins with `-` and is longer than that
 abbrev pub is_dashed : List ℕ → Bool
@@ -9,97 +28,78 @@ is_dashed [] = false
 is_dashed (c ∷ []) = false
 is_dashed (c ∷ d ∷ cs) = c == 45
 
-abbrev pub with_first : List ℕ → Option (List (List ℕ)) → Option (List (List ℕ))
-with_first word None = None
-with_first word (Some words) = Some (word ∷ words)
-
--- the plain words among the words after a command, where each of these may stand there: `--` makes all later words plain, and
--- no other word begins with `-` and is longer than that
-abbrev pub plain_words : List (List ℕ) → Option (List (List ℕ))
-plain_words [] = Some []
-plain_words (word ∷ words) =
-    if bytes_eq word (codes "--") then Some words else (if is_dashed word then None else with_first word (plain_words words))
-
--- the words are a command and two names of files
-pub record Asks (command : List ℕ) (words : List (List ℕ)) (first second : List ℕ) : Type 0 where
-  pub rest : List (List ℕ)
-  pub words_are : words ≡ command ∷ rest
-  pub plain : plain_words rest ≡ Some (first ∷ second ∷ [])
-  pub first_named : first ≢ []
-  pub second_named : second ≢ []
-
--- the words of `check FILE CERT`
-abbrev pub AsksCheck : List (List ℕ) → List ℕ → List ℕ → Type 0
-AsksCheck words file certificate = Asks (codes "check") words file certificate
-
--- the words of `replay FILE RUN`
-abbrev pub AsksReplay : List (List ℕ) → List ℕ → List ℕ → Type 0
-AsksReplay words file run = Asks (codes "replay") words file run
-
--- what stands behind `verify`: its plain words, and the value of `--nodes`, if it is given
-pub record VerifyWords : Type 0 where
-  pub plain : List (List ℕ)
+-- what was taken of the words so far: the plain words, the value of `--nodes`, whether `--` stood there, and whether the next word
+-- is a value
+pub record Taken : Type 0 where
+  pub first : Option (List ℕ)
+  pub second : Option (List ℕ)
   pub nodes : Option (List ℕ)
+  pub ended : Bool
+  pub awaits : Bool
 
--- one more plain word in front
-abbrev pub with_plain : List ℕ → Option VerifyWords → Option VerifyWords
-with_plain word None = None
-with_plain word (Some w) = Some (record { plain = word ∷ w.plain; nodes = w.nodes })
+-- before the first word
+abbrev pub nothing : Taken
+nothing = record { first = None; second = None; nodes = None; ended = false; awaits = false }
 
--- the value of `--nodes` in front, where it isn't given again
-abbrev pub with_nodes : List ℕ → Option VerifyWords → Option VerifyWords
-with_nodes value None = None
-with_nodes value (Some w) = if is_none w.nodes then Some (record { plain = w.plain; nodes = Some value }) else None
+-- with one more plain word, where the form has one more
+abbrev pub with_plain : Form → Taken → List ℕ → Option Taken
+with_plain form taken word =
+    if is_none taken.first then Some (record taken { first = Some word })
+    else (if is_none taken.second && nat_lt 1 form.plain then Some (record taken { second = Some word }) else None)
 
--- whether a word is `--nodes=` and a value
-abbrev pub is_nodes_value : List ℕ → Bool
-is_nodes_value word = bytes_eq (take 8 word) (codes "--nodes=")
+-- with the value of `--nodes`, where it wasn't given
+abbrev pub with_nodes : Taken → List ℕ → Option Taken
+with_nodes taken value = if is_none taken.nodes then Some (record taken { nodes = Some value; awaits = false }) else None
 
-abbrev mutual
-  -- the words behind `verify`, from the left: `--` makes all later words plain, `--nodes` takes the next word as its value, and no
-  -- other word begins with `-` and is longer than that
-  pub verify_words : List (List ℕ) → Option VerifyWords
-  verify_words [] = Some (record { plain = []; nodes = None })
-  verify_words (word ∷ words) =
-      if bytes_eq word (codes "--") then Some (record { plain = words; nodes = None })
-      else (if bytes_eq word (codes "--nodes") then nodes_next words
-      else (if is_nodes_value word then with_nodes (drop 8 word) (verify_words words)
-      else (if is_dashed word then None
-      else with_plain word (verify_words words))))
+-- with one more word: it is the value of `--nodes` where that stands before it, and isn't dashed then; `--` makes all later words
+-- plain; `--nodes` waits for its value, and `--nodes=V` has it; no other word is dashed
+abbrev pub take_word : Form → Taken → List ℕ → Option Taken
+take_word form taken word =
+    if taken.awaits then (if is_dashed word then None else with_nodes taken word)
+    else (if taken.ended then with_plain form taken word
+    else (if bytes_eq word (codes "--") then Some (record taken { ended = true })
+    else (if form.nodes && bytes_eq word (codes "--nodes") then Some (record taken { awaits = true })
+    else (if form.nodes && bytes_eq (take 8 word) (codes "--nodes=") then with_nodes taken (drop 8 word)
+    else (if is_dashed word then None
+    else with_plain form taken word)))))
 
-  -- the same where the next word is the value of `--nodes`, which doesn't begin with `-` but where it is that alone
-  pub nodes_next : List (List ℕ) → Option VerifyWords
-  nodes_next [] = None
-  nodes_next (value ∷ words) = if is_dashed value then None else with_nodes value (verify_words words)
+-- with all words, from the left
+abbrev pub take_all : Form → Taken → List (List ℕ) → Option Taken
+take_all form taken [] = Some taken
+take_all form taken (word ∷ words) = option_and_then (λ more. take_all form more words) (take_word form taken word)
 
--- a budget of nodes in 1 to 10 digits
-pub record IsBudget (text : List ℕ) (budget : ℕ) : Type 0 where
-  pub digits : AllDigits 10 text
-  pub some : 0 < length text
-  pub few : length text ≤ 10
-  pub value : budget ≡ digits_value 10 text
-  pub least : 1 ≤ budget
-  pub most : budget ≤ 1000000000
+-- the name of a file, which isn't empty
+abbrev pub name_of : Option (List ℕ) → Option (List ℕ)
+name_of None = None
+name_of (Some name) = if nat_lt 0 (length name) then Some name else None
+
+-- whether a text is a budget of nodes: 1 to 10 digits, and its value within the limits
+abbrev pub is_budget : List ℕ → Bool
+is_budget text =
+    nat_lt 0 (length text) && nat_le (length text) 10 && list_all is_ascii_digit text && nat_le 1 (digits_value 10 text) && nat_le (digits_value 10 text) 1000000000
 
 -- the budget that is asked for: 1,000,000 where none is given
-abbrev pub BudgetIs : Option (List ℕ) → ℕ → Type 0
-BudgetIs None budget = budget ≡ 1000000
-BudgetIs (Some text) budget = IsBudget text budget
+abbrev pub budget_of : Option (List ℕ) → Option ℕ
+budget_of None = Some 1000000
+budget_of (Some text) = if is_budget text then Some (digits_value 10 text) else None
 
--- the words of `verify FILE` with a budget of nodes
-pub record AsksVerify (words : List (List ℕ)) (file : List ℕ) (budget : ℕ) : Type 0 where
-  pub rest : List (List ℕ)
-  pub words_are : words ≡ codes "verify" ∷ rest
-  pub read : VerifyWords
-  pub read_is : verify_words rest ≡ Some read
-  pub one_plain : read.plain ≡ file ∷ []
-  pub named : file ≢ []
-  pub budget_is : BudgetIs read.nodes budget
+-- what a command asks for, with the names of its files and its budget
+abbrev pub asks : Command → Option (List ℕ) → Option (List ℕ) → Option ℕ → Option Asked
+asks command.Check (Some file) (Some certificate) nodes = Some (Check file certificate)
+asks command.Replay (Some file) (Some run) nodes = Some (Replay file run)
+asks command.Verify (Some file) second (Some nodes) = Some (Verify file nodes)
+asks other first second nodes = None
 
--- the words of `verify` of some file
-abbrev pub IsVerify : List (List ℕ) → Type 0
-IsVerify words = (file : List ℕ) × (budget : ℕ) × AsksVerify words file budget
+-- what is asked for where all words were taken; no value is missing
+abbrev pub asked_of : Command → Taken → Option Asked
+asked_of command taken =
+    if taken.awaits then None else asks command (name_of taken.first) (name_of taken.second) (budget_of taken.nodes)
 
--- the words of some command
-abbrev pub IsLegal : List (List ℕ) → Type 0
-IsLegal words = ((first : List ℕ) × (second : List ℕ) × (AsksCheck words first second ⊎ AsksReplay words first second)) ⊎ IsVerify words
+-- what the words of a command of this form ask for
+abbrev pub asked_by : List (List ℕ) → Form → Option Asked
+asked_by words form = option_and_then (asked_of form.command) (take_all form nothing words)
+
+-- what the words ask for: the first one is the command
+abbrev pub request_of : List (List ℕ) → Option Asked
+request_of [] = None
+request_of (word ∷ words) = option_and_then (asked_by words) (form_of word)

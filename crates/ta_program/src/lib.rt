@@ -1,19 +1,17 @@
 //! The program, over the words, the files and the sinks that it is given.
 #![tactic(auto)]
 
-mod checking;
+mod budget;
+mod check;
+mod limits;
 mod reading;
-mod replaying;
+mod replay;
+mod requests;
 mod running;
-mod status;
-mod telling;
-mod texts;
-mod verifying;
+mod verify;
 mod words;
-mod writing;
 
 pub use running::run;
-pub use status::{Status, Trouble};
 
 #[cfg(test)]
 mod tests;

@@ -1,51 +1,41 @@
-//! Reading the texts that commands need.
+//! Reading the automaton file of a command.
 #![tactic(auto)]
 
-ghost use Rattle.std.specs.Prelude.{◌≡◌, ◌≤◌, IfOk, IfErr, List, ℕ};
-ghost use Rattle.ta_meaning.specs.FirstFault.{FirstFault};
-ghost use Rattle.ta_program.specs.Check.{IsFile};
-ghost use Rattle.ta_program.specs.Contents.{HasBytes, Hinders, ReadCause};
-ghost use Rattle.ta_program.specs.Lines.{file_limit};
+ghost use Rattle.std.specs.Prelude.{◌≡◌};
+ghost use Rattle.ta_shelf.specs.Calls.{Grew};
+ghost use Rattle.ta_shell.specs.Reading.{ReadCause};
+ghost use Rattle.ta_shell.specs.Stages.{Stage};
+ghost use Rattle.ta_program.specs.Kinds.{file_kind};
 
-use crate::status::Trouble;
+use crate::limits::FILE;
 use std::alloc::Global;
 use ta_meaning::read_file;
+use ta_report::file_fault_phrase;
 use ta_scope::ScopedFile;
-use ta_shelf::{List, Shelf, read_whole};
+use ta_shelf::Shelf;
+use ta_shell::{Refusal, read_text};
 use ta_syntax::FileFault;
 
-/// The bytes of a file, which may have up to `limit` of them. What they say is judged by others.
-pub(crate) fn read_text<S: Shelf, F>(
-    alloc: Global,
-    name: &str,
-    limit: u64,
-    shelf: &mut S,
-) -> Result<List<u8>, Trouble<F>>
-    requires { limit ≤ 1073741824 }
-    ensures had { IfOk result (λ bytes. HasBytes (S.files shelf.old) name.now limit bytes) }
-    ensures hinders { IfErr result (λ trouble. Hinders (λ _ _. ⊥) limit (S.files shelf.old) name.now trouble) }
-    ensures cause { ReadCause result (S.faults shelf.old) (S.faults shelf.new) }
-    ensures kept { S.files shelf.new ≡ S.files shelf.old }
-{
-    let bytes = read_whole(alloc, shelf, name, limit)?;
-    Ok(bytes)
-}
-
 /// The file that a name's bytes mean, where they are legal.
-pub(crate) fn read_legal<S: Shelf>(
+pub(crate) fn read_legal<'a, S: Shelf>(
     alloc: Global,
-    name: &str,
     shelf: &mut S,
-) -> Result<ScopedFile, Trouble<FileFault>>
-    ensures is_file { IfOk result (λ scoped. IsFile (S.files shelf.old) name.now scoped.file) }
-    ensures hinders { IfErr result (λ trouble. Hinders FirstFault file_limit (S.files shelf.old) name.now trouble) }
+    name: &'a str,
+) -> Result<ScopedFile, Refusal<'a>>
+    ensures stage { Grew (Stage file_kind (λ scoped. scoped.file) (S.files shelf.old) name.now result) (S.calls shelf.old) (S.calls shelf.new) }
     ensures cause { ReadCause result (S.faults shelf.old) (S.faults shelf.new) }
     ensures kept { S.files shelf.new ≡ S.files shelf.old }
 {
-    let bytes = read_text(alloc, name, 1_048_576, shelf)?;
-    match read_file(alloc, bytes.as_slice()) {
-        Ok(scoped) => Ok(scoped),
-        Err(FileFault::Memory) => Err(Trouble::Memory),
-        Err(fault) => Err(Trouble::Fault(fault)),
+    match read_text(alloc, shelf, name, FILE) {
+        Ok(bytes) => match read_file(alloc, bytes.as_slice()) {
+            Ok(scoped) => Ok(scoped),
+            Err(FileFault::Memory) => Err(Refusal::Memory),
+            Err(fault) => Err(Refusal::Refused {
+                number: FILE.number,
+                name,
+                why: file_fault_phrase(&fault),
+            }),
+        },
+        Err(refusal) => Err(refusal),
     }
 }

@@ -1,18 +1,21 @@
 //! A run of the program.
 #![tactic(auto)]
 
-ghost use Rattle.std.specs.Prelude.{◌≡◌, map};
-ghost use Rattle.ta_program.specs.Outcome.{ShelfCause, WriteCause};
-ghost use Rattle.ta_program.specs.Program.{CheckProves, Complete, Outcome, Quiet, ReplayShows, Says, SinkState, UsageExactly, VerifyReports};
+ghost use Rattle.std.specs.Prelude.{◌≡◌, map, option_map};
+ghost use Rattle.ta_shell.specs.Ends.{Quiet, state};
+ghost use Rattle.ta_program.specs.Headline.{ZeroIsSafe};
+ghost use Rattle.ta_program.specs.Program.{CheckProves, Completes, ExactlySo, Opens, PrintedIsSafe, ReplayShows, Runs, Tellings, UsageExactly, VerifyReports};
+ghost use Rattle.ta_program.specs.Requests.{asked};
+ghost use Rattle.ta_program.specs.Words.{request_of};
 
-use crate::checking::check;
-use crate::replaying::replay_run;
-use crate::status::Status;
-use crate::telling::tell;
-use crate::verifying::verify;
 use crate::words::{Request, read_words};
 use std::alloc::Global;
 use ta_shelf::{Shelf, Sink};
+use ta_shell::{perform, tell_line};
+
+/// The line where the words are no command's.
+const USAGE: &str =
+    "tav: usage: verify FILE [--nodes N] [--certificate OUT] [--json], check FILE CERT, replay FILE RUN, compress FILE RUN, bench K\n";
 
 /// Does what the words ask for, and answers the number that the process ends with: 0 where all is
 /// done, 1 where some pattern is found, 2 where none is and some is unknown, 3 where FILE hinders, 4
@@ -28,41 +31,49 @@ pub fn run<S: Shelf, O: Sink, E: Sink>(
     out: &mut O,
     err: &mut E,
 ) -> u8
-    ensures outcome { Outcome result (map (λ w. w.now) words.now) (S.files shelf.old) (S.faults shelf.old) (S.faults shelf.new)
-        (record { written = O.written out.old; faults = O.faults out.old; stalls = O.stalls out.old })
-        (record { written = O.written out.new; faults = O.faults out.new; stalls = O.stalls out.new })
-        (record { written = E.written err.old; faults = E.faults err.old; stalls = E.stalls err.old })
-        (record { written = E.written err.new; faults = E.faults err.new; stalls = E.stalls err.new }) }
-    ensures check { CheckProves result (map (λ w. w.now) words.now) (S.files shelf.old) (O.written out.old) (O.written out.new) }
-    ensures replay { ReplayShows result (map (λ w. w.now) words.now) (S.files shelf.old) (O.written out.old) (O.written out.new) }
-    ensures verify { VerifyReports result (map (λ w. w.now) words.now) (S.files shelf.old) (O.written out.old) (O.written out.new) }
+    ensures headline { ZeroIsSafe result (map (λ w. w.now) words.now) (S.files shelf.old) (S.calls shelf.old) (S.calls shelf.new) (O.written out.old) (O.written out.new) }
+    ensures verify { VerifyReports result (map (λ w. w.now) words.now) (S.files shelf.old) (S.calls shelf.old) (S.calls shelf.new) (O.written out.old) (O.written out.new) }
+    ensures check { CheckProves result (map (λ w. w.now) words.now) (S.files shelf.old) (S.calls shelf.old) (S.calls shelf.new) (O.written out.old) (O.written out.new) }
+    ensures replay { ReplayShows result (map (λ w. w.now) words.now) (S.files shelf.old) (S.calls shelf.old) (S.calls shelf.new) (O.written out.old) (O.written out.new) }
+    ensures printed { PrintedIsSafe result (map (λ w. w.now) words.now) (S.files shelf.old) (S.calls shelf.old) (S.calls shelf.new) (O.written out.old) (O.written out.new) }
     ensures usage { UsageExactly result (map (λ w. w.now) words.now) }
-    ensures refused { Quiet result (S.faults shelf.old) (S.faults shelf.new)
-        (record { written = O.written out.old; faults = O.faults out.old; stalls = O.stalls out.old })
-        (record { written = O.written out.new; faults = O.faults out.new; stalls = O.stalls out.new }) }
-    ensures exact { Complete result (map (λ w. w.now) words.now) (S.files shelf.old) }
+    ensures exact { ExactlySo result (map (λ w. w.now) words.now) (S.files shelf.old) }
     ensures kept { S.files shelf.new ≡ S.files shelf.old }
+    ensures opened { Opens (request_of (map (λ w. w.now) words.now)) (S.calls shelf.old) (S.calls shelf.new) }
+    ensures runs { Runs (request_of (map (λ w. w.now) words.now)) result
+        (state (S.files shelf.old) (S.calls shelf.old) (S.faults shelf.old) (O.written out.old) (O.faults out.old) (O.stalls out.old) (E.written err.old) (E.faults err.old) (E.stalls err.old))
+        (state (S.files shelf.new) (S.calls shelf.new) (S.faults shelf.new) (O.written out.new) (O.faults out.new) (O.stalls out.new) (E.written err.new) (E.faults err.new) (E.stalls err.new)) }
+    ensures refused { Quiet result
+        (state (S.files shelf.old) (S.calls shelf.old) (S.faults shelf.old) (O.written out.old) (O.faults out.old) (O.stalls out.old) (E.written err.old) (E.faults err.old) (E.stalls err.old))
+        (state (S.files shelf.new) (S.calls shelf.new) (S.faults shelf.new) (O.written out.new) (O.faults out.new) (O.stalls out.new) (E.written err.new) (E.faults err.new) (E.stalls err.new)) }
+    ensures told { Tellings (request_of (map (λ w. w.now) words.now)) result
+        (state (S.files shelf.old) (S.calls shelf.old) (S.faults shelf.old) (O.written out.old) (O.faults out.old) (O.stalls out.old) (E.written err.old) (E.faults err.old) (E.stalls err.old))
+        (state (S.files shelf.new) (S.calls shelf.new) (S.faults shelf.new) (O.written out.new) (O.faults out.new) (O.stalls out.new) (E.written err.new) (E.faults err.new) (E.stalls err.new)) }
+    ensures complete { Completes result (map (λ w. w.now) words.now)
+        (state (S.files shelf.old) (S.calls shelf.old) (S.faults shelf.old) (O.written out.old) (O.faults out.old) (O.stalls out.old) (E.written err.old) (E.faults err.old) (E.stalls err.old))
+        (state (S.files shelf.new) (S.calls shelf.new) (S.faults shelf.new) (O.written out.new) (O.faults out.new) (O.stalls out.new) (E.written err.new) (E.faults err.new) (E.stalls err.new)) }
 {
-    let status = answer(alloc, words, shelf, out);
-    tell(alloc, &status, err)
+    let request = read_words(words);
+    obey(alloc, &request, shelf, out, err)
 }
 
-/// Does what the words ask for, and says how it ended.
-fn answer<'a, S: Shelf, O: Sink>(
+/// Does what is asked for, where something is.
+fn obey<S: Shelf, O: Sink, E: Sink>(
     alloc: Global,
-    words: &[&'a str],
+    request: &Option<Request<'_>>,
     shelf: &mut S,
     out: &mut O,
-) -> Status<'a>
-    ensures says { Says result (map (λ w. w.now) words.now) (S.files shelf.old) (O.written out.old) (O.written out.new) }
-    ensures shelf { ShelfCause result (S.faults shelf.old) (S.faults shelf.new) }
-    ensures out { WriteCause result (O.faults out.old) (O.faults out.new) (O.stalls out.old) (O.stalls out.new) }
-    ensures kept { S.files shelf.new ≡ S.files shelf.old }
+    err: &mut E,
+) -> u8
+    ensures { Runs (option_map asked request.now) result
+        (state (S.files shelf.old) (S.calls shelf.old) (S.faults shelf.old) (O.written out.old) (O.faults out.old) (O.stalls out.old) (E.written err.old) (E.faults err.old) (E.stalls err.old))
+        (state (S.files shelf.new) (S.calls shelf.new) (S.faults shelf.new) (O.written out.new) (O.faults out.new) (O.stalls out.new) (E.written err.new) (E.faults err.new) (E.stalls err.new)) }
 {
-    match read_words(words) {
-        Request::Check { file, certificate } => check(alloc, file, certificate, shelf, out),
-        Request::Replay { file, run } => replay_run(alloc, file, run, shelf, out),
-        Request::Verify { file, nodes } => verify(alloc, file, nodes, shelf, out),
-        Request::Refused => Status::Usage,
+    match request {
+        Some(request) => perform(alloc, request, shelf, out, err),
+        None => {
+            tell_line(err, USAGE);
+            5
+        }
     }
 }

@@ -4,7 +4,7 @@ use crate::run;
 use std::alloc::{AllocError, Global};
 use std::process::Abort;
 use std::test::Fail;
-use ta_shelf::{List, MemoryShelf, MemorySink, Text, are_distinct};
+use ta_shelf::{List, MemoryShelf, MemorySink, PutFault, Shelf, ShelfFault, Text, are_distinct};
 
 const KEPT: &str =
     "automaton first; parameters n; shared; locations A initial, B; processes n; resilience n >= 1; rule r: A -> B; pattern reached { event done: A + B >= n + 1; }";
@@ -52,6 +52,9 @@ const TOWER: &str =
 
 const CYCLE: &str =
     "automaton first; parameters n; shared; locations A initial, B; processes n; resilience n >= 1; rule r: A -> B; rule s: B -> A; pattern reached { event done: B >= 1; }";
+
+const COUNTED: &str =
+    "automaton first; parameters n; shared x; locations A initial, B; processes n; resilience n >= 1; rule r: A -> B; rule s: B -> A do x += 1; pattern reached { event done: B >= 1; }";
 
 const DEEP: &str =
     "automaton a;parameters n;shared;locations A initial;processes n;resilience ((((((((((((((((((((((((((((((((n))))))))))))))))))))))))))))))))>=0;";
@@ -389,6 +392,7 @@ fn verifies_files(rt: HostRuntime) -> Result<(), Fail> {
         ("odd", ODD),
         ("tower", TOWER),
         ("cycle", CYCLE),
+        ("counted", COUNTED),
         ("deep", DEEP),
         ("too_deep", TOO_DEEP),
         ("empty", ""),
@@ -473,9 +477,15 @@ fn verifies_files(rt: HostRuntime) -> Result<(), Fail> {
         ),
         (
             &["verify", "cycle"],
+            1,
+            "automaton first\npattern reached: found, 2 nodes\n",
+            "",
+        ),
+        (
+            &["verify", "counted"],
             3,
             "",
-            "tav: cycle: F11 cycle at rule 0\n",
+            "tav: counted: F11 cycle with updates at rule 1\n",
         ),
         (&["verify", "gone"], 3, "", "tav: gone: missing\n"),
         (&["verify", "gone"], 3, "", "tav: gone: missing\n"),
@@ -667,6 +677,143 @@ fn refuses_unfinished_runs(rt: HostRuntime) -> Result<(), Fail> {
         let line = format!(in alloc; "tav: run: N1 malformed at line {}\n", feeds as u64 + 1)?;
         let files = [("file", PAIR), ("run", run)];
         expect(&rt, alloc, &files, &CALM, &words, 4, "", line.as_str())?;
+    }
+    Ok(())
+}
+
+/// A shelf that notes the calls that read: each name and offset.
+#[derive(Drop)]
+struct Noting<S: Shelf + Drop> {
+    shelf: S,
+    noted: String,
+}
+
+impl<S: Shelf + Drop> Shelf for Noting<S> {
+    ghost files = { λ s. S.files s.shelf };
+
+    ghost faults = { λ s. S.faults s.shelf };
+
+    ghost calls = { λ s. S.calls s.shelf };
+
+    fn read_at(&mut self, name: &str, at: u64, buf: &mut [u8]) -> Result<usize, ShelfFault> {
+        let _ = write!(self.noted, "{name}@{at} ");
+        self.shelf.read_at(name, at, buf)
+    }
+
+    fn create(&mut self, name: &str) -> Result<(), PutFault> {
+        self.shelf.create(name)
+    }
+
+    fn append(&mut self, name: &str, bytes: &[u8]) -> Result<(), PutFault> {
+        self.shelf.append(name, bytes)
+    }
+}
+
+/// Runs the program, and compares its number, its line on standard error and the calls that read.
+fn expect_calls(
+    rt: &impl Abort,
+    alloc: Global,
+    files: &[(&str, &str)],
+    fails: u64,
+    words: &[&str],
+    number: u8,
+    line: &str,
+    calls: &str,
+) -> Result<(), Fail> {
+    let list = list_of(alloc, files)?;
+    assert!(rt; are_distinct(list.as_slice()));
+    let mut shelf = Noting {
+        shelf: MemoryShelf::new(list, call(alloc, fails)?)?,
+        noted: String::new(alloc),
+    };
+    let mut out = MemorySink::new(alloc, 4096, 4096, call(alloc, 0)?)?;
+    let mut err = MemorySink::new(alloc, 4096, 4096, call(alloc, 0)?)?;
+    let answer = run(alloc, words, &mut shelf, &mut out, &mut err);
+    assert_eq!(rt; answer, number, "the number of {words:?}");
+    assert_eq!(rt;
+        out.as_slice().is_empty(),
+        3 <= number,
+        "the output of {words:?}"
+    );
+    assert_eq!(rt; err.as_slice(), line.as_bytes(), "the line of {words:?}");
+    assert_eq!(rt; shelf.noted.as_str(), calls, "the calls of {words:?}");
+    Ok(())
+}
+
+#[test]
+fn opens_files(rt: HostRuntime) -> Result<(), Fail> {
+    let alloc = rt.alloc();
+    let spaces = vec![in alloc; b' '; 10_000]?;
+    let Ok(mut long) = String::from_utf8(spaces) else {
+        return Ok(());
+    };
+    long.push_str(KEPT)?;
+    let files = [
+        ("kept", KEPT),
+        ("long", long.as_str()),
+        ("cut", CUT),
+        ("cert", CERT),
+        ("pair", PAIR),
+        ("run", SHOWN_ALL),
+    ];
+    let failed = "tav: kept: read failed\n";
+    let rows = [
+        (["verify", "kept"].as_slice(), 0, 0, "", "kept@0 kept@158 "),
+        (
+            &["verify", "long"],
+            0,
+            0,
+            "",
+            "long@0 long@8192 long@10158 ",
+        ),
+        (&["verify", "kept"], 1, 6, failed, "kept@0 "),
+        (
+            &["verify", "long"],
+            3,
+            6,
+            "tav: long: read failed\n",
+            "long@0 long@8192 long@10158 ",
+        ),
+        (
+            &["check", "kept", "cert"],
+            0,
+            0,
+            "",
+            "kept@0 kept@158 cert@0 cert@50 ",
+        ),
+        (
+            &["check", "gone", "cert"],
+            0,
+            3,
+            "tav: gone: missing\n",
+            "gone@0 ",
+        ),
+        (
+            &["check", "cut", "cert"],
+            0,
+            3,
+            "tav: cut: F2 syntax at offset 74\n",
+            "cut@0 cut@74 ",
+        ),
+        (
+            &["replay", "pair", "run"],
+            0,
+            0,
+            "",
+            "pair@0 pair@190 run@0 run@69 ",
+        ),
+        (&["replay", "kept", "run"], 1, 6, failed, "kept@0 "),
+        (
+            &["replay", "pair", "run"],
+            3,
+            6,
+            "tav: run: read failed\n",
+            "pair@0 pair@190 run@0 ",
+        ),
+        (&["replay", "pair"], 0, 5, USAGE, ""),
+    ];
+    for (words, fails, number, line, calls) in rows {
+        expect_calls(&rt, alloc, &files, fails, words, number, line, calls)?;
     }
     Ok(())
 }

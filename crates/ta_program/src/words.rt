@@ -1,128 +1,205 @@
 //! The words of the command line.
 #![tactic(auto)]
 
-ghost use Rattle.std.specs.Prelude.{◌≡◌, ◌≢◌, ◌↔◌, ℕ, List, [], ◌∷◌, codes, map, None, Some, IsTrue, MatchOption, if◌then◌else◌};
+ghost use Rattle.std.specs.Prelude.{◌≡◌, ◌≤◌, map, option_map, IfSome};
 ghost use Rattle.std.specs.Char.{is_ascii_digit};
 ghost use Rattle.std.specs.List.{list_all};
-ghost use Rattle.std.specs.Option.{option_map};
-ghost use Rattle.std.specs.Str.{bytes_eq};
-ghost use Rattle.ta_program.specs.Words.{is_dashed, plain_words, nodes_next, verify_words, with_nodes, with_plain, VerifyWords, IsBudget, BudgetIs, AsksVerify};
-ghost use Rattle.ta_program.specs.Requests.{Requests};
+ghost use Rattle.ta_program.specs.Requests.{asked};
+ghost use Rattle.ta_program.specs.Taken.{taken_of};
+ghost use Rattle.ta_program.specs.Words.{is_dashed, form_of, nothing, with_plain, with_nodes, take_word, take_all, name_of, budget_of, is_budget, asked_of, request_of};
+
+use crate::budget::Budget;
 
 /// What the words ask for, with the names of files.
 #[derive(Drop)]
 pub(crate) enum Request<'a> {
     Check { file: &'a str, certificate: &'a str },
     Replay { file: &'a str, run: &'a str },
-    Verify { file: &'a str, nodes: u64 },
-    Refused,
+    Verify { file: &'a str, budget: Budget },
+}
+
+/// The commands.
+#[derive(Clone, Copy)]
+enum Command {
+    Check,
+    Replay,
+    Verify,
+}
+
+/// The form of a command's words: how many plain words there are, 1 or 2, and whether `--nodes N` may
+/// be given.
+#[derive(Clone, Copy)]
+struct Form {
+    command: Command,
+    plain: usize,
+    nodes: bool,
+}
+
+/// The form of the words of the command of a name: a command has one row here.
+fn form_of(name: &str) -> Option<Form>
+    ensures { result ≡ form_of name.now }
+{
+    let (command, plain, nodes) = match name {
+        "check" => (Command::Check, 2, false),
+        "replay" => (Command::Replay, 2, false),
+        "verify" => (Command::Verify, 1, true),
+        _ => return None,
+    };
+    Some(Form {
+        command,
+        plain,
+        nodes,
+    })
+}
+
+/// What was taken of the words so far: the plain words, the value of `--nodes`, whether `--` stood
+/// there, and whether the next word is a value.
+#[derive(Clone, Copy)]
+struct Taken<'a> {
+    first: Option<&'a str>,
+    second: Option<&'a str>,
+    nodes: Option<&'a str>,
+    ended: bool,
+    awaits: bool,
 }
 
 /// What the words ask for.
-pub(crate) fn read_words<'a>(words: &[&'a str]) -> Request<'a>
-    ensures { Requests (map (λ w. w.now) words.now) result }
+pub(crate) fn read_words<'a>(words: &[&'a str]) -> Option<Request<'a>>
+    ensures { option_map asked result ≡ request_of (map (λ w. w.now) words.now) }
 {
-    let Some((command, rest)) = words.split_first() else {
-        return Request::Refused;
-    };
-    if *command == "verify" {
-        return match verify_of(rest) {
-            Some((file, nodes)) => Request::Verify { file, nodes },
-            None => Request::Refused,
-        };
-    }
-    let Some((file, second)) = two_plain(rest) else {
-        return Request::Refused;
-    };
-    if file.is_empty() || second.is_empty() {
-        return Request::Refused;
-    }
-    if *command == "check" {
-        return Request::Check {
-            file,
-            certificate: second,
-        };
-    }
-    if *command == "replay" {
-        return Request::Replay { file, run: second };
-    }
-    Request::Refused
-}
-
-/// The plain words, if there are two of them.
-fn two_plain<'a>(words: &[&'a str]) -> Option<(&'a str, &'a str)>
-    ensures { MatchOption result
-        ((first second : List ℕ) → plain_words (map (λ w. w.now) words.now) ≢ Some (first ∷ second ∷ []))
-        (λ pair. plain_words (map (λ w. w.now) words.now) ≡ Some (pair.0.now ∷ pair.1.now ∷ [])) }
-{
-    let Some((word, rest)) = words.split_first() else {
+    let Some((name, rest)) = words.split_first() else {
         return None;
     };
-    if *word == "--" {
-        return the_two(rest);
-    }
-    if is_dashed(word) {
-        return None;
-    }
-    match one_plain(rest) {
-        Some(second) => Some((word, second)),
+    match form_of(name) {
+        Some(form) => match take_all(form, rest) {
+            Some(taken) => taken.request(form.command),
+            None => None,
+        },
         None => None,
     }
 }
 
-/// The plain word, if there is one alone.
-fn one_plain<'a>(words: &[&'a str]) -> Option<&'a str>
-    ensures { MatchOption result
-        ((only : List ℕ) → plain_words (map (λ w. w.now) words.now) ≢ Some (only ∷ []))
-        (λ word. plain_words (map (λ w. w.now) words.now) ≡ Some (word.now ∷ [])) }
+/// Takes all words behind a command's name, from the left.
+fn take_all<'a>(form: Form, words: &[&'a str]) -> Option<Taken<'a>>
+    ensures { option_map taken_of result ≡ take_all form nothing (map (λ w. w.now) words.now) }
 {
-    let Some((word, rest)) = words.split_first() else {
-        return None;
+    let mut taken = Taken {
+        first: None,
+        second: None,
+        nodes: None,
+        ended: false,
+        awaits: false,
     };
-    if *word == "--" {
-        return the_one(rest);
+    'taking: for word in words {
+        let Some(more) = taken.with(form, word) else {
+            return None;
+        };
+        taken = more;
     }
-    if is_dashed(word) || !has_no_plain(rest) {
-        return None;
-    }
-    Some(word)
+    Some(taken)
 }
 
-/// Whether there are no plain words.
-fn has_no_plain(words: &[&str]) -> bool
-    ensures { IsTrue result ↔ (plain_words (map (λ w. w.now) words.now) ≡ Some []) }
-{
-    let Some((word, rest)) = words.split_first() else {
-        return true;
-    };
-    *word == "--" && rest.is_empty()
-}
-
-/// The two words, if they are two.
-fn the_two<'a>(words: &[&'a str]) -> Option<(&'a str, &'a str)>
-    ensures { MatchOption result
-        ((first second : List ℕ) → map (λ w. w.now) words.now ≢ (first ∷ second ∷ []))
-        (λ pair. map (λ w. w.now) words.now ≡ pair.0.now ∷ pair.1.now ∷ []) }
-{
-    let Some((first, rest)) = words.split_first() else {
-        return None;
-    };
-    match the_one(rest) {
-        Some(second) => Some((first, second)),
-        None => None,
+impl<'a> Taken<'a> {
+    /// With one more word.
+    fn with(self, form: Form, word: &'a str) -> Option<Taken<'a>>
+        ensures { option_map taken_of result ≡ take_word form (taken_of self.entry) word.now }
+    {
+        if self.awaits {
+            return if is_dashed(word) {
+                None
+            } else {
+                self.with_nodes(word)
+            };
+        }
+        if self.ended {
+            return self.with_plain(form, word);
+        }
+        if word == "--" {
+            return Some(Taken {
+                ended: true,
+                ..self
+            });
+        }
+        if form.nodes {
+            if word == "--nodes" {
+                return Some(Taken {
+                    awaits: true,
+                    ..self
+                });
+            }
+            if let Some(value) = word.strip_prefix("--nodes=") {
+                return self.with_nodes(value);
+            }
+        }
+        if is_dashed(word) {
+            None
+        } else {
+            self.with_plain(form, word)
+        }
     }
-}
 
-/// The word, if it is alone.
-fn the_one<'a>(words: &[&'a str]) -> Option<&'a str>
-    ensures { MatchOption result
-        ((only : List ℕ) → map (λ w. w.now) words.now ≢ (only ∷ []))
-        (λ word. map (λ w. w.now) words.now ≡ word.now ∷ []) }
-{
-    let Some((word, rest)) = words.split_first() else {
-        return None;
-    };
-    if rest.is_empty() { Some(word) } else { None }
+    /// With one more plain word, where the form has one more.
+    fn with_plain(self, form: Form, word: &'a str) -> Option<Taken<'a>>
+        ensures { option_map taken_of result ≡ with_plain form (taken_of self.entry) word.now }
+    {
+        if self.first.is_none() {
+            Some(Taken {
+                first: Some(word),
+                ..self
+            })
+        } else if self.second.is_none() && 1 < form.plain {
+            Some(Taken {
+                second: Some(word),
+                ..self
+            })
+        } else {
+            None
+        }
+    }
+
+    /// With the value of `--nodes`, where it wasn't given.
+    fn with_nodes(self, value: &'a str) -> Option<Taken<'a>>
+        ensures { option_map taken_of result ≡ with_nodes (taken_of self.entry) value.now }
+    {
+        if self.nodes.is_none() {
+            Some(Taken {
+                nodes: Some(value),
+                awaits: false,
+                ..self
+            })
+        } else {
+            None
+        }
+    }
+
+    /// What is asked for, where all words were taken.
+    fn request(self, command: Command) -> Option<Request<'a>>
+        ensures { option_map asked result ≡ asked_of command (taken_of self.entry) }
+    {
+        if self.awaits {
+            return None;
+        }
+        let Some(file) = name_of(self.first) else {
+            return None;
+        };
+        match command {
+            Command::Check => match name_of(self.second) {
+                Some(certificate) => Some(Request::Check { file, certificate }),
+                None => None,
+            },
+            Command::Replay => match name_of(self.second) {
+                Some(run) => Some(Request::Replay { file, run }),
+                None => None,
+            },
+            Command::Verify => match budget_of(self.nodes) {
+                Some(nodes) => Some(Request::Verify {
+                    file,
+                    budget: Budget { nodes },
+                }),
+                None => None,
+            },
+        }
+    }
 }
 
 /// Whether a word begins with `-` and is longer than that.
@@ -133,120 +210,20 @@ fn is_dashed(word: &str) -> bool
     bytes.len() > 1 && bytes[0] == b'-'
 }
 
-/// The file and the budget of nodes in the words behind `verify`.
-fn verify_of<'a>(words: &[&'a str]) -> Option<(&'a str, u64)>
-    ensures { MatchOption result
-        ((file : List ℕ) (budget : ℕ) → ¬ AsksVerify (codes "verify" ∷ map (λ w. w.now) words.now) file budget)
-        (λ asked. AsksVerify (codes "verify" ∷ map (λ w. w.now) words.now) asked.0.now asked.1) }
+/// The name of a file, which isn't empty.
+fn name_of<'a>(word: Option<&'a str>) -> Option<&'a str>
+    ensures { option_map (λ w. w.now) result ≡ name_of (option_map (λ w. w.now) word.entry) }
 {
-    let Some((file, nodes)) = file_and_nodes(words) else {
-        return None;
-    };
-    if file.is_empty() {
-        return None;
-    }
-    match budget_of(nodes) {
-        Some(budget) => Some((file, budget)),
-        None => None,
+    match word {
+        Some(name) if !name.is_empty() => Some(name),
+        _ => None,
     }
 }
 
-/// The plain word, if there is one alone, and the value of `--nodes`, if it is given.
-fn file_and_nodes<'a>(words: &[&'a str]) -> Option<(&'a str, Option<&'a str>)>
-    ensures { MatchOption result
-        ((file : List ℕ) (read : VerifyWords) → verify_words (map (λ w. w.now) words.now) ≡ Some read → read.plain ≢ file ∷ [])
-        (λ read. verify_words (map (λ w. w.now) words.now)
-        ≡ Some (record { plain = read.0.now ∷ []; nodes = option_map (λ w. w.now) read.1 })) }
-{
-    if let Some((value, rest)) = nodes_first(words) {
-        return match one_plain(rest) {
-            Some(file) => Some((file, Some(value))),
-            None => None,
-        };
-    }
-    let Some((word, rest)) = words.split_first() else {
-        return None;
-    };
-    if *word == "--" {
-        return match the_one(rest) {
-            Some(file) => Some((file, None)),
-            None => None,
-        };
-    }
-    if is_dashed(word) {
-        return None;
-    }
-    match nodes_alone(rest) {
-        Some(nodes) => Some((word, nodes)),
-        None => None,
-    }
-}
-
-/// The value of `--nodes`, if it is given, where there are no plain words.
-fn nodes_alone<'a>(words: &[&'a str]) -> Option<Option<&'a str>>
-    ensures { MatchOption result
-        ((read : VerifyWords) → verify_words (map (λ w. w.now) words.now) ≡ Some read → read.plain ≢ [])
-        (λ nodes. verify_words (map (λ w. w.now) words.now)
-        ≡ Some (record { plain = []; nodes = option_map (λ w. w.now) nodes })) }
-{
-    if let Some((value, rest)) = nodes_first(words) {
-        return if has_no_plain(rest) {
-            Some(Some(value))
-        } else {
-            None
-        };
-    }
-    if has_no_plain(words) {
-        Some(None)
-    } else {
-        None
-    }
-}
-
-/// The value of `--nodes` and the words behind it, if the words begin with it.
-fn nodes_first<'a, 'b>(words: &'b [&'a str]) -> Option<(&'a str, &'b [&'a str])>
-    ensures { MatchOption result
-        ((word : List ℕ) (rest : List (List ℕ)) → map (λ w. w.now) words.now ≡ word ∷ rest →
-        verify_words (map (λ w. w.now) words.now) ≡
-        (if bytes_eq word (codes "--") then Some (record { plain = rest; nodes = None })
-        else (if is_dashed word then None else with_plain word (verify_words rest))))
-        (λ begun. verify_words (map (λ w. w.now) words.now)
-        ≡ with_nodes begun.0.now (verify_words (map (λ w. w.now) begun.1.now))) }
-{
-    let Some((word, rest)) = words.split_first() else {
-        return None;
-    };
-    if *word == "--nodes" {
-        return value_first(rest);
-    }
-    match word.strip_prefix("--nodes=") {
-        Some(value) => Some((value, rest)),
-        None => None,
-    }
-}
-
-/// The value that the words begin with, and the words behind it.
-fn value_first<'a, 'b>(words: &'b [&'a str]) -> Option<(&'a str, &'b [&'a str])>
-    ensures { MatchOption result
-        (nodes_next (map (λ w. w.now) words.now) ≡ None)
-        (λ begun. nodes_next (map (λ w. w.now) words.now)
-        ≡ with_nodes begun.0.now (verify_words (map (λ w. w.now) begun.1.now))) }
-{
-    let Some((value, rest)) = words.split_first() else {
-        return None;
-    };
-    if is_dashed(value) {
-        None
-    } else {
-        Some((value, rest))
-    }
-}
-
-/// The budget of nodes that is asked for.
+/// The budget of nodes that is asked for: 1,000,000 where none is given.
 fn budget_of(nodes: Option<&str>) -> Option<u64>
-    ensures { MatchOption result
-        ((budget : ℕ) → ¬ BudgetIs (option_map (λ w. w.now) nodes.entry) budget)
-        (λ budget. BudgetIs (option_map (λ w. w.now) nodes.entry) budget) }
+    ensures asked { result ≡ budget_of (option_map (λ w. w.now) nodes.entry) }
+    ensures limits { IfSome result (λ n. (1 ≤ n) × (n ≤ 1000000000)) }
 {
     match nodes {
         Some(text) => read_budget(text),
@@ -254,11 +231,10 @@ fn budget_of(nodes: Option<&str>) -> Option<u64>
     }
 }
 
-/// The budget of nodes that a text is.
+/// The budget of nodes that a text is: 1 to 10 digits, with a value within the limits.
 fn read_budget(text: &str) -> Option<u64>
-    ensures { MatchOption result
-        ((budget : ℕ) → ¬ IsBudget text.now budget)
-        (λ budget. IsBudget text.now budget) }
+    ensures asked { result ≡ budget_of (Some text.now) }
+    ensures limits { IfSome result (λ n. (1 ≤ n) × (n ≤ 1000000000)) }
 {
     let digits = text.as_bytes();
     if digits.is_empty() || digits.len() > 10 || !are_digits(digits) {

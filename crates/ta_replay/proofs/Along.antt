@@ -22,7 +22,7 @@ use Rattle.ta_replay.specs.Fits.{LineFits}
 use Rattle.ta_replay.specs.Shows.{IsMarked, steps_before}
 use Rattle.ta_replay.specs.Replays.{ValuesAfter, Takes, LineTakes, LinePasses, InOrder, line_change}
 use Rattle.ta_replay.specs.ReplayFaults.{LineRefuses, LineStops, FirstRefusal, line_number}
-use Rattle.ta_replay.specs.Following.{FitsPattern, Following, MarksAfter}
+use Rattle.ta_replay.specs.Inside.Following.{FitsPattern, Following, MarksAfter}
 use Rattle.ta_replay.proofs.Lines.{some_at, take_next, marked-next}
 use Rattle.ta_replay.proofs.Paths.{line_moves, path_next}
 

@@ -29,7 +29,7 @@ use Rattle.ta_replay.specs.declared.fault.RunFault.{RunFault}
 use Rattle.ta_replay.specs.declared.fault.RunFault.TheVariants.{Line, Name, Resilience, Processes, Start, NotEmpty, Guard, Count, Event, MissingEvent, Overflow, Order, Memory}
 use Rattle.ta_replay.specs.Replays.{ValuesAfter, NoneFilled, FirstFilled}
 use Rattle.ta_replay.specs.ReplayFaults.{ConfigRefuses, StartRefuses, FirstRefusal}
-use Rattle.ta_replay.specs.Following.{FitsPattern, Following, StartsWith}
+use Rattle.ta_replay.specs.Inside.Following.{FitsPattern, Following, StartsWith}
 
 natural_same : (m n : ℕ) → pos m ≡ pos n → m ≡ n
 natural_same m n h = omega (arith, ints)

@@ -6,7 +6,7 @@ use Rattle.std.proofs.Math.Seq.{split_at}
 use Rattle.std.proofs.lemmas.Bool.{false≢true}
 use Rattle.ta_syntax.specs.Kinds.{is_letter, is_word}
 use Rattle.ta_replay.specs.TextFaults.{Avoids, IsWord}
-use Rattle.ta_replay.specs.Reading.{SplitAt}
+use Rattle.ta_replay.specs.Inside.Reading.{SplitAt}
 
 -- a byte that doesn't occur before a place
 pub avoids_before : (byte : ℕ) (bytes : List ℕ) (i : ℕ) → ((k : ℕ) → k < i → get_or bytes k 0 ≡ byte → ⊥) → Avoids byte (take i bytes)

@@ -14,7 +14,7 @@ use Rattle.std.proofs.lemmas.Int.Digits.{digits_value_more}
 use Rattle.std.proofs.lemmas.Str.{digit_value_digit}
 use Rattle.std.proofs.lemmas.Str.Parse.{digit_from_value, digit_at, digits_value-take-le}
 use Rattle.ta_counter.specs.Values.{Value}
-use Rattle.ta_replay.specs.Numerals.{is_padded}
+use Rattle.ta_replay.specs.Inside.Numerals.{is_padded}
 use Rattle.ta_replay.specs.Reading.{IsNumber}
 use Rattle.ta_replay.specs.TextFaults.{Avoids}
 use Rattle.ta_replay.proofs.Bytes.{both, of_both}
@@ -167,7 +167,7 @@ number_same y z is are e =
     m.2 ∙ ap pos (sym (value-decimal m.0 (wide m.0 m.1)) ∙ ap (digits_value 10) texts ∙ value-decimal n.0 (wide n.0 n.1)) ∙ sym n.2
 
 -- digits have no byte that is none
-digits_avoid : (byte : ℕ) (ds : List ℕ) → byte < 48 → AllDigits 10 ds → Avoids byte ds
+pub digits_avoid : (byte : ℕ) (ds : List ℕ) → byte < 48 → AllDigits 10 ds → Avoids byte ds
 digits_avoid byte [] low digits = tt
 digits_avoid byte (c ∷ cs) low digits = let range = digit_from_value c digits.0 in let least = range.0 in ((λ e. omega arith), digits_avoid byte cs low digits.1)
 

@@ -17,7 +17,7 @@ use Rattle.ta_replay.specs.declared.run.RunLine.TheVariants.{Step, Mark}
 use Rattle.ta_replay.specs.Shows.{unit_steps, MarksAt, IsMarked, ShowsPattern}
 use Rattle.ta_replay.specs.Replays.{LineTakes, LinePasses, InOrder, ConditionStays, MaskedStay, LineStays, NumbersStay}
 use Rattle.ta_replay.specs.ReplayFaults.{LacksMark}
-use Rattle.ta_replay.specs.Following.{Following, FirstUnmarked}
+use Rattle.ta_replay.specs.Inside.Following.{Following, FirstUnmarked}
 use Rattle.ta_replay.proofs.Lines.{front_get, get_front, take_all}
 use Rattle.ta_replay.proofs.Begins.{starts_same, after_same}
 

@@ -7,7 +7,8 @@ use Rattle.std.proofs.lemmas.Bool.{false≢true}
 use Rattle.std.proofs.lemmas.List.{append_cancel_left}
 use Rattle.ta_syntax.specs.Kinds.{is_word}
 use Rattle.ta_replay.specs.TextFaults.{Avoids, IsWord, IsValued}
-use Rattle.ta_replay.specs.Reading.{SplitAt, IsNumber}
+use Rattle.ta_replay.specs.Reading.{IsNumber}
+use Rattle.ta_replay.specs.Inside.Reading.{SplitAt}
 use Rattle.ta_replay.proofs.Bytes.{first_byte, not_parted}
 use Rattle.ta_replay.proofs.Decimals.{number_same}
 

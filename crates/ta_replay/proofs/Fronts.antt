@@ -16,8 +16,8 @@ use Rattle.ta_replay.specs.declared.fault.RunFault.TheVariants as fault
 use Rattle.ta_replay.specs.Fits.{Fits, LineFits}
 use Rattle.ta_replay.specs.RunText.{Slot, name_at, valued_line, slots, value_lines, line_of, head_line, run_lines, lines_text}
 use Rattle.ta_replay.specs.TextFaults.{Avoids, IsValued, FormFor, IsFront, IsMalformed, IsMisnamed, TextFault}
-use Rattle.ta_replay.specs.Reading.{SplitAt, HeadRead, NoValue, OtherValue, ValueRefused, ValuesRead, ValuesStopped, ValuesFault, IsStatement, StatementRefused, StepRefused, StepsBegun, StepsStopped, StepsFault}
-use Rattle.ta_replay.specs.Reading.StepRefused.{Unfinished, Refused, Trailing}
+use Rattle.ta_replay.specs.Inside.Reading.{SplitAt, HeadRead, NoValue, OtherValue, ValueRefused, ValuesRead, ValuesStopped, ValuesFault, IsStatement, StatementRefused, StepRefused, StepsBegun, StepsStopped, StepsFault}
+use Rattle.ta_replay.specs.Inside.Reading.StepRefused.{Unfinished, Refused, Trailing}
 use Rattle.ta_replay.proofs.NumberedNames.{one_name}
 use Rattle.ta_replay.proofs.ListSteps.{each-append, each_get, read_more, read_both}
 use Rattle.ta_replay.proofs.Decimals.{value_is}

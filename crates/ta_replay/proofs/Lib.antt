@@ -1,25 +1,26 @@
+-- lemmas for the crates above
 pub mod Bytes
-pub mod NumberedNames
 pub mod Decimals
 pub mod Forms
-pub mod ListSteps
-pub mod ValueLines
-pub mod StepLines
 pub mod Statements
 pub mod RunFacts
-pub mod Fronts
-pub mod OneRun
-pub mod OneFault
-pub mod WholeTexts
-pub mod PrintedLines
-pub mod Occurring
-pub mod Lines
-pub mod Values
-pub mod Paths
-pub mod Along
-pub mod Begins
-pub mod Ends
-pub mod Counting
-pub mod Showing
-pub mod Refusing
-pub mod Naming
+mod NumberedNames
+mod ListSteps
+mod ValueLines
+mod StepLines
+mod Fronts
+mod OneRun
+mod OneFault
+mod WholeTexts
+mod PrintedLines
+mod Occurring
+mod Lines
+mod Values
+mod Paths
+mod Along
+mod Begins
+mod Ends
+mod Counting
+mod Showing
+mod Refusing
+mod Naming

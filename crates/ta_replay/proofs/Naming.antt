@@ -7,7 +7,7 @@ use Rattle.ta_counter.proofs.Passing.{read_at}
 use Rattle.ta_replay.specs.declared.run.Run.{Run}
 use Rattle.ta_replay.specs.Fits.{Fits}
 use Rattle.ta_replay.specs.Shows.{Shows, ShowsPattern}
-use Rattle.ta_replay.specs.Following.{FitsPattern}
+use Rattle.ta_replay.specs.Inside.Following.{FitsPattern}
 
 pub named_read : (file : File) (run : Run) (patterns : List Pattern) (p : Pattern) → Fits file run → patterns ≡ file.patterns → p ≡ get_or patterns run.pattern p → slice_get file.patterns run.pattern ≡ Some p
 named_read file run patterns p fits same is =

@@ -3,7 +3,7 @@ use Rattle.std.proofs.Common.{ℕ, zero, suc, ◌<◌, ◌≤◌, ◌≡◌, Lis
 use Rattle.std.proofs.lemmas.List.{get_or-map, length-map}
 use Rattle.ta_automaton.specs.Lists.{Each, Distinct}
 use Rattle.ta_replay.specs.RunText.{name_at}
-use Rattle.ta_replay.specs.Reading.{IsNameOf, NoNameOf}
+use Rattle.ta_replay.specs.Inside.Reading.{IsNameOf, NoNameOf}
 
 -- an item of this name
 pub name_of_item : {X : Type 0} (f : X → List ℕ) (xs : List X) (i : ℕ) (d : X) (name : List ℕ) → i < length xs → f (get_or xs i d) ≡ name → IsNameOf (map f xs) name i

@@ -25,7 +25,7 @@ use Rattle.ta_replay.specs.declared.run.RunLine.TheVariants.{Step, Mark}
 use Rattle.ta_replay.specs.Fits.{LineFits}
 use Rattle.ta_replay.specs.Shows.{unit_steps, steps_before}
 use Rattle.ta_replay.specs.Replays.{LineTakes}
-use Rattle.ta_replay.specs.Following.{Path}
+use Rattle.ta_replay.specs.Inside.Following.{Path}
 use Rattle.ta_replay.proofs.Lines.{some_at, unit_steps-next, steps_before-next}
 use Rattle.ta_replay.proofs.Values.{keeps_at}
 

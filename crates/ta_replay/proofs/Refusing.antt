@@ -31,7 +31,7 @@ use Rattle.ta_replay.specs.Fits.{LineFits}
 use Rattle.ta_replay.specs.Shows.{IsMarked, MarksAt, ShowsPattern, steps_before}
 use Rattle.ta_replay.specs.Replays.{InOrder, ConditionStays, StepStays, NumbersStay}
 use Rattle.ta_replay.specs.ReplayFaults.{ConfigRefuses, StartStops, FilledAt, LineStops, LineRefuses, StepRefuses, MarkRefuses, LacksMark, FirstRefusal, RefusedThough, line_number}
-use Rattle.ta_replay.specs.Following.{FitsPattern}
+use Rattle.ta_replay.specs.Inside.Following.{FitsPattern}
 use Rattle.ta_replay.proofs.Lines.{some_at, front_get, get_front}
 use Rattle.ta_replay.proofs.Along.{step_values}
 use Rattle.ta_replay.proofs.Showing.{shown_starts, shown_model, shown_first, ShownAt, shown_at, shown_fires, values_of}

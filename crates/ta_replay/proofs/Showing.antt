@@ -30,7 +30,7 @@ use Rattle.ta_replay.specs.declared.run.RunLine.TheVariants.{Step, Mark}
 use Rattle.ta_replay.specs.Fits.{LineFits}
 use Rattle.ta_replay.specs.Shows.{unit_steps, steps_before, ShowsPattern}
 use Rattle.ta_replay.specs.Replays.{ValuesAfter, line_change}
-use Rattle.ta_replay.specs.Following.{FitsPattern}
+use Rattle.ta_replay.specs.Inside.Following.{FitsPattern}
 use Rattle.ta_replay.proofs.Lines.{some_at, take_all, take_next, unit_steps-append}
 use Rattle.ta_replay.proofs.Begins.{first_same}
 use Rattle.ta_replay.proofs.Occurring.{steps_before_le}

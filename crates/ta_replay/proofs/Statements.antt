@@ -12,7 +12,7 @@ use Rattle.ta_replay.specs.declared.run.RunLine.TheVariants.{Step, Mark}
 use Rattle.ta_replay.specs.Fits.{LineFits}
 use Rattle.ta_replay.specs.RunText.{name_at, valued_line, line_of}
 use Rattle.ta_replay.specs.TextFaults.{IsWord, IsNamed, IsValued, FormFor}
-use Rattle.ta_replay.specs.Reading.{NoNameOf, IsStatement}
+use Rattle.ta_replay.specs.Inside.Reading.{NoNameOf, IsStatement}
 use Rattle.ta_replay.proofs.Forms.{valued_same}
 
 -- lists that differ at a place

@@ -8,7 +8,7 @@ use Rattle.ta_replay.specs.declared.fault.RunFault.{RunFault}
 use Rattle.ta_replay.specs.declared.fault.RunFault.TheVariants as fault
 use Rattle.ta_replay.specs.Fits.{LineFits}
 use Rattle.ta_replay.specs.RunText.{line_of, lines_text}
-use Rattle.ta_replay.specs.Reading.{StepRead, StepRefused, StepsBegun, StepsStopped, StepsFault}
+use Rattle.ta_replay.specs.Inside.Reading.{StepRead, StepRefused, StepsBegun, StepsStopped, StepsFault}
 use Rattle.ta_replay.proofs.ListSteps.{each_push, read_more}
 
 -- one step more is read

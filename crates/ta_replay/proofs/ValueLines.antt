@@ -7,7 +7,7 @@ use Rattle.ta_counter.specs.Values.{Value}
 use Rattle.ta_replay.specs.declared.fault.RunFault.{RunFault}
 use Rattle.ta_replay.specs.declared.fault.RunFault.TheVariants as fault
 use Rattle.ta_replay.specs.RunText.{Slot, valued_line, value_lines, lines_text}
-use Rattle.ta_replay.specs.Reading.{ValueRead, ValueRefused, ValuesBegun, ValuesRead, ValuesStopped, ValuesFault}
+use Rattle.ta_replay.specs.Inside.Reading.{ValueRead, ValueRefused, ValuesBegun, ValuesRead, ValuesStopped, ValuesFault}
 use Rattle.ta_replay.proofs.ListSteps.{each_push, each-append, slice_get_left, slice_get_right, read_more, read_both}
 
 pub value_lines-nil : (asked : List Slot) → value_lines asked [] ≡ []

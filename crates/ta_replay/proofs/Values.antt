@@ -16,7 +16,7 @@ use Rattle.ta_linear.specs.Terms.{IsNormal}
 use Rattle.ta_counter.specs.Configs.{config_of, places_of, IsOf}
 use Rattle.ta_pattern.specs.Empty.{KeepsEmpty}
 use Rattle.ta_pattern.proofs.Agreeing.{counter_there, keeps_empty}
-use Rattle.ta_replay.specs.Following.{PatternOf}
+use Rattle.ta_replay.specs.Inside.Following.{PatternOf}
 use Rattle.ta_replay.specs.Replays.{EmptyAt}
 
 pub each_weaker : {X : Type 0} (P Q : X → Type 0) → ((x : X) → P x → Q x) → (xs : List X) → Each P xs → Each Q xs

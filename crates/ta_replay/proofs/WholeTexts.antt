@@ -9,7 +9,7 @@ use Rattle.ta_replay.specs.declared.run.RunLine.{RunLine}
 use Rattle.ta_replay.specs.declared.fault.RunFault.{RunFault}
 use Rattle.ta_replay.specs.RunText.{parameter_slot, start_slot, parameter_slots, start_slots, slots, value_lines, line_of, head_line, lines_text, IsRunText}
 use Rattle.ta_replay.specs.TextFaults.{TextFault}
-use Rattle.ta_replay.specs.Reading.{HeadRead, ValuesRead, ValuesFault, StepsRead, StepsFault}
+use Rattle.ta_replay.specs.Inside.Reading.{HeadRead, ValuesRead, ValuesFault, StepsRead, StepsFault}
 use Rattle.ta_replay.proofs.ListSteps.{read_more}
 use Rattle.ta_replay.proofs.ValueLines.{values_left, values_right, values_both}
 use Rattle.ta_replay.proofs.RunFacts.{run_lines_are}

@@ -2,8 +2,7 @@ pub mod Fits
 pub mod Shows
 pub mod Replays
 pub mod ReplayFaults
-pub mod Following
 pub mod RunText
 pub mod TextFaults
 pub mod Reading
-pub mod Numerals
+pub mod Inside

@@ -4,7 +4,7 @@
 ghost use Rattle.std.specs.Prelude.{◌≡◌, ◌↔◌, ◌≤◌, ◌^◌, length, map, IsTrue, MatchOption};
 ghost use Rattle.ta_automaton.specs.Patterns.{event_name, pattern_name};
 ghost use Rattle.ta_automaton.specs.Shape.{name_of};
-ghost use Rattle.ta_replay.specs.Reading.{IsNameOf, NoNameOf};
+ghost use Rattle.ta_replay.specs.Inside.Reading.{IsNameOf, NoNameOf};
 
 use ta_automaton::{Event, Pattern, Rule, Text};
 

@@ -6,7 +6,7 @@ ghost use Rattle.std.specs.Char.{is_ascii_digit};
 ghost use Rattle.std.specs.List.{list_all};
 ghost use Rattle.std.specs.Str.Parse.{AllDigits, digits_value};
 ghost use Rattle.ta_replay.specs.Reading.{IsNumber};
-ghost use Rattle.ta_replay.specs.Numerals.{is_padded};
+ghost use Rattle.ta_replay.specs.Inside.Numerals.{is_padded};
 
 /// Whether all bytes are digits.
 fn are_digits(bytes: &[u8]) -> bool

@@ -4,7 +4,7 @@
 ghost use Rattle.std.specs.Prelude.{◌≡◌, ◌+◌, ◌<◌, ◌≤◌, ◌^◌, ◌++◌, ◌∷◌, [], length, codes, slice_get, ℕ, ◌↔◌, ◌⊎◌, IsTrue, IfOk, IfErr, IsErrAnd, MatchOption};
 ghost use Rattle.ta_replay.specs.RunText.{IsRunText, name_at, parameter_slots, start_slots};
 ghost use Rattle.ta_replay.specs.TextFaults.{IsMalformed, IsMisnamed, TextFault};
-ghost use Rattle.ta_replay.specs.Reading.{HeadRead, ValueRead, ValueRefused, ValuesRead, ValuesFault, IsStatement, StatementRefused, StepRead, StepRefused, StepsRead, StepsFault};
+ghost use Rattle.ta_replay.specs.Inside.Reading.{HeadRead, ValueRead, ValueRefused, ValuesRead, ValuesFault, IsStatement, StatementRefused, StepRead, StepRefused, StepsRead, StepsFault};
 
 use crate::fault::RunFault;
 use crate::names::{find_event, find_pattern, find_rule};

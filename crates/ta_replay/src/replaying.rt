@@ -11,7 +11,7 @@ ghost use Rattle.ta_replay.specs.Fits.{Fits, LineFits};
 ghost use Rattle.ta_replay.specs.Shows.{Shows, ShowsPattern, factor_of, factors_sum, shown_of};
 ghost use Rattle.ta_replay.specs.Replays.{EmptyAt, FirstFilled, InOrder, LineTakes, NoneFilled, MarkPasses, NumbersStay, ReplayStays, Takes};
 ghost use Rattle.ta_replay.specs.ReplayFaults.{ConfigRefuses, FirstRefusal, LineRefuses, MarkRefuses, RefusedThough, ReplayFault, StartRefuses, StepRefuses};
-ghost use Rattle.ta_replay.specs.Following.{EventsOver, FirstUnmarked, FitsPattern, Followed, Following, MarksAfter, PatternOf, StartsWith};
+ghost use Rattle.ta_replay.specs.Inside.Following.{EventsOver, FirstUnmarked, FitsPattern, Followed, Following, MarksAfter, PatternOf, StartsWith};
 ghost use Rattle.ta_replay.specs.declared.fault.RunFault.TheVariants.{Memory};
 ghost use Rattle.ta_replay.specs.declared.run.RunLine.TheVariants.{Mark};
 

@@ -5,7 +5,7 @@ ghost use Rattle.std.specs.Prelude.{◌≡◌, ◌↔◌, ◌++◌, ℕ, ℤ, Li
 ghost use Rattle.std.specs.List.{list_all};
 ghost use Rattle.ta_syntax.specs.Kinds.{is_letter, is_word};
 ghost use Rattle.ta_replay.specs.TextFaults.{Avoids, IsWord, IsNamed, IsValued};
-ghost use Rattle.ta_replay.specs.Reading.{SplitAt, BeginsOtherwise};
+ghost use Rattle.ta_replay.specs.Inside.Reading.{SplitAt, BeginsOtherwise};
 
 use crate::numbers::read_number;
 

@@ -46,7 +46,7 @@ number_other : (n x : ℕ) (xs r : List ℕ) → n < 2 ^ 64 → 58 ≤ x → dec
 number_other n x xs r fits high e = front_other (decimal n) xs x r (written n fits) (decimal_is_IsNumeral n fits).0.0 high e
 
 -- texts that begin otherwise differ
-apart : {X : Type 0} (x y : ℕ) (xs ys : List ℕ) → x < y ⊎ y < x → x ∷ xs ≡ y ∷ ys → X
+pub apart : {X : Type 0} (x y : ℕ) (xs ys : List ℕ) → x < y ⊎ y < x → x ∷ xs ≡ y ∷ ys → X
 apart x y xs ys (inl less) e = let same : x ≡ y = cc in absurd (omega arith)
 apart x y xs ys (inr less) e = let same : x ≡ y = cc in absurd (omega arith)
 

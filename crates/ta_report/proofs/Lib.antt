@@ -1,1 +1,3 @@
-pub mod Distinct
+-- lemmas for the crates above
+pub mod Printed
+mod Distinct

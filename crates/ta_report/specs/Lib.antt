@@ -1,1 +1,5 @@
 pub mod Report
+pub mod Faults
+pub mod Check
+pub mod Shown
+pub mod Printed

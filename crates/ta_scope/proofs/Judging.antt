@@ -1,5 +1,5 @@
 -- rules at fault and scope
-use Rattle.std.proofs.Common.{◌≡◌, ◌≢◌, inl, inr, ℕ, ℤ, pos, List, [], ◌∷◌, length, arith, refl, slice_get, Some}
+use Rattle.std.proofs.Common.{◌≡◌, ◌≢◌, ◌⊎◌, inl, inr, ℕ, zero, suc, ℤ, pos, negsuc, ◌≤ℤ◌, List, [], ◌∷◌, length, arith, refl, sym, slice_get, get_or, Some, IsBitSet, ◌↔◌}
 use Rattle.std.proofs.lemmas.Int.{ints}
 use Rattle.std.proofs.lemmas.Bool.Decides.{eqb_tells}
 use Rattle.ta_linear.specs.Terms.{coefficient}
@@ -7,38 +7,55 @@ use Rattle.ta_automaton.specs.declared.rule.Rule.{Rule}
 use Rattle.ta_automaton.specs.declared.automaton.Automaton.{Automaton}
 use Rattle.ta_automaton.specs.Lists.{Each}
 use Rattle.ta_automaton.specs.Shape.{Update}
-use Rattle.ta_automaton.specs.Runs.{InScope}
-use Rattle.ta_automaton.proofs.Thresholds.{rule_within, natural_terms}
-use Rattle.ta_scope.specs.declared.fault.ScopeFault.{ScopeFault}
-use Rattle.ta_scope.specs.declared.fault.ScopeFault.TheVariants.{LoopUpdates, Cycle, Memory}
-use Rattle.ta_scope.specs.Faults.{AtFault, FaultAt}
-
-no_updates : (ts : List (ℕ × ℤ)) (x : ℕ) → (ts ≢ [] → ⊥) → coefficient ts x ≡ pos 0
-no_updates [] x h = refl
-no_updates (t ∷ ts) x h = absurd (h (λ e. cc))
+use Rattle.ta_automaton.specs.Runs.{InScope, LoopsPure}
+use Rattle.ta_automaton.proofs.Thresholds.{rule_within, natural_terms, updates_natural, to_within}
+use Rattle.ta_scope.specs.Cycles.{every_rule, Leads}
+use Rattle.ta_scope.specs.Faults.{AtFault}
+use Rattle.ta_scope.proofs.Reaching.{every_walk}
 
 -- where no rule is at fault, the automaton is in scope
 pub in_scope : (a : Automaton) → ((r : ℕ) (rule : Rule) → slice_get a.rules r ≡ Some rule → ¬ AtFault a rule) → InScope a
-in_scope a none = record {
-  loops = λ r rule named loop x. no_updates rule.updates x (λ some. none r rule named (inl (record { loop = loop; updates = some })));
-  no_cycle = λ r rule named apart rs walk. none r rule named (inr (record { apart = apart; back = (rs, walk) }));
-}
-
--- an update adds something to its variable
-first_update : (shared : ℕ) (ts : List (ℕ × ℤ)) → Each (Update shared) ts → ((x : ℕ) → coefficient ts x ≡ pos 0) → ts ≡ []
-first_update shared [] h none = refl
-first_update shared (t ∷ ts) h none =
-    let least = (h.0).least in
-    let rest = natural_terms shared ts t.0 h.1 in
-    let sum = none t.0 in
-    elim (eqb_tells t.0 t.0) [ inl e ↦ absurd (let here = rw e.0 at sum in omega (arith, ints)) | inr ne ↦ absurd (ne.1 refl) ]
+in_scope a none r rule named updates walk back = none r rule named (record { updates = updates; walk = walk; back = back })
 
 -- an automaton with a rule at fault is out of scope
 pub fault_out : (a : Automaton) (r : ℕ) (rule : Rule) → slice_get a.rules r ≡ Some rule → AtFault a rule → ¬ InScope a
-fault_out a r rule named (inl f) scope = f.updates (first_update (length a.shared) rule.updates (rule_within a r rule named).updates (scope.loops r rule named f.loop))
-fault_out a r rule named (inr f) scope = scope.no_cycle r rule named f.apart f.back.0 f.back.1
+fault_out a r rule named f scope = scope r rule named f.updates f.walk f.back
 
-pub fault_at : (a : Automaton) (r : ℕ) (rule : Rule) (fault : ScopeFault) → FaultAt a r rule fault → AtFault a rule
-fault_at a r rule (LoopUpdates k) f = inl f.1
-fault_at a r rule (Cycle k) f = inr f.1
-fault_at a r rule Memory f = absurd f
+none_or_some : (z : ℤ) → pos 0 ≤ℤ z → (z ≡ pos 0) ⊎ (pos 1 ≤ℤ z)
+none_or_some (pos zero) h = inl refl
+none_or_some (pos (suc n)) h = inr (omega (arith, ints))
+none_or_some (negsuc n) h = absurd (omega (arith, ints))
+
+-- in scope, a self-loop has no update
+pub loops_pure : (a : Automaton) → InScope a → LoopsPure a
+loops_pure a scope r rule named loop x = elim (none_or_some (coefficient rule.updates x) (updates_natural a r rule named x)) [
+  | inl e ↦ e
+  | inr some ↦ absurd (scope r rule named (x, some) [] (sym loop))
+]
+
+no_update : (ts : List (ℕ × ℤ)) (x : ℕ) → ts ≡ [] → coefficient ts x ≡ pos 0
+no_update [] x e = refl
+no_update (t ∷ ts) x e = absurd (cc)
+
+-- a first update adds something to its variable
+first_update : (shared : ℕ) (ts : List (ℕ × ℤ)) → Each (Update shared) ts → ts ≢ [] → (x : ℕ) × (pos 1 ≤ℤ coefficient ts x)
+first_update shared [] h some = absurd (some refl)
+first_update shared (t ∷ ts) h some =
+    let least = (h.0).least in
+    let rest = natural_terms shared ts t.0 h.1 in
+    (t.0, elim (eqb_tells t.0 t.0) [ inl e ↦ rw e.0 (omega (arith, ints)) | inr ne ↦ absurd (ne.1 refl) ])
+
+-- a rule is at fault exactly where it has updates and the table of all rules leads from its target back to its source
+pub fault_exactly : (a : Automaton) (table : List ℕ) (r : ℕ) (rule : Rule) → Leads a every_rule table → slice_get a.rules r ≡ Some rule → ((rule.updates ≢ []) × IsBitSet (get_or table rule.to 0) rule.from) ↔ AtFault a rule
+fault_exactly a table r rule leads named =
+    let exact = leads.exact rule.to rule.from (to_within a r rule named) in (
+      λ (updates, back). let walk = exact.0 back in record {
+        updates = first_update (length a.shared) rule.updates (rule_within a r rule named).updates updates;
+        walk = walk.0;
+        back = walk.1;
+      },
+      λ f. (
+        λ none. absurd (let some = f.updates.1 in omega (arith, ints, no_update rule.updates f.updates.0 none)),
+        exact.1 (f.walk, f.back, every_walk a rule.to f.walk rule.from f.back),
+      ),
+    )

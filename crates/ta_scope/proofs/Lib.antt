@@ -1,6 +1,13 @@
-pub mod Places
-pub mod Cycles
-pub mod OrderLaws
+-- lemmas for the crates above
 pub mod Reaching
 pub mod Judging
-pub mod ThreeRules
+mod Places
+mod Cycles
+mod OrderLaws
+mod ThreeRules
+mod FirstPaths
+mod Stepping
+mod Taken
+mod Circulations
+mod Listing
+mod ArrangedLaws

@@ -1,36 +1,45 @@
 -- what growing masks of locations say of walks
-use Rattle.std.proofs.Common.{◌≡◌, ◌⊎◌, inl, inr, ℕ, ◌<◌, ◌^◌, List, [], ◌∷◌, ◌++◌, arith, sym, ap, ◌∙◌, refl, subst, slice_get, Some, IsBitSet, IsTrue, Bool, ◌%◌, ◌*◌, ◌↔◌, arith, bit_or, w32}
+use Rattle.std.proofs.Common.{◌≡◌, ◌⊎◌, inl, inr, ℕ, ◌<◌, ◌^◌, List, [], ◌∷◌, ◌++◌, arith, sym, ap, ◌∙◌, refl, subst, slice_get, Some, IsBitSet, ◌%◌, ◌*◌, ◌↔◌, bit_or, w32, zero, suc, length, length-append, get_or}
 use Rattle.std.specs.Int.{bit_at}
 use Rattle.std.proofs.Math.Nat.{mod-eq_of_lt}
 use Rattle.std.proofs.lemmas.Nat.{le_or_l, pow_below}
-use Rattle.std.proofs.lemmas.Nat.Bits.{bit_at_set_same, bit_at_set_other, bit_at-pow_same, bit_at-pow_other}
+use Rattle.std.proofs.lemmas.Nat.Bits.{bit_at_set_same, bit_at_set_other, bit_at-pow_same, bit_at-pow_other, bit_at_ones}
+use Rattle.std.proofs.lemmas.Option.{slice_get_within}
 use Rattle.std.proofs.lemmas.Bool.{eqb-true, eq-eqb}
 use Rattle.std.proofs.lemmas.Bool.Decides.{eqb_tells}
 use Rattle.ta_automaton.specs.declared.rule.Rule.{Rule}
 use Rattle.ta_automaton.specs.declared.automaton.Automaton.{Automaton}
 use Rattle.ta_automaton.specs.Runs.{Walk}
-use Rattle.ta_scope.specs.Faults.{Reaches}
+use Rattle.ta_automaton.specs.Lists.{Each}
+use Rattle.ta_scope.specs.Cycles.{every_rule, Reaches}
 use Rattle.ta_automaton.proofs.MaskTests.{bit_true, bit_set}
 use Rattle.ta_automaton.proofs.Thresholds.{from_within, to_within}
 use Rattle.ta_automaton.specs.Masks.{has_bit}
-use Rattle.ta_scope.specs.Reached.{LeadsOut, Grown, Closed}
+use Rattle.ta_scope.specs.Inside.Reached.{LeadsOut, Grown, Closed}
 
 pub walk_push : (a : Automaton) (x : ℕ) (rs : List ℕ) (y r : ℕ) (rule : Rule) → Walk a x rs y → slice_get a.rules r ≡ Some rule → rule.from ≡ y → Walk a x (rs ++ r ∷ []) rule.to
 walk_push a x [] y r rule walk named from = (rule, named, from ∙ sym walk, refl)
 walk_push a x (q ∷ rs) y r rule walk named from = (walk.0, walk.1, walk.2, walk_push a (walk.0).to rs y r rule walk.3 named from)
 
--- a mask that has the first location, and only locations to which rules lead from it
-pub record Reached (a : Automaton) (first mask : ℕ) : Type 0 where
-  pub has_first : IsBitSet mask first
-  pub walks : (l : ℕ) → IsBitSet mask l → Reaches a first l
+pub each_push : (P : ℕ → Type 0) (xs : List ℕ) (x : ℕ) → Each P xs → P x → Each P (xs ++ x ∷ [])
+each_push P [] x h p = (p, tt)
+each_push P (y ∷ ys) x h p = (h.0, each_push P ys x h.1 p)
 
-pub reached_more : (a : Automaton) (first mask more : ℕ) → Reached a first mask → Grown a mask more → Reached a first more
-reached_more a first mask more reached grown = record {
+-- a mask that has the first location, and only locations to which rules of a mask lead from it
+pub record Reached (a : Automaton) (rules first mask : ℕ) : Type 0 where
+  pub has_first : IsBitSet mask first
+  pub walks : (l : ℕ) → IsBitSet mask l → Reaches a rules first l
+
+pub reached_more : (a : Automaton) (rules first mask more : ℕ) → Reached a rules first mask → Grown a rules mask more → Reached a rules first more
+reached_more a rules first mask more reached grown = record {
   has_first = grown.kept first reached.has_first;
   walks = λ l b. elim (grown.added l b) [
     | inl old ↦ reached.walks l old
-    | inr new ↦ (let w = reached.walks grown.rule.from grown.leads_out.from in
-        (w.0 ++ grown.number ∷ [], subst (Walk a first (w.0 ++ grown.number ∷ [])) (sym new) (walk_push a first w.0 grown.rule.from grown.number grown.rule w.1 grown.named refl)))
+    | inr new ↦ (let w = reached.walks grown.rule.from grown.leads_out.from in (
+      w.0 ++ grown.number ∷ [],
+      subst (Walk a first (w.0 ++ grown.number ∷ [])) (sym new) (walk_push a first w.0 grown.rule.from grown.number grown.rule w.1 grown.named refl),
+      each_push (IsBitSet rules) w.0 grown.number w.2 grown.leads_out.member,
+    ))
   ];
 }
 
@@ -42,26 +51,26 @@ pub at_set : (n i : ℕ) → bit_at n i ≡ 1 → IsBitSet n i
 unfolding has_bit
 at_set n i h = bit_set n i (eq-eqb (bit_at n i) 1 h)
 
-set_or : (n i : ℕ) → IsBitSet n i ⊎ (IsBitSet n i → ⊥)
+pub set_or : (n i : ℕ) → IsBitSet n i ⊎ (IsBitSet n i → ⊥)
 set_or n i = elim (eqb_tells (bit_at n i) 1) [ inl e ↦ inl (at_set n i e.1) | inr ne ↦ inr (λ h. ne.1 (set_at n i h)) ]
 
 -- a walk from a location of a closed mask stays in it
-pub walk_stays : (a : Automaton) (mask : ℕ) → Closed a mask → (x : ℕ) (rs : List ℕ) (y : ℕ) → IsBitSet mask x → Walk a x rs y → IsBitSet mask y
-walk_stays a mask closed x [] y b walk = subst (IsBitSet mask) walk b
-walk_stays a mask closed x (r ∷ rs) y b walk =
+pub walk_stays : (a : Automaton) (rules mask : ℕ) → Closed a rules mask → (x : ℕ) (rs : List ℕ) (y : ℕ) → IsBitSet mask x → Walk a x rs y → Each (IsBitSet rules) rs → IsBitSet mask y
+walk_stays a rules mask closed x [] y b walk each = subst (IsBitSet mask) walk b
+walk_stays a rules mask closed x (r ∷ rs) y b walk each =
     let rule = walk.0 in
     let from : IsBitSet mask rule.from = subst (IsBitSet mask) (sym walk.2) b in
     elim (set_or mask rule.to) [
-      | inl to ↦ walk_stays a mask closed rule.to rs y to walk.3
-      | inr out ↦ absurd (closed r rule walk.1 (record { from = from; to = out }))
+      | inl to ↦ walk_stays a rules mask closed rule.to rs y to walk.3 each.1
+      | inr out ↦ absurd (closed r rule walk.1 (record { member = each.0; from = from; to = out }))
     ]
 
 -- the bit of a location, as the code computes it
-abbrev bit_of : ℕ → ℕ
+abbrev pub bit_of : ℕ → ℕ
 bit_of l = 1 * 2 ^ l % 4294967296
 
-pub grown_by : (a : Automaton) (mask r : ℕ) (rule : Rule) → slice_get a.rules r ≡ Some rule → LeadsOut mask rule → rule.to < 32 → Grown a mask (bit_or mask (1 * 2 ^ rule.to % 4294967296))
-grown_by a mask r rule named out within = record {
+pub grown_by : (a : Automaton) (rules mask r : ℕ) (rule : Rule) → slice_get a.rules r ≡ Some rule → LeadsOut rules mask r rule → rule.to < 32 → Grown a rules mask (bit_or mask (1 * 2 ^ rule.to % 4294967296))
+grown_by a rules mask r rule named out within = record {
   number = r;
   rule = rule;
   named = named;
@@ -76,8 +85,8 @@ grown_by a mask r rule named out within = record {
   ];
 }
 
-pub grown_greater : (mask : ℕ) (rule : Rule) → LeadsOut mask rule → rule.to < 32 → mask < bit_or mask (1 * 2 ^ rule.to % 4294967296)
-grown_greater mask rule out within = elim (eqb_tells mask (bit_or mask (bit_of rule.to))) [
+pub grown_greater : (rules mask r : ℕ) (rule : Rule) → LeadsOut rules mask r rule → rule.to < 32 → mask < bit_or mask (1 * 2 ^ rule.to % 4294967296)
+grown_greater rules mask r rule out within = elim (eqb_tells mask (bit_or mask (bit_of rule.to))) [
   | inl e ↦ absurd (out.to (at_set mask rule.to (ap (λ n. bit_at n rule.to) e.1 ∙ bit_at_set_same w32 mask rule.to within)))
   | inr ne ↦ (let differ = ne.1 in omega (arith, le_or_l mask (bit_of rule.to)))
 ]
@@ -90,22 +99,52 @@ pub from_fits : (a : Automaton) (r : ℕ) (rule : Rule) → slice_get a.rules r 
 from_fits a r rule named = let b = from_within a r rule named in let limit = a.shape.limits.locations_limit in omega arith
 
 -- a mask that begins with one location
-one_bit : (l : ℕ) → l < 32 → 1 * 2 ^ l % 4294967296 ≡ 2 ^ l
+pub one_bit : (l : ℕ) → l < 32 → 1 * 2 ^ l % 4294967296 ≡ 2 ^ l
 one_bit l h =
     let below : 2 ^ l < 2 ^ 32 = pow_below l 32 h in
     mod-eq_of_lt (omega arith) ∙ (let e : 1 * 2 ^ l ≡ 2 ^ l = omega arith in e)
 
-pub reached_first : (a : Automaton) (first : ℕ) → first < 32 → Reached a first (1 * 2 ^ first % 4294967296)
-reached_first a first within =
+pub reached_first : (a : Automaton) (rules first : ℕ) → first < 32 → Reached a rules first (1 * 2 ^ first % 4294967296)
+reached_first a rules first within =
     let same : bit_of first ≡ 2 ^ first = one_bit first within in
     record {
       has_first = at_set _ first (ap (λ n. bit_at n first) same ∙ bit_at-pow_same first);
       walks = λ l b. elim (eqb_tells l first) [
-        | inl e ↦ ([], sym e.1)
+        | inl e ↦ ([], sym e.1, tt)
         | inr ne ↦ absurd (let none = bit_at-pow_other first l ne.1 in let one = set_at _ l b in let m = ap (λ n. bit_at n l) same in omega arith)
       ];
     }
 
 -- where the mask is closed, it has exactly the locations that the first one leads to
-pub reaches_exactly : (a : Automaton) (first mask to : ℕ) (result : Bool) → Reached a first mask → Closed a mask → (IsTrue result ↔ IsBitSet mask to) → (IsTrue result ↔ Reaches a first to)
-reaches_exactly a first mask to result reached closed is = (λ t. reached.walks to (is.0 t), λ w. is.1 (walk_stays a mask closed first w.0 to reached.has_first w.1))
+pub reaches_exactly : (a : Automaton) (rules first mask : ℕ) → Reached a rules first mask → Closed a rules mask → (y : ℕ) → IsBitSet mask y ↔ Reaches a rules first y
+reaches_exactly a rules first mask reached closed y = (reached.walks y, λ w. walk_stays a rules mask closed first w.0 y reached.has_first w.1 w.2)
+
+get_push : (xs : List ℕ) (x y : ℕ) → x < length xs → get_or (xs ++ y ∷ []) x 0 ≡ get_or xs x 0
+get_push [] x y b = absurd (omega arith)
+get_push (z ∷ zs) zero y b = refl
+get_push (z ∷ zs) (suc x) y b = get_push zs x y (omega arith)
+
+get_pushed : (xs : List ℕ) (y : ℕ) → get_or (xs ++ y ∷ []) (length xs) 0 ≡ y
+get_pushed [] y = refl
+get_pushed (z ∷ zs) y = get_pushed zs y
+
+-- the masks of the first locations
+abbrev pub LeadsSoFar : Automaton → ℕ → List ℕ → Type 0
+LeadsSoFar a rules table = (x y : ℕ) → x < length table → IsBitSet (get_or table x 0) y ↔ Reaches a rules x y
+
+pub leads_push : (a : Automaton) (rules : ℕ) (table : List ℕ) (mask : ℕ) → LeadsSoFar a rules table → ((y : ℕ) → IsBitSet mask y ↔ Reaches a rules (length table) y) → LeadsSoFar a rules (table ++ mask ∷ [])
+leads_push a rules table mask before here x y b = elim (eqb_tells x (length table)) [
+  | inl e ↦ subst (λ z. IsBitSet (get_or (table ++ mask ∷ []) z 0) y ↔ Reaches a rules z y) (sym e.1) (subst (λ m. IsBitSet m y ↔ Reaches a rules (length table) y) (sym (get_pushed table mask)) (here y))
+  | inr ne ↦ (let within : x < length table = omega (arith, ne.1, b, length-append table (mask ∷ [])) in subst (λ m. IsBitSet m y ↔ Reaches a rules x y) (sym (get_push table x mask within)) (before x y within))
+]
+
+-- every rule is in the mask of all rules
+pub every_bit : (r : ℕ) → r < 128 → IsBitSet every_rule r
+every_bit r b = at_set every_rule r (bit_at_ones 128 r b)
+
+pub every_walk : (a : Automaton) (x : ℕ) (rs : List ℕ) (y : ℕ) → Walk a x rs y → Each (IsBitSet every_rule) rs
+every_walk a x [] y walk = tt
+every_walk a x (r ∷ rs) y walk = (
+  every_bit r (let b = slice_get_within a.rules r walk.0 walk.1 in let limit = a.shape.limits.rules_limit in omega arith),
+  every_walk a (walk.0).to rs y walk.3,
+)

@@ -1,3 +1,6 @@
+pub mod Cycles
 pub mod Order
 pub mod Faults
-pub mod Reached
+pub mod Arranged
+pub mod Legal
+pub mod Inside

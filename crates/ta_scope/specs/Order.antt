@@ -1,13 +1,10 @@
--- The order of an automaton's locations (this project's profile)
-use Rattle.std.specs.Prelude.{ℕ, ◌<◌, ◌≡◌, ◌≢◌, ◌==◌, List, length, take, All, Contains, slice_get, take_while, not, Some}
+-- The order of an automaton's locations by some of its rules (this project's profile). A mask says which rules: bit r
+-- names rule r
+use Rattle.std.specs.Prelude.{ℕ, ◌<◌, ◌≡◌, ◌≢◌, ◌==◌, List, length, take, Contains, slice_get, take_while, not, Some, IsBitSet}
 use Rattle.std.proofs.Props.{props}
 use Rattle.ta_automaton.specs.declared.rule.Rule.{Rule}
 use Rattle.ta_automaton.specs.declared.automaton.Automaton.{Automaton}
-use Rattle.ta_automaton.specs.Runs.{InScope}
 use Rattle.ta_automaton.specs.Sums.{times_in}
-
-pub InScope-prop : (a : Automaton) → IsProp (InScope a)
-InScope-prop a = hlevel props
 
 -- a rule leads to a location from another one that isn't placed yet
 pub record Blocks (placed : List ℕ) (location : ℕ) (rule : Rule) : Type 0 where
@@ -15,41 +12,41 @@ pub record Blocks (placed : List ℕ) (location : ℕ) (rule : Rule) : Type 0 wh
   pub other : rule.from ≢ location
   pub remains : ¬ Contains placed rule.from
 
--- a remaining location that no remaining other location leads to
-pub record Ready (a : Automaton) (placed : List ℕ) (location : ℕ) : Type 0 where
+-- a remaining location to which no rule of the mask leads from another remaining one
+pub record Ready (a : Automaton) (rules : ℕ) (placed : List ℕ) (location : ℕ) : Type 0 where
   pub remains : ¬ Contains placed location
-  pub free : All (λ (rule : Rule). ¬ Blocks placed location rule) a.rules
+  pub free : (r : ℕ) (rule : Rule) → slice_get a.rules r ≡ Some rule → IsBitSet rules r → ¬ Blocks placed location rule
 
 -- the least one
-pub record Next (a : Automaton) (placed : List ℕ) (location : ℕ) : Type 0 where
+pub record Next (a : Automaton) (rules : ℕ) (placed : List ℕ) (location : ℕ) : Type 0 where
   pub exists : location < length a.locations
-  pub ready : Ready a placed location
-  pub least : (l : ℕ) → l < location → ¬ Ready a placed l
+  pub ready : Ready a rules placed location
+  pub least : (l : ℕ) → l < location → ¬ Ready a rules placed l
 
-Ready-prop : (a : Automaton) (placed : List ℕ) (location : ℕ) → IsProp (Ready a placed location)
-Ready-prop a placed location = hlevel props
+Ready-prop : (a : Automaton) (rules : ℕ) (placed : List ℕ) (location : ℕ) → IsProp (Ready a rules placed location)
+Ready-prop a rules placed location = hlevel props
 
-Next-prop : (a : Automaton) (placed : List ℕ) (location : ℕ) → IsProp (Next a placed location)
-Next-prop a placed location = hlevel (props, Ready-prop a placed)
+Next-prop : (a : Automaton) (rules : ℕ) (placed : List ℕ) (location : ℕ) → IsProp (Next a rules placed location)
+Next-prop a rules placed location = hlevel (props, Ready-prop a rules placed)
 
 -- each item is the next location after the items before it
-abbrev pub Built : Automaton → List ℕ → Type 0
-Built a order = (k l : ℕ) → slice_get order k ≡ Some l → Next a (take k order) l
+abbrev pub Built : Automaton → ℕ → List ℕ → Type 0
+Built a rules order = (k l : ℕ) → slice_get order k ≡ Some l → Next a rules (take k order) l
 
--- each location once, again and again the least that no remaining other location leads to
-pub record IsOrder (a : Automaton) (order : List ℕ) : Type 0 where
+-- each location once, again and again the least to which no rule of the mask leads from another remaining one
+pub record IsOrder (a : Automaton) (rules : ℕ) (order : List ℕ) : Type 0 where
   pub each_once : (l : ℕ) → l < length a.locations → times_in l order ≡ 1
-  pub built : Built a order
+  pub built : Built a rules order
 
-pub IsOrder-prop : (a : Automaton) (order : List ℕ) → IsProp (IsOrder a order)
-IsOrder-prop a order = hlevel (props, Next-prop a)
+pub IsOrder-prop : (a : Automaton) (rules : ℕ) (order : List ℕ) → IsProp (IsOrder a rules order)
+IsOrder-prop a rules order = hlevel (props, Next-prop a rules)
 
 -- the number of locations before a location in the order
 abbrev pub rank_of : List ℕ → ℕ → ℕ
 rank_of order location = length (take_while (λ l. not (l == location)) order)
 
--- every rule between two locations goes forward in the order
-abbrev pub Forward : Automaton → List ℕ → Type 0
-Forward a order =
-    (r : ℕ) (rule : Rule) → slice_get a.rules r ≡ Some rule → rule.from ≢ rule.to
+-- every rule of the mask between two locations goes forward in the order
+abbrev pub Forward : Automaton → ℕ → List ℕ → Type 0
+Forward a rules order =
+    (r : ℕ) (rule : Rule) → slice_get a.rules r ≡ Some rule → IsBitSet rules r → rule.from ≢ rule.to
     → rank_of order rule.from < rank_of order rule.to

@@ -6,11 +6,11 @@ ghost use Rattle.ta_scope.specs.declared.fault.ScopeFault.TheVariants.{Memory};
 
 use std::alloc::{AllocError, AllocFailed};
 
-/// Why a file is out of scope, with the number of the first rule at fault.
+/// Why a file is out of scope. `CycleUpdates` has the number of the first rule in file order that
+/// lies on a cycle and has an update, counted from 0.
 #[derive(Clone, Copy, Debug, Drop, PartialEq, Eq)]
 pub enum ScopeFault {
-    LoopUpdates(u32),
-    Cycle(u32),
+    CycleUpdates(u32),
     Memory,
 }
 

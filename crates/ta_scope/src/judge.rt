@@ -1,42 +1,47 @@
 //! Which rule is at fault.
 #![tactic(auto)]
 
-ghost use Rattle.std.specs.Prelude.{◌≡◌, slice_get, Some, OnOk, IfErr, IfSome, IfNone};
+ghost use Rattle.std.specs.Prelude.{◌≢◌, ◌<◌, ◌↔◌, [], length, slice_index, IsTrue, IsBitSet, OnOk, IfErr};
 ghost use Rattle.ta_automaton.specs.Runs.{InScope};
-ghost use Rattle.ta_scope.specs.Faults.{AtFault, FaultAt, FirstFault};
+ghost use Rattle.ta_scope.specs.Cycles.{every_rule, Leads};
+ghost use Rattle.ta_scope.specs.Faults.{ScopeFaultOf};
+ghost use Rattle.ta_scope.specs.declared.fault.ScopeFault.TheVariants.{Memory};
 
 use crate::fault::ScopeFault;
-use crate::reach::leads;
+use crate::reach::{is_on_cycle, leads};
+use std::alloc::Global;
 use ta_automaton::{Automaton, Rule};
 
-/// Ok where an automaton is in scope, else what is at fault with its first rule at fault.
-pub fn judge(automaton: &Automaton) -> Result<(), ScopeFault>
+/// Ok where an automaton is in scope, else its first rule at fault.
+pub fn judge(alloc: Global, automaton: &Automaton) -> Result<(), ScopeFault>
     ensures ok { OnOk result (InScope automaton.now) }
-    ensures fault { IfErr result (λ fault. FirstFault automaton.now fault) }
+    ensures fault { IfErr result (λ fault. ScopeFaultOf automaton.now fault) }
+    ensures out_of_scope { IfErr result (λ fault. fault ≢ Memory → ¬ InScope automaton.now) }
+{
+    let table = leads(alloc, automaton, u128::MAX)?;
+    first_at_fault(automaton, table.as_slice())
+}
+
+/// Ok where no rule is at fault by a table of all rules, else the first one that is.
+fn first_at_fault(automaton: &Automaton, table: &[u32]) -> Result<(), ScopeFault>
+    requires { Leads automaton.now every_rule table.now }
+    ensures ok { OnOk result (InScope automaton.now) }
+    ensures fault { IfErr result (λ fault. ScopeFaultOf automaton.now fault) }
     ensures out_of_scope { IfErr result (λ fault. ¬ InScope automaton.now) }
 {
     for (number, rule) in automaton.rules.as_slice().iter().enumerate() {
-        if let Some(fault) = fault_of(automaton, number as u32, rule) {
-            return Err(fault);
+        if is_at_fault(table, rule) {
+            return Err(ScopeFault::CycleUpdates(number as u32));
         }
     }
     Ok(())
 }
 
-/// What is at fault with a rule.
-fn fault_of(automaton: &Automaton, number: u32, rule: &Rule) -> Option<ScopeFault>
-    requires { slice_get automaton.now.rules number ≡ Some rule.now }
-    ensures none { IfNone result (¬ AtFault automaton.now rule.now) }
-    ensures some { IfSome result (λ fault. FaultAt automaton.now number rule.now fault) }
+/// Whether a rule has an update, and its target leads back to its source by a table.
+fn is_at_fault(table: &[u32], rule: &Rule) -> bool
+    requires to { rule.now.to < length table.now }
+    requires from { rule.now.from < 32 }
+    ensures { IsTrue result ↔ ((rule.now.updates ≢ []) × IsBitSet (slice_index table.now rule.now.to) rule.now.from) }
 {
-    if rule.from == rule.to {
-        if rule.updates.as_slice().is_empty() {
-            return None;
-        }
-        return Some(ScopeFault::LoopUpdates(number));
-    }
-    if leads(automaton, rule.to, rule.from) {
-        return Some(ScopeFault::Cycle(number));
-    }
-    None
+    !rule.updates.as_slice().is_empty() && is_on_cycle(table, rule)
 }

@@ -1,50 +1,70 @@
-//! The order of locations.
+//! The order of locations by some of the rules.
 #![tactic(auto)]
 
-ghost use Rattle.std.specs.Prelude.{ℕ, ◌<◌, ◌↔◌, length, IsTrue, IfOk, IfSome, IfNone};
-ghost use Rattle.ta_automaton.specs.Runs.{InScope};
+ghost use Rattle.std.specs.Prelude.{ℕ, ◌<◌, ◌↔◌, length, IsTrue, IsBitSet, Contains, IfOk, IfSome, IfNone};
+ghost use Rattle.ta_scope.specs.Cycles.{NoCycle};
 ghost use Rattle.ta_scope.specs.Order.{Blocks, Ready, Next, IsOrder};
 
+use crate::reach::has_rule;
 use std::alloc::{AllocError, Global};
 use ta_automaton::{Automaton, Rule};
 
-/// The locations in an order in which every rule between two of them goes forward.
-pub fn order_of(alloc: Global, automaton: &Automaton) -> Result<Vec<u32>, AllocError>
-    requires { InScope automaton.now }
-    ensures { IfOk result (λ order. IsOrder automaton.now order.items) }
+/// The locations in an order in which every rule of a mask between two of them goes forward: again
+/// and again the least location to which no rule of the mask leads from another remaining one.
+pub fn order_of(alloc: Global, automaton: &Automaton, rules: u128) -> Result<Vec<u32>, AllocError>
+    requires { NoCycle automaton.now rules }
+    ensures { IfOk result (λ order. IsOrder automaton.now rules order.items) }
 {
     let mut order = Vec::new(alloc);
-    while let Some(location) = next_location(automaton, order.as_slice()) {
+    while let Some(location) = next_location(automaton, rules, order.as_slice()) {
         order.push(location)?;
     }
     Ok(order)
 }
 
-/// The least remaining location that no remaining other location leads to.
-fn next_location(automaton: &Automaton, placed: &[u32]) -> Option<u32>
-    ensures some { IfSome result (λ location. Next automaton.now placed.now location) }
-    ensures none { IfNone result ((l : ℕ) → l < length automaton.now.locations → ¬ Ready automaton.now placed.now l) }
+/// The least remaining location to which no rule of a mask leads from another remaining one.
+fn next_location(automaton: &Automaton, rules: u128, placed: &[u32]) -> Option<u32>
+    ensures some { IfSome result (λ location. Next automaton.now rules placed.now location) }
+    ensures none { IfNone result ((l : ℕ) → l < length automaton.now.locations → ¬ Ready automaton.now rules placed.now l) }
 {
     let count = automaton.locations.as_slice().len() as u32;
     for location in 0..count {
-        if is_ready(automaton, placed, location) {
+        if is_ready(automaton, rules, placed, location) {
             return Some(location);
         }
     }
     None
 }
 
-/// Whether a location remains and no remaining other location leads to it.
-fn is_ready(automaton: &Automaton, placed: &[u32], location: u32) -> bool
-    ensures { IsTrue result ↔ Ready automaton.now placed.now location }
+/// Whether a location remains and no rule of a mask leads to it from another remaining one.
+fn is_ready(automaton: &Automaton, rules: u128, placed: &[u32], location: u32) -> bool
+    ensures { IsTrue result ↔ Ready automaton.now rules placed.now location }
 {
-    let rules = automaton.rules.as_slice();
-    !placed.contains(&location) && rules.iter().all(|rule| !blocks(placed, location, rule))
+    if is_placed(placed, location) {
+        return false;
+    }
+    for (number, rule) in automaton.rules.as_slice().iter().enumerate() {
+        if blocks(rules, placed, location, number as u32, rule) {
+            return false;
+        }
+    }
+    true
 }
 
-/// Whether a rule leads to a location from another one that remains.
-fn blocks(placed: &[u32], location: u32, rule: &Rule) -> bool
-    ensures { IsTrue result ↔ Blocks placed.now location rule.now }
+/// Whether a rule of a mask leads to a location from another one that remains.
+fn blocks(rules: u128, placed: &[u32], location: u32, number: u32, rule: &Rule) -> bool
+    requires { number < 128 }
+    ensures { IsTrue result ↔ (IsBitSet rules number × Blocks placed.now location rule.now) }
 {
-    rule.to == location && rule.from != location && !placed.contains(&rule.from)
+    has_rule(rules, number)
+        && rule.to == location
+        && rule.from != location
+        && !is_placed(placed, rule.from)
+}
+
+/// Whether a location is placed already.
+fn is_placed(placed: &[u32], location: u32) -> bool
+    ensures { IsTrue result ↔ Contains placed.now location }
+{
+    placed.contains(&location)
 }

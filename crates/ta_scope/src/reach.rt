@@ -1,50 +1,81 @@
-//! Which locations lead to which.
+//! Which locations lead to which, by some of the rules.
 #![tactic(auto)]
 
-ghost use Rattle.std.specs.Prelude.{◌≡◌, ◌<◌, ◌↔◌, ◌^◌, length, slice_get, Some, IsTrue, IfSome, IfNone, IsBitSet};
-ghost use Rattle.ta_scope.specs.Faults.{Reaches};
-ghost use Rattle.ta_scope.specs.Reached.{LeadsOut, Grown, Closed};
+ghost use Rattle.std.specs.Prelude.{ℕ, ◌<◌, ◌↔◌, length, slice_index, IsTrue, IfOk, IfSome, IfNone, IsBitSet};
+ghost use Rattle.ta_scope.specs.Cycles.{Reaches, Leads};
+ghost use Rattle.ta_scope.specs.Inside.Reached.{LeadsOut, Grown, Closed};
 
+use std::alloc::{AllocError, Global};
 use ta_automaton::{Automaton, Rule};
 
-/// Whether rules lead from one location to another.
-pub fn leads(automaton: &Automaton, from: u32, to: u32) -> bool
-    requires from_exists { from < length automaton.now.locations }
-    requires to_exists { to < length automaton.now.locations }
-    ensures { IsTrue result ↔ Reaches automaton.now from to }
+/// For each location the mask of the locations to which rules of a mask lead from it. Bit r of
+/// `rules` names rule r, and bit l of an item location l.
+pub fn leads(alloc: Global, automaton: &Automaton, rules: u128) -> Result<Vec<u32>, AllocError>
+    ensures { IfOk result (λ table. Leads automaton.now rules table.items) }
 {
-    let mut reached: u32 = 1 << from;
-    while let Some(more) = grown(automaton, reached) {
+    let mut table = Vec::new(alloc);
+    let count = automaton.locations.as_slice().len() as u32;
+    for location in 0..count {
+        table.push(reached_from(automaton, rules, location))?;
+    }
+    Ok(table)
+}
+
+/// Whether a rule lies on a cycle, by the table of some rules: its target leads back to its source.
+pub fn is_on_cycle(table: &[u32], rule: &Rule) -> bool
+    requires to { rule.now.to < length table.now }
+    requires from { rule.now.from < 32 }
+    ensures { IsTrue result ↔ IsBitSet (slice_index table.now rule.now.to) rule.now.from }
+{
+    contains(table[rule.to as usize], rule.from)
+}
+
+/// The mask of the locations to which rules of a mask lead from a location.
+fn reached_from(automaton: &Automaton, rules: u128, location: u32) -> u32
+    requires { location < length automaton.now.locations }
+    ensures { (y : ℕ) → IsBitSet result y ↔ Reaches automaton.now rules location y }
+{
+    let mut reached: u32 = 1 << location;
+    while let Some(more) = grown(automaton, rules, reached) {
         reached = more;
     }
-    contains(reached, to)
+    reached
 }
 
 /// A mask with one more location, to which a rule leads out of the mask, if there is one.
-fn grown(automaton: &Automaton, mask: u32) -> Option<u32>
-    ensures some { IfSome result (λ more. Grown automaton.now mask more) }
+fn grown(automaton: &Automaton, rules: u128, mask: u32) -> Option<u32>
+    ensures some { IfSome result (λ more. Grown automaton.now rules mask more) }
     ensures greater { IfSome result (λ more. mask < more) }
-    ensures none { IfNone result (Closed automaton.now mask) }
+    ensures none { IfNone result (Closed automaton.now rules mask) }
 {
-    for rule in automaton.rules.as_slice() {
-        if leads_out(mask, rule) {
+    for (number, rule) in automaton.rules.as_slice().iter().enumerate() {
+        if leads_out(rules, mask, number as u32, rule) {
             return Some(mask | (1 << rule.to));
         }
     }
     None
 }
 
-/// Whether a rule leads from a location of a mask to one beside it.
-fn leads_out(mask: u32, rule: &Rule) -> bool
+/// Whether a rule is in a mask of rules and leads from a location of a mask to one beside it.
+fn leads_out(rules: u128, mask: u32, number: u32, rule: &Rule) -> bool
+    requires number_fits { number < 128 }
     requires from_fits { rule.now.from < 32 }
     requires to_fits { rule.now.to < 32 }
-    ensures { IsTrue result ↔ LeadsOut mask rule.now }
+    ensures { IsTrue result ↔ LeadsOut rules mask number rule.now }
 {
-    contains(mask, rule.from) && !contains(mask, rule.to)
+    has_rule(rules, number) && contains(mask, rule.from) && !contains(mask, rule.to)
+}
+
+/// Whether a mask has a rule.
+pub fn has_rule(rules: u128, number: u32) -> bool
+    requires { number < 128 }
+    ensures { IsTrue result ↔ IsBitSet rules number }
+{
+    rules & (1 << number) != 0
 }
 
 /// Whether a mask has a location.
-fn contains(mask: u32, location: u32) -> bool
+pub fn contains(mask: u32, location: u32) -> bool
     requires { location < 32 }
     ensures { IsTrue result ↔ IsBitSet mask location }
 {

@@ -84,88 +84,81 @@ fn file(alloc: Global, arrows: [Arrow; 3]) -> Result<File, Fail>
     })
 }
 
-/// Compares the order, and the place of location 0 in it.
-fn expect_order(
+fn expect_scope(rt: &impl Abort, alloc: Global, arrows: [Arrow; 3]) -> Result<(), Fail> {
+    match scope(alloc, file(alloc, arrows)?) {
+        Ok(scoped) => assert_eq!(rt; scoped.file().automaton.rules.as_slice().len(), 3),
+        Err(_) => assert!(rt; false, "a file in scope"),
+    }
+    Ok(())
+}
+
+fn expect_fault(rt: &impl Abort, alloc: Global, arrows: [Arrow; 3], want: u32) -> Result<(), Fail> {
+    match scope(alloc, file(alloc, arrows)?) {
+        Ok(_) => assert!(rt; false, "a file out of scope"),
+        Err(fault) => assert_eq!(rt; fault, ScopeFault::CycleUpdates(want)),
+    }
+    Ok(())
+}
+
+/// Compares the steps of three counts.
+fn expect_steps(
     rt: &impl Abort,
     alloc: Global,
     arrows: [Arrow; 3],
-    order: [u32; 3],
-    place: u32,
+    counts: (u8, u8, u8),
+    want: &[(u32, i128)],
 ) -> Result<(), Fail> {
     match scope(alloc, file(alloc, arrows)?) {
         Ok(scoped) => {
-            assert_eq!(rt; scoped.order.as_slice(), order.as_slice());
-            assert_eq!(rt; scoped.rank(0), place);
+            assert_eq!(rt; scoped.file.automaton.rules.as_slice().len(), 3);
+            let counts = [counts.0 as i128, counts.1 as i128, counts.2 as i128];
+            let arranged = scoped.arrange(alloc, &counts)?;
+            assert_eq!(rt; arranged.steps.as_slice(), want);
         }
         Err(_) => assert!(rt; false, "a file in scope"),
     }
     Ok(())
 }
 
-fn expect_fault(
-    rt: &impl Abort,
-    alloc: Global,
-    arrows: [Arrow; 3],
-    want: ScopeFault,
-) -> Result<(), Fail> {
-    match scope(alloc, file(alloc, arrows)?) {
-        Ok(_) => assert!(rt; false, "a file out of scope"),
-        Err(fault) => assert_eq!(rt; fault, want),
-    }
-    Ok(())
+#[test]
+fn arranges(rt: HostRuntime) -> Result<(), Fail> {
+    let alloc = rt.alloc();
+    // A cycle of two rules is taken out, and one step is left.
+    let there_and_back = [(0, 1, false), (1, 0, false), (1, 2, false)];
+    expect_steps(&rt, alloc, there_and_back, (4, 3, 0), &[(0, 1)])?;
+    // Two cycles that share their locations, the one with the lesser numbers first.
+    let two_back = [(0, 1, false), (1, 0, false), (1, 0, false)];
+    expect_steps(&rt, alloc, two_back, (5, 2, 4), &[(2, 1)])?;
+    // A circulation alone leaves nothing.
+    let round = [(0, 1, false), (1, 2, false), (2, 0, false)];
+    expect_steps(&rt, alloc, round, (3, 3, 3), &[])?;
+    // By the order of the support, and not of all rules.
+    let forward = [(2, 0, true), (0, 1, true), (2, 1, true)];
+    expect_steps(&rt, alloc, forward, (0, 2, 3), &[(1, 2), (2, 3)])?;
+    expect_steps(&rt, alloc, forward, (1, 2, 3), &[(0, 1), (2, 3), (1, 2)])
 }
 
 #[test]
 fn scopes(rt: HostRuntime) -> Result<(), Fail> {
     let alloc = rt.alloc();
-    expect_order(
-        &rt,
-        alloc,
-        [(0, 1, true), (1, 2, false), (0, 0, false)],
-        [0, 1, 2],
-        0,
-    )?;
-    expect_order(
-        &rt,
-        alloc,
-        [(2, 1, false), (1, 0, true), (2, 2, false)],
-        [2, 1, 0],
-        2,
-    )?;
-    expect_order(
-        &rt,
-        alloc,
-        [(2, 0, true), (2, 0, false), (2, 0, true)],
-        [1, 2, 0],
-        2,
-    )
+    // No cycle but a self-loop without an update.
+    expect_scope(&rt, alloc, [(0, 1, true), (1, 2, true), (0, 0, false)])?;
+    // Cycles of two and of three locations without updates.
+    expect_scope(&rt, alloc, [(0, 1, false), (1, 0, false), (1, 2, true)])?;
+    expect_scope(&rt, alloc, [(0, 1, false), (1, 2, false), (2, 0, false)])?;
+    // An update before a cycle.
+    expect_scope(&rt, alloc, [(2, 0, true), (0, 1, false), (1, 0, false)])
 }
 
 #[test]
 fn faults(rt: HostRuntime) -> Result<(), Fail> {
     let alloc = rt.alloc();
-    expect_fault(
-        &rt,
-        alloc,
-        [(2, 2, true), (0, 1, true), (1, 0, true)],
-        ScopeFault::LoopUpdates(0),
-    )?;
-    expect_fault(
-        &rt,
-        alloc,
-        [(0, 1, true), (1, 1, true), (1, 0, false)],
-        ScopeFault::Cycle(0),
-    )?;
-    expect_fault(
-        &rt,
-        alloc,
-        [(2, 0, true), (0, 1, false), (1, 0, false)],
-        ScopeFault::Cycle(1),
-    )?;
-    expect_fault(
-        &rt,
-        alloc,
-        [(0, 1, false), (1, 2, false), (2, 0, false)],
-        ScopeFault::Cycle(0),
-    )
+    // A self-loop with an update.
+    expect_fault(&rt, alloc, [(2, 2, true), (0, 1, true), (1, 2, true)], 0)?;
+    expect_fault(&rt, alloc, [(0, 1, true), (1, 1, true), (1, 2, false)], 1)?;
+    // The second and the third rule of a cycle.
+    expect_fault(&rt, alloc, [(0, 1, false), (1, 0, true), (0, 2, true)], 1)?;
+    expect_fault(&rt, alloc, [(0, 1, false), (1, 2, false), (2, 0, true)], 2)?;
+    // The first of two.
+    expect_fault(&rt, alloc, [(0, 1, false), (1, 0, true), (0, 1, true)], 1)
 }

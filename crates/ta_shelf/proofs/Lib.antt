@@ -1,4 +1,7 @@
-pub mod Distinct
-pub mod ReadSoFar
-pub mod WithFile
+-- lemmas for the crates above
 pub mod WrittenSoFar
+mod CallLemmas
+mod Distinct
+mod ReadSoFar
+mod WithFile
+mod Walks

@@ -1,12 +1,12 @@
 -- what a read of a whole file keeps from turn to turn
-use Rattle.std.proofs.Common.{◌+◌, ◌∙◌, ap, drop, arith, length-append, ◌≡◌, ℕ, ◌≤◌, List, [], ◌++◌, length, take, Some, None, Option, sym, subst}
+use Rattle.std.proofs.Common.{◌+◌, ◌∙◌, ap, drop, arith, length-append, ◌≡◌, ℕ, ◌≤◌, List, [], ◌++◌, length, take, Some, None, Option, sym}
 use Rattle.std.proofs.Math.Seq.{take-add}
 use Rattle.std.proofs.lemmas.List.{length-drop, length-take-le}
 use Rattle.std.proofs.lemmas.Option.{none-some}
 use Rattle.std.specs.Option.{IfSome, unwrap_or}
 use Rattle.ta_shelf.specs.Shelf.{ReadsBytes}
-use Rattle.ta_shelf.specs.ReadWhole.{Gave}
-use Rattle.ta_shelf.specs.ReadWhole.Gave.{nothing, more}
+use Rattle.ta_shelf.specs.Calls.{Call}
+use Rattle.ta_shelf.proofs.CallLemmas.{Turns}
 
 -- the bytes read so far are a file's first ones
 pub record IsRead (bytes read : List ℕ) : Type 0 where
@@ -35,24 +35,13 @@ read_more (Some known) read buffer all at count so_far place reads fits whole =
     }
 
 -- the files and the count stay, and what was read is the file's where it is told
-pub record Kept {S : Type 0} (gives : S → List ℕ → ℕ → List ℕ → S → Type 0) (first shelf : S) (files : Option (List ℕ → Option (List ℕ))) (name read : List ℕ) (now : Option (List ℕ → Option (List ℕ))) (before after : ℕ) : Type 0 where
+pub record Kept (first calls : List Call) (files : Option (List ℕ → Option (List ℕ))) (name read : List ℕ) (now : Option (List ℕ → Option (List ℕ))) (before after : ℕ) : Type 0 where
   pub files_kept : now ≡ files
   pub faults_kept : after ≡ before
   pub so_far : IfSome files (λ m. IsReadSoFar (m name) read)
-  pub in_order : Gave gives name first read shelf
+  pub log : Turns name read first calls
 
 -- the same where the files may be untold
 pub read_more_if : (files : Option (List ℕ → Option (List ℕ))) (name read buffer all : List ℕ) (at count : ℕ) → IfSome files (λ m. IsReadSoFar (m name) read) → at ≡ length read → IfSome files (λ m. ReadsBytes (m name) at buffer count) → count ≤ length buffer → all ≡ read ++ take count buffer → IfSome files (λ m. IsReadSoFar (m name) all)
 read_more_if None name read buffer all at count so_far place reads fits whole = tt
 read_more_if (Some files) name read buffer all at count so_far place reads fits whole = read_more (files name) read buffer all at count so_far place reads fits whole
-
--- before the first call nothing was given
-pub gave_nothing : {S : Type 0} (gives : S → List ℕ → ℕ → List ℕ → S → Type 0) (name : List ℕ) (first : S) (read : List ℕ) → read ≡ [] → Gave gives name first read first
-gave_nothing {S} gives name first read none = let P : List ℕ → Type 0 = λ xs. Gave gives name first xs first in subst P (sym none) nothing
-
--- one more call gave the next piece
-pub gave_more : {S : Type 0} (gives : S → List ℕ → ℕ → List ℕ → S → Type 0) (name : List ℕ) (first before after : S) (read piece all : List ℕ) (at : ℕ) → Gave gives name first read before → at ≡ length read → gives before name at piece after → all ≡ read ++ piece → Gave gives name first all after
-gave_more {S} gives name first before after read piece all at gave place given whole =
-    let P : List ℕ → Type 0 = λ xs. Gave gives name first xs after in
-    let Q : ℕ → Type 0 = λ n. gives before name n piece after in
-    subst P (sym whole) (more read piece before after gave (subst Q place given))

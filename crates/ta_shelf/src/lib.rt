@@ -6,6 +6,7 @@ mod failing;
 mod fault;
 mod files;
 mod list;
+mod log;
 mod memory_shelf;
 mod memory_sink;
 mod quiet_shelf;

@@ -1,7 +1,8 @@
 //! A shelf in memory that never fails.
 #![tactic(auto)]
 
-ghost use Rattle.std.specs.Prelude.{◌≡◌, ◌≤◌, ℕ, length, min, take, drop, IsOk, IfOk, IfErr, IfSome, Some};
+ghost use Rattle.std.specs.Prelude.{◌≡◌, ◌≤◌, ◌++◌, ◌∷◌, [], ℕ, length, min, take, drop, IsOk, IfOk, IfErr, IfSome, Some};
+ghost use Rattle.ta_shelf.specs.Calls.{filled};
 ghost use Rattle.ta_shelf.specs.Files.{AreDistinct, bytes_left, file_named};
 ghost use Rattle.ta_shelf.specs.Put.{Creates, Appends, OthersStay, PutNeverFails};
 ghost use Rattle.ta_shelf.specs.Shelf.{ReadsAt, FailsOnlyFaulted, NeverFails};
@@ -9,6 +10,7 @@ ghost use Rattle.ta_shelf.specs.Shelf.{ReadsAt, FailsOnlyFaulted, NeverFails};
 use crate::fault::{PutFault, ShelfFault};
 use crate::files::{append_file, create_file, find_file};
 use crate::list::List;
+use crate::log::{Entry, Log};
 use crate::shelf::Shelf;
 use crate::text::Text;
 use std::alloc::AllocError;
@@ -18,6 +20,7 @@ use std::alloc::AllocError;
 #[derive(Drop)]
 pub struct QuietShelf {
     files: List<(Text, List<u8>)>,
+    log: Log,
     pub ghost distinct: { AreDistinct files },
 }
 
@@ -27,8 +30,24 @@ impl QuietShelf {
         requires { AreDistinct files }
         ensures made { IsOk result }
         ensures files { IfOk result (λ s. s.files ≡ files) }
+        ensures log { IfOk result (λ s. s.log.calls ≡ []) }
     {
-        Ok(QuietShelf { files })
+        Ok(QuietShelf {
+            files,
+            log: Log::new(),
+        })
+    }
+
+    /// Logs a call.
+    pub(crate) fn log_call(&mut self, entry: &Entry<'_>)
+        ensures log { self.new.log.calls ≡ self.old.log.calls ++ (record {
+          name = entry.now.name.now;
+          at = entry.now.at;
+          gave = filled entry.now.buffer.now entry.now.answer;
+        }) ∷ [] }
+        ensures files { self.new.files ≡ self.old.files }
+    {
+        self.log = self.log.then(entry);
     }
 }
 
@@ -37,18 +56,28 @@ impl Shelf for QuietShelf {
 
     ghost faults = { λ s. 0 };
 
+    ghost calls = { λ s. s.log.calls };
+
     fn read_at(&mut self, name: &str, at: u64, buf: &mut [u8]) -> Result<usize, ShelfFault>
         ensures count { IfOk result (λ k. k ≤ length buf.new) }
         ensures bytes { ReadsAt (file_named name.now self.old.files) at buf.new result }
         ensures quiet { NeverFails result }
         ensures filled { let left = bytes_left (file_named name.now self.old.files) at in
             IfOk result (λ k. k ≡ min (length buf.new) left) }
+        ensures log { self.new.log.calls ≡ self.old.log.calls ++ (record { name = name.now; at = at; gave = filled buf.new result }) ∷ [] }
         ensures kept { self.new.files ≡ self.old.files }
     {
-        match find_file(self.files.as_slice(), name) {
+        let answer = match find_file(self.files.as_slice(), name) {
             Some(bytes) => Ok(copy_from(bytes.as_slice(), at, buf)),
             None => Err(ShelfFault::Missing),
-        }
+        };
+        self.log_call(&Entry {
+            name,
+            at,
+            buffer: buf,
+            answer,
+        });
+        answer
     }
 
     fn create(&mut self, name: &str) -> Result<(), PutFault>
@@ -56,6 +85,7 @@ impl Shelf for QuietShelf {
         ensures others { OthersStay name.now (λ n. file_named n self.old.files) (λ n. file_named n self.new.files) }
         ensures quiet { PutNeverFails result }
         ensures kept { IfErr result (λ _. self.new.files ≡ self.old.files) }
+        ensures log { self.new.log.calls ≡ self.old.log.calls }
     {
         create_file(&mut self.files, name)?;
         Ok(())
@@ -66,6 +96,7 @@ impl Shelf for QuietShelf {
         ensures others { OthersStay name.now (λ n. file_named n self.old.files) (λ n. file_named n self.new.files) }
         ensures quiet { PutNeverFails result }
         ensures kept { IfErr result (λ _. self.new.files ≡ self.old.files) }
+        ensures log { self.new.log.calls ≡ self.old.log.calls }
     {
         append_file(&mut self.files, name, bytes)?;
         Ok(())

@@ -2,7 +2,8 @@
 #![tactic(auto)]
 
 ghost use Rattle.std.specs.Prelude.{◌≡◌, ◌≤◌, length, IfOk, IfSome};
-ghost use Rattle.ta_shelf.specs.ReadWhole.{ReadsWhole, ReadsInOrder, FailsOnlyFaulted};
+ghost use Rattle.ta_shelf.specs.Calls.{Grew, ReadsBy};
+ghost use Rattle.ta_shelf.specs.ReadWhole.{ReadsWhole, FailsOnlyFaulted};
 
 use crate::fault::{ShelfFault, WholeFault};
 use crate::list::List;
@@ -12,7 +13,7 @@ use std::alloc::Global;
 /// The bytes of a file, which may have up to `limit` of them.
 ///
 /// Each turn reads at least one byte or is the last, and each goes on where the one before ended:
-/// `order` says so of a shelf's calls, also where it leaves its files untold.
+/// `log` says so of the calls that this reading added, also where a shelf leaves its files untold.
 pub fn read_whole<S: Shelf>(
     alloc: Global,
     shelf: &mut S,
@@ -22,7 +23,7 @@ pub fn read_whole<S: Shelf>(
     requires { limit ≤ 1073741824 }
     ensures bytes { IfSome (S.files shelf.old) (λ m. ReadsWhole (m name.now) limit result) }
     ensures short { IfOk result (λ bytes. length bytes ≤ limit) }
-    ensures order { ReadsInOrder S.gives name.now limit shelf.old shelf.new result }
+    ensures log { Grew (ReadsBy name.now limit result) (S.calls shelf.old) (S.calls shelf.new) }
     ensures cause { FailsOnlyFaulted result (S.faults shelf.old) (S.faults shelf.new) }
     ensures kept { S.files shelf.new ≡ S.files shelf.old }
 {

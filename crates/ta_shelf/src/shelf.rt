@@ -1,8 +1,9 @@
 //! Files by name.
 #![tactic(auto)]
 
-ghost use Rattle.std.specs.Prelude.{◌≡◌, ◌≤◌, ℕ, List, length, take, IfOk, IfSome};
+ghost use Rattle.std.specs.Prelude.{◌≡◌, ◌≤◌, ◌++◌, ◌∷◌, [], ℕ, List, length, IfOk, IfSome};
 ghost use Rattle.std.specs.declared.option.Option.{Option};
+ghost use Rattle.ta_shelf.specs.Calls.{Call, filled};
 ghost use Rattle.ta_shelf.specs.Put.{WhereTold, Creates, Appends, OthersStay, PutFailsOnlyFaulted};
 ghost use Rattle.ta_shelf.specs.Shelf.{ReadsAt, FailsOnlyFaulted};
 
@@ -18,16 +19,16 @@ pub trait Shelf {
     // how many calls failed
     ghost faults: { Self → ℕ };
 
-    // a shelf, a name, an offset, the bytes that a call gave, and the shelf after it;
-    // a type may say nothing of them
-    ghost gives: { Self → List ℕ → ℕ → List ℕ → Self → Type 0 } = { λ _ _ _ _ _. Unit {0} };
+    // the calls that read so far, each with what it gave; the log takes no memory
+    ghost calls: { Self → List Call };
 
     /// Reads bytes of a file from the offset `at` on into a buffer, and says how many.
     fn read_at(&mut self, name: &str, at: u64, buf: &mut [u8]) -> Result<usize, ShelfFault>
         ensures count { IfOk result (λ k. k ≤ length buf.new) }
         ensures bytes { IfSome (files self.old) (λ m. ReadsAt (m name.now) at buf.new result) }
         ensures cause { FailsOnlyFaulted result (faults self.old) (faults self.new) }
-        ensures gives { IfOk result (λ k. gives self.old name.now at (take k buf.new) self.new) }
+        // the log has exactly this call more
+        ensures log { calls self.new ≡ calls self.old ++ (record { name = name.now; at = at; gave = filled buf.new result }) ∷ [] }
         ensures kept { files self.new ≡ files self.old };
 
     /// Makes the file of a name, which is empty then; one that is there is emptied.
@@ -36,7 +37,8 @@ pub trait Shelf {
     fn create(&mut self, name: &str) -> Result<(), PutFault>
         ensures made { WhereTold (Creates result name.now) (files self.old) (files self.new) }
         ensures others { WhereTold (OthersStay name.now) (files self.old) (files self.new) }
-        ensures cause { PutFailsOnlyFaulted result (faults self.old) (faults self.new) };
+        ensures cause { PutFailsOnlyFaulted result (faults self.old) (faults self.new) }
+        ensures log { calls self.new ≡ calls self.old };
 
     /// Adds bytes at the end of the file of a name; one that is absent is made with them.
     ///
@@ -44,5 +46,6 @@ pub trait Shelf {
     fn append(&mut self, name: &str, bytes: &[u8]) -> Result<(), PutFault>
         ensures added { WhereTold (Appends result name.now bytes.now) (files self.old) (files self.new) }
         ensures others { WhereTold (OthersStay name.now) (files self.old) (files self.new) }
-        ensures cause { PutFailsOnlyFaulted result (faults self.old) (faults self.new) };
+        ensures cause { PutFailsOnlyFaulted result (faults self.old) (faults self.new) }
+        ensures log { calls self.new ≡ calls self.old };
 }

@@ -6,6 +6,7 @@ use crate::{
 };
 use std::alloc::{AllocError, Global};
 use std::io::{ErrorKind, Write};
+use std::os::fd::AsRawFd;
 use std::test::Fail;
 use std::{fs, io};
 
@@ -259,21 +260,79 @@ fn hands_texts_to_writers(rt: HostRuntime) -> Result<(), Fail> {
     Ok(())
 }
 
+/// So many bytes that differ by their places, also where these are a buffer's length apart.
+fn bytes_by_place(alloc: Global, count: u32) -> Result<Vec<u8>, AllocError> {
+    let mut bytes = Vec::new(alloc);
+    for place in 0..count {
+        bytes.push((place % 251) as u8)?;
+    }
+    Ok(bytes)
+}
+
+/// The byte that a shelf gives of a file at an offset.
+fn byte_at<S: Shelf>(shelf: &mut S, name: &str, at: u64) -> Option<u8> {
+    let mut byte = [0u8];
+    match shelf.read_at(name, at, &mut byte) {
+        Ok(1) => Some(byte[0]),
+        _ => None,
+    }
+}
+
 #[test]
 fn reads_real_files(rt: HostRuntime) -> Result<(), Fail> {
     let name = "ta_shelf_test_file";
-    fs::write(&rt, name, b"abc".as_slice())?;
+    let bytes = bytes_by_place(rt.alloc(), 20_000)?;
+    fs::write(&rt, name, bytes.as_slice())?;
     let mut shelf = DiskShelf::new(rt.clone()?);
     for (name, limit, want) in [
-        (name, 3, Ok(3)),
-        (name, 2, Err(WholeFault::TooLong)),
+        (name, 19_999, Err(WholeFault::TooLong)),
+        (name, 20_000, Ok(20_000)),
         ("ta_shelf_test_no_file", 3, Err(WholeFault::Missing)),
         (".", 3, Err(WholeFault::Failed)),
     ] {
         let read = length_of(read_whole(rt.alloc(), &mut shelf, name, limit));
         assert_eq!(rt; read, want, "{name} up to {limit}");
     }
+    let read = read_whole(rt.alloc(), &mut shelf, name, 20_000)?;
+    assert!(rt; read.as_slice() == bytes.as_slice());
+    for at in [16_384, 5, 6, 12_000] {
+        assert_eq!(rt;
+            byte_at(&mut shelf, name, at),
+            Some((at % 251) as u8),
+            "at {at}"
+        );
+    }
+    assert_eq!(rt; byte_at(&mut shelf, name, 20_000), None);
     fs::remove_file(&rt, name)?;
+    Ok(())
+}
+
+#[test]
+fn reads_on_in_one_file(rt: HostRuntime) -> Result<(), Fail> {
+    let name = "ta_shelf_test_swapped_file";
+    let newer = "ta_shelf_test_newer_file";
+    fs::write(&rt, name, b"old".as_slice())?;
+    fs::write(&rt, newer, b"new".as_slice())?;
+    let mut shelf = DiskShelf::new(rt.clone()?);
+    assert_eq!(rt; byte_at(&mut shelf, name, 0), Some(b'o'));
+    fs::rename(&rt, newer, name)?;
+    for (at, want) in [(1, b'l'), (0, b'n'), (2, b'w')] {
+        assert_eq!(rt; byte_at(&mut shelf, name, at), Some(want), "at {at}");
+    }
+    fs::remove_file(&rt, name)?;
+    Ok(())
+}
+
+#[test]
+fn reads_pipes(rt: HostRuntime) -> Result<(), Fail> {
+    let bytes = bytes_by_place(rt.alloc(), 20_000)?;
+    let (reader, mut writer) = io::pipe(&rt)?;
+    writer.write_all(bytes.as_slice())?;
+    drop(writer);
+    let name = format!(in rt.alloc(); "/proc/self/fd/{}", reader.as_raw_fd())?;
+    let mut shelf = DiskShelf::new(rt.clone()?);
+    let read = read_whole(rt.alloc(), &mut shelf, name.as_str(), 20_000)?;
+    assert!(rt; read.as_slice() == bytes.as_slice());
     Ok(())
 }
 

@@ -16,7 +16,7 @@ use Rattle.ta_dense.specs.Tableau.{Tableau, row_of, basic_of}
 use Rattle.ta_dense.specs.Laws.{DictionaryOf}
 use Rattle.ta_simplex.specs.LeastIndex.{Stuck}
 use Rattle.ta_simplex.specs.Refuted.{GivesMultipliers, AreLeafMultipliers}
-use Rattle.ta_simplex.specs.Slots.{FillSlots, ListsSlots}
+use Rattle.ta_simplex.specs.Inside.Slots.{FillSlots, ListsSlots}
 use Rattle.ta_simplex.proofs.LeafLaws.{cells_at, weight, slack_weighted, refuted_is_leaf}
 
 cells_at-none : (cs : List ℤ) (us : List ℕ) (w : ℕ) → ((j : ℕ) → j < length us → get_or us j 0 ≢ w) → cells_at cs us w ≡ pos 0

@@ -1,16 +1,22 @@
-pub mod Basic
-pub mod Search
-pub mod LeastSoFar
-pub mod Bland
-pub mod Pigeon
-pub mod Moments
+-- lemmas for the crates above
 pub mod Choose
-pub mod Ends
-pub mod LeafLaws
 pub mod RunLemmas
-pub mod VertexLemmas
-pub mod SlotLemmas
-pub mod ValueLemmas
-pub mod LeafLemmas
 pub mod WholeLemmas
 pub mod FewMultipliers
+mod Basic
+mod Search
+mod Bland
+mod Pigeon
+mod Moments
+mod Ends
+mod LeafLaws
+mod VertexLemmas
+mod SlotLemmas
+mod ValueLemmas
+mod LeafLemmas
+mod Widening
+mod Extended
+mod Prefixes
+mod FollowLemmas
+mod RunSteps
+mod BranchLemmas

@@ -12,7 +12,7 @@ use Rattle.ta_dense.specs.Tableau.{Tableau, row_of, cell_of, basic_of, non_basic
 use Rattle.ta_dense.specs.Entering.{NoneEnters}
 use Rattle.ta_dense.specs.Valid.{IsBasis}
 use Rattle.ta_dense.proofs.Divide.{unsigned_abs-neg}
-use Rattle.ta_simplex.specs.Slots.{slot, put, AreNatural, FillSlots, ListsSlots}
+use Rattle.ta_simplex.specs.Inside.Slots.{slot, put, AreNatural, FillSlots, ListsSlots}
 
 -- what a place holds after a number is put
 after_set : (ms : List ℤ) (p k : ℕ) (m : ℤ) → p < length ms → ((k ≡ p) × (slot (set ms p m) k ≡ m)) ⊎ ((k ≢ p) × (slot (set ms p m) k ≡ slot ms k))

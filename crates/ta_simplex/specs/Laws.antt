@@ -1,10 +1,13 @@
 -- The laws of the least-index rule
-use Rattle.std.specs.Prelude.{ℕ, ◌+◌, ◌<◌, ◌≤◌, ◌≡◌, List, ℤ, pos, ◌*ℤ◌, length, slice_get, slice_index, IsSomeAnd}
+use Rattle.std.specs.Prelude.{ℕ, suc, ◌+◌, ◌-◌, ◌^◌, ◌<◌, ◌≤◌, ◌≡◌, List, ℤ, pos, ◌*ℤ◌, length, min, slice_get, slice_index, IsSomeAnd}
 use Rattle.ta_linear.specs.Values.{Solves}
 use Rattle.ta_linear.specs.declared.row.System.{System}
 use Rattle.ta_dense.specs.Tableau.{Tableau}
 use Rattle.ta_dense.specs.Slack.{slack_tableau}
-use Rattle.ta_simplex.specs.LeastIndex.{Reached, Ended}
+use Rattle.ta_dense.specs.Kept.{KeptPivot, StayInRange}
+use Rattle.ta_dense.specs.Extending.{extended, new_rows, FirstLeaving}
+use Rattle.ta_simplex.specs.Follows.{Begins, Follows}
+use Rattle.ta_simplex.specs.LeastIndex.{Reached, Ended, OverflowsAt}
 use Rattle.ta_simplex.specs.Refuted.{IsRefuted}
 use Rattle.ta_simplex.specs.Vertex.{MeetRows}
 use Rattle.ta_simplex.specs.declared.fraction.Fraction.{Fraction}
@@ -23,3 +26,14 @@ WholeVerticesSolve =
 -- a refutation has at most one multiplier more than the system has unknowns
 abbrev pub MultipliersAreFew : Type 0
 MultipliersAreFew = (s : System) (ts : List (ℕ × ℤ)) → IsRefuted s ts → length ts ≤ s.unknowns + 1
+
+-- where a longer system begins with a shorter: its rows begin with the shorter's, over no fewer unknowns
+pub record PrefixesGoFirst : Type 0 where
+  -- each run has its list of pivots
+  pub listed : (s : System) (k : ℕ) (t : Tableau) → Reached (slack_tableau s) k t → (ks : List KeptPivot) × (length ks ≡ k) × Follows (slack_tableau s) ks k t
+  -- the pivots with which the shorter's run begins are the longer's first, and lead to the extended tableau, where no new row leaves the range in them
+  pub first : (s l : System) (ks : List KeptPivot) (t : Tableau) → Begins s l → Follows (slack_tableau s) ks (length ks) t →
+      StayInRange l.unknowns ks (length ks) (new_rows t l) → Follows (slack_tableau l) ks (length ks) (extended t ks l) × Reached (slack_tableau l) (length ks) (extended t ks l)
+  -- the longer's run ends at the first of them in which a new row does
+  pub leaves : (s l : System) (ks : List KeptPivot) (t : Tableau) → Begins s l → Follows (slack_tableau s) ks (length ks) t →
+      (pivot row : ℕ) → FirstLeaving t ks l pivot row → OverflowsAt (slack_tableau l) (min (suc pivot) (2 ^ 64 - 1))

@@ -1,18 +1,9 @@
 -- The least-index rule (Bland's rule, in its form for feasibility)
-use Rattle.std.specs.Prelude.{ℕ, zero, suc, ◌-◌, ◌^◌, ◌<◌, pos, ◌<ℤ◌, ◌≤ℤ◌, ◌≡◌, ◌⊎◌, length, min}
-use Rattle.ta_dense.specs.Tableau.{Tableau, row_of, basic_of, pivoted}
+use Rattle.std.specs.Prelude.{ℕ, zero, suc, ◌-◌, ◌^◌, ◌≡◌, ◌⊎◌, min}
+use Rattle.ta_dense.specs.Tableau.{Tableau, pivoted}
+pub use Rattle.ta_dense.specs.Leaving.{Leaves, NoneLeaves}
 use Rattle.ta_dense.specs.Entering.{Enters, NoneEnters}
 use Rattle.ta_dense.specs.Merge.{AllMergeInRange, FirstOverflow}
-
--- the least basic variable with a negative constant leaves
-pub record Leaves (t : Tableau) (row : ℕ) : Type 0 where
-  pub below : row < length t.rows
-  pub negative : (row_of t row).constant <ℤ pos 0
-  pub least : (i : ℕ) → i < length t.rows → basic_of t i < basic_of t row → pos 0 ≤ℤ (row_of t i).constant
-
--- no constant is negative
-abbrev pub NoneLeaves : Tableau → Type 0
-NoneLeaves t = (i : ℕ) → i < length t.rows → pos 0 ≤ℤ (row_of t i).constant
 
 -- one step: the least variable leaves that can, the least that can then enters, and the pivot stays in range
 pub record LeastStep (t t' : Tableau) : Type 0 where

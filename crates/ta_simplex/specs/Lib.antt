@@ -1,7 +1,9 @@
 pub mod LeastIndex
+pub mod Follows
 pub mod Stops
 pub mod Refuted
-pub mod Slots
 pub mod Vertex
 pub mod Ends
+pub mod Branch
 pub mod Laws
+pub mod Inside

@@ -1,7 +1,7 @@
 //! Laws of the least-index rule, each the contract of a function that does nothing.
 #![tactic(auto)]
 
-ghost use Rattle.ta_simplex.specs.Laws.{MultipliersAreFew, RunsAreDetermined, WholeVerticesSolve};
+ghost use Rattle.ta_simplex.specs.Laws.{MultipliersAreFew, PrefixesGoFirst, RunsAreDetermined, WholeVerticesSolve};
 
 /// The rule leaves no choice: a system has one list of bases and at most one end.
 pub fn runs_are_determined()
@@ -16,4 +16,9 @@ pub fn whole_vertices_solve()
 /// A refutation has at most one multiplier more than the system has unknowns.
 pub fn multipliers_are_few()
     ensures { MultipliersAreFew }
+{}
+
+/// The pivots of a system are the first pivots of each longer system that begins with it.
+pub fn prefixes_go_first()
+    ensures { PrefixesGoFirst }
 {}

@@ -6,7 +6,7 @@ ghost use Rattle.ta_linear.specs.Terms.{coefficient};
 ghost use Rattle.ta_dense.specs.Slack.{variables};
 ghost use Rattle.ta_dense.specs.Laws.{DictionaryOf};
 ghost use Rattle.ta_simplex.specs.LeastIndex.{Stuck};
-ghost use Rattle.ta_simplex.specs.Slots.{put, AreNatural, FillSlots, ListsSlots};
+ghost use Rattle.ta_simplex.specs.Inside.Slots.{put, AreNatural, FillSlots, ListsSlots};
 ghost use Rattle.ta_simplex.specs.Refuted.{AreLeafMultipliers};
 
 use std::alloc::{AllocError, Global};

@@ -8,7 +8,8 @@ use Rattle.ta_syntax.specs.Parts.{Part, both, many}
 use Rattle.ta_syntax.specs.Faults.{offset_of}
 use Rattle.ta_syntax.specs.Reading.{Reads, HasRoom, BeginsWith, IsOther}
 use Rattle.ta_syntax.specs.ListReading.{IsReady}
-use Rattle.ta_syntax.specs.BlockReading.{AvoidsMark, block_count, IsBlock, IsEntered, KeptBlock, TookBlock, BlockStops, KeptOthers, with_mark, TookBlocks, BlocksStop}
+use Rattle.ta_syntax.specs.BlockReading.{IsEntered, KeptBlock, TookBlock, BlockStops}
+use Rattle.ta_syntax.specs.Inside.BlockReading.{AvoidsMark, block_count, IsBlock, KeptOthers, with_mark, TookBlocks, BlocksStop}
 use Rattle.ta_syntax.specs.declared.tokens.Kind.{Kind}
 use Rattle.ta_syntax.specs.declared.tokens.Kind.TheVariants as kind
 use Rattle.ta_syntax.specs.declared.tokens.Mark.{Mark}

@@ -3,11 +3,14 @@ use Rattle.std.proofs.Common.{◌≡◌, ℕ, ◌-◌, ◌<◌, ◌≤◌, List,
 use Rattle.ta_syntax.specs.Grammar.{listed, led, ended}
 use Rattle.ta_syntax.specs.Stated.{Offsets, unplaced}
 use Rattle.ta_syntax.specs.Limits.{Counts, after_mark, begin_list}
-use Rattle.ta_syntax.specs.Parts.{Part, a_mark, a_name, both, maybe, upto, list_part}
+use Rattle.ta_syntax.specs.Parts.{Part, a_mark, a_name, both, maybe, upto}
+use Rattle.ta_syntax.specs.Inside.Parts.{list_part}
 use Rattle.ta_syntax.specs.Faults.{offset_of}
-use Rattle.ta_syntax.specs.Reading.{Reads, Avoids, HasRoom, BeginsWith, IsOther, IsUnexpected, IsUnnamed}
-use Rattle.ta_syntax.specs.ListReading.{extends_list, IsReady, IsFresh, with_commas, TookList, ListStops}
-use Rattle.ta_syntax.specs.BlockReading.{AvoidsMark, StartsOther, Kept, ReadsKept, Leads, TookNameThen, NameThenStops, TookEnd, EndStops, TookLed, LedStops, TookEnded, EndedStops, TookDeclared, DeclaredStops}
+use Rattle.ta_syntax.specs.Reading.{Reads, Avoids, HasRoom, BeginsWith, IsOther, IsUnexpected}
+use Rattle.ta_syntax.specs.Inside.Reading.{IsUnnamed}
+use Rattle.ta_syntax.specs.ListReading.{IsReady}
+use Rattle.ta_syntax.specs.Inside.ListReading.{extends_list, IsFresh, with_commas, TookList, ListStops}
+use Rattle.ta_syntax.specs.Inside.BlockReading.{AvoidsMark, StartsOther, Kept, ReadsKept, Leads, TookNameThen, NameThenStops, TookEnd, EndStops, TookLed, LedStops, TookEnded, EndedStops, TookDeclared, DeclaredStops}
 use Rattle.ta_syntax.specs.declared.tokens.Kind.{Kind}
 use Rattle.ta_syntax.specs.declared.tokens.Kind.TheVariants as kind
 use Rattle.ta_syntax.specs.declared.tokens.Mark.{Mark}

@@ -6,13 +6,16 @@ use Rattle.ta_syntax.specs.PlainSums.{plain_sum}
 use Rattle.ta_syntax.specs.PlainTrees.{plain_name, plain_location, plain_comparison, plain_update, plain_rule, plain_event, plain_pattern}
 use Rattle.ta_syntax.specs.Stated.{Offsets, unplaced, at_first, sum_stated, name_stated, location_stated, comparison_stated, rule_stated, pattern_stated, IsPlaced}
 use Rattle.ta_syntax.specs.Limits.{Counts, at_start, begin_list}
-use Rattle.ta_syntax.specs.Parts.{Part, Text, nothing, a_mark, a_name, a_sum, both, many, list_part, comparison_part, location_part, rule_part, pattern_part, file_part}
+use Rattle.ta_syntax.specs.Parts.{Part, Text, nothing, a_mark, a_name, a_sum, both, many}
+use Rattle.ta_syntax.specs.Inside.Parts.{list_part, comparison_part, location_part, rule_part, pattern_part, file_part}
 use Rattle.ta_syntax.specs.Faults.{kinds, SameStart, Stopped, IsWrong, offset_of}
-use Rattle.ta_syntax.specs.Reading.{Reads, Avoids, MayOpen, is_operator, BeginsWith, IsUnexpected, TookSum, SumStops}
-use Rattle.ta_syntax.specs.ListReading.{IsReady, IsFresh}
-use Rattle.ta_syntax.specs.BlockReading.{AvoidsMark, Kept, ReadsKept, TookNameThen, NameThenStops, TookEnd, EndStops, declared_part, TookDeclared, DeclaredStops, KeptOthers, with_mark, TookBlocks, BlocksStop}
-use Rattle.ta_syntax.specs.RuleBodies.{spell_name, spell_comparison, spell_update, spell_location, rule_body, rule_body_stated, event_body, pattern_body, pattern_body_stated}
-use Rattle.ta_syntax.specs.FileReading.{locations_part, TookLocations, LocationsStop, processes_part, TookProcesses, ProcessesStop}
+use Rattle.ta_syntax.specs.Reading.{Reads, Avoids, BeginsWith, IsUnexpected}
+use Rattle.ta_syntax.specs.Inside.Reading.{MayOpen, is_operator, TookSum, SumStops}
+use Rattle.ta_syntax.specs.ListReading.{IsReady}
+use Rattle.ta_syntax.specs.Inside.ListReading.{IsFresh}
+use Rattle.ta_syntax.specs.Inside.BlockReading.{AvoidsMark, Kept, ReadsKept, TookNameThen, NameThenStops, TookEnd, EndStops, declared_part, TookDeclared, DeclaredStops, KeptOthers, with_mark, TookBlocks, BlocksStop}
+use Rattle.ta_syntax.specs.Inside.RuleBodies.{spell_name, spell_comparison, spell_update, spell_location, rule_body, rule_body_stated, event_body, pattern_body, pattern_body_stated}
+use Rattle.ta_syntax.specs.Inside.FileReading.{locations_part, TookLocations, LocationsStop, processes_part, TookProcesses, ProcessesStop}
 use Rattle.ta_syntax.specs.declared.tokens.Kind.{Kind}
 use Rattle.ta_syntax.specs.declared.tokens.Kind.TheVariants as kind
 use Rattle.ta_syntax.specs.declared.tokens.Mark.{Mark}

@@ -2,7 +2,8 @@
 use Rattle.std.proofs.Common.{◌≡◌, ℕ, Bool, true, false, List, [], ◌∷◌, ◌++◌, length, inl, inr, ⊎_elim, refl, sym, ap, ◌∙◌, append_assoc, arith, ◌<◌, length-append}
 use Rattle.std.specs.List.{AllByRecursion}
 use Rattle.std.proofs.lemmas.List.{append-nil}
-use Rattle.ta_syntax.specs.Tokens.{IsSpace, IsGap, IsLastGap, SkipsComment, SkipsPiece, SkipsGap}
+use Rattle.ta_syntax.specs.Tokens.{IsSpace, IsGap, IsLastGap}
+use Rattle.ta_syntax.specs.Inside.Tokens.{SkipsComment, SkipsPiece, SkipsGap}
 
 pub record CommentSoFar (bytes rest : List ℕ) : Type 0 where
   pub text : List ℕ

@@ -7,11 +7,13 @@ use Rattle.ta_syntax.specs.PlainSums.{plain_sum}
 use Rattle.ta_syntax.specs.PlainTrees.{plain_location, plain_update}
 use Rattle.ta_syntax.specs.Stated.{at_first, sum_stated, name_stated, location_stated, update_stated}
 use Rattle.ta_syntax.specs.Limits.{Counts}
-use Rattle.ta_syntax.specs.Parts.{Part, Text, nothing, a_mark, a_name, a_number, a_relation, a_sum, both, maybe, many, list_part, location_part, update_part, comparison_part}
+use Rattle.ta_syntax.specs.Parts.{Part, Text, nothing, a_mark, a_name, a_number, a_relation, a_sum, both, maybe, many}
+use Rattle.ta_syntax.specs.Inside.Parts.{list_part, location_part, update_part, comparison_part}
 use Rattle.ta_syntax.specs.Faults.{kinds, SameStart, IsWrong, offset_of}
-use Rattle.ta_syntax.specs.Reading.{Reads, begins_by, Avoids, MayOpen, BeginsWith, IsOther, IsUnexpected, IsUnnamed, NoNumber, NoRelation, is_name, is_sum_start, is_operator, TookSum, SumStops}
+use Rattle.ta_syntax.specs.Reading.{Reads, begins_by, Avoids, BeginsWith, IsOther, IsUnexpected, NoNumber}
+use Rattle.ta_syntax.specs.Inside.Reading.{MayOpen, IsUnnamed, NoRelation, is_name, is_sum_start, is_operator, TookSum, SumStops}
 use Rattle.ta_syntax.specs.ListReading.{extends_item, IsReady, TookItem, ItemStops, IsStart}
-use Rattle.ta_syntax.specs.BlockReading.{AvoidsMark}
+use Rattle.ta_syntax.specs.Inside.BlockReading.{AvoidsMark}
 use Rattle.ta_syntax.specs.declared.tokens.Kind.{Kind}
 use Rattle.ta_syntax.specs.declared.tokens.Kind.TheVariants as kind
 use Rattle.ta_syntax.specs.declared.tokens.Mark.{Mark}

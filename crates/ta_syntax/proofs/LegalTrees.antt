@@ -5,10 +5,11 @@ use Rattle.ta_syntax.specs.Kinds.{IsNameText}
 use Rattle.ta_syntax.specs.Grammar.{IsSome, IsComparison, IsUpdate, IsRule, IsEvent, IsPattern, IsTree}
 use Rattle.ta_syntax.specs.PlainTrees.{plain_name, plain_comparison, plain_location, plain_update, plain_rule, plain_event, plain_pattern, plain_tree}
 use Rattle.ta_syntax.specs.Limits.{at_start, IsShallow, IsRuleWithin, IsEventWithin, IsPatternWithin, IsTreeWithin}
-use Rattle.ta_syntax.specs.Tokens.{AreTokens, ScanStops}
+use Rattle.ta_syntax.specs.Tokens.{AreTokens}
+use Rattle.ta_syntax.specs.Inside.Tokens.{ScanStops}
 use Rattle.ta_syntax.specs.Grammar.{FileText}
 use Rattle.ta_syntax.specs.Faults.{Stopped, FirstFault}
-use Rattle.ta_syntax.specs.FileReading.{IsSpelled}
+use Rattle.ta_syntax.specs.Inside.FileReading.{IsSpelled}
 use Rattle.ta_syntax.specs.TreeOf.{IsTreeOf}
 use Rattle.ta_syntax.specs.declared.names.Spelled.{Spelled}
 use Rattle.ta_syntax.specs.declared.tree.TreeComparison.{TreeComparison}

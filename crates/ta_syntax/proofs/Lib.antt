@@ -1,22 +1,23 @@
-pub mod Gaps
-pub mod Words
+-- lemmas for the crates above
 pub mod Scans
 pub mod Steps
 pub mod SumSteps
-pub mod SumExits
-pub mod ListSteps
-pub mod ItemSteps
-pub mod ClauseSteps
-pub mod BlockSteps
-pub mod RuleSteps
 pub mod PrintSteps
-pub mod FileSteps
-pub mod FileTexts
-pub mod WholeFile
-pub mod LegalTrees
 pub mod UniqueTokens
-pub mod WithinLimits
 pub mod NoFault
-pub mod PrintedTokens
-pub mod ReadBack
-pub mod UniqueTrees
+mod Gaps
+mod Words
+mod SumExits
+mod ListSteps
+mod ItemSteps
+mod ClauseSteps
+mod BlockSteps
+mod RuleSteps
+mod FileSteps
+mod FileTexts
+mod WholeFile
+mod LegalTrees
+mod WithinLimits
+mod PrintedTokens
+mod ReadBack
+mod UniqueTrees

@@ -4,11 +4,14 @@ use Rattle.std.proofs.lemmas.List.{append-nil}
 use Rattle.ta_syntax.specs.Grammar.{listed, further}
 use Rattle.ta_syntax.specs.Stated.{Offsets, unplaced}
 use Rattle.ta_syntax.specs.Limits.{Counts}
-use Rattle.ta_syntax.specs.Parts.{Part, Text, a_mark, both, maybe, many, blocks, list_part}
+use Rattle.ta_syntax.specs.Parts.{Part, Text, a_mark, both, maybe, many, blocks}
+use Rattle.ta_syntax.specs.Inside.Parts.{list_part}
 use Rattle.ta_syntax.specs.Faults.{IsWrong, offset_of}
-use Rattle.ta_syntax.specs.Reading.{Reads, begins_by, Avoids, BeginsWith, IsOther, is_operator}
-use Rattle.ta_syntax.specs.ListReading.{extends_item, extends_list, IsReady, TookItem, ItemStops, IsStart, PastStops, IsFresh, with_commas, TookList, ListStops}
-use Rattle.ta_syntax.specs.BlockReading.{AvoidsMark}
+use Rattle.ta_syntax.specs.Reading.{Reads, begins_by, Avoids, BeginsWith, IsOther}
+use Rattle.ta_syntax.specs.Inside.Reading.{is_operator}
+use Rattle.ta_syntax.specs.ListReading.{extends_item, IsReady, TookItem, ItemStops, IsStart}
+use Rattle.ta_syntax.specs.Inside.ListReading.{extends_list, PastStops, IsFresh, with_commas, TookList, ListStops}
+use Rattle.ta_syntax.specs.Inside.BlockReading.{AvoidsMark}
 use Rattle.ta_syntax.specs.declared.tokens.Kind.{Kind}
 use Rattle.ta_syntax.specs.declared.tokens.Kind.TheVariants as kind
 use Rattle.ta_syntax.specs.declared.tokens.Mark.{Mark}

@@ -5,7 +5,8 @@ use Rattle.std.specs.Prelude.{IfOk}
 use Rattle.ta_syntax.specs.Kinds.{kind_bytes}
 use Rattle.ta_syntax.specs.Grammar.{PlainTree, name_kinds, location_kinds, Terms, Term, Factor, further, listed, led, ended, each, term_kinds, sum_kinds, more_kinds}
 use Rattle.ta_syntax.specs.PlainSums.{plain_sum, plain_term, plain_terms, factor_layer, sum_layer, term_layer}
-use Rattle.ta_syntax.specs.Printed.{separator, printed, Prints, sign_before, head_kinds}
+use Rattle.ta_syntax.specs.Printed.{separator, printed}
+use Rattle.ta_syntax.specs.Inside.Printed.{Prints, sign_before, head_kinds}
 use Rattle.ta_syntax.specs.declared.tokens.Kind.{Kind}
 use Rattle.ta_syntax.specs.declared.tokens.Kind.TheVariants as kind
 use Rattle.ta_syntax.specs.declared.tokens.Mark.{Mark}

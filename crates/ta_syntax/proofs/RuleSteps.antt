@@ -3,12 +3,16 @@ use Rattle.std.proofs.Common.{◌≡◌, ℕ, ◌≤◌, List, [], ◌∷◌, �
 use Rattle.ta_syntax.specs.Grammar.{listed, led, ended, each}
 use Rattle.ta_syntax.specs.Stated.{unplaced, name_stated, comparison_stated, update_stated}
 use Rattle.ta_syntax.specs.Limits.{Counts, begin_list}
-use Rattle.ta_syntax.specs.Parts.{Part, a_mark, a_name, both, maybe, many, list_part, comparison_part, update_part, rule_part, event_part, pattern_part}
+use Rattle.ta_syntax.specs.Parts.{Part, a_mark, a_name, both, maybe, many}
+use Rattle.ta_syntax.specs.Inside.Parts.{list_part, comparison_part, update_part, rule_part, event_part, pattern_part}
 use Rattle.ta_syntax.specs.Faults.{offset_of}
-use Rattle.ta_syntax.specs.Reading.{Reads, Avoids, HasRoom, BeginsWith, IsUnexpected, IsUnnamed}
-use Rattle.ta_syntax.specs.ListReading.{extends_list, IsReady, IsFresh}
-use Rattle.ta_syntax.specs.BlockReading.{AvoidsMark, Kept, ReadsKept, TookNameThen, NameThenStops, TookEnd, EndStops, TookLed, LedStops, TookEnded, EndedStops, IsEntered, KeptBlock, TookBlock, BlockStops, KeptOthers, with_mark, TookBlocks, BlocksStop}
-use Rattle.ta_syntax.specs.RuleBodies.{spell_name, spell_comparison, spell_update, event_body, event_body_stated}
+use Rattle.ta_syntax.specs.Reading.{Reads, Avoids, HasRoom, BeginsWith, IsUnexpected}
+use Rattle.ta_syntax.specs.Inside.Reading.{IsUnnamed}
+use Rattle.ta_syntax.specs.ListReading.{IsReady}
+use Rattle.ta_syntax.specs.Inside.ListReading.{extends_list, IsFresh}
+use Rattle.ta_syntax.specs.BlockReading.{IsEntered, KeptBlock, TookBlock, BlockStops}
+use Rattle.ta_syntax.specs.Inside.BlockReading.{AvoidsMark, Kept, ReadsKept, TookNameThen, NameThenStops, TookEnd, EndStops, TookLed, LedStops, TookEnded, EndedStops, KeptOthers, with_mark, TookBlocks, BlocksStop}
+use Rattle.ta_syntax.specs.Inside.RuleBodies.{spell_name, spell_comparison, spell_update, event_body, event_body_stated}
 use Rattle.ta_syntax.specs.declared.tokens.Kind.TheVariants as kind
 use Rattle.ta_syntax.specs.declared.tokens.Mark.{Mark}
 use Rattle.ta_syntax.specs.declared.tokens.Mark.TheVariants as mark

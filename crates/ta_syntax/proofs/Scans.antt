@@ -2,7 +2,8 @@
 use Rattle.std.proofs.Common.{◌≡◌, ℕ, Bool, true, false, List, [], ◌∷◌, ◌++◌, length, refl, sym, ap, subst, ◌∙◌, arith, ◌<◌, ◌≤◌, ◌+◌, ◌-◌, length-append, inl, inr, lit<}
 use Rattle.std.proofs.lemmas.List.{append-nil}
 use Rattle.std.specs.Prelude.{◌⊎◌}
-use Rattle.ta_syntax.specs.Tokens.{ScansTo, IsSpace, IsGap, IsLastGap, TokenFrom, SkipsGap, BeginsNoGap, IsRefusedHere, TokenStops, ScanStops, AreTokens}
+use Rattle.ta_syntax.specs.Tokens.{ScansTo, IsSpace, IsGap, IsLastGap, IsRefusedHere, AreTokens}
+use Rattle.ta_syntax.specs.Inside.Tokens.{TokenFrom, SkipsGap, BeginsNoGap, TokenStops, ScanStops}
 use Rattle.ta_syntax.specs.Kinds.{mark_bytes, kind_bytes, IsKind}
 use Rattle.ta_syntax.specs.declared.placed.Token.{Token}
 use Rattle.ta_syntax.specs.declared.tokens.Kind.{Kind}

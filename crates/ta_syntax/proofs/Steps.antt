@@ -8,8 +8,9 @@ use Rattle.ta_syntax.specs.Stated.{Offsets, IsPlaced, at_first}
 use Rattle.ta_syntax.specs.Limits.{Counts, run, after, after_mark, Within, IsDeep, IsMany, IsBlockPast}
 use Rattle.ta_syntax.specs.Parts.{Part, Text, nothing, a_mark, a_name, a_number, a_relation, a_sum, more_terms, a_term, a_factor, both, maybe, many, upto, blocks}
 use Rattle.ta_syntax.specs.Faults.{kinds, SameStart, IsWrong, IsPast, Stopped, offset_of}
-use Rattle.ta_syntax.specs.Reading.{Reads, begins_by, is_sign, HasRoom, BeginsWith, IsOther, NoName, NoNumber, IsUnexpected, IsUnnamed}
-use Rattle.ta_syntax.specs.BlockReading.{AvoidsMark, StartsOther}
+use Rattle.ta_syntax.specs.Reading.{Reads, begins_by, HasRoom, BeginsWith, IsOther, NoNumber, IsUnexpected}
+use Rattle.ta_syntax.specs.Inside.Reading.{is_sign, NoName, IsUnnamed}
+use Rattle.ta_syntax.specs.Inside.BlockReading.{AvoidsMark, StartsOther}
 use Rattle.ta_syntax.specs.declared.tokens.Kind.{Kind}
 use Rattle.ta_syntax.specs.declared.tokens.Kind.TheVariants as kind
 use Rattle.ta_syntax.specs.declared.tokens.Mark.{Mark}

@@ -8,8 +8,9 @@ use Rattle.ta_syntax.specs.Stated.{sum_of, unplaced_sign, sum_term_stated}
 use Rattle.ta_syntax.specs.Limits.{Counts, after_mark, IsDeep}
 use Rattle.ta_syntax.specs.Parts.{Part, a_mark, a_sum, more_terms, a_term, a_factor, both}
 use Rattle.ta_syntax.specs.Faults.{kinds, offset_of}
-use Rattle.ta_syntax.specs.Reading.{Reads, begins_by, Avoids, is_star, is_sign, is_operator, HasRoom, MayOpen, BeginsWith, IsOther, LeadingSign, NoNumber, IsUnexpected, IsUnnamed, TookFactor, TookTerm, TookSum, FactorStops, TermStops, SumStops}
-use Rattle.ta_syntax.specs.BlockReading.{AvoidsMark}
+use Rattle.ta_syntax.specs.Reading.{Reads, begins_by, Avoids, HasRoom, BeginsWith, IsOther, NoNumber, IsUnexpected}
+use Rattle.ta_syntax.specs.Inside.Reading.{is_star, is_sign, is_operator, MayOpen, LeadingSign, IsUnnamed, TookFactor, TookTerm, TookSum, FactorStops, TermStops, SumStops}
+use Rattle.ta_syntax.specs.Inside.BlockReading.{AvoidsMark}
 use Rattle.ta_syntax.specs.declared.tokens.Kind.{Kind}
 use Rattle.ta_syntax.specs.declared.tokens.Kind.TheVariants as kind
 use Rattle.ta_syntax.specs.declared.tokens.Mark.TheVariants as mark

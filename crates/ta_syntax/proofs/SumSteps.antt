@@ -8,7 +8,8 @@ use Rattle.ta_syntax.specs.Stated.{Offsets, at_first, more_of, leading, sum_of, 
 use Rattle.ta_syntax.specs.Limits.{Counts}
 use Rattle.ta_syntax.specs.Parts.{Part, Text, a_mark, a_name, a_number, a_sum, more_terms, a_term, a_factor, both, maybe}
 use Rattle.ta_syntax.specs.Faults.{kinds, SameStart}
-use Rattle.ta_syntax.specs.Reading.{Reads, begins_by, Avoids, is_star, is_sign, is_operator, BeginsWith, IsOther, NoNumber}
+use Rattle.ta_syntax.specs.Reading.{Reads, begins_by, Avoids, BeginsWith, IsOther, NoNumber}
+use Rattle.ta_syntax.specs.Inside.Reading.{is_star, is_sign, is_operator}
 use Rattle.ta_syntax.specs.declared.tokens.Kind.{Kind}
 use Rattle.ta_syntax.specs.declared.tokens.Kind.TheVariants as kind
 use Rattle.ta_syntax.specs.declared.tokens.Mark.{Mark}

@@ -5,7 +5,8 @@ use Rattle.std.specs.Char.{is_ascii_digit}
 use Rattle.std.specs.List.{AllByRecursion}
 use Rattle.std.proofs.lemmas.Bool.Decides.{nat_tests}
 use Rattle.ta_syntax.specs.Kinds.{is_white, is_letter, is_word, is_lone, mark_bytes, kind_bytes, BeginsByLetter, IsDigits, IsNameText, IsKind, IsKind-prop}
-use Rattle.ta_syntax.specs.Tokens.{lengthens, IsLongest, IsSpace, IsGap, IsLastGap, ScansTo, AreTokens, begins_mark, IsRefusedHere, IsRefused, NoToken}
+use Rattle.ta_syntax.specs.Tokens.{lengthens, IsLongest, IsSpace, IsGap, IsLastGap, ScansTo, AreTokens, begins_mark, IsRefusedHere, IsRefused}
+use Rattle.ta_syntax.specs.Inside.Tokens.{NoToken}
 use Rattle.ta_syntax.specs.declared.tokens.Kind.{Kind}
 use Rattle.ta_syntax.specs.declared.tokens.Kind.TheVariants as kind
 use Rattle.ta_syntax.specs.declared.tokens.Mark.{Mark}

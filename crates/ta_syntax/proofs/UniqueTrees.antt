@@ -4,8 +4,10 @@ use Rattle.std.specs.List.{AllByRecursion}
 use Rattle.std.proofs.lemmas.List.{append-nil}
 use Rattle.ta_syntax.specs.Kinds.{IsNameText}
 use Rattle.ta_syntax.specs.Grammar.{Terms, Term, Factor, done, term, number, times, alone, blank, named, nested, sum_kinds, more_kinds, term_kinds, factor_kinds, relation_kind, IsSum, AreTerms, IsTerm, IsFactor, PlainComparison, PlainLocation, PlainUpdate, PlainRule, PlainEvent, PlainPattern, PlainTree, listed, further, led, ended, each, name_kinds, initial_kinds, location_kinds, comparison_kinds, update_kinds, rule_kinds, event_kinds, pattern_kinds, file_kinds, IsSome, IsComparison, IsUpdate, IsRule, IsEvent, IsPattern, IsTree}
-use Rattle.ta_syntax.specs.Reading.{begins_by, is_star, is_operator}
-use Rattle.ta_syntax.specs.ListReading.{extends_item, extends_list}
+use Rattle.ta_syntax.specs.Reading.{begins_by}
+use Rattle.ta_syntax.specs.Inside.Reading.{is_star, is_operator}
+use Rattle.ta_syntax.specs.ListReading.{extends_item}
+use Rattle.ta_syntax.specs.Inside.ListReading.{extends_list}
 use Rattle.ta_syntax.specs.declared.tokens.Kind.{Kind}
 use Rattle.ta_syntax.specs.declared.tokens.Kind.TheVariants as kind
 use Rattle.ta_syntax.specs.declared.tokens.Mark.{Mark}

@@ -3,7 +3,8 @@ use Rattle.std.proofs.Common.{ℕ, List, [], ◌∷◌, ◌++◌, refl, sym, ap,
 use Rattle.std.proofs.lemmas.List.{append-nil}
 use Rattle.ta_syntax.specs.Grammar.{FileText}
 use Rattle.ta_syntax.specs.Limits.{Counts, at_start, IsDeep, IsMany}
-use Rattle.ta_syntax.specs.Parts.{Text, nothing, both, file_part}
+use Rattle.ta_syntax.specs.Parts.{Text, nothing, both}
+use Rattle.ta_syntax.specs.Inside.Parts.{file_part}
 use Rattle.ta_syntax.specs.Faults.{kinds, Stopped, IsPast}
 use Rattle.ta_syntax.specs.declared.tokens.Kind.{Kind}
 use Rattle.ta_syntax.specs.declared.placed.Token.{Token}

@@ -4,9 +4,12 @@ use Rattle.std.specs.List.{AllByRecursion}
 use Rattle.ta_syntax.specs.Grammar.{Terms, Term, Factor, done, term, number, times, alone, blank, named, nested, sum_kinds, more_kinds, term_kinds, factor_kinds, relation_kind, PlainComparison, PlainRule, PlainEvent, PlainPattern, PlainTree, listed, further, led, ended, each, name_kinds, initial_kinds, location_kinds, comparison_kinds, update_kinds, rule_kinds, event_kinds, pattern_kinds, file_kinds, IsSome, IsEvent, IsPattern, IsTree}
 use Rattle.ta_syntax.specs.PlainSums.{sum_depth, term_depth, factor_depth}
 use Rattle.ta_syntax.specs.Limits.{Counts, at_start, begin_list, after_mark, after, run, Within, IsShallow, IsRuleWithin, IsEventWithin, IsPatternWithin, IsTreeWithin}
-use Rattle.ta_syntax.specs.Reading.{HasRoom, MayOpen}
-use Rattle.ta_syntax.specs.ListReading.{IsReady, IsFresh, with_commas}
-use Rattle.ta_syntax.specs.BlockReading.{Kept, Leads, block_count, IsBlock, IsEntered, KeptBlock, KeptOthers, with_mark}
+use Rattle.ta_syntax.specs.Reading.{HasRoom}
+use Rattle.ta_syntax.specs.Inside.Reading.{MayOpen}
+use Rattle.ta_syntax.specs.ListReading.{IsReady}
+use Rattle.ta_syntax.specs.Inside.ListReading.{IsFresh, with_commas}
+use Rattle.ta_syntax.specs.BlockReading.{IsEntered, KeptBlock}
+use Rattle.ta_syntax.specs.Inside.BlockReading.{Kept, Leads, block_count, IsBlock, KeptOthers, with_mark}
 use Rattle.ta_syntax.specs.declared.tokens.Kind.{Kind}
 use Rattle.ta_syntax.specs.declared.tokens.Kind.TheVariants as kind
 use Rattle.ta_syntax.specs.declared.tokens.Mark.{Mark}

@@ -7,7 +7,8 @@ use Rattle.std.specs.List.{AllByRecursion, prefix_len}
 use Rattle.std.proofs.lemmas.Str.Ascii.{IsAscii-nil, IsAscii-cons}
 use Rattle.std.proofs.lemmas.Bool.Decides.{nat_tests}
 use Rattle.std.proofs.lemmas.List.{take-append-drop}
-use Rattle.ta_syntax.specs.Tokens.{BeginsByDigit, IsLongest, TokenFrom}
+use Rattle.ta_syntax.specs.Tokens.{IsLongest}
+use Rattle.ta_syntax.specs.Inside.Tokens.{BeginsByDigit, TokenFrom}
 use Rattle.ta_syntax.specs.Kinds.{is_word, is_letter, BeginsByLetter, IsDigits, mark_bytes}
 use Rattle.ta_syntax.specs.declared.tokens.Kind.TheVariants as kind
 use Rattle.ta_syntax.specs.declared.tokens.Mark.{Mark}

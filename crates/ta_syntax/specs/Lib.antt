@@ -10,8 +10,7 @@ pub mod Faults
 pub mod Reading
 pub mod ListReading
 pub mod BlockReading
-pub mod RuleBodies
 pub mod Printed
-pub mod FileReading
 pub mod TreeOf
 pub mod TokenLaws
+pub mod Inside

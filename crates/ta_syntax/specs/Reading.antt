@@ -40,38 +40,9 @@ begins_by p (k ∷ ks) = p k
 abbrev pub Avoids : (Kind → Bool) → Part → Type 0
 Avoids p K = (w : List Kind) → Text K w → begins_by p w ≡ false
 
--- a token that would go on with a number
-abbrev pub is_star : Kind → Bool
-is_star (kind.Fixed mark.Star) = true
-is_star _ = false
-
--- a token that would go on with a sum after a term
-abbrev pub is_sign : Kind → Bool
-is_sign (kind.Fixed mark.Plus) = true
-is_sign (kind.Fixed mark.Minus) = true
-is_sign _ = false
-
--- a token that would go on with a sum
-abbrev pub is_operator : Kind → Bool
-is_operator (kind.Fixed mark.Plus) = true
-is_operator (kind.Fixed mark.Minus) = true
-is_operator (kind.Fixed mark.Star) = true
-is_operator _ = false
-
-abbrev pub is_comma : Kind → Bool
-is_comma (kind.Fixed mark.Comma) = true
-is_comma _ = false
-
 -- a token may come
 abbrev pub HasRoom : Counts → Type 0
 HasRoom c = c.commas < c.limit
-
--- left parentheses may still be opened
-pub record MayOpen (left : ℕ) (c : Counts) : Type 0 where
-  pub left_open : c.open_now + left ≡ 32
-  pub room : HasRoom c
-
--- ---- single tokens
 
 -- the first token is of the kind, and rest follows
 pub record BeginsWith (tokens : List Token) (k : Kind) (rest : List Token) : Type 0 where
@@ -83,72 +54,11 @@ pub record BeginsWith (tokens : List Token) (k : Kind) (rest : List Token) : Typ
 abbrev pub IsOther : List Token → Mark → Type 0
 IsOther tokens m = (first : Token) (rest : List Token) → tokens ≡ first ∷ rest → first.kind ≡ kind.Fixed m → ⊥
 
--- the sign before the first term: minus where a minus stands, else plus with nothing taken
-abbrev pub LeadingSign : List Token → Sign → List Token → Type 0
-LeadingSign tokens sign.Minus rest = BeginsWith tokens (kind.Fixed mark.Minus) rest
-LeadingSign tokens sign.Plus rest = IsOther tokens mark.Minus × (tokens ≡ rest)
-
 abbrev pub IsUnexpected : ℕ → List Token → Mark → FileFault → Type 0
 IsUnexpected end tokens m (fault.Syntax at) = IsOther tokens m × (at ≡ offset_of end tokens)
 IsUnexpected end tokens m _ = ⊥
-
--- the first token isn't a name
-abbrev pub NoName : List Kind → Type 0
-NoName (kind.Name n ∷ ks) = ⊥
-NoName _ = Unit {0}
-
-abbrev pub IsUnnamed : ℕ → List Token → FileFault → Type 0
-IsUnnamed end tokens fault.Memory = Unit {0}
-IsUnnamed end tokens (fault.Syntax at) = NoName (kinds tokens) × (at ≡ offset_of end tokens)
-IsUnnamed end tokens _ = ⊥
 
 -- the first token isn't a number
 abbrev pub NoNumber : List Kind → Type 0
 NoNumber (kind.Number n ∷ ks) = ⊥
 NoNumber _ = Unit {0}
-
--- the first token is no relation
-abbrev pub NoRelation : List Kind → Type 0
-NoRelation ks = (r : Relation) (w : List Kind) → SameStart ks (relation_kind r ∷ w) → ⊥
-
--- a token that begins a name
-abbrev pub is_name : Kind → Bool
-is_name (kind.Name n) = true
-is_name _ = false
-
--- a token that begins a sum
-abbrev pub is_sum_start : Kind → Bool
-is_sum_start (kind.Name n) = true
-is_sum_start (kind.Number n) = true
-is_sum_start (kind.Fixed mark.Open) = true
-is_sum_start (kind.Fixed mark.Minus) = true
-is_sum_start _ = false
-
--- ---- sums
-
-pub record TookFactor (left : ℕ) (f : TreeFactor) (tokens rest : List Token) : Type 0 where
-  pub is : IsFactor (plain_factor f)
-  pub shallow : factor_depth (plain_factor f) ≤ left
-  pub shorter : length rest ≤ length tokens
-  pub reads : (K : Part) (c : Counts) → MayOpen left c → Reads (both a_factor K) c tokens rest K c (factor_kinds (plain_factor f)) (sum_factor_stated f)
-
-pub record TookTerm (left : ℕ) (t : TreeTerm) (tokens rest : List Token) : Type 0 where
-  pub is : IsTerm (plain_term t)
-  pub shallow : term_depth (plain_term t) ≤ left
-  pub shorter : length rest ≤ length tokens
-  pub reads : (K : Part) (c : Counts) → Avoids is_star K → MayOpen left c → Reads (both a_term K) c tokens rest K c (term_kinds (plain_term t)) (sum_term_stated t)
-
-pub record TookSum (left : ℕ) (s : TreeSum) (tokens rest : List Token) : Type 0 where
-  pub is : IsSum (plain_sum s)
-  pub shallow : sum_depth (plain_sum s) ≤ left
-  pub shorter : length rest ≤ length tokens
-  pub reads : (K : Part) (c : Counts) → Avoids is_operator K → MayOpen left c → Reads (both a_sum K) c tokens rest K c (sum_kinds (plain_sum s)) (sum_stated s)
-
-abbrev pub FactorStops : ℕ → ℕ → List Token → FileFault → Type 0
-FactorStops left end tokens e = (K : Part) (c : Counts) → MayOpen left c → Stopped (Text (both a_factor K)) c end tokens e
-
-abbrev pub TermStops : ℕ → ℕ → List Token → FileFault → Type 0
-TermStops left end tokens e = (K : Part) (c : Counts) → Avoids is_star K → MayOpen left c → Stopped (Text (both a_term K)) c end tokens e
-
-abbrev pub SumStops : ℕ → ℕ → List Token → FileFault → Type 0
-SumStops left end tokens e = (K : Part) (c : Counts) → Avoids is_operator K → MayOpen left c → Stopped (Text (both a_sum K)) c end tokens e

@@ -3,7 +3,8 @@
 
 ghost use Rattle.std.specs.Prelude.{◌≡◌, List, ℕ, MatchResult};
 ghost use Rattle.ta_syntax.specs.Parts.{Part};
-ghost use Rattle.ta_syntax.specs.BlockReading.{IsBlock, TookBlock, BlockStops, TookBlocks, BlocksStop};
+ghost use Rattle.ta_syntax.specs.BlockReading.{TookBlock, BlockStops};
+ghost use Rattle.ta_syntax.specs.Inside.BlockReading.{IsBlock, TookBlocks, BlocksStop};
 ghost use Rattle.ta_syntax.specs.declared.tokens.Kind.{Kind};
 ghost use Rattle.ta_syntax.specs.declared.tokens.Mark.{Mark};
 

@@ -2,8 +2,8 @@
 #![tactic(auto)]
 
 ghost use Rattle.std.specs.Prelude.{◌≡◌, ◌≤◌, MatchResult};
-ghost use Rattle.ta_syntax.specs.Parts.{list_part};
-ghost use Rattle.ta_syntax.specs.BlockReading.{StartsOther, Leads, TookNameThen, NameThenStops, TookEnd, EndStops, TookLed, LedStops, TookEnded, EndedStops, TookDeclared, DeclaredStops};
+ghost use Rattle.ta_syntax.specs.Inside.Parts.{list_part};
+ghost use Rattle.ta_syntax.specs.Inside.BlockReading.{StartsOther, Leads, TookNameThen, NameThenStops, TookEnd, EndStops, TookLed, LedStops, TookEnded, EndedStops, TookDeclared, DeclaredStops};
 
 use crate::fault::FileFault;
 use crate::list::List;

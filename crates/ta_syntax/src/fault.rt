@@ -6,7 +6,7 @@ ghost use Rattle.ta_syntax.specs.declared.fault.FileFault.TheVariants.{Memory};
 use std::alloc::{AllocError, AllocFailed};
 use thiserror::Error;
 
-/// Why an automaton file is refused. The number is the offset of a byte, and that of a rule, counted from 0, for `LoopUpdates` and `Cycle`.
+/// Why an automaton file is refused. The number is the offset of a byte, and that of a rule, counted from 0, for `CycleUpdates`.
 #[derive(Clone, Copy, Debug, PartialEq, Eq, Error)]
 pub enum FileFault {
     /// F1: a byte at which no token begins.
@@ -36,12 +36,9 @@ pub enum FileFault {
     /// F9: a guard that is no threshold guard.
     #[error("NotThreshold")]
     NotThreshold(u32),
-    /// F10: a rule from a location to itself that updates a shared variable.
-    #[error("LoopUpdates")]
-    LoopUpdates(u32),
-    /// F11: a rule on a cycle of two or more locations.
-    #[error("Cycle")]
-    Cycle(u32),
+    /// F11: a rule on a cycle that updates a shared variable. A rule from a location to itself is a cycle.
+    #[error("CycleUpdates")]
+    CycleUpdates(u32),
     /// F12: no location is initial.
     #[error("NoInitial")]
     NoInitial(u32),

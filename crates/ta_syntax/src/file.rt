@@ -6,7 +6,7 @@ ghost use Rattle.ta_syntax.specs.Grammar.{FileText, PlainTree};
 ghost use Rattle.ta_syntax.specs.PlainTrees.{plain_tree};
 ghost use Rattle.ta_syntax.specs.Limits.{at_start, IsTreeWithin};
 ghost use Rattle.ta_syntax.specs.Faults.{Stopped, FirstFault};
-ghost use Rattle.ta_syntax.specs.FileReading.{TookLocations, LocationsStop, TookProcesses, ProcessesStop, IsSpelled};
+ghost use Rattle.ta_syntax.specs.Inside.FileReading.{TookLocations, LocationsStop, TookProcesses, ProcessesStop, IsSpelled};
 ghost use Rattle.ta_syntax.specs.TreeOf.{IsTextOf, IsTreeOf};
 
 use crate::blocks::read_blocks;

@@ -5,9 +5,11 @@ ghost use Rattle.std.specs.Prelude.{◌≡◌, MatchResult, MatchOption};
 ghost use Rattle.ta_syntax.specs.Grammar.{name_kinds, location_kinds, update_kinds, comparison_kinds, relation_kind};
 ghost use Rattle.ta_syntax.specs.PlainTrees.{plain_location, plain_update, plain_comparison};
 ghost use Rattle.ta_syntax.specs.Stated.{name_stated, location_stated, update_stated, comparison_stated};
-ghost use Rattle.ta_syntax.specs.Parts.{a_name, location_part, update_part, comparison_part};
+ghost use Rattle.ta_syntax.specs.Parts.{a_name};
+ghost use Rattle.ta_syntax.specs.Inside.Parts.{location_part, update_part, comparison_part};
 ghost use Rattle.ta_syntax.specs.Faults.{kinds};
-ghost use Rattle.ta_syntax.specs.Reading.{BeginsWith, NoRelation, begins_by, is_name, is_sum_start};
+ghost use Rattle.ta_syntax.specs.Reading.{BeginsWith, begins_by};
+ghost use Rattle.ta_syntax.specs.Inside.Reading.{NoRelation, is_name, is_sum_start};
 ghost use Rattle.ta_syntax.specs.ListReading.{TookItem, ItemStops};
 
 use crate::fault::FileFault;

@@ -3,7 +3,8 @@
 
 ghost use Rattle.std.specs.Prelude.{◌≡◌, ◌≤◌, List, ℕ, MatchResult};
 ghost use Rattle.ta_syntax.specs.Parts.{Part};
-ghost use Rattle.ta_syntax.specs.ListReading.{TookItem, ItemStops, IsStart, PastStops, TookList, ListStops};
+ghost use Rattle.ta_syntax.specs.ListReading.{TookItem, ItemStops, IsStart};
+ghost use Rattle.ta_syntax.specs.Inside.ListReading.{PastStops, TookList, ListStops};
 ghost use Rattle.ta_syntax.specs.declared.tokens.Kind.{Kind};
 
 use crate::fault::FileFault;

@@ -7,7 +7,8 @@ ghost use Rattle.ta_syntax.specs.Grammar.{relation_kind, sum_kinds, term_kinds, 
 ghost use Rattle.ta_syntax.specs.Kinds.{mark_bytes};
 ghost use Rattle.ta_syntax.specs.PlainSums.{plain_sum, plain_term, plain_factor};
 ghost use Rattle.ta_syntax.specs.PlainTrees.{plain_location, plain_comparison, plain_update, plain_rule, plain_event, plain_pattern, plain_tree};
-ghost use Rattle.ta_syntax.specs.Printed.{separator, printed, Prints, sign_before, head_kinds};
+ghost use Rattle.ta_syntax.specs.Printed.{separator, printed};
+ghost use Rattle.ta_syntax.specs.Inside.Printed.{Prints, sign_before, head_kinds};
 ghost use Rattle.ta_syntax.specs.declared.tokens.Kind.{Kind};
 ghost use Rattle.ta_syntax.specs.declared.tokens.Mark.{Mark};
 

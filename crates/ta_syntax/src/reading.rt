@@ -4,7 +4,8 @@
 ghost use Rattle.std.specs.Prelude.{◌≡◌, ℕ, MatchResult, MatchOption, false};
 ghost use Rattle.ta_syntax.specs.Grammar.{sign_kind};
 ghost use Rattle.ta_syntax.specs.Faults.{kinds, offset_of};
-ghost use Rattle.ta_syntax.specs.Reading.{TookSum, TookTerm, TookFactor, SumStops, TermStops, FactorStops, BeginsWith, IsOther, LeadingSign, IsUnexpected, IsUnnamed, NoNumber, begins_by, is_sign};
+ghost use Rattle.ta_syntax.specs.Reading.{BeginsWith, IsOther, IsUnexpected, NoNumber, begins_by};
+ghost use Rattle.ta_syntax.specs.Inside.Reading.{TookSum, TookTerm, TookFactor, SumStops, TermStops, FactorStops, LeadingSign, IsUnnamed, is_sign};
 
 use crate::fault::FileFault;
 use crate::names::{Digits, Spelled};

@@ -1,8 +1,8 @@
 //! Rules, events and patterns behind their keywords.
 #![tactic(auto)]
 
-ghost use Rattle.ta_syntax.specs.RuleBodies.{rule_body, rule_body_stated, event_body, event_body_stated, pattern_body, pattern_body_stated};
-ghost use Rattle.ta_syntax.specs.Parts.{rule_part, event_part, pattern_part};
+ghost use Rattle.ta_syntax.specs.Inside.RuleBodies.{rule_body, rule_body_stated, event_body, event_body_stated, pattern_body, pattern_body_stated};
+ghost use Rattle.ta_syntax.specs.Inside.Parts.{rule_part, event_part, pattern_part};
 ghost use Rattle.ta_syntax.specs.declared.tokens.Mark.TheVariants as mark;
 
 use crate::blocks::{Block, read_blocks};

@@ -3,7 +3,8 @@
 
 ghost use Rattle.std.specs.Prelude.{◌≡◌, IfOk, MatchResult, length, ◌+◌, ◌≤◌};
 ghost use Rattle.std.specs.Str.{IsAscii};
-ghost use Rattle.ta_syntax.specs.Tokens.{BeginsByDigit, TokenFrom, TokenStops, ScanStops, AreTokens};
+ghost use Rattle.ta_syntax.specs.Tokens.{AreTokens};
+ghost use Rattle.ta_syntax.specs.Inside.Tokens.{BeginsByDigit, TokenFrom, TokenStops, ScanStops};
 ghost use Rattle.ta_syntax.specs.Kinds.{BeginsByLetter};
 ghost use Rattle.ta_syntax.specs.declared.fault.FileFault.{FileFault};
 

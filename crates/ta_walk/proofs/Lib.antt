@@ -1,20 +1,21 @@
-pub mod RowCounts
-pub mod WordsVisited
+-- lemmas for the crates above
 pub mod WordsSolved
-pub mod TableausInRange
-pub mod SplitsFit
-pub mod MultiplierCoefficients
-pub mod NodesWritten
-pub mod NodesShort
 pub mod ProofsMade
 pub mod DeterminedEnds
-pub mod DeterminedMultipliers
-pub mod DeterminedNodes
-pub mod DeterminedOutcomes
-pub mod DeterminedSteps
-pub mod DeterminedTableau
-pub mod DeterminedValues
-pub mod DeterminedVisits
-pub mod Vertices
-pub mod Nodes
-pub mod WalkSoFar
+mod RowCounts
+mod WordsVisited
+mod TableausInRange
+mod SplitsFit
+mod MultiplierCoefficients
+mod NodesWritten
+mod NodesShort
+mod DeterminedMultipliers
+mod DeterminedNodes
+mod DeterminedOutcomes
+mod DeterminedSteps
+mod DeterminedTableau
+mod DeterminedValues
+mod DeterminedVisits
+mod Vertices
+mod Nodes
+mod WalkSoFar

@@ -22,7 +22,7 @@ use Rattle.ta_simplex.specs.Vertex.{IsVertex}
 use Rattle.ta_simplex.specs.declared.fraction.Fraction.{Fraction}
 use Rattle.ta_walk.specs.declared.end.PlaceKind.TheVariants.{Pivot}
 use Rattle.ta_walk.specs.declared.node.Solved.{Solved}
-use Rattle.ta_walk.specs.Solving.{SolvedAt}
+use Rattle.ta_walk.specs.Inside.Solving.{SolvedAt, SystemHere}
 use Rattle.ta_walk.specs.Visit.{LeafAt, LeafLeaves, LeavesAt, VertexAt}
 use Rattle.ta_walk.proofs.RowCounts.{few_variables}
 
@@ -49,10 +49,6 @@ leaf_leaves a p w s ts is refuted refused = record {
   refuted = record { system = s; is = is; holds = refuted };
   leaves = λ stays. refused refuted.multipliers.leaf (check_stays a p w.start w.past w.bounds s ts is stays);
 }
-
--- the system of the word at a cursor
-abbrev pub SystemHere : File → Cursor → ℕ → System → Type 0
-SystemHere file cursor number s = OfPattern file number (λ p. SystemOf file.automaton p cursor.start_mask (reverse cursor.word) cursor.bounds.items s)
 
 -- it is the system of what the cursor's parts say
 pub read_here : (file : File) (cursor : Cursor) (number start : ℕ) (word : List Element) (bounds : List Bound) (s : System) → start ≡ cursor.start_mask → word ≡ cursor.word → bounds ≡ cursor.bounds.items → OfPattern file number (λ p. SystemOf file.automaton p start (reverse word) bounds s) → SystemHere file cursor number s

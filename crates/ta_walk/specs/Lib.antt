@@ -1,3 +1,3 @@
 pub mod Visit
 pub mod Ends
-pub mod Solving
+pub mod Inside

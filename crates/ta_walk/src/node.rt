@@ -7,10 +7,12 @@ ghost use Rattle.ta_automaton.specs.declared.pattern.Pattern.{Pattern};
 ghost use Rattle.ta_words.specs.Calls.{OfPattern};
 ghost use Rattle.ta_encode.specs.Code.{SystemOf};
 ghost use Rattle.ta_encode.specs.InPreorder.{Pending};
+ghost use Rattle.ta_encode.specs.Marks.{IsEncoding, SameRows};
 ghost use Rattle.ta_cursor.specs.Cursors.{IsWithin, Within, here};
 ghost use Rattle.ta_dense.specs.Slack.{variables};
+ghost use Rattle.ta_simplex.specs.Branch.{IsBranch, SharesRows};
 ghost use Rattle.ta_simplex.specs.Refuted.{IsRefuted};
-ghost use Rattle.ta_walk.specs.Solving.{SolvedAt};
+ghost use Rattle.ta_walk.specs.Inside.Solving.{OnInner, SolvedAt, SystemHere};
 ghost use Rattle.ta_walk.specs.Visit.{VertexAt};
 
 use crate::end::PlaceKind;
@@ -20,10 +22,10 @@ use ta_automaton::File;
 use ta_cert::Node;
 use ta_cursor::Cursor;
 use ta_dense::Dictionary;
-use ta_encode::encode;
+use ta_encode::{Encoding, Grown};
 use ta_farkas::check_leaf;
 use ta_linear::{List, System};
-use ta_simplex::{End, Fraction, SolveFault, solve};
+use ta_simplex::{Branch, End, Fraction, SolveFault};
 use ta_words::{Word, is_complete};
 
 /// What solving a node's system comes to.
@@ -37,24 +39,48 @@ pub(crate) enum Solved {
     Leaves(PlaceKind),
 }
 
-/// Solves the system of the node at a cursor.
+/// The system of the node at a cursor, written on from that of the node before.
+pub(crate) fn grow(
+    alloc: Global,
+    file: &File,
+    pattern: u32,
+    cursor: &Cursor,
+    encoding: Encoding,
+) -> Result<Grown, AllocError>
+    requires within { IsWithin file.now cursor.now pattern }
+    requires encoding { OfPattern file.now pattern (λ p. IsEncoding file.now.automaton p encoding) }
+    ensures encoding { IfOk result (λ grown. OfPattern file.now pattern (λ p. IsEncoding file.now.automaton p grown.encoding)) }
+    ensures system { IfOk result (λ grown. SystemHere file.now cursor.now pattern grown.encoding.system) }
+    ensures same { IfOk result (λ grown. SameRows encoding.system.rows grown.same grown.encoding.system.rows) }
+{
+    let start_mask = cursor.start_mask();
+    let word = cursor.word();
+    encoding.grown(alloc, file, pattern, start_mask, word, cursor.bounds())
+}
+
+/// Solves the system of the node at a cursor, so many of whose first rows are those of the node
+/// before, along the branch on which it stands.
 pub(crate) fn solve_node<D: Dictionary>(
     alloc: Global,
     file: &File,
     pattern: u32,
     cursor: &Cursor,
+    system: &System,
+    same: usize,
+    branch: &mut Branch<D>,
 ) -> Result<Solved, AllocError>
     requires within { IsWithin file.now cursor.now pattern }
     requires few { length cursor.now.bounds.items ≤ 1000000000 }
-    ensures { (p : Pattern) (pending : List Pending) → Within file.now cursor.now pattern p pending → IfOk result (SolvedAt file.now.automaton p (here cursor.now)) }
+    requires system { SystemHere file.now cursor.now pattern system.now }
+    requires branch { SharesRows D.tableau D.pivot_of branch.old same system.now.rows }
+    ensures branch { IfOk result (λ solved. OnInner solved (IsBranch D.tableau D.pivot_of system.now.rows branch.new)) }
+    ensures solved { (p : Pattern) (pending : List Pending) → Within file.now cursor.now pattern p pending → IfOk result (SolvedAt file.now.automaton p (here cursor.now)) }
 {
-    let start_mask = cursor.start_mask();
     let word = cursor.word();
-    let encoded = encode(alloc, file, pattern, start_mask, word, cursor.bounds())?;
-    match solve::<D>(alloc, &encoded.system) {
+    match branch.solve(alloc, system, same) {
         Err(SolveFault::Memory) => Err(AllocError),
         Err(SolveFault::Overflow(pivot)) => Ok(Solved::Leaves(PlaceKind::Pivot(pivot))),
-        Ok(End::Refuted(multipliers)) => Ok(take_refuted(&encoded.system, multipliers)),
+        Ok(End::Refuted(multipliers)) => Ok(take_refuted(system, multipliers)),
         Ok(End::Vertex(values)) => take_vertex(alloc, file, pattern, word, values.as_slice()),
     }
 }

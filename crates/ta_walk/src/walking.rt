@@ -10,14 +10,15 @@ ghost use Rattle.ta_walk.specs.Visit.{NodeAt};
 ghost use Rattle.ta_walk.specs.Ends.{IsEnd};
 
 use crate::end::WalkEnd;
-use crate::node::{Solved, solve_node};
+use crate::node::{Solved, grow, solve_node};
 use std::alloc::{AllocError, Global};
 use ta_automaton::File;
 use ta_cert::{List, Node};
 use ta_cursor::Cursor;
 use ta_dense::Dictionary;
-use ta_encode::Solution;
+use ta_encode::{Encoding, Grown, Solution};
 use ta_scope::ScopedFile;
+use ta_simplex::Branch;
 
 /// Visits the tree of a pattern, at most so many nodes of it. Each start set begins with the empty
 /// word. A node whose system is refuted is a leaf. At a vertex the word goes on to its children;
@@ -37,10 +38,18 @@ pub fn walk<D: Dictionary>(
 {
     let file = &scoped.file;
     let mut cursor = Cursor::new(alloc);
+    let mut encoding = Encoding::new(alloc);
+    let mut branch: Branch<D> = Branch::new(alloc);
     let mut found = Vec::new(alloc);
     for before in 0..nodes {
         let count = before + 1;
-        match solve_node::<D>(alloc, file, pattern, &cursor)? {
+        let Grown {
+            encoding: next,
+            same,
+        } = grow(alloc, file, pattern, &cursor, encoding)?;
+        encoding = next;
+        let system = &encoding.system;
+        match solve_node(alloc, file, pattern, &cursor, system, same, &mut branch)? {
             Solved::Leaves(kind) => return Ok(WalkEnd::Overflow { node: count, kind }),
             Solved::Whole(values) => {
                 let solution = solution_at(pattern, cursor, values);

@@ -1,7 +1,8 @@
+-- lemmas for the crates above
 pub mod Listed
 pub mod Bits
 pub mod Past
 pub mod Pushes
-pub mod Items
 pub mod Lists
 pub mod Counts
+mod Items

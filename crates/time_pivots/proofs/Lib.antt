@@ -1,1 +1,1 @@
-pub mod Below
+mod Below

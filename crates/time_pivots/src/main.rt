@@ -1,5 +1,5 @@
-//! Prints how long 200 pivots on a dictionary of 200 rows and 400 columns take, where a word asks
-//! for it.
+//! Prints how long 200 pivots on a dictionary of 200 rows and 400 columns take, dense and in 64 bits,
+//! where a word asks for it.
 #![tactic(auto)]
 
 ghost use Rattle.std.specs.Prelude.{◌≤◌, ◌<◌, ◌^◌, IfOk};
@@ -9,7 +9,7 @@ ghost use Rattle.ta_linear.specs.Terms.{IsNormal};
 use std::alloc::{AllocError, Global};
 use std::time::Instant;
 use std::{env, io};
-use ta_dense::{DenseDictionary, Dictionary};
+use ta_dense::{DenseDictionary, Dictionary, NarrowDictionary};
 use ta_linear::{Form, List, Row, System};
 
 const ROWS: u32 = 200;
@@ -22,16 +22,21 @@ fn main(rt: HostRuntime) -> io::Result<()> {
         return Ok(());
     }
     let system = intervals(rt.alloc())?;
-    let dictionary = DenseDictionary::from_system(rt.alloc(), &system)?;
+    let dense = DenseDictionary::from_system(rt.alloc(), &system)?;
     let start = Instant::now(&rt)?;
-    let done = pivots(rt.alloc(), dictionary);
+    let done = pivots(rt.alloc(), dense);
     let taken = start.elapsed(&rt)?.as_micros();
-    println!(rt; "{done} pivots on {ROWS} rows and {COLUMNS} columns in {taken} us")
+    println!(rt; "{done} pivots on {ROWS} rows and {COLUMNS} columns in {taken} us")?;
+    let narrow = NarrowDictionary::from_system(rt.alloc(), &system)?;
+    let start = Instant::now(&rt)?;
+    let done = pivots(rt.alloc(), narrow);
+    let taken = start.elapsed(&rt)?.as_micros();
+    println!(rt; "{done} of them in 64 bits in {taken} us")
 }
 
 /// Makes one pivot in each row, the last row first, and says in how many. Each changes all rows
 /// before its own.
-fn pivots(alloc: Global, dictionary: DenseDictionary) -> u32 {
+fn pivots<D: Dictionary>(alloc: Global, dictionary: D) -> u32 {
     let mut now = dictionary;
     let mut done = 0;
     while done < ROWS {
@@ -45,7 +50,7 @@ fn pivots(alloc: Global, dictionary: DenseDictionary) -> u32 {
 }
 
 /// The dictionary after the least variable that can has entered in a row.
-fn pivot_in(alloc: Global, dictionary: DenseDictionary, row: u32) -> Option<DenseDictionary> {
+fn pivot_in<D: Dictionary>(alloc: Global, dictionary: D, row: u32) -> Option<D> {
     if row >= dictionary.rows() {
         return None;
     }

@@ -1,12 +1,13 @@
-use Rattle.std.proofs.Common.{ap, ◌∙◌, sym, pos, get_or, rules}
+use Rattle.std.proofs.Common.{ap, ◌∙◌, sym, drop, pos, get_or, rules}
 use Rattle.std.proofs.lemmas.Int.{to_z-of_z}
 use Rattle.std.proofs.lemmas.List.{at_drop_more}
 use mir.Val.{SFits}
 use mir.Syntax.{w128}
 use Rattle.ta_linear.proofs.GcdLemmas.{gcd_of_is}
 use Rattle.ta_dense.proofs.cells.gcd_of_cells.Goals as goal
-use Rattle.ta_linear.proofs.GcdLemmas.{gcd_of}
+use Rattle.ta_linear.specs.Gcd.{gcd_of}
 use Rattle.ta_dense.specs.Tableau.{gcd_with}
+use Rattle.ta_dense.proofs.Divide.{gcd_with-one}
 
 pub loop-cell-preserved : goal.loop-cell-preserved
 loop-cell-preserved c =
@@ -17,3 +18,8 @@ loop-cell-preserved c =
       bound = c.gcd_natural-divisor.ensures.fits;
       rest = rw v (sym (at_drop_more (gcd_with c.loop-cell.divisor) c.args.cells.now c.loop-cell.cell-index (pos 0) c.loop-cell-test.true) ∙ c.loop-cell.invariant.rest);
     }
+
+pub returns-then-divisor-eq1-clause-value : goal.returns-then-divisor-eq1-clause-value
+returns-then-divisor-eq1-clause-value c =
+    let left = drop c.loop-cell.cell-index c.args.cells.now in
+    sym (gcd_with-one left) ∙ ap (λ g. gcd_with g left) (sym c.if-divisor-eq1.true) ∙ c.loop-cell.invariant.rest

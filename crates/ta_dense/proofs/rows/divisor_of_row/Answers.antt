@@ -1,10 +1,11 @@
-use Rattle.std.proofs.Common.{◌≡◌, rules}
+use Rattle.std.proofs.Common.{◌≡◌, ◌∷◌, ap, sym, ◌∙◌, pos, unsigned_abs, ℤ, rules}
 use Rattle.std.proofs.lemmas.Int.{to_z-of_z}
-use mir.Val.{SFits}
+use mir.Val.{SFits, to_z}
 use mir.Syntax.{w128}
 use Rattle.ta_dense.specs.Rows.{row_view}
-use Rattle.ta_dense.specs.Tableau.{divisor_of}
+use Rattle.ta_dense.specs.Tableau.{divisor_of, gcd_with}
 use Rattle.ta_linear.proofs.GcdLemmas.{gcd_of_is}
+use Rattle.ta_dense.proofs.Divide.{gcd_with-one}
 use Rattle.ta_dense.proofs.ReduceFacts.{divisor_positive}
 use Rattle.ta_dense.proofs.rows.divisor_of_row.Goals as goal
 
@@ -22,3 +23,10 @@ returns-clause-value c = value c
 
 pub returns-clause-positive : goal.returns-clause-positive
 returns-clause-positive c = rw (value c) (divisor_positive (row_view c.args.row.now) c.requires.positive)
+
+pub returns-then-row-eq1-clause-value : goal.returns-then-row-eq1-clause-value
+returns-then-row-eq1-clause-value c =
+    let f1 : SFits w128 c.args.row.now.denominator = search rules in
+    let one : c.args.row.now.denominator ≡ pos 1 = sym (to_z-of_z w128 c.args.row.now.denominator f1) ∙ ap (to_z w128) c.if-row-eq1.true in
+    let rest = c.args.row.now.constant ∷ c.args.row.now.cells.items in
+    sym (ap (λ (z : ℤ). gcd_with (unsigned_abs z) rest) one ∙ gcd_with-one rest)

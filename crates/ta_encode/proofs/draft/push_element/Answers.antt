@@ -4,10 +4,11 @@ use Rattle.ta_words.specs.declared.element.Element.{Element}
 use Rattle.ta_words.specs.declared.element.Element.TheVariants.{Event, Rise, Fall}
 use Rattle.ta_words.proofs.Lists.{pattern_at, of_pattern}
 use Rattle.ta_encode.specs.Unknowns.{Meaning, counts_after, singles_after}
-use Rattle.ta_encode.specs.Lines.{Adds, block_row}
-use Rattle.ta_encode.specs.Draft.{Drafted}
+use Rattle.ta_encode.specs.Inside.Lines.{Adds, block_row}
+use Rattle.ta_encode.specs.Inside.Draft.{Drafted}
 use Rattle.ta_encode.specs.declared.line.Sense.TheVariants.{Same, Opposite}
 use Rattle.ta_encode.proofs.Drafts.{counted, singled, step_few, fall_few, fallen_more, events_small, rise_drafted, event_drafted, fall_drafted}
+use Rattle.ta_encode.proofs.Adding.{behind_join}
 use Rattle.ta_encode.proofs.draft.push_element.Goals as goal
 
 pub push_rise-requires : goal.push_rise-requires
@@ -113,8 +114,8 @@ push_fallen-requires c =
     let same = ap length c.as_slice-in-Fall-2.ensures.value in
     omega arith
 
-pub returns-in_ok-push_rise-in-Rise : goal.returns-in_ok-push_rise-in-Rise
-returns-in_ok-push_rise-in-Rise c =
+pub returns-in_ok-push_rise-in-Rise-clause-drafted : goal.returns-in_ok-push_rise-in-Rise-clause-drafted
+returns-in_ok-push_rise-in-Rise-clause-drafted c =
     let file = c.args.file.now in
     let a = file.automaton in
     let p = c.index-as_slice-pattern.result in
@@ -135,8 +136,8 @@ returns-in_ok-push_rise-in-Rise c =
     of_pattern file c.args.pattern p (λ q. Drafted a q start (c.args.element ∷ past) c.push_firings.new.meanings.items last) at
     (subst (λ (e : Element). Drafted a p start (e ∷ past) c.push_firings.new.meanings.items last) (sym c.in-Rise.is) (subst (λ (us : List Meaning). Drafted a p start (Rise c.in-Rise.rise ∷ past) us last) c.as_slice-unknowns.ensures.value done))
 
-pub returns-in_ok-push_event-in-Event : goal.returns-in_ok-push_event-in-Event
-returns-in_ok-push_event-in-Event c =
+pub returns-in_ok-push_event-in-Event-clause-drafted : goal.returns-in_ok-push_event-in-Event-clause-drafted
+returns-in_ok-push_event-in-Event-clause-drafted c =
     let file = c.args.file.now in
     let a = file.automaton in
     let p = c.index-as_slice-pattern.result in
@@ -157,8 +158,8 @@ returns-in_ok-push_event-in-Event c =
     of_pattern file c.args.pattern p (λ q. Drafted a q start (c.args.element ∷ past) c.push_firings.new.meanings.items last) at
     (subst (λ (e : Element). Drafted a p start (e ∷ past) c.push_firings.new.meanings.items last) (sym c.in-Event.is) (subst (λ (us : List Meaning). Drafted a p start (Event c.in-Event.event ∷ past) us last) c.as_slice-unknowns-in-Event.ensures.value done))
 
-pub returns-in_ok-push_fallen-in-Fall : goal.returns-in_ok-push_fallen-in-Fall
-returns-in_ok-push_fallen-in-Fall c =
+pub returns-in_ok-push_fallen-in-Fall-clause-drafted : goal.returns-in_ok-push_fallen-in-Fall-clause-drafted
+returns-in_ok-push_fallen-in-Fall-clause-drafted c =
     let file = c.args.file.now in
     let a = file.automaton in
     let p = c.index-as_slice-pattern.result in
@@ -188,3 +189,25 @@ returns-in_ok-push_fallen-in-Fall c =
     let done = fall_drafted a p start past falls _ ms ns us rows first second last drafted grown all (fallen_more start past c.fallen_after-fallen.result falls c.from.result c.from.ensures c.fallen_after-fallen.ensures) c.in_ok-push_falling-in-Fall.ensures block c.in_ok-push_fallen-in-Fall.ensures in
     of_pattern file c.args.pattern p (λ q. Drafted a q start (c.args.element ∷ past) c.push_firings-in-Fall.new.meanings.items last) at
     (subst (λ (e : Element). Drafted a p start (e ∷ past) c.push_firings-in-Fall.new.meanings.items last) (sym c.in-Fall.is) (subst (λ (xs : List Meaning). Drafted a p start (Fall falls ∷ past) xs last) c.as_slice-in-Fall-2.ensures.value done))
+
+pub returns-in_ok-push_rise-in-Rise-clause-unknowns : goal.returns-in_ok-push_rise-in-Rise-clause-unknowns
+returns-in_ok-push_rise-in-Rise-clause-unknowns c = record { more = _; is = c.in_ok-push_firings.ensures }
+
+pub returns-in_ok-push_event-in-Event-clause-unknowns : goal.returns-in_ok-push_event-in-Event-clause-unknowns
+returns-in_ok-push_event-in-Event-clause-unknowns c = record { more = _; is = c.in_ok-push_firings.ensures }
+
+pub returns-in_ok-push_fallen-in-Fall-clause-unknowns : goal.returns-in_ok-push_fallen-in-Fall-clause-unknowns
+returns-in_ok-push_fallen-in-Fall-clause-unknowns c =
+    behind_join c.args.meanings.now.items c.push_firings.new.meanings.items c.push_firings-in-Fall.new.meanings.items
+    record { more = _; is = c.in_ok-push_firings.ensures } record { more = _; is = c.in_ok-push_firings-in-Fall.ensures }
+
+pub returns-in_ok-push_rise-in-Rise-clause-rows : goal.returns-in_ok-push_rise-in-Rise-clause-rows
+returns-in_ok-push_rise-in-Rise-clause-rows c = c.in_ok-push_rise-in-Rise.ensures.behind
+
+pub returns-in_ok-push_event-in-Event-clause-rows : goal.returns-in_ok-push_event-in-Event-clause-rows
+returns-in_ok-push_event-in-Event-clause-rows c = c.in_ok-push_event-in-Event.ensures.behind
+
+pub returns-in_ok-push_fallen-in-Fall-clause-rows : goal.returns-in_ok-push_fallen-in-Fall-clause-rows
+returns-in_ok-push_fallen-in-Fall-clause-rows c =
+    behind_join c.args.rows.now.items c.push_falling.new.rows.items c.push_fallen.new.rows.items c.in_ok-push_falling-in-Fall.ensures.behind
+    (behind_join c.push_falling.new.rows.items c.push_singles.new.rows.items c.push_fallen.new.rows.items c.in_ok-push_singles-in-Fall.ensures.behind c.in_ok-push_fallen-in-Fall.ensures.behind)

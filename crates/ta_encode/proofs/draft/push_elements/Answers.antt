@@ -2,12 +2,12 @@ use Rattle.std.proofs.Common.{◌≡◌, List, length, reverse, take, arith, sym
 use Rattle.std.proofs.Math.Seq.{take-length}
 use Rattle.ta_words.specs.declared.element.Element.{Element}
 use Rattle.ta_words.proofs.Past.{reverse_more}
-use Rattle.ta_encode.specs.Draft.{Drafted}
+use Rattle.ta_encode.specs.Inside.Draft.{Drafted}
 use Rattle.ta_encode.proofs.draft.push_elements.Goals as goal
 
 pub loop-number-preserved : goal.loop-number-preserved
 loop-number-preserved c = λ p named.
-    subst (λ (w : List Element). Drafted c.args.file.now.automaton p c.args.start_mask w c.push_element.new.meanings.items c.push_element.new.rows.items) (sym (reverse_more c.args.elements.now c.loop-number.number _ c.loop-number-test.true)) (c.in_ok-push_element.ensures p named)
+    subst (λ (w : List Element). Drafted c.args.file.now.automaton p c.args.start_mask w c.push_element.new.meanings.items c.push_element.new.rows.items) (sym (reverse_more c.args.elements.now c.loop-number.number _ c.loop-number-test.true)) (c.in_ok-push_element.ensures.drafted p named)
 
 pub returns : goal.returns
 returns c = λ p named.

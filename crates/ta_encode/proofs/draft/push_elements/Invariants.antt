@@ -1,6 +1,6 @@
 use Rattle.std.proofs.Common.{reverse, take}
 use Rattle.ta_words.specs.Calls.{OfPattern}
-use Rattle.ta_encode.specs.Draft.{Drafted}
+use Rattle.ta_encode.specs.Inside.Draft.{Drafted}
 use Rattle.ta_encode.proofs.draft.push_elements.Given as goal
 
 abbrev pub invariant-loop-number : goal.invariant-loop-number

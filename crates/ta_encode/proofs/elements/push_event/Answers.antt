@@ -1,7 +1,7 @@
 use Rattle.std.proofs.Common.{◌++◌, length, not, slice_get}
 use Rattle.ta_automaton.specs.Masks.{has_bit}
 use Rattle.ta_encode.specs.System.{guard_rows, event_rows}
-use Rattle.ta_encode.specs.Lines.{counters_outside}
+use Rattle.ta_encode.specs.Inside.Lines.{counters_outside}
 use Rattle.ta_encode.proofs.Adding.{adds_join}
 use Rattle.ta_encode.proofs.elements.push_event.Goals as goal
 

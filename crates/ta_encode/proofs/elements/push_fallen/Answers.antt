@@ -2,7 +2,7 @@ use Rattle.std.proofs.Common.{◌++◌, List, length, map, not, sym, ap, ◌∙�
 use Rattle.ta_linear.specs.declared.row.Row.{Row}
 use Rattle.ta_automaton.specs.Masks.{has_bit}
 use Rattle.ta_encode.specs.System.{guard_rows, negated}
-use Rattle.ta_encode.specs.Lines.{SmallRows, counters_outside}
+use Rattle.ta_encode.specs.Inside.Lines.{SmallRows, counters_outside}
 use Rattle.ta_encode.proofs.Adding.{adds_join, adds_same}
 use Rattle.ta_encode.proofs.Smallness.{fall_rows_small}
 use Rattle.ta_encode.proofs.elements.push_fallen.Goals as goal

@@ -2,7 +2,7 @@ use Rattle.std.proofs.Common.{◌+◌, ◌≤◌, ◌++◌, length, not, arith, 
 use Rattle.std.specs.Prelude.{◌==◌}
 use Rattle.ta_automaton.specs.Masks.{has_bit}
 use Rattle.ta_encode.specs.System.{guard_rows}
-use Rattle.ta_encode.specs.Lines.{SmallRows, counters_outside}
+use Rattle.ta_encode.specs.Inside.Lines.{SmallRows, counters_outside}
 use Rattle.ta_encode.proofs.Adding.{adds_join, adds_same, guards_same, as_they_are}
 use Rattle.ta_encode.proofs.Smallness.{rise_rows_small}
 use Rattle.ta_encode.proofs.elements.push_rise.Goals as goal

@@ -2,7 +2,7 @@ use Rattle.std.proofs.Common.{◌+◌, ◌≤◌, length, not, arith, sym, ap, �
 use Rattle.std.specs.Int.{bit_not, w32}
 use Rattle.ta_automaton.specs.Masks.{has_bit}
 use Rattle.ta_encode.specs.System.{guard_rows}
-use Rattle.ta_encode.specs.Lines.{SmallRows}
+use Rattle.ta_encode.specs.Inside.Lines.{SmallRows}
 use Rattle.ta_encode.proofs.Adding.{adds_same, guards_same, as_they_are}
 use Rattle.ta_encode.proofs.Masked.{standing_bit}
 use Rattle.ta_encode.proofs.Smallness.{fall_rows_small}

@@ -10,7 +10,7 @@ use Rattle.ta_encode.specs.Unknowns.{Meaning, meanings}
 use Rattle.ta_encode.specs.System.{system_rows}
 use Rattle.ta_encode.specs.Code.{RowsOf}
 use Rattle.ta_encode.specs.Lines.{BoundsWithin}
-use Rattle.ta_encode.specs.Draft.{Drafted}
+use Rattle.ta_encode.specs.Inside.Draft.{Drafted}
 use Rattle.ta_encode.proofs.Drafts.{start_few, drafted_few, with_bounds}
 use Rattle.ta_encode.proofs.Smallness.{small_condition, places_most}
 use Rattle.ta_encode.proofs.encoded.encode.Goals as goal

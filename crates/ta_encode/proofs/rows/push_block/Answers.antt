@@ -2,7 +2,8 @@ use Rattle.std.proofs.Common.{◌≡◌, ℤ, pos, ◌<◌, ◌≤◌, ◌^◌, 
 use Rattle.ta_linear.specs.Numbers.{InRange}
 use Rattle.ta_linear.specs.Terms.{IsNormal, coefficient}
 use Rattle.ta_linear.proofs.TermLemmas.{IsNormal-higher}
-use Rattle.ta_encode.specs.Lines.{turned, block_row}
+use Rattle.ta_encode.specs.Lines.{turned}
+use Rattle.ta_encode.specs.Inside.Lines.{block_row}
 use Rattle.ta_encode.proofs.Running.{clean_range}
 use Rattle.ta_encode.proofs.Sparse.{sparse_push}
 use Rattle.ta_encode.proofs.Adding.{adds_one}

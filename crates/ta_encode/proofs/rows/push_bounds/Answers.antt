@@ -2,7 +2,8 @@ use Rattle.std.proofs.Common.{◌≡◌, pos, ◌+◌, ◌<◌, ◌^◌, unsigne
 use Rattle.std.specs.Int.{w128}
 use Rattle.std.proofs.lemmas.Int.{ints}
 use Rattle.ta_encode.specs.System.{Bound, Low, bound_row}
-use Rattle.ta_encode.specs.Lines.{BoundWithin, block_row, bound_constant}
+use Rattle.ta_encode.specs.Lines.{BoundWithin}
+use Rattle.ta_encode.specs.Inside.Lines.{block_row, bound_constant}
 use Rattle.ta_encode.proofs.Running.{each_get, clean_range}
 use Rattle.ta_encode.proofs.Adding.{adds_join, adds_same, map_more}
 use Rattle.ta_encode.proofs.Blocks.{bound_block}

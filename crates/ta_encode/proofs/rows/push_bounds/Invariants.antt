@@ -1,6 +1,6 @@
 use Rattle.std.proofs.Common.{map, take}
 use Rattle.ta_encode.specs.System.{bound_row}
-use Rattle.ta_encode.specs.Lines.{Adds}
+use Rattle.ta_encode.specs.Inside.Lines.{Adds}
 use Rattle.ta_encode.proofs.rows.push_bounds.Given as goal
 
 abbrev pub invariant-loop-bound : goal.invariant-loop-bound

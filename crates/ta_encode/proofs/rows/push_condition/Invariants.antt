@@ -1,6 +1,6 @@
 use Rattle.std.proofs.Common.{length, take}
 use Rattle.ta_encode.specs.System.{condition_rows}
-use Rattle.ta_encode.specs.Lines.{Adds}
+use Rattle.ta_encode.specs.Inside.Lines.{Adds}
 use Rattle.ta_encode.proofs.rows.push_condition.Given as goal
 
 abbrev pub invariant-loop-comparison : goal.invariant-loop-comparison

@@ -2,7 +2,7 @@ use Rattle.std.proofs.Common.{ℕ, Bool, ◌+◌, length, map, not, arith, ◌<�
 use Rattle.std.specs.Prelude.{filter}
 use Rattle.ta_automaton.specs.Masks.{has_bit, numbers_from}
 use Rattle.ta_encode.specs.System.{counter_row}
-use Rattle.ta_encode.specs.Lines.{Adds}
+use Rattle.ta_encode.specs.Inside.Lines.{Adds}
 use Rattle.ta_encode.proofs.Adding.{adds_join, adds_same}
 use Rattle.ta_encode.proofs.Masked.{bit_on, bit_off, passed_one, passed_none}
 use Rattle.ta_encode.proofs.rows.push_counters.Goals as goal

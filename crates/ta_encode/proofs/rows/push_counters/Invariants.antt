@@ -2,7 +2,7 @@ use Rattle.std.proofs.Common.{length, map, not}
 use Rattle.std.specs.Prelude.{filter}
 use Rattle.ta_automaton.specs.Masks.{has_bit, numbers_from}
 use Rattle.ta_encode.specs.System.{counter_row}
-use Rattle.ta_encode.specs.Lines.{Adds}
+use Rattle.ta_encode.specs.Inside.Lines.{Adds}
 use Rattle.ta_encode.proofs.rows.push_counters.Given as goal
 
 abbrev pub invariant-loop-location : goal.invariant-loop-location

@@ -1,6 +1,6 @@
 use Rattle.std.proofs.Common.{length, false, ap, ◌∙◌}
 use Rattle.ta_encode.specs.System.{form_row}
-use Rattle.ta_encode.specs.Lines.{in_sense, constant_in_sense}
+use Rattle.ta_encode.specs.Inside.Lines.{in_sense, constant_in_sense}
 use Rattle.ta_encode.proofs.Adding.{adds_one, form_line, line_with}
 use Rattle.ta_encode.proofs.Running.{clean_range}
 use Rattle.ta_encode.proofs.rows.push_form.Goals as goal

@@ -2,7 +2,7 @@ use Rattle.std.proofs.Common.{◌+◌, length, map, take, arith, ◌<◌, [], �
 use Rattle.ta_linear.specs.declared.row.Row.{Row}
 use Rattle.ta_automaton.specs.Masks.{has_bit}
 use Rattle.ta_encode.specs.System.{form_row, guard_rows}
-use Rattle.ta_encode.specs.Lines.{in_sense, Adds}
+use Rattle.ta_encode.specs.Inside.Lines.{in_sense, Adds}
 use Rattle.ta_encode.proofs.Adding.{adds_join, adds_same, guard_taken, guard_left}
 use Rattle.ta_encode.proofs.Masked.{bit_on, bit_off}
 use Rattle.ta_encode.proofs.rows.push_guards.Goals as goal

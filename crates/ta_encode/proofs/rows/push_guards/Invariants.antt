@@ -1,7 +1,7 @@
 use Rattle.std.proofs.Common.{length, map, take}
 use Rattle.ta_automaton.specs.Masks.{has_bit}
 use Rattle.ta_encode.specs.System.{guard_rows}
-use Rattle.ta_encode.specs.Lines.{Adds, in_sense}
+use Rattle.ta_encode.specs.Inside.Lines.{Adds, in_sense}
 use Rattle.ta_encode.proofs.rows.push_guards.Given as goal
 
 abbrev pub invariant-loop-number : goal.invariant-loop-number

@@ -1,6 +1,7 @@
 use Rattle.std.proofs.Common.{length, true, ap, ◌∙◌, ◌^◌, arith, sym, subst}
 use Rattle.ta_encode.specs.System.{processes_row}
-use Rattle.ta_encode.specs.Lines.{turned, turned_row, SmallTerms}
+use Rattle.ta_encode.specs.Lines.{turned, SmallTerms}
+use Rattle.ta_encode.specs.Inside.Lines.{turned_row}
 use Rattle.ta_encode.proofs.Adding.{adds_one, processes_line, line_with}
 use Rattle.ta_encode.proofs.Running.{clean, clean_range}
 use Rattle.ta_encode.proofs.Smallness.{processes_small}

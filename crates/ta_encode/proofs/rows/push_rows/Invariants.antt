@@ -1,7 +1,7 @@
 use Rattle.std.proofs.Common.{length, map, take}
 use Rattle.ta_linear.specs.declared.row.Row.{Row}
 use Rattle.ta_encode.specs.System.{form_row}
-use Rattle.ta_encode.specs.Lines.{Adds}
+use Rattle.ta_encode.specs.Inside.Lines.{Adds}
 use Rattle.ta_encode.proofs.rows.push_rows.Given as goal
 
 abbrev pub invariant-loop-row : goal.invariant-loop-row

@@ -1,5 +1,5 @@
 use Rattle.std.proofs.Common.{pos, negsuc, [], ◌∷◌, arith}
-use Rattle.ta_encode.specs.Lines.{block_row}
+use Rattle.ta_encode.specs.Inside.Lines.{block_row}
 use Rattle.ta_encode.specs.declared.line.Sense.TheVariants.{Same, Opposite}
 use Rattle.ta_encode.proofs.Adding.{adds_join}
 use Rattle.ta_encode.proofs.rows.push_singles.Goals as goal

@@ -2,7 +2,7 @@ use Rattle.std.proofs.Common.{length, take, [], ◌∷◌, ◌++◌, ap, sym, �
 use Rattle.ta_linear.specs.declared.row.Row.{Row}
 use Rattle.ta_automaton.specs.Masks.{has_bit}
 use Rattle.ta_encode.specs.System.{form_row, start_guard_rows}
-use Rattle.ta_encode.specs.Lines.{in_sense, start_sense, SmallForm, SmallRows}
+use Rattle.ta_encode.specs.Inside.Lines.{in_sense, start_sense, SmallForm, SmallRows}
 use Rattle.ta_encode.proofs.Running.{each_get}
 use Rattle.ta_encode.proofs.Smallness.{fall_rows_small}
 use Rattle.ta_encode.proofs.Adding.{adds_join, adds_same, start_more}

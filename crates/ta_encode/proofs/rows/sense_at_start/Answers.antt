@@ -1,5 +1,5 @@
 use Rattle.std.proofs.Common.{sym, ap}
-use Rattle.ta_encode.specs.Lines.{start_sense}
+use Rattle.ta_encode.specs.Inside.Lines.{start_sense}
 use Rattle.ta_encode.proofs.Masked.{bit_on, bit_off}
 use Rattle.ta_encode.proofs.rows.sense_at_start.Goals as goal
 

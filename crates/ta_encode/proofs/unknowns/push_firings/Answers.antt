@@ -1,7 +1,7 @@
 use Rattle.std.proofs.Common.{◌<◌, ◌++◌, ◌∷◌, [], map, arith, ap, ◌∙◌, append_assoc}
 use Rattle.std.specs.Prelude.{filter}
 use Rattle.ta_automaton.specs.Masks.{has_bit, numbers_from}
-use Rattle.ta_encode.specs.Firings.{firing}
+use Rattle.ta_encode.specs.Inside.Firings.{firing}
 use Rattle.ta_encode.proofs.Masked.{bit_on, bit_off, passed_one, passed_none}
 use Rattle.ta_encode.proofs.unknowns.push_firings.Goals as goal
 use Rattle.ta_encode.proofs.unknowns.push_firings.Goals.{then-allowed-rule-ne0+in_ok-push, else-allowed-rule-ne0}

@@ -2,7 +2,7 @@ use Rattle.std.proofs.Common.{◌≡◌, List, sym, ap, subst, ◌∙◌}
 use Rattle.std.proofs.lemmas.Result.{err_from_is_err_and}
 use Rattle.ta_syntax.specs.declared.fault.FileFault.{FileFault}
 use Rattle.ta_meaning.specs.Faults.{FirstOrMemory}
-use Rattle.ta_meaning.specs.Resolved.{first_places}
+use Rattle.ta_meaning.specs.Inside.Resolved.{first_places}
 use Rattle.ta_meaning.proofs.ComparedForms.{comparison_answers, last_of_comparison, left_first}
 use Rattle.ta_meaning.proofs.conditions.resolve_comparison.Goals as goal
 

@@ -1,4 +1,4 @@
-use Rattle.ta_meaning.specs.Resolved.{first_places}
+use Rattle.ta_meaning.specs.Inside.Resolved.{first_places}
 use Rattle.ta_meaning.specs.Faults.{sum_faults}
 use Rattle.ta_syntax.specs.PlainSums.{plain_sum}
 use Rattle.ta_meaning.proofs.ComparedForms.{sum_answers}

@@ -2,7 +2,7 @@ use Rattle.std.proofs.Common.{◌≡◌, ◌∙◌, sym, below_more, arith, subs
 use Rattle.std.proofs.lemmas.Bool.{false≢true}
 use Rattle.std.proofs.lemmas.Option.{slice_get_read, slice_get_within, same_Some}
 use Rattle.ta_linear.specs.declared.row.Row.{Row}
-use Rattle.ta_meaning.specs.Numbering.{SameAt, SameRow}
+use Rattle.ta_meaning.specs.Inside.Numbering.{SameAt, SameRow}
 use Rattle.ta_meaning.proofs.guards.find_row.Goals as goal
 
 pub returns-then-is_same-clause-some : goal.returns-then-is_same-clause-some

@@ -1,5 +1,5 @@
 use Rattle.std.proofs.Common.{ℕ, ◌<◌}
-use Rattle.ta_meaning.specs.Numbering.{SameAt}
+use Rattle.ta_meaning.specs.Inside.Numbering.{SameAt}
 use Rattle.ta_meaning.proofs.guards.find_row.Given as goal
 
 abbrev pub invariant-loop-number : goal.invariant-loop-number

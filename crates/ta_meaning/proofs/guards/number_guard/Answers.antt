@@ -1,7 +1,7 @@
 use Rattle.std.proofs.Common.{length, sym, refl}
 use Rattle.std.proofs.lemmas.Result.{err_from_is_err_and}
-use Rattle.ta_meaning.specs.Resolved.{kinds_of}
-use Rattle.ta_meaning.specs.Numbering.{guards_so_far}
+use Rattle.ta_meaning.specs.Inside.Resolved.{kinds_of}
+use Rattle.ta_meaning.specs.Inside.Numbering.{guards_so_far}
 use Rattle.ta_meaning.proofs.Exits.{exit-first}
 use Rattle.ta_meaning.proofs.PlaceNames.{parameters_count}
 use Rattle.ta_meaning.proofs.GuardPlaces.{guard_none, guard_resolved, guard_first, one_row_from}

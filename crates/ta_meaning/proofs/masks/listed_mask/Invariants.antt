@@ -1,5 +1,5 @@
 use Rattle.std.proofs.Common.{drop}
-use Rattle.ta_meaning.specs.Listed.{between}
+use Rattle.ta_meaning.specs.Inside.Listed.{between}
 use Rattle.ta_meaning.proofs.ListedSteps.{ListedTo}
 use Rattle.ta_meaning.proofs.masks.listed_mask.Given as goal
 

@@ -1,6 +1,6 @@
 use Rattle.std.proofs.Common.{refl}
 use Rattle.std.proofs.lemmas.Result.{err_from_is_err_and}
-use Rattle.ta_meaning.specs.Resolved.{kinds_of}
+use Rattle.ta_meaning.specs.Inside.Resolved.{kinds_of}
 use Rattle.ta_meaning.proofs.Answering.{append-left-first}
 use Rattle.ta_meaning.proofs.PatternSteps.{event_stops_at_after, event_stops_at_condition, event_has_none, event_resolved}
 use Rattle.ta_meaning.proofs.patterns.resolve_event.Goals as goal

@@ -1,5 +1,5 @@
 use Rattle.std.proofs.Common.{drop}
-use Rattle.ta_meaning.specs.Resolved.{kinds_of}
+use Rattle.ta_meaning.specs.Inside.Resolved.{kinds_of}
 use Rattle.ta_meaning.proofs.PatternSteps.{EventsTo}
 use Rattle.ta_meaning.proofs.patterns.resolve_events.Given as goal
 

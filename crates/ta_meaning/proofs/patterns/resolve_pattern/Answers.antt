@@ -2,8 +2,8 @@ use Rattle.std.proofs.Common.{List, map, refl, sym, subst}
 use Rattle.std.proofs.lemmas.Result.{err_from_is_err_and}
 use Rattle.ta_syntax.specs.PlainTrees.{plain_event}
 use Rattle.ta_automaton.specs.declared.pattern.Event.{Event}
-use Rattle.ta_meaning.specs.PatternParts.{ResolvedEvents}
-use Rattle.ta_meaning.specs.Resolved.{kinds_of}
+use Rattle.ta_meaning.specs.Inside.PatternParts.{ResolvedEvents}
+use Rattle.ta_meaning.specs.Inside.Resolved.{kinds_of}
 use Rattle.ta_meaning.proofs.Answering.{append-left-first}
 use Rattle.ta_meaning.proofs.PatternSteps.{pattern_stops_at_start, pattern_stops_at_empty, pattern_stops_at_events, pattern_has_none, pattern_resolved}
 use Rattle.ta_meaning.proofs.patterns.resolve_pattern.Goals as goal

@@ -1,5 +1,5 @@
 use Rattle.std.proofs.Common.{◌≡◌, ◌+◌, ◌-◌, ℕ, List, Some, slice_get, take, drop, subst}
-use Rattle.ta_meaning.specs.Resolved.{kinds_of}
+use Rattle.ta_meaning.specs.Inside.Resolved.{kinds_of}
 use Rattle.ta_meaning.proofs.Answering.{answers-along, answers-with}
 use Rattle.ta_meaning.proofs.ListedPlaces.{locations_part_is, used_in}
 use Rattle.ta_meaning.proofs.rules.location_in.Goals as goal

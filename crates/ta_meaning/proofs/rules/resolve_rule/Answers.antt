@@ -4,9 +4,9 @@ use Rattle.ta_syntax.specs.PlainTrees.{plain_comparison, plain_update}
 use Rattle.ta_syntax.specs.declared.tree.TreeComparison.{TreeComparison}
 use Rattle.ta_syntax.specs.declared.tree.TreeUpdate.{TreeUpdate}
 use Rattle.ta_meaning.specs.Faults.{FirstOrMemory, in_guards, guards_faults, updates_faults}
-use Rattle.ta_meaning.specs.Resolved.{kinds_of}
-use Rattle.ta_meaning.specs.Numbering.{guards_so_far, GuardsNumbered}
-use Rattle.ta_meaning.specs.Updating.{UpdatesRead}
+use Rattle.ta_meaning.specs.Inside.Resolved.{kinds_of}
+use Rattle.ta_meaning.specs.Inside.Numbering.{guards_so_far, GuardsNumbered}
+use Rattle.ta_meaning.specs.Inside.Updating.{UpdatesRead}
 use Rattle.ta_meaning.proofs.Exits.{exit-first}
 use Rattle.ta_meaning.proofs.RuleSteps.{first_declared, first_from, first_to, first_guards, first_updates, none_in_rule, rule_read}
 use Rattle.ta_meaning.proofs.rules.resolve_rule.Goals as goal

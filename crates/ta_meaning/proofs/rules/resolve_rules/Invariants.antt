@@ -1,5 +1,5 @@
 use Rattle.std.proofs.Common.{drop}
-use Rattle.ta_meaning.specs.Resolved.{kinds_of}
+use Rattle.ta_meaning.specs.Inside.Resolved.{kinds_of}
 use Rattle.ta_meaning.proofs.RuleSequence.{RulesReading}
 use Rattle.ta_meaning.proofs.rules.resolve_rules.Given as goal
 

@@ -14,8 +14,8 @@ use Rattle.ta_syntax.proofs.PrintSteps.{plain_sum_out}
 use Rattle.ta_meaning.specs.Sums.{sum_uses}
 use Rattle.ta_meaning.specs.Linear.{linear_sum}
 use Rattle.ta_meaning.specs.Faults.{FirstOrMemory, sum_faults}
-use Rattle.ta_meaning.specs.Resolved.{first_places}
-use Rattle.ta_meaning.specs.SumParts.{PartOf}
+use Rattle.ta_meaning.specs.Inside.Resolved.{first_places}
+use Rattle.ta_meaning.specs.Inside.SumParts.{PartOf}
 use Rattle.ta_meaning.proofs.TreeSums.{terms_faults, sum_faults_out}
 use Rattle.ta_meaning.proofs.PartForms.{alone_answers, number_first, product_answers, Summing, sum_begins, sum_more, sum_fails, sum_ends, sum_within}
 use Rattle.ta_meaning.proofs.sums.+sums.Goals as goal

@@ -4,7 +4,7 @@ use Rattle.std.proofs.lemmas.Iterator.Search.{any_from_yields_List}
 use Rattle.std.proofs.lemmas.List.Recursion.{same_from_clauses}
 use Rattle.std.specs.List.{list_any}
 use Rattle.ta_meaning.specs.Guards.{is_positive}
-use Rattle.ta_meaning.specs.Numbering.{any_shared}
+use Rattle.ta_meaning.specs.Inside.Numbering.{any_shared}
 use Rattle.ta_meaning.proofs.thresholds.has_positive.Goals as goal
 
 pub returns : goal.returns

@@ -3,8 +3,8 @@ use Rattle.std.proofs.lemmas.Result.{err_from_is_err_and}
 use Rattle.std.proofs.Math.ListN.{drop_of_length-le}
 use Rattle.ta_syntax.specs.declared.tree.TreeUpdate.{TreeUpdate}
 use Rattle.ta_meaning.specs.Faults.{FirstOrMemory}
-use Rattle.ta_meaning.specs.Resolved.{kinds_of}
-use Rattle.ta_meaning.specs.Updating.{names_at, variable_faults, IsNewVariable}
+use Rattle.ta_meaning.specs.Inside.Resolved.{kinds_of}
+use Rattle.ta_meaning.specs.Inside.Updating.{names_at, variable_faults, IsNewVariable}
 use Rattle.ta_meaning.proofs.ListItems.{next_item}
 use Rattle.ta_meaning.proofs.Exits.{exit-first}
 use Rattle.ta_meaning.proofs.UpdateReading.{UpdatesReading, variable_stops, amount_stops, updates_more, updates_end}

@@ -3,7 +3,7 @@ use Rattle.std.proofs.lemmas.Option.{slice_get-get_or}
 use Rattle.std.proofs.lemmas.Result.{err_from_is_err_and}
 use Rattle.ta_replay.specs.declared.run.RunLine.{RunLine}
 use Rattle.ta_replay.specs.declared.run.RunLine.TheVariants.{Step}
-use Rattle.ta_replay.specs.Following.{Following}
+use Rattle.ta_replay.specs.Inside.Following.{Following}
 use Rattle.ta_replay.proofs.Along.{following_next, following_stops}
 use Rattle.ta_replay.proofs.replaying.follow.Goals as goal
 

@@ -1,4 +1,4 @@
-use Rattle.ta_replay.specs.Following.{Following}
+use Rattle.ta_replay.specs.Inside.Following.{Following}
 use Rattle.ta_replay.proofs.replaying.follow.Given as goal
 
 abbrev pub invariant-loop-number : goal.invariant-loop-number

@@ -1,8 +1,8 @@
 use Rattle.std.proofs.Common.{ℕ, ◌<◌, ◌≡◌, slice_get, Some}
 use Rattle.ta_automaton.specs.declared.rule.Rule.{Rule}
-use Rattle.ta_scope.specs.Reached.{LeadsOut}
+use Rattle.ta_scope.specs.Inside.Reached.{LeadsOut}
 use Rattle.ta_scope.proofs.reach.grown.Given as goal
 
 -- no earlier rule leads out of the mask
-abbrev pub invariant-loop-rule : goal.invariant-loop-rule
-invariant-loop-rule l = (r : ℕ) (rule : Rule) → r < l.rule-index → slice_get l.automaton.rules r ≡ Some rule → ¬ LeadsOut l.mask rule
+abbrev pub invariant-loop-number : goal.invariant-loop-number
+invariant-loop-number l = (r : ℕ) (rule : Rule) → r < l.number → slice_get l.automaton.rules r ≡ Some rule → ¬ LeadsOut l.rules l.mask r rule

@@ -1,17 +1,14 @@
-use Rattle.std.proofs.Common.{arith}
-use Rattle.ta_scope.proofs.Reaching.{reached_first, reached_more, reaches_exactly}
+use Rattle.std.proofs.Common.{ℕ, List, length, length-append, ◌∷◌, [], arith, sym, ap, subst, IsBitSet, ◌↔◌}
+use Rattle.ta_scope.specs.Cycles.{Reaches}
+use Rattle.ta_scope.proofs.Reaching.{LeadsSoFar, leads_push}
 use Rattle.ta_scope.proofs.reach.leads.Goals as goal
 
-pub loop-more-init : goal.loop-more-init
-loop-more-init c =
+pub loop-location-preserved : goal.loop-location-preserved
+loop-location-preserved c =
     let a = c.args.automaton.now in
-    let limit = a.shape.limits.locations_limit in
-    reached_first a c.args.from (let b = c.requires.from_exists in omega arith)
-
-pub loop-more-preserved : goal.loop-more-preserved
-loop-more-preserved c =
-    reached_more c.args.automaton.now c.args.from c.loop-more.reached c.in-Some.more c.loop-more.invariant c.in-Some.ensures.some
-
-pub returns : goal.returns
-returns c =
-    reaches_exactly c.args.automaton.now c.args.from c.loop-more.reached c.args.to c.contains.result c.loop-more.invariant c.in_default.ensures.none c.contains.ensures
+    let table = c.loop-location.table.items in
+    let mask = c.reached_from.result in
+    let here : (y : ℕ) → IsBitSet mask y ↔ Reaches a c.args.rules (length table) y = subst (λ n. (y : ℕ) → IsBitSet mask y ↔ Reaches a c.args.rules n y) (sym c.loop-location.invariant.0) c.reached_from.ensures in (
+      (let longer = ap (λ (xs : List ℕ). length xs) c.in_ok-push.ensures.items in let before = c.loop-location.invariant.0 in omega (arith, length-append table (mask ∷ []))),
+      subst (LeadsSoFar a c.args.rules) (sym c.in_ok-push.ensures.items) (leads_push a c.args.rules table mask c.loop-location.invariant.1 here),
+    )

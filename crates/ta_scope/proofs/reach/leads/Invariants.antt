@@ -1,9 +1,7 @@
-use Rattle.std.proofs.Common.{◌-◌, ◌^◌}
-use Rattle.ta_scope.proofs.Reaching.{Reached}
+use Rattle.std.proofs.Common.{◌≡◌, length}
+use Rattle.ta_scope.proofs.Reaching.{LeadsSoFar}
 use Rattle.ta_scope.proofs.reach.leads.Given as goal
 
-abbrev pub invariant-loop-more : goal.invariant-loop-more
-invariant-loop-more l = Reached l.automaton l.fn.from l.reached
-
-abbrev pub decreases-loop-more : goal.decreases-loop-more
-decreases-loop-more l = 2 ^ 32 - l.reached
+-- the table of the first locations
+abbrev pub invariant-loop-location : goal.invariant-loop-location
+invariant-loop-location l = (length l.table.items ≡ l.location) × LeadsSoFar l.automaton l.rules l.table.items

@@ -1,27 +1,27 @@
-use Rattle.std.proofs.Common.{suc, arith}
-use Rattle.ta_dense.specs.Slack.{variables, IsAssignment}
-use Rattle.ta_dense.proofs.Keeps.{IsDictionary-pivoted}
-use Rattle.ta_dense.proofs.SlackDictionary.{IsDictionary-slack}
-use Rattle.ta_simplex.proofs.Ends.{measure_falls}
+use Rattle.std.proofs.Common.{map, length, arith}
+use Rattle.ta_simplex.proofs.RunSteps.{step_follows, step_falls, step_overflows, step_goes_on}
 use Rattle.ta_simplex.proofs.pivots.run.Goals as goal
-
-pub loop-row-init : goal.loop-row-init
-loop-row-init g c = record {
-  run = (0, omega arith, c.in-Ok.ensures);
-  dictionary = rw c.in-Ok.ensures (IsDictionary-slack c.args.system.now);
-}
 
 pub loop-row-smaller : goal.loop-row-smaller
 loop-row-smaller g c =
-    rw c.in-Ok-pivot.ensures.ok
-    (measure_falls (IsAssignment c.args.system.now) (variables c.args.system.now) (g.D.Dictionary.tableau c.loop-row.dictionary) c.in-Some.row c.in-Some-entering.column c.loop-row.invariant.dictionary c.in-Some.ensures.found c.in-Some-entering.ensures.found)
+    let inv = c.loop-row.invariant in
+    step_falls c.args.system.now (map g.D.Dictionary.pivot_of c.loop-row.kept.items) (length c.loop-row.kept.items) (g.D.Dictionary.tableau c.loop-row.dictionary) (g.D.Dictionary.tableau c.in-Ok.next) c.in-Some.row c.in-Some-entering.column
+    inv.follows c.in-Some.ensures.found c.in-Some-entering.ensures.found c.in-Ok.ensures.ok
 
 pub loop-row-preserved : goal.loop-row-preserved
 loop-row-preserved g c =
     let inv = c.loop-row.invariant in
-    let leaves = c.in-Some.ensures.found in
-    let enters = c.in-Some-entering.ensures.found in
     record {
-      run = (suc inv.run.0, (let e = inv.run.1 in omega (arith, c.saturating_add-pivots.ensures)), (g.D.Dictionary.tableau c.loop-row.dictionary, inv.run.2, record { row = c.in-Some.row; column = c.in-Some-entering.column; leaves = leaves; enters = enters; in_range = c.in-Ok-pivot.ensures.in_range; next = c.in-Ok-pivot.ensures.ok }));
-      dictionary = rw c.in-Ok-pivot.ensures.ok (IsDictionary-pivoted (IsAssignment c.args.system.now) (variables c.args.system.now) (g.D.Dictionary.tableau c.loop-row.dictionary) c.in-Some.row c.in-Some-entering.column inv.dictionary leaves.below enters.below enters.positive);
+      follows =
+          step_follows g.D.Dictionary.pivot_of c.args.system.now c.loop-row.kept.items c.push.new.self.items c.in_ok-pivot.pivot (g.D.Dictionary.tableau c.loop-row.dictionary) (g.D.Dictionary.tableau c.in-Ok.next) c.in-Some.row c.in-Some-entering.column
+          inv.follows c.in_ok-push.ensures.items c.in_ok-pivot.ensures c.in-Some.ensures.found c.in-Some-entering.ensures.found c.in-Ok.ensures.in_range c.in-Ok.ensures.ok;
+      goes_on = step_goes_on g.D.Dictionary.pivot_of (map g.D.Dictionary.pivot_of c.args.kept.now.items) c.loop-row.kept.items c.push.new.self.items c.in_ok-pivot.pivot inv.goes_on c.in_ok-push.ensures.items;
     }
+
+pub returns-in-Err-Overflow-clause-fault : goal.returns-in-Err-Overflow-clause-fault
+returns-in-Err-Overflow-clause-fault g c =
+    let inv = c.loop-row.invariant in
+    let fault = rw c.in-Err-Overflow.field-0-is at c.in-Err-Overflow.ensures.fault in
+    let len = c.len.ensures in
+    step_overflows g.D.Dictionary.pivot_of c.args.system.now c.loop-row.kept.items c.push.new.self.items c.in_ok-pivot.pivot (g.D.Dictionary.tableau c.loop-row.dictionary) c.in-Some.row c.in-Some-entering.column c.in-Err-Overflow.field-0-0 c.len.result
+    inv.follows c.in_ok-push.ensures.items c.in-Some.ensures.found c.in-Some-entering.ensures.found fault (omega arith) (omega arith)

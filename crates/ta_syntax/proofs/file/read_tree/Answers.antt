@@ -3,7 +3,7 @@ use Rattle.std.proofs.lemmas.Result.{err_from_is_err_and}
 use Rattle.ta_syntax.specs.Grammar.{FileText}
 use Rattle.ta_syntax.specs.Limits.{at_start}
 use Rattle.ta_syntax.specs.Faults.{Stopped}
-use Rattle.ta_syntax.specs.FileReading.{IsSpelled}
+use Rattle.ta_syntax.specs.Inside.FileReading.{IsSpelled}
 use Rattle.ta_syntax.specs.declared.placed.Token.{Token}
 use Rattle.ta_syntax.proofs.LegalTrees.{tree_read, scan_fault, file_fault}
 use Rattle.ta_syntax.proofs.NoFault.{no_fault, tree_alone}

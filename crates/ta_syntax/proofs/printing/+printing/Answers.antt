@@ -4,7 +4,7 @@ use Rattle.std.proofs.Math.ListN.{drop_of_length-le}
 use Rattle.std.specs.String.{string_bytes}
 use Rattle.ta_syntax.specs.Grammar.{Factor, nested, sum_kinds, term_kinds, factor_kinds}
 use Rattle.ta_syntax.specs.PlainSums.{plain_sum, plain_term, plain_terms, plain_factor}
-use Rattle.ta_syntax.specs.Printed.{Prints, sign_before}
+use Rattle.ta_syntax.specs.Inside.Printed.{Prints, sign_before}
 use Rattle.ta_syntax.specs.declared.tokens.Kind.{Kind}
 use Rattle.ta_syntax.specs.declared.tokens.Kind.TheVariants as kind
 use Rattle.ta_syntax.specs.declared.tokens.Mark.TheVariants as mark

@@ -1,5 +1,5 @@
-use Rattle.ta_syntax.specs.Parts.{update_part}
-use Rattle.ta_syntax.specs.Reading.{is_name}
+use Rattle.ta_syntax.specs.Inside.Parts.{update_part}
+use Rattle.ta_syntax.specs.Inside.Reading.{is_name}
 use Rattle.ta_syntax.proofs.ItemSteps.{start_by, update_begins}
 use Rattle.ta_syntax.proofs.items.TreeUpdateItem.starts.Goals as goal
 

@@ -1,0 +1,187 @@
+-- bounds of rows, and what they keep
+use Rattle.std.proofs.Common.{◌≡◌, inl, inr, ℕ, suc, ◌<◌, ◌≤◌, ◌+◌, ◌*◌, ◌/◌, ◌^◌, List, ◌∷◌, length, map, set, get_or, arith, sym, refl, ap, ◌∙◌, ℤ, pos, negsuc, neg_ℤ, ◌+ℤ◌, ◌-ℤ◌, ◌*ℤ◌, ◌<ℤ◌, ◌≤ℤ◌, unsigned_abs, get_or-set_same, get_or-set_other}
+use Rattle.std.specs.Prelude.{int_div}
+use Rattle.std.specs.Int.{w64}
+use Rattle.std.proofs.lemmas.Bool.{cases_eq}
+use Rattle.std.proofs.lemmas.Int.{ints, unsigned_abs-mul, fits_signed_from_abs}
+use Rattle.std.proofs.lemmas.List.{length-set}
+use Rattle.std.proofs.lemmas.List.Elements.{All-from_get_or, All-map, All-set}
+use Rattle.std.proofs.lemmas.Nat.Gcd.{le_of_dvd, dvd_antisymm}
+use Rattle.std.proofs.Math.Nat.{one-dvd, div-le_self, mul-le-mul_left, mul-le-mul_right}
+use mir.Val.{SFits}
+use Rattle.ta_linear.specs.Numbers.{InRange}
+use Rattle.ta_dense.specs.Tableau.{TableauRow, combine, merged_by, divided, turned, divisor_of, factor_divisor}
+use Rattle.ta_dense.specs.Merge.{CombinesInRange, MergesByInRange}
+use Rattle.ta_dense.specs.Bounds.{AreBounded, IsBound, CombinesIn64, AllCombineIn64}
+use Rattle.ta_linear.proofs.GcdLemmas.{IsGcd-gcd_of}
+use Rattle.ta_dense.proofs.Divide.{unsigned_abs-neg, gcd_with_divides}
+use Rattle.ta_dense.proofs.PivotLaws.{length-combine, get_or-combine}
+use Rattle.ta_dense.proofs.ReduceFacts.{zero_minus, div-one, factors_positive}
+
+abbrev pub IsSmall : ℤ → Type 0
+IsSmall z = unsigned_abs z < 2 ^ 63
+
+pub fits64 : (z : ℤ) (t : ℕ) → unsigned_abs z ≤ t → t < 2 ^ 63 → SFits w64 z
+fits64 z t h k = fits_signed_from_abs w64 z (omega arith)
+
+pub fits_minus64 : (z : ℤ) → IsSmall z → SFits w64 (pos 0 -ℤ z)
+fits_minus64 z h =
+    let same : unsigned_abs (pos 0 -ℤ z) ≡ unsigned_abs z = ap unsigned_abs (zero_minus z) ∙ unsigned_abs-neg z in
+    fits_signed_from_abs w64 (pos 0 -ℤ z) (omega arith)
+
+-- absolute values of differences, products and quotients
+abs_upper : (z : ℤ) → z ≤ℤ pos (unsigned_abs z)
+abs_upper (pos n) = omega (arith, ints)
+abs_upper (negsuc n) = omega (arith, ints)
+
+abs_lower : (z : ℤ) → pos 0 ≤ℤ (z +ℤ pos (unsigned_abs z))
+abs_lower (pos n) = omega (arith, ints)
+abs_lower (negsuc n) = omega (arith, ints)
+
+abs_from : (z : ℤ) (t : ℕ) → z ≤ℤ pos t → pos 0 ≤ℤ (z +ℤ pos t) → unsigned_abs z ≤ t
+abs_from (pos n) t h k = omega (arith, ints, h)
+abs_from (negsuc n) t h k = omega (arith, ints, k)
+
+difference_le : (a b : ℤ) (s t : ℕ) → unsigned_abs a ≤ s → unsigned_abs b ≤ t → unsigned_abs (a -ℤ b) ≤ s + t
+difference_le a b s t h k =
+    let au = abs_upper a in
+    let al = abs_lower a in
+    let bu = abs_upper b in
+    let bl = abs_lower b in
+    abs_from (a -ℤ b) (s + t) (omega (arith, ints, au, bl, h, k)) (omega (arith, ints, al, bu, h, k))
+
+product_le : (p x : ℤ) (b : ℕ) → unsigned_abs x ≤ b → unsigned_abs (p *ℤ x) ≤ unsigned_abs p * b
+product_le p x b h = rw (unsigned_abs-mul p x) (mul-le-mul_left (unsigned_abs p) h)
+
+pub quotient_le : (z : ℤ) (g : ℕ) → unsigned_abs (int_div z (pos g)) ≤ unsigned_abs z
+quotient_le (pos a) g = div-le_self a g
+quotient_le (negsuc a) g = rw (unsigned_abs-neg (pos (suc a / g))) (div-le_self (suc a) g)
+
+-- the bound of a place after a merge
+pub record CombinesBelow (p a q c : ℤ) (t : ℕ) : Type 0 where
+  pub left : unsigned_abs (p *ℤ a) ≤ t
+  pub right : unsigned_abs (q *ℤ c) ≤ t
+  pub difference : unsigned_abs (p *ℤ a -ℤ q *ℤ c) ≤ t
+
+pub combines_below : (p a q c : ℤ) (b d : ℕ) → unsigned_abs a ≤ b → unsigned_abs c ≤ d → CombinesBelow p a q c (unsigned_abs p * b + unsigned_abs q * d)
+combines_below p a q c b d h k =
+    let x = product_le p a b h in
+    let y = product_le q c d k in
+    record {
+      left = omega arith;
+      right = omega arith;
+      difference = difference_le (p *ℤ a) (q *ℤ c) (unsigned_abs p * b) (unsigned_abs q * d) x y;
+    }
+
+pub in64 : (p a q c : ℤ) (t : ℕ) → CombinesBelow p a q c t → t < 2 ^ 63 → CombinesIn64 p a q c
+in64 p a q c t h k = record {
+  left = fits64 (p *ℤ a) t h.left k;
+  right = fits64 (q *ℤ c) t h.right k;
+  difference = fits64 (p *ℤ a -ℤ q *ℤ c) t h.difference k;
+}
+
+in_range_of : (z : ℤ) (t : ℕ) → unsigned_abs z ≤ t → t < 2 ^ 63 → InRange z
+in_range_of z t h k = omega arith
+
+combines_in_range : (p a q c : ℤ) (t : ℕ) → CombinesBelow p a q c t → t < 2 ^ 63 → CombinesInRange p a q c
+combines_in_range p a q c t h k = record {
+  left = in_range_of (p *ℤ a) t h.left k;
+  right = in_range_of (q *ℤ c) t h.right k;
+  difference = in_range_of (p *ℤ a -ℤ q *ℤ c) t h.difference k;
+}
+
+pub cell_le : (xs : List ℤ) (b j : ℕ) → AreBounded b xs → j < length xs → unsigned_abs (get_or xs j (pos 0)) ≤ b
+cell_le xs b j all h = all j (pos 0) h
+
+pub cells_in64 : (p q : ℤ) (b d : ℕ) (xs cs : List ℤ) → length xs ≡ length cs → AreBounded b xs → AreBounded d cs → unsigned_abs p * b + unsigned_abs q * d < 2 ^ 63 → AllCombineIn64 p q xs cs
+cells_in64 p q b d xs cs e x c within j h =
+    in64 p (get_or xs j (pos 0)) q (get_or cs j (pos 0)) (unsigned_abs p * b + unsigned_abs q * d) (combines_below p (get_or xs j (pos 0)) q (get_or cs j (pos 0)) b d (cell_le xs b j x h) (cell_le cs d j c (omega arith))) within
+
+-- the bound of a merged row
+pub IsBound-merged_by : (p q : ℤ) (b d column : ℕ) (chosen r : TableauRow) → length r.cells ≡ length chosen.cells → column < length chosen.cells → IsBound d chosen → IsBound b r →
+    IsBound (unsigned_abs p * b + unsigned_abs q * d) (merged_by p q column chosen r)
+IsBound-merged_by p q b d column chosen r same h c k =
+    let long = length-combine p q r.cells chosen.cells same in
+    let e = length-set (combine p q r.cells chosen.cells) column (q *ℤ chosen.denominator) in
+    let turned_le = product_le q chosen.denominator d c.denominator in
+    let own_le = product_le p r.denominator b k.denominator in
+    record {
+      denominator = omega arith;
+      constant = (combines_below p r.constant q chosen.constant b d k.constant c.constant).difference;
+      cells = All-from_get_or (λ x. unsigned_abs x ≤ unsigned_abs p * b + unsigned_abs q * d) (set (combine p q r.cells chosen.cells) column (q *ℤ chosen.denominator)) (pos 0) (λ i below.
+          elim (cases_eq i column) [
+            | inl at ↦ (let inside : column < length (combine p q r.cells chosen.cells) = omega arith in rw (at, get_or-set_same (combine p q r.cells chosen.cells) column (q *ℤ chosen.denominator) (pos 0) inside) (omega arith))
+            | inr apart ↦
+                rw (get_or-set_other (combine p q r.cells chosen.cells) column i (q *ℤ chosen.denominator) (pos 0) apart, get_or-combine p q r.cells chosen.cells i same)
+                (combines_below p (get_or r.cells i (pos 0)) q (get_or chosen.cells i (pos 0)) b d (cell_le r.cells b i k.cells (omega arith)) (cell_le chosen.cells d i c.cells (omega arith))).difference
+          ]);
+    }
+
+-- no listed product or difference of such a merge leaves the range
+pub merges_by_in_range : (p q : ℤ) (b d column : ℕ) (chosen r : TableauRow) → length r.cells ≡ length chosen.cells → IsBound d chosen → IsBound b r → unsigned_abs p * b + unsigned_abs q * d < 2 ^ 63 → MergesByInRange p q column chosen r
+merges_by_in_range p q b d column chosen r same c k within =
+    let turned_le = product_le q chosen.denominator d c.denominator in
+    let own_le = product_le p r.denominator b k.denominator in
+    record {
+      denominator = omega arith;
+      constant = combines_in_range p r.constant q chosen.constant (unsigned_abs p * b + unsigned_abs q * d) (combines_below p r.constant q chosen.constant b d k.constant c.constant) within;
+      turned = omega arith;
+      cells = λ j h _.
+          combines_in_range p (get_or r.cells j (pos 0)) q (get_or chosen.cells j (pos 0)) (unsigned_abs p * b + unsigned_abs q * d)
+          (combines_below p (get_or r.cells j (pos 0)) q (get_or chosen.cells j (pos 0)) b d (cell_le r.cells b j k.cells h) (cell_le chosen.cells d j c.cells (omega arith))) within;
+    }
+
+-- the bounds of a divided and of a turned row
+pub IsBound-divided : (b g : ℕ) (r : TableauRow) → IsBound b r → IsBound b (divided g r)
+IsBound-divided b g r k =
+    let d = quotient_le r.denominator g in
+    let n = quotient_le r.constant g in
+    let kd = k.denominator in
+    let kn = k.constant in
+    record {
+      denominator = omega arith;
+      constant = omega arith;
+      cells = All-map (λ x. unsigned_abs x ≤ b) (λ z. int_div z (pos g)) r.cells (λ i e h. (let q = quotient_le (get_or r.cells i e) g in let s = k.cells i e h in omega arith));
+    }
+
+pub IsBound-turned : (b entering column : ℕ) (r : TableauRow) → column < length r.cells → IsBound b r → IsBound b (turned entering column r)
+IsBound-turned b entering column r h k = record {
+  denominator = cell_le r.cells b column k.cells h;
+  constant = rw (unsigned_abs-neg r.constant) k.constant;
+  cells = All-set (λ x. unsigned_abs x ≤ b) (map neg_ℤ r.cells) column r.denominator k.denominator (All-map (λ x. unsigned_abs x ≤ b) neg_ℤ r.cells (λ i e inside. rw (unsigned_abs-neg (get_or r.cells i e)) (k.cells i e inside)));
+}
+
+-- smaller factors show as much
+pub factors_below : (c a : ℤ) (g b d : ℕ) → unsigned_abs c * b + unsigned_abs a * d < 2 ^ 63 → unsigned_abs (int_div c (pos g)) * b + unsigned_abs (int_div a (pos g)) * d < 2 ^ 63
+factors_below c a g b d h =
+    let x = mul-le-mul_right b (quotient_le c g) in
+    let y = mul-le-mul_right d (quotient_le a g) in
+    omega arith
+
+-- divisors of positive numbers of 64 bits
+abs_positive : (z : ℤ) → pos 0 <ℤ z → 0 < unsigned_abs z
+abs_positive (pos n) h = omega (arith, ints, h)
+abs_positive (negsuc n) h = omega arith
+
+small_positive : (z : ℤ) → SFits w64 z → pos 0 <ℤ z → unsigned_abs z < 2 ^ 63
+small_positive (pos n) f h = let s = f.sfits in omega arith
+small_positive (negsuc n) f h = absurd (omega (arith, ints, h))
+
+pub divisor_le : (r : TableauRow) → pos 0 <ℤ r.denominator → divisor_of r ≤ unsigned_abs r.denominator
+divisor_le r h = le_of_dvd (abs_positive r.denominator h) (gcd_with_divides (r.constant ∷ r.cells) (unsigned_abs r.denominator)).0
+
+pub factor_small : (c a : ℤ) (g : ℕ) → g ≡ factor_divisor c a → pos 0 <ℤ c → SFits w64 c → (0 < g) × (g < 2 ^ 63)
+factor_small c a g e h f =
+    let some = (factors_positive c a h).0 in
+    let le = le_of_dvd (abs_positive c h) (IsGcd-gcd_of (unsigned_abs c) (unsigned_abs a)).0 in
+    let small = small_positive c f h in
+    (omega (arith, e), omega (arith, e))
+
+factor_one : (a : ℤ) → factor_divisor (pos 1) a ≡ 1
+factor_one a = dvd_antisymm (IsGcd-gcd_of 1 (unsigned_abs a)).0 (one-dvd (factor_divisor (pos 1) a))
+
+pub first_one : (c a : ℤ) → c ≡ pos 1 → pos 1 ≡ int_div c (pos (factor_divisor c a))
+first_one c a e = rw (e, factor_one a) refl
+
+pub second_one : (c a : ℤ) → c ≡ pos 1 → a ≡ int_div a (pos (factor_divisor c a))
+second_one c a e = rw (e, factor_one a) (sym (div-one a))

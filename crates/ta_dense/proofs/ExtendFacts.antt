@@ -1,0 +1,86 @@
+-- rows with more columns
+use Rattle.std.proofs.Common.{◌≡◌, ℕ, zero, suc, ◌+◌, ◌-◌, ◌<◌, ◌≤◌, List, [], ◌∷◌, ◌++◌, length, get_or, take, drop, map, replicate, arith, refl, inl, inr, sym, ap, ◌∙◌, subst, pos}
+use Rattle.std.proofs.lemmas.List.{length-append, length-replicate, map-append, take_more, length-map, get_or_append_left, get_or-append_right}
+use Rattle.std.proofs.lemmas.Bool.{cases_lt}
+use Rattle.std.proofs.lemmas.List.Elements.{All-append, All-replicate}
+use Rattle.ta_linear.specs.Numbers.{InRange}
+use Rattle.ta_linear.specs.Rows.{AllBelow}
+use Rattle.ta_linear.specs.declared.row.Row.{Row}
+use Rattle.ta_dense.specs.Tableau.{TableauRow, Tableau, merged, no_row}
+use Rattle.ta_linear.specs.declared.row.System.{System}
+use Rattle.ta_dense.specs.Merge.{IsProper, FirstRefused}
+use Rattle.ta_dense.specs.Slack.{slack_rows}
+use Rattle.ta_dense.specs.Rows.{row_view, views, AreProper}
+use Rattle.ta_dense.specs.declared.rows.DenseRow.{DenseRow}
+use Rattle.ta_dense.specs.Extending.{raised, widened, new_rows, FirstLeaving}
+use Rattle.ta_dense.specs.Inside.Padded.{padded}
+use Rattle.ta_dense.specs.Kept.{KeptPivot, kept_at, chosen_row, carried, AreKept, StayInRange}
+
+pub IsProper-padded : (n basic columns : ℕ) (r : TableauRow) → IsProper n r → n ≤ columns → IsProper columns (padded basic columns r)
+IsProper-padded n basic columns r p h =
+    let long = p.long in
+    let more = columns - length r.cells in
+    let l1 = length-append r.cells (replicate more (pos 0)) in
+    let l2 = length-replicate more (pos 0) in
+    record {
+      positive = p.positive;
+      denominator = p.denominator;
+      constant = p.constant;
+      cells = All-append InRange r.cells (replicate more (pos 0)) p.cells (All-replicate InRange more (pos 0) (omega arith));
+      long = omega arith;
+    }
+
+pub padded_widened : (u n basic : ℕ) (r : TableauRow) → length r.cells ≡ u → basic ≡ raised u n r.basic → padded basic (u + n) r ≡ widened u n r
+padded_widened u n basic r long e =
+    let f : u + n - length r.cells ≡ n = omega arith in
+    rw (e, f) refl
+
+-- one more row
+pub map_take_more : {A : Type 0} (view : A → TableauRow) (f : TableauRow → TableauRow) (xs : List A) (i : ℕ) (x d : A) (y : TableauRow) → i < length xs → x ≡ get_or xs i x → y ≡ f (view x) →
+    map f (map view (take i xs)) ++ y ∷ [] ≡ map f (map view (take (i + 1) xs))
+map_take_more view f xs i x d y h e same =
+    let more = ap (λ (zs : List _). map f (map view zs)) (take_more xs i x h) in
+    let first = ap (map f) (map-append view (take i xs) (get_or xs i x ∷ [])) in
+    let second = map-append f (map view (take i xs)) (view (get_or xs i x) ∷ []) in
+    ap (λ (r : TableauRow). map f (map view (take i xs)) ++ r ∷ []) (same ∙ ap (λ (z : _). f (view z)) e) ∙ sym (more ∙ first ∙ second)
+
+pub AllBelow-drop : (n k : ℕ) (rs : List Row) → AllBelow n rs → AllBelow n (drop k rs)
+AllBelow-drop n zero rs all = all
+AllBelow-drop n (suc k) [] all = all
+AllBelow-drop n (suc k) (r ∷ rs) all = AllBelow-drop n k rs all.1
+
+-- one more pivot
+pub carried_more : (columns j : ℕ) (ks : List KeptPivot) (rows : List TableauRow) → carried columns ks (j + 1) rows ≡ map (merged (kept_at ks j).column (chosen_row columns (kept_at ks j))) (carried columns ks j rows)
+carried_more columns j ks rows = let e : j + 1 ≡ suc j = omega arith in ap (λ (i : ℕ). carried columns ks i rows) e
+
+pub length-carried : (columns j : ℕ) (ks : List KeptPivot) (rows : List TableauRow) → length (carried columns ks j rows) ≡ length rows
+length-carried columns zero ks rows = refl
+length-carried columns (suc j) ks rows = length-map (carried columns ks j rows) (merged (kept_at ks j).column (chosen_row columns (kept_at ks j))) ∙ length-carried columns j ks rows
+
+pub kept_more : (n m : ℕ) (ks : List KeptPivot) → AreKept n ks → n ≤ m → AreKept m ks
+kept_more n m ks all le j h = let k = all j h in let l = k.long in record { long = omega arith; column = k.column; positive = k.positive }
+
+-- the new rows, and what becomes of them
+pub new_rows_are : (t : Tableau) (s : System) (first : ℕ) (rows : List TableauRow) → rows ≡ slack_rows s.unknowns (s.unknowns + first) (drop first s.rows) → first ≡ length t.rows → rows ≡ new_rows t s
+new_rows_are t s first rows e f = e ∙ ap (λ (m : ℕ). slack_rows s.unknowns (s.unknowns + m) (drop m s.rows)) f
+
+pub leaving_from : (t : Tableau) (s : System) (ks : List KeptPivot) (pivot at first : ℕ) (rows : List TableauRow) → rows ≡ new_rows t s → first ≡ length t.rows → pivot < length ks → StayInRange s.unknowns ks pivot rows →
+    FirstRefused (kept_at ks pivot).column (chosen_row s.unknowns (kept_at ks pivot)) (carried s.unknowns ks pivot rows) at → FirstLeaving t ks s pivot (first + at)
+leaving_from t s ks pivot at first rows e f h before refused = record {
+  below = h;
+  before = subst (StayInRange s.unknowns ks pivot) e before;
+  new = at;
+  number = ap (λ (m : ℕ). m + at) f;
+  refused = subst (λ (xs : List TableauRow). FirstRefused (kept_at ks pivot).column (chosen_row s.unknowns (kept_at ks pivot)) (carried s.unknowns ks pivot xs) at) e refused;
+}
+
+pub proper_joined : (n : ℕ) (xs ys : List DenseRow) → AreProper n xs → AreProper n ys → AreProper n (xs ++ ys)
+proper_joined n xs ys p q i h =
+    let l = length-append xs ys in
+    let l1 = length-map xs row_view in
+    let l2 = length-map ys row_view in
+    rw (map-append row_view xs ys)
+    (elim (cases_lt i (length xs)) [
+      | inl below ↦ rw (get_or_append_left (views xs) (views ys) no_row i (omega arith)) (p i below)
+      | inr above ↦ rw (get_or-append_right (views xs) (views ys) (length xs) i no_row l1 above) (q (i - length xs) (omega arith))
+    ])

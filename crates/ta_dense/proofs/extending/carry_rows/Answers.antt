@@ -1,0 +1,35 @@
+use Rattle.std.proofs.Common.{◌≡◌, ℕ, List, arith, sym, ◌∙◌, ap, subst, length, map, below_more}
+use Rattle.std.proofs.lemmas.List.{get_or_default, length-map}
+use Rattle.ta_dense.specs.Tableau.{TableauRow, merged}
+use Rattle.ta_dense.specs.Rows.{row_view, views, AreProper}
+use Rattle.ta_dense.specs.Merge.{RowsMergeBelow}
+use Rattle.ta_dense.specs.Kept.{KeptPivot, kept_at, no_pivot, chosen_row, carried}
+use Rattle.ta_dense.proofs.ExtendFacts.{carried_more}
+use Rattle.ta_dense.proofs.extending.carry_rows.Goals as goal
+
+pub loop-pivot-preserved : goal.loop-pivot-preserved
+loop-pivot-preserved c =
+    let inv = c.loop-pivot.invariant in
+    let ks = c.args.kept.now in
+    let j = c.loop-pivot.pivot in
+    let n = c.args.columns in
+    let rows = views c.loop-pivot.rows in
+    let old = views c.args.rows.now in
+    let inside = c.loop-pivot-test.true in
+    let at : c.index-kept-pivot.result ≡ kept_at c.args.kept.now c.loop-pivot.pivot = c.index-kept-pivot.is ∙ get_or_default ks j c.index-kept-pivot.result no_pivot inside in
+    let at_column : c.index-kept-pivot-in-loop-pivot.result ≡ kept_at c.args.kept.now c.loop-pivot.pivot = c.index-kept-pivot-in-loop-pivot.is ∙ get_or_default ks j c.index-kept-pivot-in-loop-pivot.result no_pivot inside in
+    let k = kept_at ks j in
+    let chosen = c.in_ok-chosen.ensures.value ∙ ap (chosen_row n) at in
+    let column = c.column.ensures ∙ ap (λ (p : KeptPivot). p.column) at_column in
+    let l1 = length-map c.loop-pivot.rows row_view in
+    let l2 = length-map c.args.rows.now row_view in
+    let long : length c.loop-pivot.rows ≡ length (views c.args.rows.now) = omega arith in
+    let within = subst (λ (m : ℕ). RowsMergeBelow k.column (chosen_row n k) (carried n ks j old) m) long
+    (subst (λ (xs : List TableauRow). RowsMergeBelow k.column (chosen_row n k) xs (length c.loop-pivot.rows)) inv.value
+    (subst (λ (r : TableauRow). RowsMergeBelow k.column r rows (length c.loop-pivot.rows)) chosen
+    (subst (λ (m : ℕ). RowsMergeBelow m (row_view c.in_ok-chosen.chosen) rows (length c.loop-pivot.rows)) column c.in_default.ensures.in_range))) in
+    record {
+      value = c.in_default.ensures.value ∙ ap (λ (m : ℕ). map (merged m (row_view c.in_ok-chosen.chosen)) rows) column ∙ ap (λ (r : TableauRow). map (merged k.column r) rows) chosen ∙ ap (map (merged k.column (chosen_row n k))) inv.value ∙ sym (carried_more n j ks old);
+      within = below_more (λ i. RowsMergeBelow (kept_at ks i).column (chosen_row n (kept_at ks i)) (carried n ks i old) (length old)) j inv.within within;
+      proper = subst (λ (m : ℕ). AreProper m c.merge_all.new.rows) c.in_ok-chosen.ensures.proper.long c.in_default.ensures.proper;
+    }

@@ -1,0 +1,44 @@
+use Rattle.std.proofs.Common.{arith, sym, ◌∙◌, ap, ◌+◌, ◌++◌, ◌∷◌, [], List, length, subst, take}
+use Rattle.std.proofs.lemmas.List.{map-append, length-append}
+use Rattle.ta_linear.specs.declared.row.Row.{Row}
+use Rattle.ta_linear.specs.Terms.{IsNormal}
+use Rattle.ta_linear.specs.Rows.{AllBelow}
+use Rattle.ta_dense.specs.Tableau.{TableauRow}
+use Rattle.ta_dense.specs.Slack.{slack_rows, slack_row_of}
+use Rattle.ta_dense.specs.Rows.{row_view, views, AreProper}
+use Rattle.ta_dense.specs.declared.rows.DenseRow.{DenseRow}
+use Rattle.ta_dense.proofs.DenseFacts.{terms_at}
+use Rattle.ta_dense.proofs.ExtendFacts.{AllBelow-drop}
+use Rattle.ta_dense.proofs.SlackRows.{slack_rows-more, proper-push}
+use Rattle.ta_dense.proofs.extending.new_slack_rows.Goals as goal
+
+pub slack_row-requires : goal.slack_row-requires
+slack_row-requires c =
+    let u = c.args.system.now.unknowns in
+    let list = c.split_at.result.1.now in
+    let all : AllBelow c.args.system.now.unknowns c.split_at.result.1.now =
+    rw (c.split_at.ensures.back, c.as_slice.ensures) (AllBelow-drop u c.args.first c.args.system.now.rows c.args.system.now.within) in
+    let P : Row → Type 0 = λ r. IsNormal 0 c.args.system.now.unknowns r.form.terms in
+    subst P (sym c.row-item.is) (terms_at u list c.loop-row.row-index c.row-item.result all c.loop-row-test.true)
+
+pub loop-row-preserved : goal.loop-row-preserved
+loop-row-preserved c =
+    let inv = c.loop-row.invariant in
+    let items = c.in_ok-push.ensures.items in
+    let u = c.args.system.now.unknowns in
+    let list = c.split_at.result.1.now in
+    let new = c.in_ok-slack_row.field-0 in
+    let old = c.loop-row.rows.items in
+    let l = length-append old (new ∷ []) in
+    let long = ap (λ (xs : List DenseRow). length xs) items in
+    let before = inv.long in
+    let slack = inv.slack in
+    let more = slack_rows-more u (u + c.args.first) list c.loop-row.row-index c.loop-row.slack c.row-item.result c.loop-row-test.true inv.slack in
+    let view = c.in_ok-slack_row.ensures.value ∙ ap (slack_row_of u c.loop-row.slack) c.row-item.is in
+    let P : List DenseRow → Type 0 = AreProper u in
+    record {
+      slack = omega arith;
+      value = ap views items ∙ map-append row_view old (new ∷ []) ∙ ap (λ (xs : List TableauRow). xs ++ row_view new ∷ []) inv.value ∙ ap (λ (x : TableauRow). slack_rows u (u + c.args.first) (take c.loop-row.row-index list) ++ x ∷ []) view ∙ sym more;
+      long = omega arith;
+      proper = subst P (sym items) (proper-push u old new inv.proper c.in_ok-slack_row.ensures.proper);
+    }

@@ -1,0 +1,10 @@
+use Rattle.std.proofs.Common.{◌≡◌, ◌+◌, take, map}
+use Rattle.ta_dense.specs.Extending.{widened}
+use Rattle.ta_dense.specs.Rows.{views, AreProper}
+use Rattle.ta_dense.proofs.extending.widened_rows.Given as goal
+
+abbrev pub invariant-loop-row : goal.invariant-loop-row
+invariant-loop-row l = record {
+  value : views l.wide.items ≡ map (widened l.unknowns l.new) (views (take l.row-index l.rows));
+  proper : AreProper (l.unknowns + l.new) l.wide.items;
+}

@@ -1,0 +1,87 @@
+use Rattle.std.proofs.Common.{◌≡◌, ap, arith, pos, ◌<ℤ◌, sym, ◌∙◌, ℕ}
+use Rattle.std.specs.Prelude.{int_div}
+use Rattle.std.proofs.lemmas.Int.{to_z-of_z, to_z_pos, quot_fits, ints, fits_signed_from_abs}
+use mir.Val.{SFits, to_z}
+use mir.Syntax.{w64}
+use Rattle.ta_linear.proofs.GcdLemmas.{gcd_of_is}
+use Rattle.ta_dense.specs.Tableau.{factor_divisor}
+use Rattle.ta_dense.proofs.Bounded.{factor_small, first_one, second_one}
+use Rattle.ta_dense.proofs.narrow_rows.narrow_factors.Goals as goal
+
+pub returns-then-c-eq1-clause-first : goal.returns-then-c-eq1-clause-first
+returns-then-c-eq1-clause-first c = first_one c.args.c c.args.a (sym (to_z-of_z w64 c.args.c c.ranges.c) ∙ ap (to_z w64) c.if-c-eq1.true)
+
+pub returns-then-c-eq1-clause-second : goal.returns-then-c-eq1-clause-second
+returns-then-c-eq1-clause-second c =
+    let fa = c.ranges.a in
+    simp to_z-of_z (second_one c.args.c c.args.a (sym (to_z-of_z w64 c.args.c c.ranges.c) ∙ ap (to_z w64) c.if-c-eq1.true))
+
+pub overflow_cast-divisor : goal.overflow_cast-divisor
+overflow_cast-divisor c =
+    let fc = c.ranges.c in
+    let fa = c.ranges.a in
+    let u = simp to_z-of_z at c.unsigned_abs.ensures.value in
+    let v = simp to_z-of_z at c.unsigned_abs-2.ensures.value in
+    let d : c.gcd_narrow-divisor.result ≡ factor_divisor c.args.c c.args.a = rw (u, v) at (gcd_of_is _ _ _ c.gcd_narrow-divisor.ensures) in
+    let s = factor_small c.args.c c.args.a c.gcd_narrow-divisor.result d c.requires.positive fc in
+    let below = s.1 in
+    let some = s.0 in
+    fits_signed_from_abs w64 (pos c.gcd_narrow-divisor.result) below
+
+pub nonzero_div-result : goal.nonzero_div-result
+nonzero_div-result c =
+    let fc = c.ranges.c in
+    let fa = c.ranges.a in
+    let u = simp to_z-of_z at c.unsigned_abs.ensures.value in
+    let v = simp to_z-of_z at c.unsigned_abs-2.ensures.value in
+    let d : c.gcd_narrow-divisor.result ≡ factor_divisor c.args.c c.args.a = rw (u, v) at (gcd_of_is _ _ _ c.gcd_narrow-divisor.ensures) in
+    let s = factor_small c.args.c c.args.a c.gcd_narrow-divisor.result d c.requires.positive fc in
+    let below = s.1 in
+    let some = s.0 in
+    let z = to_z_pos w64 c.gcd_narrow-divisor.result below in
+    let above : pos 0 <ℤ pos c.gcd_narrow-divisor.result = omega (arith, ints, some) in
+    (some, simp to_z-of_z (rw z (quot_fits w64 c.args.c (pos c.gcd_narrow-divisor.result) fc above)))
+
+pub nonzero_div-result-2 : goal.nonzero_div-result-2
+nonzero_div-result-2 c =
+    let fc = c.ranges.c in
+    let fa = c.ranges.a in
+    let u = simp to_z-of_z at c.unsigned_abs.ensures.value in
+    let v = simp to_z-of_z at c.unsigned_abs-2.ensures.value in
+    let d : c.gcd_narrow-divisor.result ≡ factor_divisor c.args.c c.args.a = rw (u, v) at (gcd_of_is _ _ _ c.gcd_narrow-divisor.ensures) in
+    let s = factor_small c.args.c c.args.a c.gcd_narrow-divisor.result d c.requires.positive fc in
+    let below = s.1 in
+    let some = s.0 in
+    let z = to_z_pos w64 c.gcd_narrow-divisor.result below in
+    let above : pos 0 <ℤ pos c.gcd_narrow-divisor.result = omega (arith, ints, some) in
+    (some, simp to_z-of_z (rw z (quot_fits w64 c.args.a (pos c.gcd_narrow-divisor.result) fa above)))
+
+pub returns-clause-first : goal.returns-clause-first
+returns-clause-first c =
+    let fc = c.ranges.c in
+    let fa = c.ranges.a in
+    let u = simp to_z-of_z at c.unsigned_abs.ensures.value in
+    let v = simp to_z-of_z at c.unsigned_abs-2.ensures.value in
+    let d : c.gcd_narrow-divisor.result ≡ factor_divisor c.args.c c.args.a = rw (u, v) at (gcd_of_is _ _ _ c.gcd_narrow-divisor.ensures) in
+    let s = factor_small c.args.c c.args.a c.gcd_narrow-divisor.result d c.requires.positive fc in
+    let below = s.1 in
+    let some = s.0 in
+    let z = to_z_pos w64 c.gcd_narrow-divisor.result below in
+    let above : pos 0 <ℤ pos c.gcd_narrow-divisor.result = omega (arith, ints, some) in
+    let fq : SFits w64 (int_div c.args.c (pos c.gcd_narrow-divisor.result)) = quot_fits w64 c.args.c (pos c.gcd_narrow-divisor.result) fc above in
+    rw z (simp to_z-of_z (ap (λ (n : ℕ). int_div c.args.c (pos n)) d))
+
+pub returns-clause-second : goal.returns-clause-second
+returns-clause-second c =
+    let fc = c.ranges.c in
+    let fa = c.ranges.a in
+    let u = simp to_z-of_z at c.unsigned_abs.ensures.value in
+    let v = simp to_z-of_z at c.unsigned_abs-2.ensures.value in
+    let d : c.gcd_narrow-divisor.result ≡ factor_divisor c.args.c c.args.a = rw (u, v) at (gcd_of_is _ _ _ c.gcd_narrow-divisor.ensures) in
+    let s = factor_small c.args.c c.args.a c.gcd_narrow-divisor.result d c.requires.positive fc in
+    let below = s.1 in
+    let some = s.0 in
+    let z = to_z_pos w64 c.gcd_narrow-divisor.result below in
+    let above : pos 0 <ℤ pos c.gcd_narrow-divisor.result = omega (arith, ints, some) in
+    let fq : SFits w64 (int_div c.args.a (pos c.gcd_narrow-divisor.result)) = quot_fits w64 c.args.a (pos c.gcd_narrow-divisor.result) fa above in
+    rw z (simp to_z-of_z (ap (λ (n : ℕ). int_div c.args.a (pos n)) d))

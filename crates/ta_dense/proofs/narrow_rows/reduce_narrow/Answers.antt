@@ -1,0 +1,44 @@
+use Rattle.std.proofs.Common.{◌≡◌, arith, ap, ◌∙◌, sym, ℕ, pos, ◌<◌, ◌^◌}
+use Rattle.std.specs.Prelude.{unsigned_abs}
+use Rattle.std.specs.Int.{w64}
+use Rattle.std.proofs.lemmas.Int.{ints, to_z_pos, fits_signed_from_abs}
+use Rattle.ta_dense.specs.Narrow.{narrow_view}
+use Rattle.ta_dense.specs.Tableau.{divided}
+use Rattle.ta_dense.proofs.Bounded.{divisor_le}
+use Rattle.ta_dense.proofs.ReduceFacts.{divided-one}
+use Rattle.ta_dense.proofs.narrow_rows.reduce_narrow.Goals as goal
+
+pub overflow_cast-divisor : goal.overflow_cast-divisor
+overflow_cast-divisor c =
+    let le = divisor_le (narrow_view c.args.row.now) c.requires.proper.positive in
+    let e = c.divisor_of_narrow-divisor.ensures.value in
+    let d = c.requires.bounded.denominator in
+    let f = c.requires.fits in
+    let b : c.divisor_of_narrow-divisor.result < 2 ^ 63 = omega (arith, e) in
+    fits_signed_from_abs w64 (pos c.divisor_of_narrow-divisor.result) b
+
+pub divide_narrow_row-requires : goal.divide_narrow_row-requires
+divide_narrow_row-requires c =
+    let le = divisor_le (narrow_view c.args.row.now) c.requires.proper.positive in
+    let e = c.divisor_of_narrow-divisor.ensures.value in
+    let d = c.requires.bounded.denominator in
+    let f = c.requires.fits in
+    let b : c.divisor_of_narrow-divisor.result < 2 ^ 63 = omega (arith, e) in
+    let p = c.divisor_of_narrow-divisor.ensures.positive in
+    rw (to_z_pos w64 c.divisor_of_narrow-divisor.result b) (omega (arith, ints, p))
+
+pub returns-else-divisor-gt1-clause-value : goal.returns-else-divisor-gt1-clause-value
+returns-else-divisor-gt1-clause-value c =
+    let v = c.divisor_of_narrow-divisor.ensures.value in
+    let p = c.divisor_of_narrow-divisor.ensures.positive in
+    let one : 1 ≡ c.divisor_of_narrow-divisor.result = omega arith in
+    sym (divided-one (narrow_view c.args.row.now)) ∙ ap (λ (g : ℕ). divided g (narrow_view c.args.row.now)) (one ∙ v)
+
+pub returns-then-divisor-gt1-clause-value : goal.returns-then-divisor-gt1-clause-value
+returns-then-divisor-gt1-clause-value c =
+    let le = divisor_le (narrow_view c.args.row.now) c.requires.proper.positive in
+    let e = c.divisor_of_narrow-divisor.ensures.value in
+    let d = c.requires.bounded.denominator in
+    let f = c.requires.fits in
+    let b : c.divisor_of_narrow-divisor.result < 2 ^ 63 = omega (arith, e) in
+    c.divide_narrow_row.ensures.value ∙ ap (λ (g : ℕ). divided g (narrow_view c.args.row.now)) (ap unsigned_abs (to_z_pos w64 c.divisor_of_narrow-divisor.result b) ∙ c.divisor_of_narrow-divisor.ensures.value)

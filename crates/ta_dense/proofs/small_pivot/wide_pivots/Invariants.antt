@@ -1,0 +1,6 @@
+use Rattle.std.proofs.Common.{◌≡◌, take}
+use Rattle.ta_dense.specs.GrownPivots.{pivots_of}
+use Rattle.ta_dense.proofs.small_pivot.wide_pivots.Given as goal
+
+abbrev pub invariant-loop-pivot : goal.invariant-loop-pivot
+invariant-loop-pivot l = l.wide.items ≡ pivots_of (take l.pivot-index l.kept)

@@ -1,0 +1,239 @@
+//! A row of 64-bit numbers, with a bound of them.
+
+ghost use Rattle.std.specs.Prelude.{◌≡◌, ◌<◌, ◌≤◌, ◌+◌, ◌*◌, ◌^◌, ◌≢◌, pos, ◌<ℤ◌, unsigned_abs, int_div, length, map};
+ghost use Rattle.std.specs.Bool.{OnTrue, OnFalse};
+ghost use Rattle.ta_dense.specs.Tableau.{merged_by, divided, divisor_of, reduced, merged, turned, pivoted_rows, cell_of, factor_divisor};
+ghost use Rattle.ta_dense.specs.Merge.{IsProper, OthersMergeBelow};
+ghost use Rattle.ta_dense.specs.Bounds.{IsBound};
+ghost use Rattle.ta_dense.specs.Narrow.{narrow_view, narrow_views, IsNarrow, AreNarrow, MergesIn64, AllMergeIn64, narrow_at};
+
+use crate::narrow_cells::{
+    combine_narrow, divide_narrow, gcd_narrow, gcd_of_narrow, greatest_of, negate_narrow,
+};
+
+/// The row `denominator * basic = constant + sum of cells * non-basic`. A bound is a number that
+/// no absolute value of the row's numbers is above; it need not be one of them.
+#[derive(Drop)]
+pub(crate) struct NarrowRow {
+    pub(crate) basic: u32,
+    pub(crate) denominator: i64,
+    pub(crate) constant: i64,
+    pub(crate) cells: Vec<i64>,
+    pub(crate) bound: u64,
+}
+
+// Takes the row's bound anew: the greatest absolute value of its numbers.
+pub(crate) fn tighten(row: &mut NarrowRow)
+    requires { IsNarrow (length row.old.cells.items) row.old }
+    ensures view { narrow_view row.new ≡ narrow_view row.old }
+    ensures narrow { IsNarrow (length row.old.cells.items) row.new }
+{
+    let first = row
+        .denominator
+        .unsigned_abs()
+        .max(row.constant.unsigned_abs());
+    row.bound = greatest_of(first, &row.cells);
+}
+
+// Whether `c` times the first bound and `a` times the second are less than 2^63 together.
+fn is_small(c: u64, first: u64, a: u64, second: u64) -> bool
+    requires c { c < 2 ^ 63 }
+    requires first { first < 2 ^ 63 }
+    requires a { a < 2 ^ 63 }
+    requires second { second < 2 ^ 63 }
+    ensures { OnTrue result (c * first + a * second < 2 ^ 63) }
+{
+    c as u128 * first as u128 + a as u128 * (second as u128) < 1 << 63
+}
+
+// Whether bounds show that the row can be merged in 64 bits. Where the row's bound doesn't, it is
+// taken anew.
+fn merges(chosen: &NarrowRow, column: usize, row: &mut NarrowRow) -> bool
+    requires chosen { IsNarrow (length chosen.now.cells.items) chosen.now }
+    requires row { IsNarrow (length chosen.now.cells.items) row.old }
+    requires column { column < length chosen.now.cells.items }
+    ensures view { narrow_view row.new ≡ narrow_view row.old }
+    ensures narrow { IsNarrow (length chosen.now.cells.items) row.new }
+    ensures within { OnTrue result (MergesIn64 column chosen.now row.new) }
+{
+    let a = row.cells[column].unsigned_abs();
+    if a == 0 {
+        return true;
+    }
+    let c = chosen.cells[column].unsigned_abs();
+    if is_small(c, row.bound, a, chosen.bound) {
+        return true;
+    }
+    tighten(row);
+    is_small(c, row.bound, a, chosen.bound)
+}
+
+// Whether bounds show that each row can be merged in 64 bits.
+pub(crate) fn all_merge(rows: &mut [NarrowRow], chosen: &NarrowRow, column: usize) -> bool
+    requires chosen { IsNarrow (length chosen.now.cells.items) chosen.now }
+    requires rows { AreNarrow (length chosen.now.cells.items) rows.old }
+    requires column { column < length chosen.now.cells.items }
+    ensures views { narrow_views rows.new ≡ narrow_views rows.old }
+    ensures narrow { AreNarrow (length chosen.now.cells.items) rows.new }
+    ensures within { OnTrue result (AllMergeIn64 column chosen.now rows.new) }
+{
+    for at in 0..rows.len() {
+        if !merges(chosen, column, &mut rows[at]) {
+            return false;
+        }
+    }
+    true
+}
+
+// `p` times the row minus `q` times the chosen row, with a bound of that.
+fn merge_narrow_by(p: i64, q: i64, column: usize, chosen: &NarrowRow, row: &mut NarrowRow)
+    requires chosen { IsBound chosen.now.bound (narrow_view chosen.now) }
+    requires row { IsBound row.old.bound (narrow_view row.old) }
+    requires long { length row.old.cells.items ≡ length chosen.now.cells.items }
+    requires column { column < length chosen.now.cells.items }
+    requires within { unsigned_abs p * row.old.bound + unsigned_abs q * chosen.now.bound < 2 ^ 63 }
+    ensures value { narrow_view row.new ≡ merged_by p q column (narrow_view chosen.now) (narrow_view row.old) }
+    ensures bound { row.new.bound ≡ unsigned_abs p * row.old.bound + unsigned_abs q * chosen.now.bound }
+{
+    let turned = q * chosen.denominator;
+    row.denominator = p * row.denominator;
+    row.constant = p * row.constant - q * chosen.constant;
+    row.bound = p.unsigned_abs() * row.bound + q.unsigned_abs() * chosen.bound;
+    combine_narrow(p, q, &mut row.cells, &chosen.cells);
+    row.cells[column] = turned;
+}
+
+// The greatest common divisor of the row's numbers.
+fn divisor_of_narrow(row: &NarrowRow) -> u64
+    requires { IsProper (length row.now.cells.items) (narrow_view row.now) }
+    ensures value { result ≡ divisor_of (narrow_view row.now) }
+    ensures positive { 0 < result }
+{
+    if row.denominator == 1 {
+        return 1;
+    }
+    let first = gcd_narrow(row.denominator.unsigned_abs(), row.constant.unsigned_abs());
+    gcd_of_narrow(first, &row.cells)
+}
+
+// Divides each number of the row.
+fn divide_narrow_row(row: &mut NarrowRow, divisor: i64)
+    requires { pos 0 <ℤ divisor }
+    ensures value { narrow_view row.new ≡ divided (unsigned_abs divisor) (narrow_view row.old) }
+    ensures bound { row.new.bound ≡ row.old.bound }
+{
+    row.denominator = row.denominator / divisor;
+    row.constant = row.constant / divisor;
+    divide_narrow(&mut row.cells, divisor);
+}
+
+// Divides the row by the greatest common divisor of its numbers.
+fn reduce_narrow(row: &mut NarrowRow)
+    requires { IsNarrow (length row.old.cells.items) row.old }
+    ensures value { narrow_view row.new ≡ reduced (narrow_view row.old) }
+    ensures bound { row.new.bound ≡ row.old.bound }
+{
+    let divisor = divisor_of_narrow(row);
+    if divisor > 1 {
+        divide_narrow_row(row, divisor as i64);
+    }
+}
+
+// The two factors: each cell divided by the greatest common divisor of both.
+fn narrow_factors(c: i64, a: i64) -> (i64, i64)
+    requires a { unsigned_abs a < 2 ^ 63 }
+    requires positive { pos 0 <ℤ c }
+    ensures first { result.0 ≡ int_div c (pos (factor_divisor c a)) }
+    ensures second { result.1 ≡ int_div a (pos (factor_divisor c a)) }
+{
+    if c == 1 {
+        return (1, a);
+    }
+    let divisor = gcd_narrow(c.unsigned_abs(), a.unsigned_abs()) as i64;
+    (c / divisor, a / divisor)
+}
+
+// Takes the entering variable out of a row.
+fn merge_narrow(chosen: &NarrowRow, column: usize, row: &mut NarrowRow)
+    requires chosen { IsNarrow (length chosen.now.cells.items) chosen.now }
+    requires row { IsNarrow (length chosen.now.cells.items) row.old }
+    requires column { column < length chosen.now.cells.items }
+    requires positive { pos 0 <ℤ cell_of (narrow_view chosen.now) column }
+    requires within { MergesIn64 column chosen.now row.old }
+    ensures value { narrow_view row.new ≡ merged column (narrow_view chosen.now) (narrow_view row.old) }
+    ensures narrow { IsNarrow (length chosen.now.cells.items) row.new }
+{
+    let a = row.cells[column];
+    if a != 0 {
+        let (p, q) = narrow_factors(chosen.cells[column], a);
+        merge_narrow_by(p, q, column, chosen, row);
+        reduce_narrow(row);
+    }
+}
+
+// Merges the chosen row into each of the rows.
+pub(crate) fn merge_all_narrow(rows: &mut [NarrowRow], chosen: &NarrowRow, column: usize)
+    requires chosen { IsNarrow (length chosen.now.cells.items) chosen.now }
+    requires rows { AreNarrow (length chosen.now.cells.items) rows.old }
+    requires column { column < length chosen.now.cells.items }
+    requires positive { pos 0 <ℤ cell_of (narrow_view chosen.now) column }
+    requires within { AllMergeIn64 column chosen.now rows.old }
+    ensures value { narrow_views rows.new ≡ map (merged column (narrow_view chosen.now)) (narrow_views rows.old) }
+    ensures narrow { AreNarrow (length chosen.now.cells.items) rows.new }
+{
+    for at in 0..rows.len() {
+        merge_narrow(chosen, column, &mut rows[at]);
+    }
+}
+
+// Solves the row for the entering variable.
+fn turn_narrow(row: &mut NarrowRow, column: usize, entering: u32)
+    requires row { IsNarrow (length row.old.cells.items) row.old }
+    requires column { column < length row.old.cells.items }
+    requires positive { pos 0 <ℤ cell_of (narrow_view row.old) column }
+    ensures value { narrow_view row.new ≡ turned entering column (narrow_view row.old) }
+    ensures bound { row.new.bound ≡ row.old.bound }
+{
+    let denominator = row.cells[column];
+    negate_narrow(&mut row.cells);
+    row.cells[column] = row.denominator;
+    row.denominator = denominator;
+    row.constant = -row.constant;
+    row.basic = entering;
+}
+
+// Merges the row into the others and turns it, or changes nothing where bounds don't show that all
+// of it fits 64 bits.
+pub(crate) fn pivot_narrow_rows(
+    rows: &mut [NarrowRow],
+    row: usize,
+    column: usize,
+    entering: u32,
+) -> bool
+    requires row { row < length rows.old }
+    requires narrow { AreNarrow (length (narrow_at rows.old row).cells) rows.old }
+    requires column { column < length (narrow_at rows.old row).cells }
+    requires positive { pos 0 <ℤ cell_of (narrow_at rows.old row) column }
+    ensures value { OnTrue result (narrow_views rows.new ≡ pivoted_rows (narrow_views rows.old) row column entering) }
+    ensures in_range { OnTrue result (OthersMergeBelow row column (narrow_at rows.old row) (narrow_views rows.old) (length rows.old)) }
+    ensures same { OnFalse result (narrow_views rows.new ≡ narrow_views rows.old) }
+    ensures kept { AreNarrow (length (narrow_at rows.old row).cells) rows.new }
+{
+    let (before, rest) = rows.split_at_mut(row);
+    let Some((chosen, after)) = rest.split_first_mut() else {
+        return false;
+    };
+    tighten(chosen);
+    let first = all_merge(before, chosen, column);
+    let second = all_merge(after, chosen, column);
+    if !first {
+        return false;
+    }
+    if !second {
+        return false;
+    }
+    merge_all_narrow(before, chosen, column);
+    merge_all_narrow(after, chosen, column);
+    turn_narrow(chosen, column, entering);
+    true
+}

@@ -1,0 +1,360 @@
+//! A dictionary whose numbers fit 64 bits.
+
+ghost use Rattle.std.specs.Prelude.{◌≡◌, ◌<◌, ◌≤◌, ◌-◌, ◌++◌, replicate, ◌^◌, pos, ◌<ℤ◌, length, unsigned_abs, IfOk, IfErr, IfSome, IfNone};
+ghost use Rattle.ta_dense.specs.Tableau.{basic_of, cell_of, non_basic_of, pivoted, row_of};
+ghost use Rattle.ta_dense.specs.Merge.{IsProper, AllMergeInRange};
+ghost use Rattle.ta_dense.specs.Entering.{Enters, NoneEnters};
+ghost use Rattle.ta_dense.specs.Leaving.{Leaves, NoneLeaves};
+ghost use Rattle.ta_dense.specs.Slack.{variables};
+ghost use Rattle.ta_dense.specs.Kept.{AreKept, StayInRange, pivot_in};
+ghost use Rattle.ta_dense.specs.Extending.{MayBegin, extended, new_rows};
+ghost use Rattle.ta_dense.specs.Inside.Padded.{padded};
+ghost use Rattle.ta_dense.specs.GrownPivots.{pivots_of};
+ghost use Rattle.ta_dense.specs.Rows.{row_view, views, AreProper};
+ghost use Rattle.ta_dense.specs.Bounds.{AreSmall};
+ghost use Rattle.ta_dense.specs.Narrow.{narrow_view, narrow_views, IsNarrow, AreNarrow};
+
+use crate::dense::DenseDictionary;
+use crate::dictionary::Dictionary;
+use crate::extending::{new_slack_rows, raised_columns};
+use crate::narrow_cells::greatest_of;
+use crate::narrow_extending::{carry_narrow_rows, widened_narrow_rows};
+use crate::narrow_rows::{NarrowRow, pivot_narrow_rows};
+use crate::rows::DenseRow;
+use crate::small_pivot::{NarrowPivot, SmallPivot};
+use std::alloc::{AllocError, Global};
+use std::marker::Model;
+use ta_linear::System;
+
+/// A dictionary whose numbers fit 64 bits, with a bound of each row's.
+#[derive(Drop)]
+pub(crate) struct SmallDictionary {
+    non_basic: Vec<u32>,
+    rows: Vec<NarrowRow>,
+}
+
+impl Model for SmallDictionary {
+    ghost use Rattle.ta_dense.specs.Tableau.{Tableau};
+
+    ghost Value = { Tableau };
+
+    ghost use Rattle.ta_dense.specs.Small.{small_tableau, IsSoundSmall};
+
+    ghost view = { small_tableau };
+
+    ghost invariant = { IsSoundSmall };
+}
+
+// The number in 64 bits, where its absolute value is below 2^63.
+fn narrowed(number: i128) -> Option<i64>
+    ensures value { IfSome result (λ z. z ≡ number) }
+    ensures small { IfSome result (λ z. unsigned_abs z < 2 ^ 63) }
+{
+    if number.unsigned_abs() < 1 << 63 {
+        Some(number as i64)
+    } else {
+        None
+    }
+}
+
+// The cells in 64 bits, where all of them fit.
+fn narrowed_cells(alloc: Global, cells: &[i128]) -> Result<Option<Vec<i64>>, AllocError>
+    ensures value { IfOk result (λ o. IfSome o (λ v. v.items ≡ cells.now)) }
+    ensures small { IfOk result (λ o. IfSome o (λ v. AreSmall v.items)) }
+{
+    let mut narrow = Vec::with_capacity(alloc, cells.len())?;
+    for cell in cells {
+        let Some(number) = narrowed(*cell) else {
+            return Ok(None);
+        };
+        narrow.push(number)?;
+    }
+    Ok(Some(narrow))
+}
+
+// The row in 64 bits, where its numbers fit.
+pub(crate) fn narrowed_row(alloc: Global, row: &DenseRow) -> Result<Option<NarrowRow>, AllocError>
+    requires { IsProper (length row.now.cells.items) (row_view row.now) }
+    ensures value { IfOk result (λ o. IfSome o (λ r. narrow_view r ≡ row_view row.now)) }
+    ensures narrow { IfOk result (λ o. IfSome o (λ r. IsNarrow (length row.now.cells.items) r)) }
+{
+    let Some(denominator) = narrowed(row.denominator) else {
+        return Ok(None);
+    };
+    let Some(constant) = narrowed(row.constant) else {
+        return Ok(None);
+    };
+    let Some(cells) = narrowed_cells(alloc, &row.cells)? else {
+        return Ok(None);
+    };
+    let first = denominator.unsigned_abs().max(constant.unsigned_abs());
+    let bound = greatest_of(first, &cells);
+    Ok(Some(NarrowRow {
+        basic: row.basic,
+        denominator,
+        constant,
+        cells,
+        bound,
+    }))
+}
+
+// The cells in 128 bits.
+fn widened_cells(alloc: Global, cells: &[i64]) -> Result<Vec<i128>, AllocError>
+    ensures { IfOk result (λ v. v.items ≡ cells.now) }
+{
+    let mut wide = Vec::with_capacity(alloc, cells.len())?;
+    for cell in cells {
+        wide.push(*cell as i128)?;
+    }
+    Ok(wide)
+}
+
+// The row in 128 bits.
+pub(crate) fn widened_row(alloc: Global, row: &NarrowRow) -> Result<DenseRow, AllocError>
+    ensures { IfOk result (λ r. row_view r ≡ narrow_view row.now) }
+{
+    Ok(DenseRow {
+        basic: row.basic,
+        denominator: row.denominator as i128,
+        constant: row.constant as i128,
+        cells: widened_cells(alloc, &row.cells)?,
+    })
+}
+
+// The rows in 64 bits, where their numbers fit.
+fn narrowed_rows(
+    alloc: Global,
+    list: &[DenseRow],
+    _columns: u32,
+) -> Result<Option<Vec<NarrowRow>>, AllocError>
+    requires { AreProper _columns list.now }
+    ensures value { IfOk result (λ o. IfSome o (λ v. narrow_views v.items ≡ views list.now)) }
+    ensures narrow { IfOk result (λ o. IfSome o (λ v. AreNarrow _columns v.items)) }
+{
+    let mut rows = Vec::with_capacity(alloc, list.len())?;
+    for row in list {
+        let Some(narrow) = narrowed_row(alloc, row)? else {
+            return Ok(None);
+        };
+        rows.push(narrow)?;
+    }
+    Ok(Some(rows))
+}
+
+// The cells with zeros up to a number of columns.
+fn padded_narrow_cells(alloc: Global, cells: &[i64], columns: usize) -> Result<Vec<i64>, AllocError>
+    requires { length cells.now ≤ columns }
+    ensures { IfOk result (λ v. v.items ≡ cells.now ++ replicate (columns - length cells.now) (pos 0)) }
+{
+    let mut all = Vec::with_capacity(alloc, columns)?;
+    all.extend_from_slice(cells)?;
+    all.resize(columns, 0)?;
+    Ok(all)
+}
+
+// A copy of the row for a variable, with zeros up to a number of columns.
+pub(crate) fn padded_narrow(
+    alloc: Global,
+    row: &NarrowRow,
+    basic: u32,
+    columns: usize,
+) -> Result<NarrowRow, AllocError>
+    requires narrow { IsNarrow (length row.now.cells.items) row.now }
+    requires columns { length row.now.cells.items ≤ columns }
+    ensures value { IfOk result (λ r. narrow_view r ≡ padded basic columns (narrow_view row.now)) }
+    ensures narrow { IfOk result (λ r. IsNarrow columns r) }
+{
+    Ok(NarrowRow {
+        basic,
+        denominator: row.denominator,
+        constant: row.constant,
+        cells: padded_narrow_cells(alloc, &row.cells, columns)?,
+        bound: row.bound,
+    })
+}
+
+impl SmallDictionary {
+    /// The dictionary in 64 bits, where its numbers fit.
+    pub(crate) fn from_dense(
+        alloc: Global,
+        dense: &DenseDictionary,
+    ) -> Result<Option<SmallDictionary>, AllocError>
+        ensures { IfOk result (λ o. IfSome o (λ d. d ≡ dense.now)) }
+    {
+        let Some(rows) = narrowed_rows(alloc, dense.row_list(), dense.columns())? else {
+            return Ok(None);
+        };
+        let non_basic = Vec::from_slice(alloc, dense.non_basic_list())?;
+        Ok(Some(SmallDictionary { non_basic, rows }))
+    }
+
+    /// The dictionary in 128 bits.
+    pub(crate) fn widened(&self, alloc: Global) -> Result<DenseDictionary, AllocError>
+        ensures { IfOk result (λ d. d ≡ self.now) }
+    {
+        let mut rows = Vec::with_capacity(alloc, self.rows.len())?;
+        for row in self.rows.as_slice() {
+            rows.push(widened_row(alloc, row)?)?;
+        }
+        let non_basic = Vec::from_slice(alloc, &self.non_basic)?;
+        Ok(DenseDictionary::from_rows(non_basic, rows))
+    }
+
+    pub(crate) fn rows(&self) -> u32
+        ensures { result ≡ length self.now.rows }
+    {
+        self.rows.len() as u32
+    }
+
+    pub(crate) fn columns(&self) -> u32
+        ensures { result ≡ length self.now.non_basic }
+    {
+        self.non_basic.len() as u32
+    }
+
+    pub(crate) fn row_at(&self, row: u32) -> &NarrowRow
+        requires { row < length self.now.rows }
+        ensures view { narrow_view result.now ≡ row_of self.now row }
+        ensures narrow { IsNarrow (length self.now.non_basic) result.now }
+    {
+        &self.rows[row as usize]
+    }
+
+    pub(crate) fn basic(&self, row: u32) -> u32
+        requires { row < length self.now.rows }
+        ensures { result ≡ basic_of self.now row }
+    {
+        self.row_at(row).basic
+    }
+
+    pub(crate) fn non_basic(&self, column: u32) -> u32
+        requires { column < length self.now.non_basic }
+        ensures { result ≡ non_basic_of self.now column }
+    {
+        self.non_basic[column as usize]
+    }
+
+    pub(crate) fn denominator(&self, row: u32) -> i64
+        requires { row < length self.now.rows }
+        ensures value { result ≡ (row_of self.now row).denominator }
+        ensures positive { pos 0 <ℤ result }
+    {
+        self.row_at(row).denominator
+    }
+
+    pub(crate) fn constant(&self, row: u32) -> i64
+        requires { row < length self.now.rows }
+        ensures { result ≡ (row_of self.now row).constant }
+    {
+        self.row_at(row).constant
+    }
+
+    pub(crate) fn cell(&self, row: u32, column: u32) -> i64
+        requires row { row < length self.now.rows }
+        requires column { column < length self.now.non_basic }
+        ensures { result ≡ cell_of (row_of self.now row) column }
+    {
+        self.row_at(row).cells[column as usize]
+    }
+
+    pub(crate) fn leaving(&self) -> Option<u32>
+        ensures found { IfSome result (Leaves self.now) }
+        ensures none { IfNone result (NoneLeaves self.now) }
+    {
+        let mut least = None;
+        for row in 0..self.rows() {
+            if self.constant(row) < 0 {
+                least = match least {
+                    Some(best) if self.basic(best) < self.basic(row) => Some(best),
+                    _ => Some(row),
+                };
+            }
+        }
+        least
+    }
+
+    pub(crate) fn entering(&self, row: u32) -> Option<u32>
+        requires { row < length self.now.rows }
+        ensures found { IfSome result (Enters self.now row) }
+        ensures none { IfNone result (NoneEnters self.now row) }
+    {
+        let mut least = None;
+        for column in 0..self.columns() {
+            if self.cell(row, column) > 0 {
+                least = match least {
+                    Some(best) if self.non_basic(best) < self.non_basic(column) => Some(best),
+                    _ => Some(column),
+                };
+            }
+        }
+        least
+    }
+
+    pub(crate) fn keep(
+        &self,
+        alloc: Global,
+        row: u32,
+        column: u32,
+    ) -> Result<SmallPivot, AllocError>
+        requires row { row < length self.now.rows }
+        requires column { column < length self.now.non_basic }
+        ensures { IfOk result (λ k. k ≡ pivot_in self.now row column) }
+    {
+        let chosen = self.row_at(row);
+        let copy = padded_narrow(alloc, chosen, chosen.basic, chosen.cells.len())?;
+        Ok(SmallPivot::of_row(row, column, copy))
+    }
+
+    /// The dictionary of a longer system, where kept pivots are of 64-bit numbers and bounds show
+    /// that the new rows stay so.
+    pub(crate) fn extend(
+        &self,
+        alloc: Global,
+        longer: &System,
+        kept: &[NarrowPivot],
+    ) -> Result<Option<SmallDictionary>, AllocError>
+        requires room { variables longer.now < 2 ^ 32 }
+        requires longer { MayBegin self.now longer.now }
+        requires kept { AreKept (length self.now.non_basic) (pivots_of kept.now) }
+        ensures value { IfOk result (λ o. IfSome o (λ d. d ≡ extended self.now (pivots_of kept.now) longer.now)) }
+        ensures in_range { IfOk result (λ o. IfSome o (λ d. StayInRange longer.now.unknowns (pivots_of kept.now) (length kept.now) (new_rows self.now longer.now))) }
+    {
+        let first = self.rows();
+        let columns = self.columns();
+        let dense = new_slack_rows(alloc, longer, first)?;
+        let Some(mut carried) = narrowed_rows(alloc, &dense, longer.unknowns)? else {
+            return Ok(None);
+        };
+        if !carry_narrow_rows(alloc, &mut carried, longer.unknowns, kept)? {
+            return Ok(None);
+        }
+        let new = longer.unknowns - columns;
+        let mut rows = widened_narrow_rows(alloc, &self.rows, columns, new)?;
+        rows.append(&mut carried)?;
+        let non_basic = raised_columns(alloc, &self.non_basic, columns, new)?;
+        Ok(Some(SmallDictionary { non_basic, rows }))
+    }
+
+    /// The dictionary after the pivot, or the same dictionary where bounds don't show that all of
+    /// the pivot fits 64 bits.
+    pub(crate) fn pivot(self, row: u32, column: u32) -> Result<SmallDictionary, SmallDictionary>
+        requires row { row < length self.rows }
+        requires column { column < length self.non_basic }
+        requires positive { pos 0 <ℤ cell_of (row_of self row) column }
+        ensures ok { IfOk result (λ d. d ≡ pivoted self row column) }
+        ensures in_range { IfOk result (λ d. AllMergeInRange self row column) }
+        ensures same { IfErr result (λ d. d ≡ self) }
+    {
+        let SmallDictionary {
+            mut non_basic,
+            mut rows,
+        } = self;
+        let leaving = rows[row as usize].basic;
+        let entering = non_basic[column as usize];
+        if !pivot_narrow_rows(&mut rows, row as usize, column as usize, entering) {
+            return Err(SmallDictionary { non_basic, rows });
+        }
+        non_basic[column as usize] = leaving;
+        Ok(SmallDictionary { non_basic, rows })
+    }
+}

@@ -1,0 +1,3 @@
+pub mod Draft
+pub mod Firings
+pub mod Lines

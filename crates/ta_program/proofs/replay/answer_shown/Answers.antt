@@ -1,0 +1,35 @@
+use Rattle.std.proofs.Common.{◌≡◌, ◌∙◌, ◌≤◌, ℕ, List, [], Option, Ok, Some, ap, arith, refl, slice_get}
+use Rattle.std.proofs.lemmas.Option.{get_or_from_slice_get}
+use Rattle.ta_automaton.specs.declared.file.File.{File}
+use Rattle.ta_automaton.specs.declared.pattern.Pattern.{Pattern}
+use Rattle.ta_replay.specs.declared.run.Run.{Run}
+use Rattle.ta_replay.specs.Shows.{shown_of}
+use Rattle.ta_report.specs.Shown.{shown_line}
+use Rattle.ta_shelf.specs.Put.{Told}
+use Rattle.ta_shell.specs.declared.answer.Answer.{Answer}
+use Rattle.ta_shell.specs.Commands.{Says}
+use Rattle.ta_shell.specs.Stages.{Writes, replies}
+use Rattle.ta_program.specs.Replay.{SaysShown}
+use Rattle.ta_program.proofs.replay.answer_shown.Goals as goal
+
+shown_says : (file : File) (run : Run) (files : Option Told) (answer : Answer) (pattern : Pattern) (text : List ℕ) → slice_get file.patterns run.pattern ≡ Some pattern → Writes 0 text answer → text ≡ shown_line pattern.name (shown_of run) → Says (replies [] (SaysShown file run)) files (Ok answer) []
+shown_says file run files answer pattern text named writes is =
+    let zero = writes.numbered in
+    let low : answer.number ≤ 2 = omega arith in
+    record {
+      opened = refl;
+      judges = record {
+        low = low;
+        holds = record { pattern = pattern; named = named; writes = record { numbered = zero; written = writes.written ∙ is; no_put = writes.no_put } };
+        within = rw writes.no_put tt;
+      };
+    }
+
+pub returns-in-Ok-clause-says : goal.returns-in-Ok-clause-says
+returns-in-Ok-clause-says c files =
+    let fits = c.requires.fits in
+    let run = c.args.shown.now.run in
+    let same : c.index-as_slice-shown.result ≡ fits.pattern = c.index-as_slice-shown.is ∙ rw c.as_slice.ensures (get_or_from_slice_get c.args.file.now.patterns run.pattern fits.pattern c.index-as_slice-shown.result fits.named) in
+    let name : c.as_str.result.now ≡ fits.pattern.name = c.as_str.ensures ∙ ap (λ (p : Pattern). p.name) same in
+    let line : c.in-Ok.text ≡ shown_line fits.pattern.name (shown_of run) = c.in-Ok.ensures ∙ rw (name, c.requires.shown) refl in
+    shown_says c.args.file.now run files c.writing.result fits.pattern c.from_string-text.result fits.named c.writing.ensures (c.from_string-text.ensures ∙ c.into_string.ensures ∙ line)

@@ -1,5 +1,0 @@
-use Rattle.ta_program.proofs.VerdictsMade.{VerdictsSoFar}
-use Rattle.ta_program.proofs.verifying.verdicts_on.Given as goal
-
-abbrev pub invariant-loop-pattern : goal.invariant-loop-pattern
-invariant-loop-pattern l = VerdictsSoFar l.scoped.file l.nodes l.count l.pattern l.verdicts.items

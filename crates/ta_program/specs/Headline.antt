@@ -1,0 +1,45 @@
+-- What status 0 says, and no more. `verify FILE`: FILE holds a text that means an automaton with patterns, and each of these
+-- patterns occurs in no run. `check FILE CERT`: so does each pattern that the output says is proved. Who believes this reads these
+-- definitions and those that they name, and no others.
+use Rattle.std.specs.Prelude.{ℕ, ◌≡◌, List, codes, slice_get, Option, Some}
+use Rattle.ta_syntax.specs.Grammar.{PlainTree}
+use Rattle.ta_syntax.specs.TreeOf.{IsTextOf}
+use Rattle.ta_automaton.specs.declared.file.File.{File}
+use Rattle.ta_automaton.specs.declared.pattern.Pattern.{Pattern}
+use Rattle.ta_automaton.specs.Lists.{Each}
+use Rattle.ta_automaton.specs.Runs as runs
+use Rattle.ta_meaning.specs.Meaning.{MeansTree}
+use Rattle.ta_report.specs.Printed.{HasLine, told_of}
+use Rattle.ta_shelf.specs.Calls.{Call, Grew}
+use Rattle.ta_shelf.specs.Put.{Told}
+use Rattle.ta_shelf.specs.Sink.{with_text}
+use Rattle.ta_shell.specs.Sights.{View, Whole, seen}
+use Rattle.ta_program.specs.Words.{request_of}
+use Rattle.ta_program.specs.Words.Asked.{Check, Verify}
+
+-- a name has bytes that are a text of the grammar, whose tree means this file
+pub record HoldsFile (view : View) (name : List ℕ) (file : File) : Type 0 where
+  pub bytes : List ℕ
+  pub held : view name (Whole bytes)
+  pub tree : PlainTree
+  pub text : IsTextOf bytes tree
+  pub means : MeansTree tree file
+
+-- a name holds a file, each pattern of which occurs in no run
+pub record EachPatternSafe (view : View) (name : List ℕ) : Type 0 where
+  pub file : File
+  pub holds : HoldsFile view name file
+  pub safe : Each (runs.Safe file.automaton) file.patterns
+
+-- a name holds a file, and each pattern of it whose line the output gained with this word occurs in no run
+pub record EachPrintedSafe (word : List ℕ) (view : View) (name : List ℕ) (written written' : Option (List ℕ)) : Type 0 where
+  pub file : File
+  pub holds : HoldsFile view name file
+  pub text : List ℕ
+  pub gained : written' ≡ with_text written text
+  pub safe : (number : ℕ) (p : Pattern) → slice_get file.patterns number ≡ Some p → HasLine (told_of p.name word) text → runs.Safe file.automaton p
+
+-- `verify FILE` and `check FILE CERT` with status 0, of what is seen in the calls of the run and in the files
+pub record ZeroIsSafe (number : ℕ) (words : List (List ℕ)) (files : Option Told) (calls calls' : List Call) (written written' : Option (List ℕ)) : Type 0 where
+  pub verify : (name : List ℕ) (budget : ℕ) → request_of words ≡ Some (Verify name budget) → number ≡ 0 → Grew (λ read. EachPatternSafe (seen files read) name) calls calls'
+  pub check : (name certificate : List ℕ) → request_of words ≡ Some (Check name certificate) → number ≡ 0 → Grew (λ read. EachPrintedSafe (codes "proved") (seen files read) name written written') calls calls'

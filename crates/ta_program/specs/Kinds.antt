@@ -1,0 +1,65 @@
+-- The files of the commands (this project's profile)
+use Rattle.std.specs.Prelude.{ℕ, ◌≢◌, ◌⊎◌, List}
+use Rattle.ta_automaton.specs.declared.file.File.{File}
+use Rattle.ta_cert.specs.declared.fault.CertFault.{CertFault}
+use Rattle.ta_check.specs.Certificate.{AllSafe, Certificate}
+use Rattle.ta_check.specs.Faults.{IsFirstFault}
+use Rattle.ta_syntax.specs.declared.fault.FileFault.{FileFault}
+use Rattle.ta_meaning.specs.FirstFault.{FirstFault}
+use Rattle.ta_meaning.specs.Reading.{Legal}
+use Rattle.ta_replay.specs.declared.fault.RunFault.{RunFault}
+use Rattle.ta_replay.specs.declared.fault.RunFault.TheVariants as fault
+use Rattle.ta_replay.specs.declared.run.Run.{Run}
+use Rattle.ta_replay.specs.RunText.{IsRunText}
+use Rattle.ta_replay.specs.TextFaults.{TextFault}
+use Rattle.ta_replay.specs.Shows.{Shows}
+use Rattle.ta_replay.specs.Replays.{ReplayStays}
+use Rattle.ta_replay.specs.ReplayFaults.{ReplayFault}
+use Rattle.ta_report.specs.Faults.{cert_fault_text, file_fault_text, run_fault_text}
+use Rattle.ta_shell.specs.Sights.{View}
+use Rattle.ta_shell.specs.Stages.{IsOf, Kind}
+use Rattle.ta_program.specs.declared.limits.TheConstants.{CERTIFICATE, FILE, RUN}
+
+-- FILE: bytes that mean an automaton with patterns, or have a first fault
+abbrev pub file_kind : Kind File FileFault
+file_kind = record { limit = FILE; means = Legal; at_fault = FirstFault; words = file_fault_text }
+
+-- the bytes of a name mean this file
+abbrev pub IsFile : View → List ℕ → File → Type 0
+IsFile view name file = IsOf file_kind view name file
+
+-- the bytes are a certificate of a file that proves the patterns of these numbers, each of which is safe
+pub record Proves (file : File) (bytes numbers : List ℕ) : Type 0 where
+  pub accepted : Certificate file bytes numbers
+  pub safe : AllSafe file numbers
+
+-- the first fault of the bytes, which are no certificate of a file
+pub record CertificateFault (file : File) (bytes : List ℕ) (found : CertFault) : Type 0 where
+  pub first : IsFirstFault file bytes found
+  pub no_certificate : (numbers : List ℕ) → ¬ Certificate file bytes numbers
+
+-- CERT, for a file
+abbrev pub certificate_kind : File → Kind (List ℕ) CertFault
+certificate_kind file = record { limit = CERTIFICATE; means = Proves file; at_fault = CertificateFault file; words = cert_fault_text }
+
+-- the bytes are the text of a run that shows its pattern in a replay that stays in range
+pub record ShowsRun (file : File) (bytes : List ℕ) (run : Run) : Type 0 where
+  pub text : IsRunText file run bytes
+  pub shows : Shows file run
+  pub stays : ReplayStays file run
+
+-- the bytes are the text of a run whose replay meets this fault first
+pub record IsReplayFault (file : File) (bytes : List ℕ) (found : RunFault) : Type 0 where
+  pub run : Run
+  pub text : IsRunText file run bytes
+  pub first : ReplayFault file run found
+
+-- the first fault of a text as a run of a file, or of the replay; so it is the text of no run that shows its pattern
+pub record RunFaultIn (file : File) (bytes : List ℕ) (found : RunFault) : Type 0 where
+  pub no_memory : found ≢ fault.Memory
+  pub first : TextFault file bytes found ⊎ IsReplayFault file bytes found
+  pub shows_nothing : (run : Run) → ¬ ShowsRun file bytes run
+
+-- RUN, for a file
+abbrev pub run_kind : File → Kind Run RunFault
+run_kind file = record { limit = RUN; means = ShowsRun file; at_fault = RunFaultIn file; words = run_fault_text }

@@ -1,0 +1,8 @@
+use Rattle.ta_report.proofs.Printed.{printed_proved, printed_safe}
+use Rattle.ta_report.proofs.laws.lines_tell.Goals as goal
+
+pub returns-clause-safe : goal.returns-clause-safe
+returns-clause-safe c = printed_safe
+
+pub returns-clause-proved : goal.returns-clause-proved
+returns-clause-proved c = printed_proved

@@ -1,0 +1,32 @@
+-- What a printed line of a pattern says (this project's profile)
+use Rattle.std.specs.Prelude.{ℕ, ◌≡◌, ◌⊎◌, List, ◌∷◌, ◌++◌, codes, length, slice_get, Some, IsTrue}
+use Rattle.ta_automaton.specs.declared.file.File.{File}
+use Rattle.ta_automaton.specs.declared.pattern.Pattern.{Pattern}
+use Rattle.ta_report.specs.Check.{check_text, is_proved}
+use Rattle.ta_automaton.specs.Lists.{Each}
+use Rattle.ta_report.specs.Report.{VerdictFits, report_text}
+use Rattle.ta_report.specs.declared.verdict.Verdict.{Verdict}
+use Rattle.ta_report.specs.declared.verdict.Verdict.TheVariants.{Safe}
+
+-- some line of a text begins so: the first one, or one behind a line feed
+abbrev pub HasLine : List ℕ → List ℕ → Type 0
+HasLine front text = (behind : List ℕ) × ((text ≡ front ++ behind) ⊎ ((before : List ℕ) × (text ≡ before ++ (10 ∷ (front ++ behind)))))
+
+-- a pattern's name, and what is said of it
+abbrev pub told_of : List ℕ → List ℕ → List ℕ
+told_of name word = codes "pattern " ++ (name ++ (codes ": " ++ word))
+
+-- a pattern that a report prints as safe has the verdict Safe
+abbrev pub PrintedSafe : Type 0
+PrintedSafe =
+    (file : File) (verdicts : List Verdict) (number : ℕ) (pattern : Pattern) → slice_get file.patterns number ≡ Some pattern
+    → Each VerdictFits verdicts
+    → HasLine (told_of pattern.name (codes "safe, ")) (report_text file verdicts)
+    → (nodes : ℕ) × (leaves : ℕ) × (slice_get verdicts number ≡ Some (Safe nodes leaves))
+
+-- a pattern that the text of `check` prints as proved is among the proved ones
+abbrev pub PrintedProved : Type 0
+PrintedProved =
+    (file : File) (numbers : List ℕ) (number : ℕ) (pattern : Pattern) → slice_get file.patterns number ≡ Some pattern
+    → HasLine (told_of pattern.name (codes "proved")) (check_text file numbers)
+    → IsTrue (is_proved numbers number)

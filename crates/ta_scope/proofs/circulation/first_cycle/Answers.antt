@@ -1,0 +1,38 @@
+use Rattle.std.proofs.Common.{ap, length, arith, List, ℕ, IsBitSet}
+use Rattle.std.proofs.lemmas.Option.{slice_get_within}
+use Rattle.ta_automaton.specs.declared.rule.Rule.{Rule}
+use Rattle.ta_scope.specs.Cycles.{OnCycle}
+use Rattle.ta_scope.proofs.Cycles.{read_at, rules_more}
+use Rattle.ta_scope.proofs.circulation.first_cycle.Goals as goal
+
+pub returns-in-Some-clause-some : goal.returns-in-Some-clause-some
+returns-in-Some-clause-some c =
+    let a = c.args.automaton.now in
+    let named = read_at a.rules c.as_slice-rule-items.result.now c.loop-number.number c.rule-item.result c.as_slice-rule-items.ensures c.loop-number-test.true c.rule-item.is in
+    let cycle = rw c.in-Some.is at c.in_ok-cycle.ensures.some in
+    record {
+      number = c.loop-number.number;
+      back = cycle.back;
+      is = cycle.is;
+      least = record {
+        rule = c.rule-item.result;
+        named = named;
+        member = cycle.member;
+        path = cycle.path;
+        least = λ q other less at member. c.loop-number.invariant q other less at member;
+      };
+    }
+
+pub loop-number-preserved : goal.loop-number-preserved
+loop-number-preserved c =
+    let a = c.args.automaton.now in
+    let named = read_at a.rules c.as_slice-rule-items.result.now c.loop-number.number c.rule-item.result c.as_slice-rule-items.ensures c.loop-number-test.true c.rule-item.is in
+    let none = rw c.in_default.is at c.in_ok-cycle.ensures.none in
+    rules_more a.rules (λ (r : ℕ) (rule : Rule). IsBitSet c.args.rules r → ¬ OnCycle a c.args.rules rule) c.loop-number.number c.rule-item.result named none c.loop-number.invariant
+
+pub returns-clause-none : goal.returns-clause-none
+returns-clause-none c = λ r rule named.
+    let a = c.args.automaton.now in
+    let same = ap (λ (xs : List Rule). length xs) c.as_slice-rule-items.ensures in
+    let within = slice_get_within a.rules r rule named in
+    c.loop-number.invariant r rule (omega arith) named

@@ -1,0 +1,4 @@
+pub mod Distances
+pub mod Listed
+pub mod Reached
+pub mod Taking

@@ -1,0 +1,136 @@
+//! Taking circulations out of counts.
+#![tactic(auto)]
+
+ghost use Rattle.std.specs.Prelude.{ℕ, ℤ, pos, ◌<◌, ◌≤◌, ◌≡◌, ◌⊎◌, ◌↔◌, ◌≤ℤ◌, length, slice_get, Some, IsTrue, IfOk, IfSome, IfNone, IsBitSet};
+ghost use Rattle.ta_automaton.specs.Masks.{In};
+ghost use Rattle.ta_automaton.specs.Lists.{Each, Distinct};
+ghost use Rattle.ta_scope.specs.Cycles.{OnCycle, NoCycle};
+ghost use Rattle.ta_scope.specs.Arranged.{Counts, Support, LeastCount, Subtracted, count_at};
+ghost use Rattle.ta_scope.specs.Inside.Taking.{IsLeastCycle, IsCycleOf, FullyTakenOut};
+
+use crate::path::first_path;
+use crate::reach::has_rule;
+use std::alloc::{AllocError, Global};
+use ta_automaton::{Automaton, Rule};
+
+/// The counts without their circulations.
+pub fn without_circulations(
+    alloc: Global,
+    automaton: &Automaton,
+    counts: &[i128],
+) -> Result<Vec<i128>, AllocError>
+    requires { Counts automaton.now counts.now }
+    ensures { IfOk result (λ rest. FullyTakenOut automaton.now counts.now rest.items) }
+{
+    let mut rest = Vec::new(alloc);
+    rest.extend_from_slice(counts)?;
+    while let Some(cycle) = first_cycle(alloc, automaton, support_of(rest.as_slice()))? {
+        take_out(rest.as_mut_slice(), cycle.as_slice());
+    }
+    Ok(rest)
+}
+
+/// The mask of the rules with a count above 0.
+pub fn support_of(counts: &[i128]) -> u128
+    requires { length counts.now ≤ 128 }
+    ensures { Support counts.now result }
+{
+    let mut rules = 0;
+    for (number, count) in counts.iter().enumerate() {
+        rules = with_rule(rules, number as u32, *count);
+    }
+    rules
+}
+
+/// A mask of rules with a rule, where its count is above 0.
+fn with_rule(rules: u128, number: u32, count: i128) -> u128
+    requires { number < 128 }
+    ensures { (r : ℕ) → IsBitSet result r ↔ (IsBitSet rules r ⊎ ((r ≡ number) × (pos 1 ≤ℤ count))) }
+{
+    if count > 0 {
+        return rules | (1 << number);
+    }
+    rules
+}
+
+/// The least rule on a cycle of a mask's rules, and the first path from its target back to its
+/// source.
+fn first_cycle(
+    alloc: Global,
+    automaton: &Automaton,
+    rules: u128,
+) -> Result<Option<Vec<u32>>, AllocError>
+    ensures some { IfOk result (λ found. IfSome found (λ cycle. IsLeastCycle automaton.now rules cycle.items)) }
+    ensures none { IfOk result (λ found. IfNone found (NoCycle automaton.now rules)) }
+{
+    for (number, rule) in automaton.rules.as_slice().iter().enumerate() {
+        if let Some(cycle) = cycle_of(alloc, automaton, rules, number as u32, rule)? {
+            return Ok(Some(cycle));
+        }
+    }
+    Ok(None)
+}
+
+/// A rule of a mask, and the first path from its target back to its source, if there is one.
+fn cycle_of(
+    alloc: Global,
+    automaton: &Automaton,
+    rules: u128,
+    number: u32,
+    rule: &Rule,
+) -> Result<Option<Vec<u32>>, AllocError>
+    requires { slice_get automaton.now.rules number ≡ Some rule.now }
+    ensures some { IfOk result (λ found. IfSome found (λ cycle. IsCycleOf automaton.now rules number rule.now cycle.items)) }
+    ensures none { IfOk result (λ found. IfNone found (IsBitSet rules number → ¬ OnCycle automaton.now rules rule.now)) }
+{
+    if !has_rule(rules, number) {
+        return Ok(None);
+    }
+    match first_path(alloc, automaton, rules, rule.to, rule.from)? {
+        Some(back) => {
+            let mut cycle = Vec::new(alloc);
+            cycle.push(number)?;
+            cycle.extend_from_slice(back.as_slice())?;
+            Ok(Some(cycle))
+        }
+        None => Ok(None),
+    }
+}
+
+/// Subtracts the least of the counts of some rules from each of them.
+fn take_out(counts: &mut [i128], rules: &[u32])
+    requires some { 1 ≤ length rules.now }
+    requires within { Each (λ r. r < length counts.old) rules.now }
+    requires distinct { Distinct rules.now }
+    requires natural { (r : ℕ) → pos 0 ≤ℤ count_at counts.old r }
+    ensures { (amount : ℤ) × LeastCount counts.old rules.now amount × Subtracted rules.now amount counts.old counts.new }
+{
+    let amount = least_count(counts, rules);
+    subtract(counts, rules, amount);
+}
+
+/// The least of the counts of some rules.
+fn least_count(counts: &[i128], rules: &[u32]) -> i128
+    requires some { 1 ≤ length rules.now }
+    requires within { Each (λ r. r < length counts.now) rules.now }
+    ensures { LeastCount counts.now rules.now result }
+{
+    let mut least = counts[rules[0] as usize];
+    for number in rules {
+        least = least.min(counts[*number as usize]);
+    }
+    least
+}
+
+/// Subtracts an amount from the counts of some rules.
+fn subtract(counts: &mut [i128], rules: &[u32], amount: i128)
+    requires within { Each (λ r. r < length counts.old) rules.now }
+    requires distinct { Distinct rules.now }
+    requires natural { pos 0 ≤ℤ amount }
+    requires least { (r : ℕ) → In r rules.now → amount ≤ℤ count_at counts.old r }
+    ensures { Subtracted rules.now amount counts.old counts.new }
+{
+    for number in rules {
+        counts[*number as usize] -= amount;
+    }
+}

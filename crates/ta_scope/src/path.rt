@@ -1,0 +1,156 @@
+//! The first path between two locations by some of the rules.
+#![tactic(auto)]
+
+ghost use Rattle.std.specs.Prelude.{ℕ, ◌+◌, ◌<◌, ◌≤◌, ◌≡◌, ◌⊎◌, ◌↔◌, length, slice_get, Some, IsTrue, IfOk, IfSome, IfNone, IsBitSet};
+ghost use Rattle.ta_scope.specs.Cycles.{Reaches};
+ghost use Rattle.ta_scope.specs.Arranged.{FirstPath};
+ghost use Rattle.ta_scope.specs.Inside.Distances.{Distance, LeadsTo, Stepped, IsStep, FirstStep};
+
+use crate::reach::{contains, has_rule};
+use std::alloc::{AllocError, Global};
+use ta_automaton::{Automaton, Rule};
+
+/// The path of a mask's rules with the fewest rules, and among several such paths the least list of
+/// numbers.
+pub fn first_path(
+    alloc: Global,
+    automaton: &Automaton,
+    rules: u128,
+    from: u32,
+    to: u32,
+) -> Result<Option<Vec<u32>>, AllocError>
+    requires from_exists { from < length automaton.now.locations }
+    requires to_exists { to < length automaton.now.locations }
+    ensures some { IfOk result (λ found. IfSome found (λ path. FirstPath automaton.now rules from path.items to)) }
+    ensures none { IfOk result (λ found. IfNone found (¬ Reaches automaton.now rules from to)) }
+{
+    match distance(automaton, rules, from, to) {
+        Some(count) => Ok(Some(path_of(alloc, automaton, rules, from, to, count)?)),
+        None => Ok(None),
+    }
+}
+
+/// The first path between two locations at a distance.
+fn path_of(
+    alloc: Global,
+    automaton: &Automaton,
+    rules: u128,
+    from: u32,
+    to: u32,
+    count: u32,
+) -> Result<Vec<u32>, AllocError>
+    requires from_exists { from < length automaton.now.locations }
+    requires to_exists { to < length automaton.now.locations }
+    requires distance { Distance automaton.now rules from to count }
+    ensures { IfOk result (λ path. FirstPath automaton.now rules from path.items to) }
+{
+    let mut path = Vec::new(alloc);
+    let mut location = from;
+    let mut left = count;
+    while left > 0 {
+        left -= 1;
+        let number = first_step(automaton, rules, location, to, left);
+        path.push(number)?;
+        location = target(automaton, number);
+    }
+    Ok(path)
+}
+
+/// Where a rule leads.
+fn target(automaton: &Automaton, number: u32) -> u32
+    requires { number < length automaton.now.rules }
+    ensures { (rule : Rule) → slice_get automaton.now.rules number ≡ Some rule → result ≡ rule.to }
+{
+    automaton.rules.as_slice()[number as usize].to
+}
+
+/// The least rule that leaves a location toward another one.
+fn first_step(automaton: &Automaton, rules: u128, from: u32, to: u32, left: u32) -> u32
+    requires to_exists { to < length automaton.now.locations }
+    requires distance { Distance automaton.now rules from to (left + 1) }
+    ensures { FirstStep automaton.now rules from to left result }
+{
+    for (number, rule) in automaton.rules.as_slice().iter().enumerate() {
+        if is_step(automaton, rules, from, to, left, number as u32, rule) {
+            return number as u32;
+        }
+    }
+    unreachable!()
+}
+
+/// Whether a rule of a mask leaves a location and leads to one at a distance from another.
+fn is_step(
+    automaton: &Automaton,
+    rules: u128,
+    from: u32,
+    to: u32,
+    left: u32,
+    number: u32,
+    rule: &Rule,
+) -> bool
+    requires number_fits { number < 128 }
+    requires target_exists { rule.now.to < length automaton.now.locations }
+    requires to_exists { to < length automaton.now.locations }
+    ensures { IsTrue result ↔ IsStep automaton.now rules from to left number rule.now }
+{
+    has_rule(rules, number) && rule.from == from && is_distance(automaton, rules, rule.to, to, left)
+}
+
+/// Whether so many rules are the fewest that lead from one location to another.
+fn is_distance(automaton: &Automaton, rules: u128, from: u32, to: u32, count: u32) -> bool
+    requires from_exists { from < length automaton.now.locations }
+    requires to_exists { to < length automaton.now.locations }
+    ensures { IsTrue result ↔ Distance automaton.now rules from to count }
+{
+    match distance(automaton, rules, from, to) {
+        Some(fewest) => fewest == count,
+        None => false,
+    }
+}
+
+/// The fewest rules of a mask that lead from one location to another.
+fn distance(automaton: &Automaton, rules: u128, from: u32, to: u32) -> Option<u32>
+    requires from_exists { from < length automaton.now.locations }
+    requires to_exists { to < length automaton.now.locations }
+    ensures some { IfSome result (λ count. Distance automaton.now rules from to count) }
+    ensures none { IfNone result (¬ Reaches automaton.now rules from to) }
+{
+    let mut reached: u32 = 1 << from;
+    let mut count = 0;
+    while !contains(reached, to) {
+        let more = stepped(automaton, rules, reached);
+        if more == reached {
+            return None;
+        }
+        reached = more;
+        count += 1;
+    }
+    Some(count)
+}
+
+/// The locations of a mask, and those to which rules lead from one of them.
+fn stepped(automaton: &Automaton, rules: u128, mask: u32) -> u32
+    ensures stepped { Stepped automaton.now rules mask result }
+    ensures grows { mask ≤ result }
+{
+    let mut more = mask;
+    for (number, rule) in automaton.rules.as_slice().iter().enumerate() {
+        more = with_target(rules, mask, more, number as u32, rule);
+    }
+    more
+}
+
+/// A mask of locations with a rule's target, where the rule is in a mask of rules and leads from a
+/// location of a mask of locations.
+fn with_target(rules: u128, mask: u32, more: u32, number: u32, rule: &Rule) -> u32
+    requires number_fits { number < 128 }
+    requires from_fits { rule.now.from < 32 }
+    requires to_fits { rule.now.to < 32 }
+    ensures grown { (l : ℕ) → IsBitSet result l ↔ (IsBitSet more l ⊎ LeadsTo rules mask l number rule.now) }
+    ensures grows { more ≤ result }
+{
+    if has_rule(rules, number) && contains(mask, rule.from) {
+        return more | (1 << rule.to);
+    }
+    more
+}

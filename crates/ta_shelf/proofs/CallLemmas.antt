@@ -1,0 +1,46 @@
+-- the calls of a reading, one more at a time
+use Rattle.std.proofs.Common.{◌≡◌, ℕ, ◌+◌, ◌<◌, List, [], ◌∷◌, ◌++◌, length, length-append, append_assoc, append-nil, Ok, refl, sym, ◌∙◌, ap, arith}
+use Rattle.ta_shelf.specs.Calls.{Call, bytes_of, bytes_given, ReadsOn, Spells}
+
+pub bytes_given-append : (first later : List Call) → bytes_given (first ++ later) ≡ bytes_given first ++ bytes_given later
+bytes_given-append [] later = refl
+bytes_given-append (call ∷ first) later =
+    ap (λ bytes. bytes_of call.gave ++ bytes) (bytes_given-append first later) ∙ sym (append_assoc (bytes_of call.gave) (bytes_given first) (bytes_given later))
+
+-- one more call gave these bytes
+pub bytes_given-then : (calls after : List Call) (call : Call) → after ≡ calls ++ call ∷ [] → bytes_given after ≡ bytes_given calls ++ bytes_of call.gave
+bytes_given-then calls after call more =
+    ap bytes_given more ∙ bytes_given-append calls (call ∷ []) ∙ ap (λ bytes. bytes_given calls ++ bytes) (append-nil (bytes_of call.gave))
+
+ReadsOn-then : (name : List ℕ) (at : ℕ) (turns : List Call) (call : Call) → ReadsOn name at turns → call.name ≡ name → call.at ≡ at + length (bytes_given turns) → 0 < length (bytes_of call.gave) → ReadsOn name at (turns ++ call ∷ [])
+ReadsOn-then name at [] call order same place some = (same, omega (arith, place), some, tt)
+ReadsOn-then name at (first ∷ turns) call order same place some =
+    let size : length (bytes_of first.gave ++ bytes_given turns) ≡ length (bytes_of first.gave) + length (bytes_given turns) = length-append (bytes_of first.gave) (bytes_given turns) in
+    let later : ReadsOn name (at + length (bytes_of first.gave)) turns = order.3 in
+    (order.0, order.1, order.2, ReadsOn-then name (at + length (bytes_of first.gave)) turns call later same (omega (arith, place, size)) some)
+
+-- the calls of a reading so far, which gave these bytes
+pub record Turns (name read : List ℕ) (before now : List Call) : Type 0 where
+  pub turns : List Call
+  pub grown : now ≡ before ++ turns
+  pub in_order : ReadsOn name 0 turns
+  pub given : read ≡ bytes_given turns
+
+-- one more call gave the next piece
+pub one_more : (name read piece all : List ℕ) (at : ℕ) (before now after : List Call) → Turns name read before now → at ≡ length read → after ≡ now ++ (record { name = name; at = at; gave = Ok piece }) ∷ [] → 0 < length piece → all ≡ read ++ piece → Turns name all before after
+one_more name read piece all at before now after so_far place logged some whole =
+    let call : Call = record { name = name; at = at; gave = Ok piece } in
+    let size : length read ≡ length (bytes_given so_far.turns) = ap length so_far.given in
+    record {
+      turns = so_far.turns ++ call ∷ [];
+      grown = logged ∙ ap (λ calls. calls ++ call ∷ []) so_far.grown ∙ append_assoc before so_far.turns (call ∷ []);
+      in_order = ReadsOn-then name 0 so_far.turns call so_far.in_order refl (omega (arith, place, size)) some;
+      given = whole ∙ ap (λ bytes. bytes ++ piece) so_far.given ∙ sym (bytes_given-then so_far.turns (so_far.turns ++ call ∷ []) call refl);
+    }
+
+-- calls spell one text at most
+pub spells_one : (name : List ℕ) (calls : List Call) (bytes bytes' : List ℕ) → Spells name calls bytes → Spells name calls bytes' → bytes ≡ bytes'
+spells_one name calls bytes bytes' spells spells' = spelled spells ∙ sym (spelled spells')
+  where
+    spelled : {text : List ℕ} → Spells name calls text → text ≡ bytes_given calls
+    spelled {text} s = s.bytes ∙ sym (append-nil (bytes_given s.turns)) ∙ sym (bytes_given-then s.turns calls (record { name = name; at = length text; gave = Ok [] }) s.all)

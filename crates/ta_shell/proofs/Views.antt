@@ -1,0 +1,49 @@
+-- what is seen in some calls is seen in more, and told files show one thing
+use Rattle.std.proofs.Common.{◌≡◌, ◌∙◌, ◌<◌, List, ◌++◌, ℕ, length, Option, Some, None, sym, arith, append_assoc}
+use Rattle.ta_shelf.specs.Calls.{Call}
+use Rattle.ta_shelf.specs.Put.{Told}
+use Rattle.ta_shell.specs.Commands.{Meaning}
+use Rattle.ta_shell.specs.Sights.{Absent, HasBytes, Longer, Part, Sight, View, Whole, in_calls, in_files, seen}
+use Rattle.ta_shell.specs.declared.answer.Answer.{Answer}
+
+-- what is seen in one view is seen in another
+abbrev pub Sub : View → View → Type 0
+Sub v w = (name : List ℕ) (sight : Sight) → v name sight → w name sight
+
+part_within : (Such : List Call → Type 0) (first calls later : List Call) → Part Such calls → Part Such (first ++ (calls ++ later))
+part_within Such first calls later p =
+    record { before = first ++ p.before; those = p.those; after = p.after ++ later; all = rw p.all (simp append_assoc); such = p.such }
+
+in_calls_within : (first calls later : List Call) (name : List ℕ) (sight : Sight) → in_calls calls name sight → in_calls (first ++ (calls ++ later)) name sight
+in_calls_within first calls later name (Whole bytes) p = part_within _ first calls later p
+in_calls_within first calls later name Absent p = part_within _ first calls later p
+in_calls_within first calls later name (Longer limit) p = part_within _ first calls later p
+
+pub sub_within : (files : Option Told) (first calls later : List Call) → Sub (seen files calls) (seen files (first ++ (calls ++ later)))
+sub_within files first calls later name sight s = (in_calls_within first calls later name sight s.0, s.1)
+
+pub sub_told : (told : Told) (calls : List Call) → Sub (seen (Some told) calls) (in_files told)
+sub_told told calls name sight s = s.1
+
+-- a meaning that says of more what it says of less
+pub record Monotone (m : Meaning) : Type 1 where
+  pub answers : (v w : View) → Sub v w → (answer : Answer) → m.answers v answer → m.answers w answer
+  pub refuses : (v w : View) → Sub v w → (number : ℕ) (line : List ℕ) → m.refuses v number line → m.refuses w number line
+  pub reads : (v w : View) → Sub v w → (name : List ℕ) → m.reads v name → m.reads w name
+
+pub has_more : (v w : View) → Sub v w → (name : List ℕ) (limit : ℕ) (bytes : List ℕ) → HasBytes v name limit bytes → HasBytes w name limit bytes
+has_more v w sub name limit bytes h = record { seen = sub name (Whole bytes) h.seen; within = h.within }
+
+-- told files show one content
+pub whole_one : (told : Told) (name : List ℕ) (limit : ℕ) (bytes other : List ℕ) → HasBytes (in_files told) name limit bytes → HasBytes (in_files told) name limit other → bytes ≡ other
+whole_one told name limit bytes other h k = let e : Some bytes ≡ Some other = sym h.seen ∙ k.seen in cc
+
+pub not_absent : (told : Told) (name : List ℕ) (limit : ℕ) (bytes : List ℕ) → HasBytes (in_files told) name limit bytes → in_files told name Absent → ⊥
+not_absent told name limit bytes h absent = let e : Some bytes ≡ None = sym h.seen ∙ absent in cc
+
+pub not_longer : (told : Told) (name : List ℕ) (limit : ℕ) (bytes : List ℕ) → HasBytes (in_files told) name limit bytes → in_files told name (Longer limit) → ⊥
+not_longer told name limit bytes h longer =
+    let e : Some bytes ≡ Some longer.bytes = sym h.seen ∙ longer.held in
+    let same : bytes ≡ longer.bytes = cc in
+    let past : limit < length bytes = rw same longer.longer in
+    omega (arith, past, h.within)

@@ -1,0 +1,171 @@
+-- How a command ends, whichever it is (this project's profile)
+use Rattle.std.specs.Prelude.{ℕ, ◌≡◌, ◌≢◌, ◌<◌, ◌≤◌, ◌⊎◌, List, ◌++◌, codes, Contains, Option}
+use Rattle.ta_shelf.specs.Calls.{Call, Grew}
+use Rattle.ta_shelf.specs.Counts.{Faulted, Stalled}
+use Rattle.ta_shelf.specs.Put.{Told}
+use Rattle.ta_shelf.specs.Sink.{with_text}
+use Rattle.ta_shelf.specs.WriteWhole.{AddsPrefix}
+use Rattle.ta_shell.specs.declared.answer.Answer.{Answer}
+use Rattle.ta_shell.specs.Commands.{Answers, Decides, Exact, Meaning}
+use Rattle.ta_shell.specs.Lines.{file_line, memory_line, output_line}
+use Rattle.ta_shell.specs.Puts.{KeptBut, Stand, StopAt}
+use Rattle.ta_shell.specs.Sights.{View, seen}
+
+-- a shelf's files, the calls that read them so far, and its count of faults
+pub record ShelfState : Type 0 where
+  pub files : Option Told
+  pub calls : List Call
+  pub faults : ℕ
+
+-- what was written to a sink so far, and its counts of faults and of stalls
+pub record SinkState : Type 0 where
+  pub written : Option (List ℕ)
+  pub faults : ℕ
+  pub stalls : ℕ
+
+-- the shelf, the output and standard error
+pub record State : Type 0 where
+  pub shelf : ShelfState
+  pub out : SinkState
+  pub err : SinkState
+
+-- the state of these
+abbrev pub state : Option Told → List Call → ℕ → Option (List ℕ) → ℕ → ℕ → Option (List ℕ) → ℕ → ℕ → State
+state files calls faults written out_faults out_stalls told err_faults err_stalls = record {
+  shelf = record { files = files; calls = calls; faults = faults };
+  out = record { written = written; faults = out_faults; stalls = out_stalls };
+  err = record { written = told; faults = err_faults; stalls = err_stalls };
+}
+
+-- a call on a sink failed, or took nothing
+abbrev pub Failed : SinkState → SinkState → Type 0
+Failed before after = Faulted before.faults after.faults ⊎ Stalled before.stalls after.stalls
+
+-- no call on a sink failed or took nothing
+abbrev pub Calm : SinkState → SinkState → Type 0
+Calm before after = (after.faults ≡ before.faults) × (after.stalls ≡ before.stalls)
+
+-- a prefix of a line was added, and the whole line where the sink neither failed nor stood still
+pub record Tells (line : List ℕ) (before after : SinkState) : Type 0 where
+  pub begun : AddsPrefix line before.written after.written
+  pub whole : (after.written ≡ with_text before.written line) ⊎ Failed before after
+
+-- an answer that holds: its files stand, and its text was written whole
+pub record Answered (m : Meaning) (view : View) (number : ℕ) (before after : State) : Type 0 where
+  pub answer : Answer
+  pub holds : Answers m view answer
+  pub numbered : number ≡ answer.number
+  pub stand : Stand answer.puts before.shelf.files after.shelf.files
+  pub no_fault : after.shelf.faults ≡ before.shelf.faults
+  pub written : after.out.written ≡ with_text before.out.written answer.text
+  pub calm : Calm before.out after.out
+  pub silent : after.err ≡ before.err
+
+-- something hinders, which the line says
+pub record Hindered (m : Meaning) (view : View) (number : ℕ) (before after : State) : Type 0 where
+  pub three : 3 ≤ number
+  pub four : number ≤ 4
+  pub line : List ℕ
+  pub holds : m.refuses view number line
+  pub kept : after.shelf.files ≡ before.shelf.files
+  pub no_fault : after.shelf.faults ≡ before.shelf.faults
+  pub nothing : after.out ≡ before.out
+  pub told : Tells line before.err after.err
+
+-- the file of a name failed to be read
+pub record NotRead (m : Meaning) (view : View) (number : ℕ) (before after : State) : Type 0 where
+  pub six : number ≡ 6
+  pub name : List ℕ
+  pub read : m.reads view name
+  pub kept : after.shelf.files ≡ before.shelf.files
+  pub faulted : Faulted before.shelf.faults after.shelf.faults
+  pub nothing : after.out ≡ before.out
+  pub told : Tells (file_line name (codes "read failed")) before.err after.err
+
+-- an answer that holds, whose files were put up to that of a name
+pub record PutsStop (m : Meaning) (view : View) (name : List ℕ) (before after : ShelfState) : Type 0 where
+  pub answer : Answer
+  pub holds : Answers m view answer
+  pub stopped : StopAt name answer.puts before.files after.files
+
+-- the file of a name failed to be put
+pub record NotPut (m : Meaning) (view : View) (number : ℕ) (before after : State) : Type 0 where
+  pub six : number ≡ 6
+  pub name : List ℕ
+  pub stopped : PutsStop m view name before.shelf after.shelf
+  pub faulted : Faulted before.shelf.faults after.shelf.faults
+  pub nothing : after.out ≡ before.out
+  pub told : Tells (file_line name (codes "write failed")) before.err after.err
+
+-- an answer that holds: its files stand, and its text was begun to be written
+pub record NotWritten (m : Meaning) (view : View) (number : ℕ) (before after : State) : Type 0 where
+  pub six : number ≡ 6
+  pub answer : Answer
+  pub holds : Answers m view answer
+  pub stand : Stand answer.puts before.shelf.files after.shelf.files
+  pub no_fault : after.shelf.faults ≡ before.shelf.faults
+  pub begun : AddsPrefix answer.text before.out.written after.out.written
+  pub failed : Failed before.out after.out
+  pub told : Tells output_line before.err after.err
+
+-- there was no memory, to judge or to put a file; no call failed
+pub record OutOfMemory (m : Meaning) (view : View) (number : ℕ) (before after : State) : Type 0 where
+  pub seven : number ≡ 7
+  pub stopped : (after.shelf.files ≡ before.shelf.files) ⊎ ((name : List ℕ) × PutsStop m view name before.shelf after.shelf)
+  pub no_fault : after.shelf.faults ≡ before.shelf.faults
+  pub nothing : after.out ≡ before.out
+  pub told : Tells memory_line before.err after.err
+
+-- one of these ends
+abbrev pub End : Meaning → View → ℕ → State → State → Type 0
+End m view number before after =
+    Answered m view number before after
+    ⊎ (Hindered m view number before after
+    ⊎ (NotRead m view number before after
+    ⊎ (NotPut m view number before after
+    ⊎ (NotWritten m view number before after
+    ⊎ OutOfMemory m view number before after))))
+
+-- how a command ends that says this, by what is seen in the calls that it makes and in the files
+pub record Ends (m : Meaning) (number : ℕ) (before after : State) : Type 0 where
+  pub read : List Call
+  pub grown : after.shelf.calls ≡ before.shelf.calls ++ read
+  pub opened : m.opens read
+  pub end : End m (seen before.shelf.files read) number before after
+
+-- nothing is written but with 0, 1, 2 and 6; no count rose with 0 to 5 and 7; and with 6 the shelf or the output failed or the output stood still
+pub record Quiet (number : ℕ) (before after : State) : Type 0 where
+  pub nothing_written : 2 < number → number ≢ 6 → after.out.written ≡ before.out.written
+  pub shelf_kept : number ≢ 6 → after.shelf.faults ≡ before.shelf.faults
+  pub out_calm : number ≢ 6 → Calm before.out after.out
+  pub failed : number ≡ 6 → Faulted before.shelf.faults after.shelf.faults ⊎ Failed before.out after.out
+
+-- with 6 it is told that the output failed, or which file failed to be read or put
+abbrev pub FailureTold : Meaning → State → State → Type 0
+FailureTold m before after =
+    (Failed before.out after.out × Tells output_line before.err after.err)
+    ⊎ (Faulted before.shelf.faults after.shelf.faults
+    × (Grew (λ read. (name : List ℕ) × m.reads (seen before.shelf.files read) name × Tells (file_line name (codes "read failed")) before.err after.err) before.shelf.calls after.shelf.calls
+    ⊎ ((name : List ℕ) × Contains m.puts name × Tells (file_line name (codes "write failed")) before.err after.err)))
+
+-- nothing is told with 0, 1 and 2; with 3 and 4 what hinders; with 6 what failed; and with 7 that there was no memory
+pub record Telling (m : Meaning) (number : ℕ) (before after : State) : Type 0 where
+  pub silent : number ≤ 2 → after.err ≡ before.err
+  pub hindered : 3 ≤ number → number ≤ 4 → Grew (λ read. (line : List ℕ) × m.refuses (seen before.shelf.files read) number line × Tells line before.err after.err) before.shelf.calls after.shelf.calls
+  pub failed : number ≡ 6 → FailureTold m before after
+  pub memory : number ≡ 7 → Tells memory_line before.err after.err
+
+-- how a command ends, and what that says whichever it is: nothing else is written or told, no other file changes, and told files
+-- leave one number
+pub record Performs (m : Meaning) (number : ℕ) (before after : State) : Type 0 where
+  pub ends : Ends m number before after
+  pub quiet : Quiet number before after
+  pub telling : Telling m number before after
+  pub kept : KeptBut m.puts before.shelf.files after.shelf.files
+  pub exact : Decides m → Exact m before.shelf.files number
+
+-- a text was written whole with its number; or in part, where the output failed
+abbrev pub Finishes : ℕ → List ℕ → ℕ → SinkState → SinkState → SinkState → SinkState → Type 0
+Finishes answered text number out out' err err' =
+    ((number ≡ answered) × (out'.written ≡ with_text out.written text) × Calm out out' × (err' ≡ err))
+    ⊎ ((number ≡ 6) × AddsPrefix text out.written out'.written × Failed out out' × Tells output_line err err')

@@ -1,0 +1,53 @@
+-- The one line on standard error, and the number that goes with it (this project's profile)
+use Rattle.std.specs.Prelude.{ℕ, List, [], ◌∷◌, ◌++◌, codes, decimal}
+use Rattle.ta_shell.specs.declared.phrase.Phrase.{Phrase}
+use Rattle.ta_shell.specs.declared.phrase.Phrase.TheVariants.{Plain, One, Two}
+use Rattle.ta_shell.specs.declared.phrase.Piece.{Piece}
+use Rattle.ta_shell.specs.declared.phrase.Piece.TheVariants.{Words, Number}
+use Rattle.ta_shell.specs.declared.answer.Refusal.{Refusal}
+use Rattle.ta_shell.specs.declared.answer.Refusal.TheVariants.{Refused, ReadFailed, PutFailed, Memory}
+
+-- a phrase in words
+abbrev pub phrase_text : Phrase → List ℕ
+phrase_text (Plain words) = words.now
+phrase_text (One head number tail) = head.now ++ (decimal number ++ tail.now)
+phrase_text (Two head first middle second tail) = head.now ++ (decimal first ++ (middle.now ++ (decimal second ++ tail.now)))
+
+-- pieces, one after the other
+abbrev pub piece_text : Piece → List ℕ
+piece_text (Words words) = words.now
+piece_text (Number number) = decimal number
+
+abbrev pub pieces_text : List Piece → List ℕ
+pieces_text [] = []
+pieces_text (p ∷ ps) = piece_text p ++ pieces_text ps
+
+-- the line that says something of a file
+abbrev pub file_line : List ℕ → List ℕ → List ℕ
+file_line name words = codes "tav: " ++ (name ++ (codes ": " ++ (words ++ codes "\n")))
+
+abbrev pub missing : List ℕ
+missing = codes "missing"
+
+abbrev pub longer_than : ℕ → List ℕ
+longer_than limit = codes "longer than " ++ (decimal limit ++ codes " bytes")
+
+abbrev pub output_line : List ℕ
+output_line = codes "tav: output failed\n"
+
+abbrev pub memory_line : List ℕ
+memory_line = codes "tav: out of memory\n"
+
+-- the line of what hinders
+abbrev pub line_of : Refusal → List ℕ
+line_of (Refused number name why) = file_line name.now (phrase_text why)
+line_of (ReadFailed name) = file_line name.now (codes "read failed")
+line_of (PutFailed name) = file_line name.now (codes "write failed")
+line_of Memory = memory_line
+
+-- its number
+abbrev pub number_of : Refusal → ℕ
+number_of (Refused number name why) = number
+number_of (ReadFailed name) = 6
+number_of (PutFailed name) = 6
+number_of Memory = 7

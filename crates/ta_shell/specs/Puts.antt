@@ -1,0 +1,32 @@
+-- The files that an answer puts on the shelf (this project's profile)
+use Rattle.std.specs.Prelude.{ℕ, ◌≡◌, ◌⊎◌, List, [], ◌∷◌, Contains, Option, Some}
+use Rattle.ta_shelf.specs.Put.{OthersStay, Told, WhereTold}
+use Rattle.ta_shell.specs.declared.answer.Put.{Put}
+
+-- a file holds what is put, and every other file is as it was
+pub record Holds (put : Put) (before after : Told) : Type 0 where
+  pub held : after put.name ≡ Some put.bytes
+  pub others : OthersStay put.name before after
+
+-- each stands, one after the other
+abbrev pub Stand : List Put → Option Told → Option Told → Type 0
+Stand [] before after = after ≡ before
+Stand (put ∷ puts) before after = (middle : Option Told) × WhereTold (Holds put) before middle × Stand puts middle after
+
+-- those before the file of a name stand; that file may hold any bytes or be absent; every other file is as it was
+abbrev pub StopAt : List ℕ → List Put → Option Told → Option Told → Type 0
+StopAt name [] before after = ⊥
+StopAt name (put ∷ puts) before after =
+    ((put.name ≡ name) × WhereTold (OthersStay name) before after)
+    ⊎ ((middle : Option Told) × WhereTold (Holds put) before middle × StopAt name puts middle after)
+
+-- the files that are put are among those of these names
+abbrev pub Within : List (List ℕ) → List Put → Type 0
+Within names [] = Unit {0}
+Within names (put ∷ puts) = Contains names put.name × Within names puts
+
+-- every file but those of these names is as it was; where there are none, all are
+abbrev pub KeptBut : List (List ℕ) → Option Told → Option Told → Type 0
+KeptBut [] before after = after ≡ before
+KeptBut (name ∷ names) before after =
+    WhereTold (λ files files'. (other : List ℕ) → ¬ Contains (name ∷ names) other → files' other ≡ files other) before after

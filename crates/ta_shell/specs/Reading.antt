@@ -1,0 +1,40 @@
+-- What a read of a command's file answers (this project's profile)
+use Rattle.std.specs.Prelude.{ℕ, ◌≡◌, ◌⊎◌, List, Option, Result, Ok, Err}
+use Rattle.ta_shelf.specs.Calls.{Call, EndsWith, ReadsOn, Spells}
+use Rattle.ta_shelf.specs.Counts.{Faulted}
+use Rattle.ta_shelf.specs.Put.{Told}
+use Rattle.ta_shelf.specs.declared.fault.ShelfFault.{ShelfFault}
+use Rattle.ta_shell.specs.declared.answer.Refusal.{Refusal}
+use Rattle.ta_shell.specs.declared.answer.Refusal.TheVariants.{Refused, ReadFailed, PutFailed, Memory}
+use Rattle.ta_shell.specs.declared.reading.Limit.{Limit}
+use Rattle.ta_shell.specs.Lines.{longer_than, missing, phrase_text}
+use Rattle.ta_shell.specs.Sights.{Absent, HasBytes, Longer, View, seen}
+
+-- a file is missing or too long, and the words say so
+abbrev pub IsUnreadable : View → List ℕ → ℕ → List ℕ → Type 0
+IsUnreadable view name limit words = (view name Absent × (words ≡ missing)) ⊎ (view name (Longer limit) × (words ≡ longer_than limit))
+
+-- the calls of one reading of the file of a name, to its end or up to one of them
+abbrev pub IsReading : List ℕ → List Call → Type 0
+IsReading name calls = ReadsOn name 0 calls ⊎ ((read : List ℕ) × (last : Result (List ℕ) ShelfFault) × EndsWith name calls read last)
+
+-- the bytes of a file; or it is no use; or it failed to be read
+abbrev pub Gives : View → List ℕ → Limit → List Call → Result (List ℕ) Refusal → Type 0
+Gives view name limit calls (Ok bytes) = HasBytes view name limit.bytes bytes × Spells name calls bytes
+Gives view name limit calls (Err (Refused n who why)) = (n ≡ limit.number) × (who.now ≡ name) × IsUnreadable view name limit.bytes (phrase_text why)
+Gives view name limit calls (Err (ReadFailed who)) = who.now ≡ name
+Gives view name limit calls (Err (PutFailed who)) = ⊥
+Gives view name limit calls (Err Memory) = Unit {0}
+
+-- the calls of a reading, and what it gives of what is seen in them and in the files
+pub record Reads (files : Option Told) (name : List ℕ) (limit : Limit) (result : Result (List ℕ) Refusal) (calls : List Call) : Type 0 where
+  pub reading : IsReading name calls
+  pub gives : Gives (seen files calls) name limit calls result
+
+-- reading failed only where the shelf is faulted; after any other answer its count is as it was
+abbrev pub ReadCause : {T : Type 0} → Result T Refusal → ℕ → ℕ → Type 0
+ReadCause (Ok answer) before after = after ≡ before
+ReadCause (Err (Refused number name why)) before after = after ≡ before
+ReadCause (Err (ReadFailed name)) before after = Faulted before after
+ReadCause (Err (PutFailed name)) before after = ⊥
+ReadCause (Err Memory) before after = after ≡ before

@@ -1,0 +1,50 @@
+-- What is seen of files (this project's profile)
+use Rattle.std.specs.Prelude.{ℕ, ◌≡◌, ◌<◌, ◌≤◌, List, ◌++◌, length, Option, None, Some}
+use Rattle.ta_shelf.specs.Calls.{Call, ReadsOn, Spells, Stops, bytes_given}
+use Rattle.ta_shelf.specs.Put.{Told}
+use Rattle.ta_shelf.specs.ReadWhole.{IsLonger}
+use Rattle.ta_shelf.specs.declared.fault.ShelfFault.TheVariants.{Missing}
+
+-- of a name: all bytes of its file, or that it has none, or that it has more bytes than a limit
+pub data Sight : Type 0 where
+  Whole : List ℕ → Sight
+  Absent : Sight
+  Longer : ℕ → Sight
+
+-- what is seen of each name
+abbrev pub View : Type 1
+View = List ℕ → Sight → Type 0
+
+-- in files that are told
+abbrev pub in_files : Told → View
+in_files told name (Whole bytes) = told name ≡ Some bytes
+in_files told name Absent = told name ≡ None
+in_files told name (Longer limit) = IsLonger (told name) limit
+
+-- the same, where the files are told
+abbrev pub where_told : Option Told → View
+where_told None name sight = Unit {0}
+where_told (Some told) name sight = in_files told name sight
+
+-- some of the calls, one behind the other, are such
+pub record Part (Such : List Call → Type 0) (calls : List Call) : Type 0 where
+  pub before : List Call
+  pub those : List Call
+  pub after : List Call
+  pub all : calls ≡ before ++ (those ++ after)
+  pub such : Such those
+
+-- in what the calls of a run gave
+abbrev pub in_calls : List Call → View
+in_calls calls name (Whole bytes) = Part (λ those. Spells name those bytes) calls
+in_calls calls name Absent = Part (λ those. Stops name those Missing) calls
+in_calls calls name (Longer limit) = Part (λ those. ReadsOn name 0 those × (limit < length (bytes_given those))) calls
+
+-- in what the calls of a run gave, and in the files, where they are told
+abbrev pub seen : Option Told → List Call → View
+seen files calls name sight = in_calls calls name sight × where_told files name sight
+
+-- a name has these bytes, as many as a limit allows
+pub record HasBytes (view : View) (name : List ℕ) (limit : ℕ) (bytes : List ℕ) : Type 0 where
+  pub seen : view name (Whole bytes)
+  pub within : length bytes ≤ limit

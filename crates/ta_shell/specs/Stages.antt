@@ -1,0 +1,89 @@
+-- Commands that read one file after the other (this project's profile)
+use Rattle.std.specs.Prelude.{ℕ, ◌≡◌, ◌⊎◌, List, [], ◌++◌, Option, Result, Ok, Err}
+use Rattle.ta_shelf.specs.Calls.{Call, Spells}
+use Rattle.ta_shelf.specs.Put.{Told}
+use Rattle.ta_shell.specs.declared.answer.Answer.{Answer}
+use Rattle.ta_shell.specs.declared.answer.Refusal.{Refusal}
+use Rattle.ta_shell.specs.declared.answer.Refusal.TheVariants.{Refused, ReadFailed, PutFailed, Memory}
+use Rattle.ta_shell.specs.declared.reading.Limit.{Limit}
+use Rattle.ta_shell.specs.Commands.{Meaning}
+use Rattle.ta_shell.specs.Lines.{file_line, phrase_text}
+use Rattle.ta_shell.specs.Reading.{IsReading, IsUnreadable}
+use Rattle.ta_shell.specs.Sights.{HasBytes, View, seen}
+
+-- what the bytes of a file may be: a value of the one kind, or at a fault of the other, which has words
+pub record Kind (A F : Type 0) : Type 1 where
+  pub limit : Limit
+  pub means : List ℕ → A → Type 0
+  pub at_fault : List ℕ → F → Type 0
+  pub words : F → List ℕ
+
+-- the bytes of a name mean a value
+pub record IsOf {A F : Type 0} (kind : Kind A F) (view : View) (name : List ℕ) (value : A) : Type 0 where
+  pub bytes : List ℕ
+  pub had : HasBytes view name kind.limit.bytes bytes
+  pub means : kind.means bytes value
+
+-- a fault is in the bytes of a name
+pub record IsAtFault {A F : Type 0} (kind : Kind A F) (view : View) (name words : List ℕ) : Type 0 where
+  pub bytes : List ℕ
+  pub had : HasBytes view name kind.limit.bytes bytes
+  pub fault : F
+  pub found : kind.at_fault bytes fault
+  pub words_are : words ≡ kind.words fault
+
+-- the file of a name is no use: the number is that of its kind, and the line says why
+pub record Hinders {A F : Type 0} (kind : Kind A F) (view : View) (name : List ℕ) (number : ℕ) (line : List ℕ) : Type 0 where
+  pub numbered : number ≡ kind.limit.number
+  pub words : List ℕ
+  pub said : line ≡ file_line name words
+  pub wrong : IsUnreadable view name kind.limit.bytes words ⊎ IsAtFault kind view name words
+
+-- the calls read a file whole, and its bytes mean a value, and then come other calls
+pub record Then {A F : Type 0} (kind : Kind A F) (name : List ℕ) (rest : A → List Call → Type 0) (calls : List Call) : Type 0 where
+  pub first : List Call
+  pub second : List Call
+  pub all : calls ≡ first ++ second
+  pub bytes : List ℕ
+  pub spells : Spells name first bytes
+  pub value : A
+  pub means : kind.means bytes value
+  pub then : rest value second
+
+-- a file is read, and then comes what its value asks for; the files of these names may be put
+abbrev pub after : {A F : Type 0} → Kind A F → List ℕ → List (List ℕ) → (A → Meaning) → Meaning
+after {A} {F} kind name puts rest = record {
+  answers = λ view answer. (value : A) × IsOf kind view name value × (rest value).answers view answer;
+  refuses = λ view number line. Hinders kind view name number line ⊎ ((value : A) × IsOf kind view name value × (rest value).refuses view number line);
+  reads = λ view other. (other ≡ name) ⊎ ((value : A) × IsOf kind view name value × (rest value).reads view other);
+  opens = λ calls. IsReading name calls ⊎ Then kind name (λ value. (rest value).opens) calls;
+  puts = puts;
+}
+
+-- nothing more is read, and an answer is such
+abbrev pub replies : List (List ℕ) → (Answer → Type 0) → Meaning
+replies puts Such = record {
+  answers = λ view answer. Such answer;
+  refuses = λ view number line. ⊥;
+  reads = λ view other. ⊥;
+  opens = λ calls. calls ≡ [];
+  puts = puts;
+}
+
+-- this text with this number, and no file is put
+pub record Writes (number : ℕ) (text : List ℕ) (answer : Answer) : Type 0 where
+  pub numbered : answer.number ≡ number
+  pub written : answer.text ≡ text
+  pub no_put : answer.puts ≡ []
+
+-- what reading a file of a kind gives of what is seen in its calls and in the files
+abbrev pub Yields : {A F T : Type 0} → Kind A F → (T → A) → Option Told → List ℕ → Result T Refusal → List Call → Type 0
+Yields {A} {F} {T} kind value files name (Ok given) calls = (bytes : List ℕ) × Spells name calls bytes × HasBytes (seen files calls) name kind.limit.bytes bytes × kind.means bytes (value given)
+Yields {A} {F} {T} kind value files name (Err (Refused number who why)) calls = Hinders kind (seen files calls) name number (file_line who.now (phrase_text why))
+Yields {A} {F} {T} kind value files name (Err (ReadFailed who)) calls = who.now ≡ name
+Yields {A} {F} {T} kind value files name (Err (PutFailed who)) calls = ⊥
+Yields {A} {F} {T} kind value files name (Err Memory) calls = Unit {0}
+
+pub record Stage {A F T : Type 0} (kind : Kind A F) (value : T → A) (files : Option Told) (name : List ℕ) (result : Result T Refusal) (calls : List Call) : Type 0 where
+  pub reading : IsReading name calls
+  pub yields : Yields kind value files name result calls

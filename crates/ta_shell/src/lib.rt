@@ -1,0 +1,17 @@
+//! How every command is done: judged, put on the shelf, written, told.
+#![tactic(auto)]
+
+mod answer;
+mod command;
+mod performing;
+mod phrase;
+mod putting;
+mod reading;
+mod telling;
+
+pub use answer::{Answer, Put, Refusal};
+pub use command::Command;
+pub use performing::perform;
+pub use phrase::Phrase;
+pub use reading::{Limit, read_text};
+pub use telling::tell_line;

@@ -1,0 +1,40 @@
+//! Putting files on the shelf.
+#![tactic(auto)]
+
+ghost use Rattle.std.specs.Prelude.{◌≡◌};
+ghost use Rattle.ta_shelf.specs.Put.{PutFailsOnlyFaulted};
+ghost use Rattle.ta_shell.specs.Putting.{PutCause, Puts, PutsAll};
+
+use crate::answer::{Put, Refusal};
+use ta_shelf::{PutFault, Shelf};
+
+/// Puts files on the shelf, one after the other.
+pub(crate) fn put_all<'a, S: Shelf>(shelf: &mut S, puts: &'a [Put]) -> Result<(), Refusal<'a>>
+    ensures puts { PutsAll result puts.now (S.files shelf.old) (S.files shelf.new) }
+    ensures log { S.calls shelf.new ≡ S.calls shelf.old }
+    ensures cause { PutCause result (S.faults shelf.old) (S.faults shelf.new) }
+{
+    for put in puts {
+        match put_file(shelf, put) {
+            Ok(()) => {}
+            Err(PutFault::Failed) => {
+                return Err(Refusal::PutFailed {
+                    name: put.name.as_str(),
+                });
+            }
+            Err(PutFault::Memory) => return Err(Refusal::Memory),
+        }
+    }
+    Ok(())
+}
+
+/// Makes a file anew and fills it.
+fn put_file<S: Shelf>(shelf: &mut S, put: &Put) -> Result<(), PutFault>
+    ensures puts { Puts result put.now (S.files shelf.old) (S.files shelf.new) }
+    ensures log { S.calls shelf.new ≡ S.calls shelf.old }
+    ensures cause { PutFailsOnlyFaulted result (S.faults shelf.old) (S.faults shelf.new) }
+{
+    let name = put.name.as_str();
+    shelf.create(name)?;
+    shelf.append(name, put.bytes.as_slice())
+}

@@ -1,0 +1,51 @@
+//! Reading the files of a command.
+#![tactic(auto)]
+
+ghost use Rattle.std.specs.Prelude.{◌≡◌, ◌≤◌};
+ghost use Rattle.ta_shelf.specs.Calls.{Grew};
+ghost use Rattle.ta_shell.specs.Reading.{ReadCause, Reads};
+
+use crate::answer::Refusal;
+use crate::phrase::Phrase;
+use std::alloc::Global;
+use ta_shelf::{List, Shelf, WholeFault, read_whole};
+
+/// How many bytes a file may have, and the number that the process ends with where it is no use.
+#[derive(Clone, Copy, Drop)]
+pub struct Limit {
+    pub bytes: u64,
+    pub number: u8,
+}
+
+/// The bytes of a file. What they say is judged by others.
+pub fn read_text<'a, S: Shelf>(
+    alloc: Global,
+    shelf: &mut S,
+    name: &'a str,
+    limit: Limit,
+) -> Result<List<u8>, Refusal<'a>>
+    requires { limit.bytes ≤ 1073741824 }
+    ensures reads { Grew (Reads (S.files shelf.old) name.now limit result) (S.calls shelf.old) (S.calls shelf.new) }
+    ensures cause { ReadCause result (S.faults shelf.old) (S.faults shelf.new) }
+    ensures kept { S.files shelf.new ≡ S.files shelf.old }
+{
+    match read_whole(alloc, shelf, name, limit.bytes) {
+        Ok(bytes) => Ok(bytes),
+        Err(WholeFault::Missing) => Err(Refusal::Refused {
+            number: limit.number,
+            name,
+            why: Phrase::Plain("missing"),
+        }),
+        Err(WholeFault::TooLong) => Err(Refusal::Refused {
+            number: limit.number,
+            name,
+            why: Phrase::One {
+                head: "longer than ",
+                number: limit.bytes,
+                tail: " bytes",
+            },
+        }),
+        Err(WholeFault::Failed) => Err(Refusal::ReadFailed { name }),
+        Err(WholeFault::Memory) => Err(Refusal::Memory),
+    }
+}

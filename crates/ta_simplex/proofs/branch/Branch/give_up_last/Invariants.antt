@@ -1,0 +1,9 @@
+use Rattle.std.proofs.Common.{vec_len}
+use Rattle.ta_simplex.specs.Branch.{SharesRows}
+use Rattle.ta_simplex.proofs.branch.Branch.give_up_last.Given as goal
+
+abbrev pub invariant-loop-self : goal.invariant-loop-self
+invariant-loop-self g l = SharesRows g.D.Dictionary.tableau g.D.Dictionary.pivot_of l.self l.same l.system.rows
+
+abbrev pub decreases-loop-self : goal.decreases-loop-self
+decreases-loop-self g l = vec_len l.self.systems

@@ -1,0 +1,47 @@
+-- What the readers of a file and of its head say.
+use Rattle.std.specs.Prelude.{ℕ, ◌≡◌, ◌≤◌, List, [], ◌∷◌, ◌++◌, length}
+use Rattle.ta_syntax.specs.Grammar.{file_kinds, sum_kinds, listed, IsSum}
+use Rattle.ta_syntax.specs.PlainSums.{plain_sum, sum_depth}
+use Rattle.ta_syntax.specs.PlainTrees.{plain_tree}
+use Rattle.ta_syntax.specs.Inside.RuleBodies.{spell_location}
+use Rattle.ta_syntax.specs.Stated.{IsPlaced, at_first, unplaced, sum_stated, location_stated, tree_stated}
+use Rattle.ta_syntax.specs.Limits.{Counts}
+use Rattle.ta_syntax.specs.Parts.{Part, Text, a_mark, a_sum, both}
+use Rattle.ta_syntax.specs.Inside.Parts.{list_part, location_part}
+use Rattle.ta_syntax.specs.Faults.{kinds, Stopped}
+use Rattle.ta_syntax.specs.ListReading.{IsReady}
+use Rattle.ta_syntax.specs.Inside.BlockReading.{ReadsKept}
+use Rattle.ta_syntax.specs.declared.tokens.Kind.TheVariants as kind
+use Rattle.ta_syntax.specs.declared.tokens.Mark.TheVariants as mark
+use Rattle.ta_syntax.specs.declared.placed.Token.{Token}
+use Rattle.ta_syntax.specs.declared.fault.FileFault.{FileFault}
+use Rattle.ta_syntax.specs.declared.sums.TreeSum.{TreeSum}
+use Rattle.ta_syntax.specs.declared.tree.TreeLocation.{TreeLocation}
+use Rattle.ta_syntax.specs.declared.tree.Tree.{Tree}
+
+abbrev pub locations_part : Part → Part
+locations_part K = both (a_mark mark.Locations) (both (list_part location_part) (both (a_mark mark.Semicolon) K))
+
+pub record TookLocations (at : ℕ) (locations : List TreeLocation) (tokens rest : List Token) : Type 0 where
+  pub some : 1 ≤ length locations
+  pub few : length locations ≤ 32
+  pub reads : (K : Part) (c : Counts) → IsReady c → ReadsKept (locations_part K) c tokens rest K (kind.Fixed mark.Locations ∷ (listed kind.Fixed spell_location locations ++ kind.Fixed mark.Semicolon ∷ [])) ((at ∷ []) ∷ (listed unplaced location_stated locations ++ [] ∷ []))
+
+abbrev pub LocationsStop : ℕ → List Token → FileFault → Type 0
+LocationsStop end tokens e = (K : Part) (c : Counts) → IsReady c → Stopped (Text (locations_part K)) c end tokens e
+
+abbrev pub processes_part : Part → Part
+processes_part K = both (a_mark mark.Processes) (both a_sum (both (a_mark mark.Semicolon) K))
+
+pub record TookProcesses (at : ℕ) (s : TreeSum) (tokens rest : List Token) : Type 0 where
+  pub is : IsSum (plain_sum s)
+  pub shallow : sum_depth (plain_sum s) ≤ 32
+  pub reads : (K : Part) (c : Counts) → IsReady c → ReadsKept (processes_part K) c tokens rest K (kind.Fixed mark.Processes ∷ (sum_kinds (plain_sum s) ++ kind.Fixed mark.Semicolon ∷ [])) ([] ∷ (at_first at (sum_stated s) ++ [] ∷ []))
+
+abbrev pub ProcessesStop : ℕ → List Token → FileFault → Type 0
+ProcessesStop end tokens e = (K : Part) (c : Counts) → IsReady c → Stopped (Text (processes_part K)) c end tokens e
+
+-- the tokens are those of the tree, at the offsets that it states
+pub record IsSpelled (t : Tree) (tokens : List Token) : Type 0 where
+  pub spelled : kinds tokens ≡ file_kinds (plain_tree t)
+  pub placed : IsPlaced (tree_stated t) tokens
