@@ -24,6 +24,7 @@ pub record FormOver (places : ℕ) (form : Form) : Type 0 where
 pub FormOver-prop : (places : ℕ) (form : Form) → IsProp (FormOver places form)
 FormOver-prop places form = hlevel (props, IsNormal-prop 0 places form.terms, Small-prop form)
 
+-- the same of the form of a row
 abbrev pub RowOver : ℕ → Row → Type 0
 RowOver places row = FormOver places row.form
 

@@ -1,4 +1,4 @@
--- What holds along every run
+-- What holds along every run (POPL 2017 for guards that stay true or false; the others are this project's own)
 use Rattle.std.specs.Prelude.{ℕ, ℤ, pos, ◌+◌, ◌*ℤ◌, ◌≤◌, ◌≡◌, ◌==◌, Bool, false, List, length, take, sum, count_by, slice_get, slice_index, Option, Some, None}
 use Rattle.ta_linear.specs.Terms.{coefficient}
 use Rattle.ta_linear.specs.Values.{value_of, RowHolds}
@@ -52,6 +52,7 @@ abbrev pub leads_into : ℕ → Option Rule → Bool
 leads_into l None = false
 leads_into l (Some rule) = rule.to == l
 
+-- whether a rule leads out of a location
 abbrev pub leads_out_of : ℕ → Option Rule → Bool
 leads_out_of l None = false
 leads_out_of l (Some rule) = rule.from == l

@@ -1,4 +1,4 @@
--- Facts about each item of a list, by recursion, so that a type can keep them
+-- Facts about each item of a list, by recursion, so that a type can keep them (this project's profile)
 use Rattle.std.specs.Prelude.{ℕ, ◌+◌, ◌<◌, ◌≤◌, ◌≡◌, List, [], ◌∷◌}
 use Rattle.std.proofs.Props.{props}
 
@@ -7,6 +7,7 @@ abbrev pub Each : {X : Type 0} → (X → Type 0) → List X → Type 0
 Each P [] = Unit {0}
 Each P (x ∷ xs) = P x × Each P xs
 
+-- each of these facts is a proposition, where it is of each item
 pub Each-prop : {X : Type 0} (P : X → Type 0) → ((x : X) → IsProp (P x)) → (xs : List X) → IsProp (Each P xs)
 Each-prop P prop [] = hlevel props
 Each-prop P prop (x ∷ xs) = hlevel (props, prop x, Each-prop P prop xs)

@@ -1,4 +1,4 @@
--- Sets of numbers as tests, as masks and as lists
+-- Sets of numbers as tests, as masks and as lists (this project's profile)
 use Rattle.std.specs.Prelude.{ℕ, zero, suc, ◌+◌, ◌/◌, ◌%◌, ◌^◌, ◌≡◌, ◌==◌, ◌⊎◌, Bool, true, false, ◌&&◌, List, [], ◌∷◌}
 
 -- whether bit i of a mask is 1
@@ -10,6 +10,7 @@ unfoldable pub all_below : ℕ → (ℕ → Bool) → Bool
 all_below zero test = true
 all_below (suc n) test = all_below n test && test n
 
+-- the second is true where the first is
 abbrev pub implies : Bool → Bool → Bool
 implies true b = b
 implies false b = true

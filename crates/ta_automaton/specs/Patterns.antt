@@ -16,6 +16,7 @@ pub record EventWithin (places : ℕ) (number : ℕ) (event : Event) : Type 0 wh
 EventWithin-prop : (places number : ℕ) (event : Event) → IsProp (EventWithin places number event)
 EventWithin-prop places number event = hlevel (props, Name-prop event.name, ConditionOver-prop places event.condition)
 
+-- the name of an event
 abbrev pub event_name : Event → List ℕ
 event_name event = event.name
 
@@ -32,6 +33,7 @@ PatternWithin-prop : (places locations : ℕ) (pattern : Pattern) → IsProp (Pa
 PatternWithin-prop places locations pattern =
     hlevel (props, Name-prop pattern.name, ConditionOver-prop places pattern.start, EachFrom-prop (EventWithin places) (EventWithin-prop places) 0 pattern.events, Distinct-prop (map event_name pattern.events))
 
+-- the name of a pattern
 abbrev pub pattern_name : Pattern → List ℕ
 pattern_name pattern = pattern.name
 

@@ -18,6 +18,7 @@ pub record Update (shared : ℕ) (update : ℕ × ℤ) : Type 0 where
 Update-prop : (shared : ℕ) (update : ℕ × ℤ) → IsProp (Update shared update)
 Update-prop shared update = hlevel props
 
+-- the shared variable of an update
 abbrev pub variable_of : (ℕ × ℤ) → ℕ
 variable_of update = update.0
 
@@ -36,6 +37,7 @@ RuleWithin-prop : (shared locations rise fall : ℕ) (rule : Rule) → IsProp (R
 RuleWithin-prop shared locations rise fall rule =
     hlevel (props, Name-prop rule.name, Each-prop (Update shared) (Update-prop shared) rule.updates, Distinct-prop (map variable_of rule.updates))
 
+-- the name of a rule
 abbrev pub name_of : Rule → List ℕ
 name_of rule = rule.name
 

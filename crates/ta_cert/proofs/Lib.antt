@@ -3,8 +3,9 @@ pub mod Decimals
 pub mod Standing
 pub mod Unique
 pub mod CertLines
+pub mod Writing
 mod Fields
 mod Pairs
-mod Writing
 mod Exact
 mod Reading
+mod CertAnswers

@@ -1,10 +1,13 @@
 -- What a reader stands for, step by step.
-use Rattle.std.proofs.Common.{ℕ, ◌+◌, ◌-◌, ◌^◌, ◌<◌, ◌≤◌, ◌≡◌, min, Bool, true, false, not, eqb, ◌||◌, List, [], ◌∷◌, ◌++◌, length, get_or, refl, sym, ap, subst, ◌∙◌, inl, inr, append_assoc, append-nil, length-append, arith, Result, Ok, Err, is_err}
+use Rattle.std.proofs.Common.{ℕ, ◌+◌, ◌-◌, ◌^◌, ◌<◌, ◌≤◌, ◌≡◌, min, Bool, true, false, not, eqb, ◌||◌, List, [], ◌∷◌, ◌++◌, length, take, get_or, Option, Some, None, refl, sym, ap, subst, ◌∙◌, inl, inr, append_assoc, append-nil, length-append, arith, Result, Ok, Err, is_err}
 use mathlib.Core.Bool.{beq}
+use Rattle.std.proofs.Math.Seq.{take-length}
 use Rattle.std.proofs.lemmas.Bool.{false≢true}
+use Rattle.std.proofs.lemmas.List.{take-append-le}
 use Rattle.ta_cert.specs.Lines.{line_text, lines_text, IsLine, Says, is_header, is_end, has_end}
-use Rattle.ta_cert.specs.Streams.{line_limit, AreLater, AreLines, IsUnbroken, Reads, line_number, IsMalformed, IsTrailing, IsRefused, numbered, has_line, StandsAt, StandsFor, Completes, Fed}
-use Rattle.ta_cert.specs.Steps.{IsFaultAt, NextLine, AreTaken, IsTaken}
+use Rattle.ta_cert.specs.Streams.{line_limit, AreLater, AreLines, IsUnbroken, Reads, line_number, IsMalformed, IsTrailing, IsRefused, IsRefusedBehind, numbered, has_line, StandsAt, StandsFor, Completes, Fed, Ends, FedLine}
+use Rattle.ta_cert.specs.Steps.{IsFaultAt, IsFaultHere, IsLineTaken, NextLine, AreTaken, IsTaken}
+use Rattle.ta_cert.specs.declared.reader.Ended.{Ended}
 use Rattle.ta_cert.specs.declared.line.Line.{Line}
 use Rattle.ta_cert.specs.declared.line.Line.TheVariants as line
 use Rattle.ta_cert.specs.declared.line.Node.TheVariants as node
@@ -87,81 +90,110 @@ whole_more : (text lines rest bytes : List ℕ) → text ≡ lines ++ rest → t
 whole_more text lines rest bytes e = ap (λ xs. xs ++ bytes) e ∙ append_assoc lines rest bytes
 
 -- a fault stays one
-malformed_more : (text more : List ℕ) (n : ℕ) → IsMalformed text n → IsMalformed (text ++ more) n
-malformed_more text more n m = record {
-  ls = m.ls;
-  bytes = m.bytes;
-  after = m.after ++ more;
-  whole = whole_more text (lines_text m.ls) (m.bytes ++ m.after) more m.whole ∙ ap (λ xs. lines_text m.ls ++ xs) (append_assoc m.bytes m.after more);
-  legal = m.legal;
-  going_on = m.going_on;
-  unbroken = m.unbroken;
-  no_line = elim m.no_line [ inl long ↦ inl long | inr (rest, feed, none) ↦ inr (rest ++ more, ap (λ xs. xs ++ more) feed, none) ];
-  place = m.place;
-}
+malformed_more : (text more : List ℕ) (n : ℕ) (m : IsMalformed text n) → (k : IsMalformed (text ++ more) n) × (k.ls ≡ m.ls)
+malformed_more text more n m = (
+  record {
+    ls = m.ls;
+    bytes = m.bytes;
+    after = m.after ++ more;
+    whole = whole_more text (lines_text m.ls) (m.bytes ++ m.after) more m.whole ∙ ap (λ xs. lines_text m.ls ++ xs) (append_assoc m.bytes m.after more);
+    legal = m.legal;
+    going_on = m.going_on;
+    unbroken = m.unbroken;
+    no_line = elim m.no_line [ inl long ↦ inl long | inr (rest, feed, none) ↦ inr (rest ++ more, ap (λ xs. xs ++ more) feed, none) ];
+    place = m.place;
+  },
+  refl,
+)
 
 -- the same of a byte after the end
-trailing_more : (text more : List ℕ) (n : ℕ) → IsTrailing text n → IsTrailing (text ++ more) n
-trailing_more text more n t = record {
-  ls = t.ls;
-  byte = t.byte;
-  after = t.after ++ more;
-  whole = whole_more text (lines_text t.ls) (t.byte ∷ t.after) more t.whole;
-  legal = t.legal;
-  ended = t.ended;
-  place = t.place;
-}
+trailing_more : (text more : List ℕ) (n : ℕ) (t : IsTrailing text n) → (k : IsTrailing (text ++ more) n) × (k.ls ≡ t.ls)
+trailing_more text more n t = (
+  record {
+    ls = t.ls;
+    byte = t.byte;
+    after = t.after ++ more;
+    whole = whole_more text (lines_text t.ls) (t.byte ∷ t.after) more t.whole;
+    legal = t.legal;
+    ended = t.ended;
+    place = t.place;
+  },
+  refl,
+)
 
 -- the same of each fault
 pub refused_more : (text more : List ℕ) (e : CertFault) → IsRefused text e → IsRefused (text ++ more) e
-refused_more text more (fault.Line n) r = malformed_more text more n r
-refused_more text more (fault.Trailing n) r = trailing_more text more n r
+refused_more text more (fault.Line n) r = (malformed_more text more n r).0
+refused_more text more (fault.Trailing n) r = (trailing_more text more n r).0
 refused_more text more fault.Memory r = tt
 refused_more text more _ r = absurd r
 
+-- the same behind some lines
+refused_behind_more : (ls : List Line) (text more : List ℕ) (e : CertFault) → IsRefusedBehind ls text e → IsRefusedBehind ls (text ++ more) e
+refused_behind_more ls text more (fault.Line n) (m, same) = let k = malformed_more text more n m in (k.0, k.1 ∙ same)
+refused_behind_more ls text more (fault.Trailing n) (t, same) = let k = trailing_more text more n t in (k.0, k.1 ∙ same)
+refused_behind_more ls text more fault.Memory r = tt
+refused_behind_more ls text more _ r = absurd r
+
+-- a text that is refused behind some lines is refused
+pub refused_behind : (ls : List Line) (text : List ℕ) (e : CertFault) → IsRefusedBehind ls text e → IsRefused text e
+refused_behind ls text (fault.Line n) r = r.0
+refused_behind ls text (fault.Trailing n) r = r.0
+refused_behind ls text fault.Memory r = tt
+refused_behind ls text _ r = absurd r
+
 -- a byte after the end
-trailing_at : (reader : Reader) (text bytes : List ℕ) (ls : List Line) → StandsAt reader text ls → reader.ended ≡ true → 0 < length bytes → IsTrailing (text ++ bytes) reader.number
+trailing_at : (reader : Reader) (text bytes : List ℕ) (ls : List Line) → StandsAt reader text ls → reader.ended ≡ true → 0 < length bytes → (t : IsTrailing (text ++ bytes) reader.number) × (t.ls ≡ ls)
 trailing_at reader text [] ls at ended some = absurd (omega arith)
 trailing_at reader text (b ∷ bs) ls at ended some =
-    let end : has_end ls ≡ true = sym at.ended ∙ ended in
-    record {
-      ls = ls;
-      byte = b;
-      after = bs;
-      whole = whole_more text (lines_text ls) reader.line (b ∷ bs) at.reads.whole ∙ ap (λ xs. lines_text ls ++ (xs ++ (b ∷ bs))) (at.reads.ended end);
-      legal = at.reads.legal;
-      ended = end;
-      place = at.number;
-    }
+    let end : has_end ls ≡ true = sym at.ended ∙ ended in (
+      record {
+        ls = ls;
+        byte = b;
+        after = bs;
+        whole = whole_more text (lines_text ls) reader.line (b ∷ bs) at.reads.whole ∙ ap (λ xs. lines_text ls ++ (xs ++ (b ∷ bs))) (at.reads.ended end);
+        legal = at.reads.legal;
+        ended = end;
+        place = at.number;
+      },
+      refl,
+    )
 
 -- the same of each text that the reader stands for
-pub trailing : (reader : Reader) (bytes : List ℕ) → reader.ended ≡ true → 0 < length bytes → IsFaultAt reader bytes (fault.Trailing reader.number)
+pub trailing : (reader : Reader) (bytes : List ℕ) → reader.ended ≡ true → 0 < length bytes → IsFaultHere reader bytes (fault.Trailing reader.number)
 trailing reader bytes ended some = record { fresh = tt; refused = λ text ls at. trailing_at reader text bytes ls at ended some }
 
 -- too many bytes in a line
-long_at : (reader : Reader) (text bytes : List ℕ) (ls : List Line) → StandsAt reader text ls → reader.ended ≡ false → IsUnbroken bytes → line_limit < length reader.line + length bytes → IsMalformed (text ++ bytes) reader.number
-long_at reader text bytes ls at going_on unbroken long = record {
-  ls = ls;
-  bytes = reader.line ++ bytes;
-  after = [];
-  whole = whole_more text (lines_text ls) reader.line bytes at.reads.whole ∙ ap (λ xs. lines_text ls ++ xs) (sym (append-nil (reader.line ++ bytes)));
-  legal = at.reads.legal;
-  going_on = sym at.ended ∙ going_on;
-  unbroken = unbroken-append reader.line bytes at.reads.unbroken unbroken;
-  no_line = inl (omega (arith, length-append reader.line bytes));
-  place = at.number;
-}
+long_at : (reader : Reader) (text bytes : List ℕ) (ls : List Line) → StandsAt reader text ls → reader.ended ≡ false → IsUnbroken bytes → line_limit < length reader.line + length bytes → (m : IsMalformed (text ++ bytes) reader.number) × (m.ls ≡ ls)
+long_at reader text bytes ls at going_on unbroken long = (
+  record {
+    ls = ls;
+    bytes = reader.line ++ bytes;
+    after = [];
+    whole = whole_more text (lines_text ls) reader.line bytes at.reads.whole ∙ ap (λ xs. lines_text ls ++ xs) (sym (append-nil (reader.line ++ bytes)));
+    legal = at.reads.legal;
+    going_on = sym at.ended ∙ going_on;
+    unbroken = unbroken-append reader.line bytes at.reads.unbroken unbroken;
+    no_line = inl (omega (arith, length-append reader.line bytes));
+    place = at.number;
+  },
+  refl,
+)
 
 -- the same of each text that the reader stands for
-pub too_long : (reader : Reader) (bytes : List ℕ) → reader.ended ≡ false → IsUnbroken bytes → line_limit < length reader.line + length bytes → IsFaultAt reader bytes (fault.Line reader.number)
+pub too_long : (reader : Reader) (bytes : List ℕ) → reader.ended ≡ false → IsUnbroken bytes → line_limit < length reader.line + length bytes → IsFaultHere reader bytes (fault.Line reader.number)
 too_long reader bytes going_on unbroken long = record { fresh = tt; refused = λ text ls at. long_at reader text bytes ls at going_on unbroken long }
 
 -- a fault of the front, of a longer piece
-pub fault_more : (reader : Reader) (front more : List ℕ) (e : CertFault) → IsFaultAt reader front e → IsFaultAt reader (front ++ more) e
+pub fault_more : (reader : Reader) (front more : List ℕ) (e : CertFault) → IsFaultHere reader front e → IsFaultHere reader (front ++ more) e
 fault_more reader front more e f = record {
   fresh = f.fresh;
-  refused = λ text ls at. subst (λ t. IsRefused t e) (append_assoc text front more) (refused_more (text ++ front) more e (f.refused text ls at));
+  refused = λ text ls at. subst (λ t. IsRefusedBehind ls t e) (append_assoc text front more) (refused_behind_more ls (text ++ front) more e (f.refused text ls at));
 }
+
+-- a fault of the unfinished line is one of the reader
+pub fault_here : (reader : Reader) (bytes : List ℕ) (e : CertFault) → IsFaultHere reader bytes e → IsFaultAt reader bytes e
+fault_here reader bytes e f = record { fresh = f.fresh; refused = λ text ls at. refused_behind ls (text ++ bytes) e (f.refused text ls at) }
 
 -- the same fault, of a reader that stands for more
 pub fault_after : (old reader : Reader) (front bytes : List ℕ) (more : List Line) (e : CertFault) → ((text : List ℕ) (ls : List Line) → StandsAt old text ls → StandsAt reader (text ++ front) (ls ++ more)) → IsFaultAt reader bytes e → IsFaultAt old (front ++ bytes) e
@@ -171,28 +203,31 @@ fault_after old reader front bytes more e stands f = record {
 }
 
 -- a line feed behind what is no line there
-bad_line : (reader : Reader) (text : List ℕ) (ls : List Line) → StandsAt reader text ls → has_end ls ≡ false → ((l : Line) → Says reader.line l → is_header l ≡ not (has_line ls) → ⊥) → IsMalformed (text ++ (10 ∷ [])) reader.number
-bad_line reader text ls at going_on none = record {
-  ls = ls;
-  bytes = reader.line;
-  after = 10 ∷ [];
-  whole = whole_more text (lines_text ls) reader.line (10 ∷ []) at.reads.whole;
-  legal = at.reads.legal;
-  going_on = going_on;
-  unbroken = at.reads.unbroken;
-  no_line = inr ([], refl, λ l legal e. let last = legal_last ls l legal in none l record { form = last.0; text = sym e } last.1);
-  place = at.number;
-}
+bad_line : (reader : Reader) (text : List ℕ) (ls : List Line) → StandsAt reader text ls → has_end ls ≡ false → ((l : Line) → Says reader.line l → is_header l ≡ not (has_line ls) → ⊥) → (m : IsMalformed (text ++ (10 ∷ [])) reader.number) × (m.ls ≡ ls)
+bad_line reader text ls at going_on none = (
+  record {
+    ls = ls;
+    bytes = reader.line;
+    after = 10 ∷ [];
+    whole = whole_more text (lines_text ls) reader.line (10 ∷ []) at.reads.whole;
+    legal = at.reads.legal;
+    going_on = going_on;
+    unbroken = at.reads.unbroken;
+    no_line = inr ([], refl, λ l legal e. let last = legal_last ls l legal in none l record { form = last.0; text = sym e } last.1);
+    place = at.number;
+  },
+  refl,
+)
 
 -- a reader that kept these bytes
 abbrev pub Keeps : Reader → Reader → List ℕ → Type 0
 Keeps old mid front = (text : List ℕ) (ls : List Line) → StandsAt old text ls → StandsAt mid (text ++ front) ls
 
 -- the line isn't of any form
-pub no_line : (old mid : Reader) (front : List ℕ) → old.ended ≡ false → Keeps old mid front → ((l : Line) → Says mid.line l → ⊥) → IsFaultAt old (front ++ (10 ∷ [])) (fault.Line mid.number)
+pub no_line : (old mid : Reader) (front : List ℕ) → old.ended ≡ false → Keeps old mid front → ((l : Line) → Says mid.line l → ⊥) → IsFaultHere old (front ++ (10 ∷ [])) (fault.Line mid.number)
 no_line old mid front going_on keeps none = record {
   fresh = tt;
-  refused = λ text ls at. subst (λ t. IsMalformed t mid.number) (append_assoc text front (10 ∷ [])) (bad_line mid (text ++ front) ls (keeps text ls at) (sym at.ended ∙ going_on) (λ l says header. none l says));
+  refused = λ text ls at. subst (λ t. (m : IsMalformed t mid.number) × (m.ls ≡ ls)) (append_assoc text front (10 ∷ [])) (bad_line mid (text ++ front) ls (keeps text ls at) (sym at.ended ∙ going_on) (λ l says header. none l says));
 }
 
 -- tests that agree and differ
@@ -212,13 +247,13 @@ beq_true false true e = absurd (false≢true e)
 beq_true false false e = refl
 
 -- the header isn't first, or another line is
-pub wrong_place : (old mid : Reader) (front : List ℕ) (l : Line) → old.ended ≡ false → Keeps old mid front → Says mid.line l → beq (is_header l) mid.begun ≡ true → IsFaultAt old (front ++ (10 ∷ [])) (fault.Line mid.number)
+pub wrong_place : (old mid : Reader) (front : List ℕ) (l : Line) → old.ended ≡ false → Keeps old mid front → Says mid.line l → beq (is_header l) mid.begun ≡ true → IsFaultHere old (front ++ (10 ∷ [])) (fault.Line mid.number)
 wrong_place old mid front l going_on keeps says place = record {
   fresh = tt;
   refused = λ text ls at.
       let stands = keeps text ls at in
       let header = beq_true (is_header l) mid.begun place ∙ stands.begun in
-      subst (λ t. IsMalformed t mid.number) (append_assoc text front (10 ∷ [])) (bad_line mid (text ++ front) ls stands (sym at.ended ∙ going_on) (λ m other is. other_header (is_header m) (has_line ls) (same_header mid.line l m says other ∙ header) is));
+      subst (λ t. (m : IsMalformed t mid.number) × (m.ls ≡ ls)) (append_assoc text front (10 ∷ [])) (bad_line mid (text ++ front) ls stands (sym at.ended ∙ going_on) (λ m other is. other_header (is_header m) (has_line ls) (same_header mid.line l m says other ∙ header) is));
 }
 
 -- a line that ended
@@ -298,14 +333,14 @@ goes_on_taking old reader new piece rest front behind lines l so next ends = rec
 }
 
 -- a fault in a line of the piece
-pub faults_taking : (old reader : Reader) (piece rest front behind : List ℕ) (lines : List (ℕ × Line)) (e : CertFault) → TakenSoFar old reader piece rest lines → NextLine rest front behind → IsFaultAt reader (front ++ (10 ∷ [])) e → IsFaultAt old piece e
+pub faults_taking : (old reader : Reader) (piece rest front behind : List ℕ) (lines : List (ℕ × Line)) (e : CertFault) → TakenSoFar old reader piece rest lines → NextLine rest front behind → IsFaultHere reader (front ++ (10 ∷ [])) e → IsFaultAt old piece e
 faults_taking old reader piece rest front behind lines e so next f =
     let regroup : piece ≡ so.front ++ ((front ++ (10 ∷ [])) ++ behind) = so.split ∙ ap (λ xs. so.front ++ xs) (next.split ∙ sym (append_assoc front (10 ∷ []) behind)) in
-    subst (λ p. IsFaultAt old p e) (sym regroup) (fault_after old reader so.front ((front ++ (10 ∷ [])) ++ behind) so.more e so.stands (fault_more reader (front ++ (10 ∷ [])) behind e f))
+    subst (λ p. IsFaultAt old p e) (sym regroup) (fault_after old reader so.front ((front ++ (10 ∷ [])) ++ behind) so.more e so.stands (fault_here reader ((front ++ (10 ∷ [])) ++ behind) e (fault_more reader (front ++ (10 ∷ [])) behind e f)))
 
 -- a fault behind its last line feed
-pub faults_behind : (old reader : Reader) (piece rest : List ℕ) (lines : List (ℕ × Line)) (e : CertFault) → TakenSoFar old reader piece rest lines → IsFaultAt reader rest e → IsFaultAt old piece e
-faults_behind old reader piece rest lines e so f = subst (λ p. IsFaultAt old p e) (sym so.split) (fault_after old reader so.front rest so.more e so.stands f)
+pub faults_behind : (old reader : Reader) (piece rest : List ℕ) (lines : List (ℕ × Line)) (e : CertFault) → TakenSoFar old reader piece rest lines → IsFaultHere reader rest e → IsFaultAt old piece e
+faults_behind old reader piece rest lines e so f = subst (λ p. IsFaultAt old p e) (sym so.split) (fault_after old reader so.front rest so.more e so.stands (fault_here reader rest e f))
 
 -- what stands behind its last line feed is kept
 pub ends_taking : (old reader new : Reader) (piece rest : List ℕ) (lines : List (ℕ × Line)) → TakenSoFar old reader piece rest lines → ((text : List ℕ) (ls : List Line) → StandsAt reader text ls → StandsAt new (text ++ rest) ls) → AreTaken old piece new lines
@@ -319,26 +354,50 @@ ends_taking old reader new piece rest lines so keeps = record {
 pub next_shorter : (rest front behind : List ℕ) → NextLine rest front behind → length behind < length rest
 next_shorter rest front behind next = omega (arith, ap length next.split, length-append front (10 ∷ behind))
 
+-- a reader with the same fields stands for the same text
+moved : (mid new : Reader) (text : List ℕ) (ls : List Line) → new.line ≡ mid.line → new.number ≡ mid.number → new.begun ≡ mid.begun → new.ended ≡ mid.ended → new.failed ≡ false → StandsAt mid text ls → StandsAt new text ls
+moved mid new text ls line number begun ended failed stands = record {
+  reads = subst (Reads text ls) (sym line) stands.reads;
+  number = number ∙ stands.number;
+  begun = begun ∙ stands.begun;
+  ended = ended ∙ stands.ended;
+  failed = failed;
+}
+
 -- what a piece gave
 pub fed : (old mid new : Reader) (piece : List ℕ) (answer : Result (List (ℕ × Line)) CertFault) → IsTaken old piece mid answer → new.line ≡ mid.line → new.number ≡ mid.number → new.begun ≡ mid.begun → new.ended ≡ mid.ended → new.failed ≡ is_err answer → (text : List ℕ) → StandsFor old text → Fed text piece new answer
 fed old mid new piece (Ok lines) taken line number begun ended failed text (ls, at) =
     let stands = taken.stands text ls at in
-    let reads : Reads (text ++ piece) (ls ++ taken.more) new.line = subst (Reads (text ++ piece) (ls ++ taken.more)) (sym line) stands.reads in
-    let now : StandsAt new (text ++ piece) (ls ++ taken.more) = record {
-      reads = reads;
-      number = number ∙ stands.number;
-      begun = begun ∙ stands.begun;
-      ended = ended ∙ stands.ended;
-      failed = failed;
-    } in
+    let now = moved mid new (text ++ piece) (ls ++ taken.more) line number begun ended failed stands in
     let completes : Completes text piece lines = record {
       before = ls;
       new = taken.more;
       old_rest = old.line;
       rest = new.line;
       was = at.reads;
-      reads = reads;
+      reads = now.reads;
       numbers = taken.numbers text ls at;
     } in
     ((ls ++ taken.more, now), completes)
 fed old mid new piece (Err e) taken line number begun ended failed text (ls, at) = taken.refused text ls at
+
+-- the line that the first line feed of a piece ends
+pub line_ends : (old new : Reader) (piece front behind : List ℕ) (found : Ended) → NextLine piece front behind → found.number ≡ old.number → found.taken ≡ length front + 1 → ((text : List ℕ) (ls : List Line) → StandsAt old text ls → StandsAt new (text ++ (front ++ (10 ∷ []))) (ls ++ (found.line ∷ []))) → (text : List ℕ) (ls : List Line) → StandsAt old text ls → Ends text ls piece new found
+line_ends old new piece front behind found next number taken ends text ls at =
+    let whole : length (front ++ (10 ∷ [])) ≡ length front + 1 = length-append front (10 ∷ []) in
+    let split : piece ≡ (front ++ (10 ∷ [])) ++ behind = next.split ∙ sym (append_assoc front (10 ∷ []) behind) in
+    let first : take found.taken piece ≡ front ++ (10 ∷ []) = ap (λ n. take n piece) (taken ∙ sym whole) ∙ ap (take (length (front ++ (10 ∷ [])))) split ∙ take-append-le (length (front ++ (10 ∷ []))) (front ++ (10 ∷ [])) behind (omega arith) ∙ take-length (front ++ (10 ∷ [])) in
+    record {
+      number = number ∙ at.number;
+      some = omega arith;
+      within = omega (arith, ap length split, length-append (front ++ (10 ∷ [])) behind);
+      stands = subst (λ t. StandsAt new (text ++ t) (ls ++ (found.line ∷ []))) (sym first) (ends text ls at);
+    }
+
+-- a line that was taken by a reader whose refusals are kept
+pub fed_line : (old mid new : Reader) (piece : List ℕ) (answer : Result (Option Ended) CertFault) → IsLineTaken old piece mid answer → new.line ≡ mid.line → new.number ≡ mid.number → new.begun ≡ mid.begun → new.ended ≡ mid.ended → new.failed ≡ is_err answer → (text : List ℕ) (ls : List Line) → StandsAt old text ls → FedLine text ls piece new answer
+fed_line old mid new piece (Ok None) taken line number begun ended failed text ls at = moved mid new (text ++ piece) ls line number begun ended failed (taken text ls at)
+fed_line old mid new piece (Ok (Some found)) taken line number begun ended failed text ls at =
+    let e = taken text ls at in
+    record { number = e.number; some = e.some; within = e.within; stands = moved mid new (text ++ take found.taken piece) (ls ++ (found.line ∷ [])) line number begun ended failed e.stands }
+fed_line old mid new piece (Err e) taken line number begun ended failed text ls at = taken.refused text ls at

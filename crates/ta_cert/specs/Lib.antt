@@ -5,4 +5,5 @@ pub mod Certificates
 pub mod Streams
 pub mod Steps
 pub mod Laws
+pub mod Answers
 pub mod Inside

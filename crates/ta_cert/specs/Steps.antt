@@ -1,9 +1,10 @@
 -- The steps of the reader, at each text that it may stand for.
-use Rattle.std.specs.Prelude.{◌≡◌, List, [], ◌∷◌, ◌++◌, ℕ, length, Result, Ok, Err}
-use Rattle.ta_cert.specs.Streams.{IsUnbroken, IsRefused, StandsAt, numbered}
+use Rattle.std.specs.Prelude.{◌≡◌, List, [], ◌∷◌, ◌++◌, ℕ, length, Option, Some, None, Result, Ok, Err}
+use Rattle.ta_cert.specs.Streams.{IsUnbroken, IsRefused, IsRefusedBehind, StandsAt, numbered, Ends}
 use Rattle.ta_cert.specs.declared.line.Line.{Line}
 use Rattle.ta_cert.specs.declared.fault.CertFault.{CertFault}
 use Rattle.ta_cert.specs.declared.fault.CertFault.TheVariants as fault
+use Rattle.ta_cert.specs.declared.reader.Ended.{Ended}
 use Rattle.ta_cert.specs.declared.reader.Reader.{Reader}
 
 -- the bytes before the first line feed, and those after it
@@ -21,15 +22,20 @@ pub record IsFaultAt (reader : Reader) (bytes : List ℕ) (e : CertFault) : Type
   pub fresh : IsFresh e
   pub refused : (text : List ℕ) (ls : List Line) → StandsAt reader text ls → IsRefused (text ++ bytes) e
 
+-- a fault that these bytes bring to the line that is unfinished
+pub record IsFaultHere (reader : Reader) (bytes : List ℕ) (e : CertFault) : Type 0 where
+  pub fresh : IsFresh e
+  pub refused : (text : List ℕ) (ls : List Line) → StandsAt reader text ls → IsRefusedBehind ls (text ++ bytes) e
+
 -- bytes of the unfinished line were kept
 abbrev pub IsKept : Reader → List ℕ → Reader → Result (Unit {0}) CertFault → Type 0
 IsKept old bytes new (Ok _) = (text : List ℕ) (ls : List Line) → StandsAt old text ls → StandsAt new (text ++ bytes) ls
-IsKept old bytes new (Err e) = IsFaultAt old bytes e
+IsKept old bytes new (Err e) = IsFaultHere old bytes e
 
 -- the unfinished line was ended behind these bytes
 abbrev pub IsEnded : Reader → List ℕ → Reader → Result Line CertFault → Type 0
 IsEnded old front new (Ok l) = (text : List ℕ) (ls : List Line) → StandsAt old text ls → StandsAt new (text ++ (front ++ (10 ∷ []))) (ls ++ (l ∷ []))
-IsEnded old front new (Err e) = IsFaultAt old (front ++ (10 ∷ [])) e
+IsEnded old front new (Err e) = IsFaultHere old (front ++ (10 ∷ [])) e
 
 -- a piece was taken, which completed these lines
 pub record AreTaken (old : Reader) (piece : List ℕ) (new : Reader) (lines : List (ℕ × Line)) : Type 0 where
@@ -40,3 +46,9 @@ pub record AreTaken (old : Reader) (piece : List ℕ) (new : Reader) (lines : Li
 abbrev pub IsTaken : Reader → List ℕ → Reader → Result (List (ℕ × Line)) CertFault → Type 0
 IsTaken old piece new (Ok lines) = AreTaken old piece new lines
 IsTaken old piece new (Err e) = IsFaultAt old piece e
+
+-- the bytes of a piece up to its first line feed were taken, which ended this line, or all of them
+abbrev pub IsLineTaken : Reader → List ℕ → Reader → Result (Option Ended) CertFault → Type 0
+IsLineTaken old piece new (Ok (Some found)) = (text : List ℕ) (ls : List Line) → StandsAt old text ls → Ends text ls piece new found
+IsLineTaken old piece new (Ok None) = (text : List ℕ) (ls : List Line) → StandsAt old text ls → StandsAt new (text ++ piece) ls
+IsLineTaken old piece new (Err e) = IsFaultHere old piece e

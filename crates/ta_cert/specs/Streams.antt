@@ -1,10 +1,11 @@
 -- What a text says that comes in pieces, line by line, and its first fault.
-use Rattle.std.specs.Prelude.{ℕ, ◌+◌, ◌-◌, ◌^◌, ◌<◌, ◌≤◌, ◌≡◌, ◌≢◌, ◌⊎◌, min, Bool, true, false, List, [], ◌∷◌, ◌++◌, length, Result, Ok, Err}
+use Rattle.std.specs.Prelude.{ℕ, ◌+◌, ◌-◌, ◌^◌, ◌<◌, ◌≤◌, ◌≡◌, ◌≢◌, ◌⊎◌, min, Bool, true, false, List, [], ◌∷◌, ◌++◌, length, take, Option, Some, None, Result, Ok, Err}
 use Rattle.std.specs.List.{AllByRecursion}
 use Rattle.ta_cert.specs.Lines.{line_text, lines_text, IsLine, is_header, is_end, has_end}
 use Rattle.ta_cert.specs.declared.line.Line.{Line}
 use Rattle.ta_cert.specs.declared.fault.CertFault.{CertFault}
 use Rattle.ta_cert.specs.declared.fault.CertFault.TheVariants as fault
+use Rattle.ta_cert.specs.declared.reader.Ended.{Ended}
 use Rattle.ta_cert.specs.declared.reader.Reader.{Reader}
 
 -- how many bytes a line has at most, its line feed aside
@@ -83,6 +84,13 @@ IsRefused text (fault.Trailing n) = IsTrailing text n
 IsRefused text fault.Memory = Unit {0}
 IsRefused text _ = ⊥
 
+-- a text that can't go on behind these lines is refused so, and nothing is said of memory
+abbrev pub IsRefusedBehind : List Line → List ℕ → CertFault → Type 0
+IsRefusedBehind ls text (fault.Line n) = (m : IsMalformed text n) × (m.ls ≡ ls)
+IsRefusedBehind ls text (fault.Trailing n) = (t : IsTrailing text n) × (t.ls ≡ ls)
+IsRefusedBehind ls text fault.Memory = Unit {0}
+IsRefusedBehind ls text _ = ⊥
+
 -- lines with their numbers, from the line behind n lines on
 abbrev pub numbered : ℕ → List Line → List (ℕ × Line)
 numbered n [] = []
@@ -119,6 +127,20 @@ pub record Completes (text piece : List ℕ) (lines : List (ℕ × Line)) : Type
 abbrev pub Fed : List ℕ → List ℕ → Reader → Result (List (ℕ × Line)) CertFault → Type 0
 Fed text piece reader (Ok lines) = StandsFor reader (text ++ piece) × Completes text piece lines
 Fed text piece reader (Err e) = IsRefused (text ++ piece) e
+
+-- a piece ended a line behind these: its number, and how many bytes of the piece there are up to its line feed
+pub record Ends (text : List ℕ) (ls : List Line) (piece : List ℕ) (reader : Reader) (found : Ended) : Type 0 where
+  pub number : found.number ≡ line_number (length ls)
+  pub some : 0 < found.taken
+  pub within : found.taken ≤ length piece
+  pub stands : StandsAt reader (text ++ take found.taken piece) (ls ++ found.line ∷ [])
+
+-- what a reader that stood for a text of these lines answers to the bytes of a piece up to its first line feed, or to all of them
+-- where there is none, and what it stands for then
+abbrev pub FedLine : List ℕ → List Line → List ℕ → Reader → Result (Option Ended) CertFault → Type 0
+FedLine text ls piece reader (Ok (Some found)) = Ends text ls piece reader found
+FedLine text ls piece reader (Ok None) = StandsAt reader (text ++ piece) ls
+FedLine text ls piece reader (Err e) = IsRefusedBehind ls (text ++ piece) e
 
 -- what a reader that stood for a text answers at its end
 abbrev pub Finished : List ℕ → Result (Unit {0}) CertFault → Type 0

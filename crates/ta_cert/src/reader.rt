@@ -3,8 +3,9 @@
 
 ghost use Rattle.std.specs.Prelude.{◌≡◌, ◌↔◌, ◌++◌, [], ℕ, List, true, IsErrOf, is_err, MatchOption};
 ghost use Rattle.ta_cert.specs.Laws.{IsExact, IsExactEnd};
-ghost use Rattle.ta_cert.specs.Streams.{StandsFor, IsUnbroken, Fed, Finished};
-ghost use Rattle.ta_cert.specs.Steps.{IsKept, IsEnded, IsTaken, NextLine};
+ghost use Rattle.ta_cert.specs.Streams.{StandsAt, StandsFor, IsUnbroken, Fed, FedLine, Finished};
+ghost use Rattle.ta_cert.specs.Steps.{IsKept, IsEnded, IsLineTaken, IsTaken, NextLine};
+ghost use Rattle.ta_cert.specs.declared.line.Line.{Line as AnyLine};
 
 use crate::fault::CertFault;
 use crate::line::Line;
@@ -24,6 +25,16 @@ pub struct Reader {
     begun: bool,
     ended: bool,
     failed: bool,
+}
+
+/// A line that a piece ended.
+#[derive(Drop)]
+pub struct Ended {
+    /// Its number, from 1; a number above 2^64 - 1 is given as 2^64 - 1.
+    pub number: u64,
+    pub line: Line,
+    /// How many bytes of the piece were taken: those up to its first line feed, this one included.
+    pub taken: usize,
 }
 
 /// The bytes before the first line feed, and those after it.
@@ -61,6 +72,21 @@ impl Reader {
             return Err(CertFault::Failed);
         }
         let answer = self.take(piece);
+        self.failed = answer.is_err();
+        answer
+    }
+
+    /// Takes the bytes of the next piece up to its first line feed, or all of them where there is
+    /// none, and gives the line that they end.
+    pub fn feed_line(&mut self, piece: &[u8]) -> Result<Option<Ended>, CertFault>
+        ensures answer { (text : List ℕ) (ls : List AnyLine) → StandsAt self.old text ls → FedLine text ls piece.now self.new result }
+        ensures refused { IsErrOf result CertFault.Failed ↔ (self.old.failed ≡ true) }
+        ensures stays { self.new.failed ≡ is_err result }
+    {
+        if self.failed {
+            return Err(CertFault::Failed);
+        }
+        let answer = self.take_line(piece);
         self.failed = answer.is_err();
         answer
     }
@@ -130,6 +156,28 @@ impl Reader {
         }
         self.keep(rest)?;
         Ok(List::from_vec(lines))
+    }
+
+    /// Takes the bytes of a piece up to its first line feed, or keeps all of them.
+    fn take_line(&mut self, piece: &[u8]) -> Result<Option<Ended>, CertFault>
+        ensures { IsLineTaken self.old piece.now self.new result }
+    {
+        match split_line(piece) {
+            None => {
+                self.keep(piece)?;
+                Ok(None)
+            }
+            Some((front, _)) => {
+                let number = self.number;
+                let taken = front.len() + 1;
+                let line = self.end_line(front)?;
+                Ok(Some(Ended {
+                    number,
+                    line,
+                    taken,
+                }))
+            }
+        }
     }
 
     /// Ends the unfinished line behind these bytes.

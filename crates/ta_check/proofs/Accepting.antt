@@ -21,9 +21,9 @@ use Rattle.ta_cert.proofs.CertLines.{cert_complete}
 use Rattle.ta_encode.specs.Refutes.{LeafOfRows}
 use Rattle.ta_encode.specs.InPreorder.{Pending, all_starts, parts, RefutedInOrder}
 use Rattle.ta_encode.proofs.Preorders.{in_order, weaker_proof}
-use Rattle.ta_encode.proofs.Theorems.{safety}
+use Rattle.ta_encode.proofs.Theorems.{no_solution, safety}
 use Rattle.ta_cursor.specs.Range.{Judged}
-use Rattle.ta_check.specs.Certificate.{ProvesPattern, number_of, Certificate, AllSafe}
+use Rattle.ta_check.specs.Certificate.{ProvesPattern, number_of, Certificate, CertificatesShow, AllSafe, AllUnsolved}
 use Rattle.ta_check.specs.Lines.{Standing, standing, at_first, AtWord, Begins, Stands, Ends, LeadThrough, MayFollow}
 
 -- what is proved is safe
@@ -42,6 +42,22 @@ each_safe file (q ∷ qs) loops prove =
 -- the patterns of a certificate are safe
 pub certificate_safe : (file : File) (text numbers : List ℕ) → LoopsPure file.automaton → Certificate file text numbers → AllSafe file numbers
 certificate_safe file text numbers loops c = subst (AllSafe file) (sym c.named) (each_safe file c.proofs loops c.prove)
+
+-- no word of what is proved has a solution
+each_unsolved : (file : File) (proofs : List (ℕ × List Tree)) → Each (ProvesPattern file) proofs → AllUnsolved file (map number_of proofs)
+each_unsolved file [] prove = tt
+each_unsolved file (q ∷ qs) prove =
+    let one = prove.0 in
+    let proof = weaker_proof Judged LeafOfRows (λ rows ts judged. judged.leaf) file.automaton one.pattern q.1 one.proves in
+    (record { pattern = one.pattern; named = one.named; none = λ start below word values. no_solution file.automaton one.pattern q.1 proof start below word values }, each_unsolved file qs prove.1)
+
+-- no word of a certificate's patterns has a solution
+pub certificate_unsolved : (file : File) (text numbers : List ℕ) → Certificate file text numbers → AllUnsolved file numbers
+certificate_unsolved file text numbers c = subst (AllUnsolved file) (sym c.named) (each_unsolved file c.proofs c.prove)
+
+-- a certificate shows both
+pub certificates_show : CertificatesShow
+certificates_show file text numbers loops c = record { safe = certificate_safe file text numbers loops c; unsolved = certificate_unsolved file text numbers c }
 
 -- lines behind a standing: nodes that refute what is pending for the newest pattern, and then proofs of other patterns
 record Behind (file : File) (s : Standing) (ls : List Line) (after : Standing) : Type 0 where

@@ -8,6 +8,7 @@ use Rattle.ta_cert.specs.declared.line.Node.TheVariants as node
 use Rattle.ta_cert.specs.declared.fault.CertFault.{CertFault}
 use Rattle.ta_cert.specs.declared.fault.CertFault.TheVariants as fault
 use Rattle.ta_encode.specs.InPreorder.{Pending, parts, MayStand}
+use Rattle.ta_encode.specs.Marks.{IsEncoding}
 use Rattle.ta_cursor.specs.declared.cursor.Cursor.{Cursor}
 use Rattle.ta_cursor.specs.Cursors.{GoesOn, IsWithin, Within, here}
 use Rattle.ta_farkas.specs.declared.LeafFault.{LeafFault}
@@ -24,6 +25,7 @@ pub record Newest (file : File) (s : Position) (at : Standing) (number : ℕ) : 
   pub begun : at.begun ≡ number ∷ older
   pub pattern : Pattern
   pub within : Within file s.cursor number pattern at.pending
+  pub kept : IsEncoding file.automaton pattern s.encoding
 
 same_number : (file : File) (s : Position) (at : Standing) (number : ℕ) → s.current ≡ Some number → InNewest file s at → Newest file s at number
 same_number file s at number current inside =
@@ -33,6 +35,7 @@ same_number file s at number current inside =
       begun = subst (λ k. at.begun ≡ k ∷ inside.older) same inside.begun;
       pattern = inside.pattern;
       within = subst (λ k. Within file s.cursor k inside.pattern at.pending) same inside.within;
+      kept = inside.kept;
     }
 
 -- a position that has a current pattern is in its proof
@@ -76,8 +79,8 @@ CurrentWhere true number current = current ≡ Some number
 CurrentWhere false number current = current ≡ None
 
 -- a position whose cursor went on is at what is left
-went_at : (file : File) (s : Position) (number : ℕ) (p : Pattern) (words : List Pending) (begun older : List ℕ) (more : Bool) → begun ≡ number ∷ older → begun ≡ reverse s.proved.items → CurrentWhere more number s.current → GoesOn file s.cursor number p words (Ok more) → IsAt file s (standing begun words)
-went_at file s number p [] begun older more newest proved current went = record {
+went_at : (file : File) (s : Position) (number : ℕ) (p : Pattern) (words : List Pending) (begun older : List ℕ) (more : Bool) → begun ≡ number ∷ older → begun ≡ reverse s.proved.items → CurrentWhere more number s.current → IsEncoding file.automaton p s.encoding → GoesOn file s.cursor number p words (Ok more) → IsAt file s (standing begun words)
+went_at file s number p [] begun older more newest proved current kept went = record {
   begun = proved;
   place = inl (record {
     current = subst (λ (m : Bool). CurrentWhere m number s.current) went.0 current;
@@ -85,7 +88,7 @@ went_at file s number p [] begun older more newest proved current went = record 
     left = refl;
   });
 }
-went_at file s number p (w ∷ ws) begun older more newest proved current went = record {
+went_at file s number p (w ∷ ws) begun older more newest proved current kept went = record {
   begun = proved;
   place = inr (record {
     number = number;
@@ -94,6 +97,7 @@ went_at file s number p (w ∷ ws) begun older more newest proved current went =
     begun = newest;
     pattern = p;
     within = went.1;
+    kept = kept;
   });
 }
 
@@ -108,9 +112,10 @@ pub node_taken : (file : File) (old new : Position) (at : Standing) (k number : 
     → MayStand Judged file.automaton first.pattern (here old.cursor) n
     → new.proved.items ≡ old.proved.items
     → CurrentWhere more k new.current
+    → IsEncoding file.automaton first.pattern new.encoding
     → GoesOn file new.cursor k first.pattern (parts file.automaton first.pattern (here old.cursor) n ++ first.within.words) (Ok more)
     → Taken file at number (line.Tree n) new (Ok tt)
-node_taken file old new at k number n more first is may proved current went =
+node_taken file old new at k number n more first is may proved current kept went =
     let words = parts file.automaton first.pattern (here old.cursor) n ++ first.within.words in
     let stands : Stands file at n (standing at.begun words) = record {
       pattern = first.pattern;
@@ -120,7 +125,7 @@ node_taken file old new at k number n more first is may proved current went =
       may = may;
       leads = refl;
     } in
-    (standing at.begun words, stands, went_at file new k first.pattern words at.begun first.older more first.begun (is.begun ∙ ap reverse (sym proved)) current went)
+    (standing at.begun words, stands, went_at file new k first.pattern words at.begun first.older more first.begun (is.begun ∙ ap reverse (sym proved)) current kept went)
 
 -- a leaf with a fault
 leaf_fails : (file : File) (s : Position) (at : Standing) (k : ℕ) (ts : List (ℕ × ℤ)) (f : LeafFault) (n : Newest file s at k) → FirstLeafFault file.automaton n.pattern (here s.cursor) ts f → LeafFails file at (line.Tree (node.Leaf ts)) f

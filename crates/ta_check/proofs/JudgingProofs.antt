@@ -8,6 +8,7 @@ use Rattle.ta_automaton.specs.Masks.{In}
 use Rattle.ta_automaton.specs.declared.file.File.{File}
 use Rattle.ta_automaton.specs.declared.pattern.Pattern.{Pattern}
 use Rattle.ta_encode.specs.InPreorder.{all_starts}
+use Rattle.ta_encode.specs.Marks.{IsEncoding}
 use Rattle.ta_cursor.specs.Cursors.{IsFirst}
 use Rattle.ta_check.specs.declared.position.Position.{Position}
 use Rattle.ta_check.specs.Lines.{Standing, standing, Begins}
@@ -15,15 +16,16 @@ use Rattle.ta_check.specs.Positions.{Between, IsAt}
 use Rattle.ta_cursor.proofs.Beginning.{begins_within}
 
 -- a position that has just begun the proof of a pattern
-pub record Began (old : Position) (k : ℕ) (new : Position) : Type 0 where
+pub record Began (file : File) (old : Position) (k : ℕ) (new : Position) : Type 0 where
   pub proved : new.proved.items ≡ old.proved.items ++ k ∷ []
   pub current : new.current ≡ Some k
   pub first : IsFirst new.cursor
+  pub kept : (p : Pattern) → IsEncoding file.automaton p new.encoding
 
 pattern_exists : (file : File) (k : ℕ) → k < length file.patterns → (p : Pattern) × (slice_get file.patterns k ≡ Some p)
 pattern_exists file k within = elim ((slice_get_cases file.patterns k).1) [ inl found ↦ (found.0, found.2) | inr past ↦ absurd (let beyond = past.0 in omega arith) ]
 
-began_at : (file : File) (old new : Position) (at : Standing) (k : ℕ) → k < length file.patterns → at.begun ≡ reverse old.proved.items → Began old k new → IsAt file new (standing (k ∷ at.begun) (all_starts file.automaton))
+began_at : (file : File) (old new : Position) (at : Standing) (k : ℕ) → k < length file.patterns → at.begun ≡ reverse old.proved.items → Began file old k new → IsAt file new (standing (k ∷ at.begun) (all_starts file.automaton))
 began_at file old new at k exists begun began =
     let found = pattern_exists file k exists in
     record {
@@ -35,11 +37,12 @@ began_at file old new at k exists begun began =
         begun = refl;
         pattern = found.0;
         within = begins_within file new.cursor k found.0 found.1 began.first;
+        kept = began.kept found.0;
       });
     }
 
 -- a proof that may begin begins
-pub begins : (file : File) (old new : Position) (at : Standing) (k : ℕ) → k < length file.patterns → (In k (reverse old.proved.items) → ⊥) → at.begun ≡ reverse old.proved.items → at.pending ≡ [] → Began old k new → (after : Standing) × Begins file at k after × IsAt file new after
+pub begins : (file : File) (old new : Position) (at : Standing) (k : ℕ) → k < length file.patterns → (In k (reverse old.proved.items) → ⊥) → at.begun ≡ reverse old.proved.items → at.pending ≡ [] → Began file old k new → (after : Standing) × Begins file at k after × IsAt file new after
 begins file old new at k exists fresh begun done began =
     let after = standing (k ∷ at.begun) (all_starts file.automaton) in
     let starts : Begins file at k after = record {

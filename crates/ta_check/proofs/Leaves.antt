@@ -1,5 +1,7 @@
 -- the judge of a leaf
-use Rattle.std.proofs.Common.{ℕ, ◌+◌, ◌^◌, ℤ, List, [], ◌∷◌}
+use Rattle.std.proofs.Common.{◌≡◌, ℕ, zero, suc, ◌+◌, ◌<◌, ◌≤◌, ◌^◌, ℤ, pos, unsigned_abs, List, [], ◌∷◌, ◌++◌, length, take, get_or, to_z, of_z, FitsSigned, ap, ◌∙◌, arith}
+use Rattle.std.specs.Int.{w128}
+use Rattle.std.proofs.lemmas.Int.{ints, to_z-of_z, fits_signed_from_abs}
 use Rattle.ta_linear.specs.Leaf.{AreMultipliers, LeafOf}
 use Rattle.ta_linear.specs.declared.row.System.{System}
 use Rattle.ta_automaton.specs.declared.automaton.Automaton.{Automaton}
@@ -11,6 +13,7 @@ use Rattle.ta_encode.specs.declared.meaning.Bound.{Bound}
 use Rattle.ta_encode.specs.Code.{SystemOf}
 use Rattle.ta_encode.proofs.CodeRows.{leaf_of}
 use Rattle.ta_farkas.specs.Columns.{CheckStays}
+use Rattle.ta_check.specs.Inside.Leaves.{renumbered}
 use Rattle.ta_cursor.specs.Range.{Judged}
 use Rattle.ta_cursor.proofs.Ranges.{leaf_stays}
 
@@ -25,3 +28,30 @@ judged a p start past bounds s ts is leaf stays = record {
   leaf = leaf_of a p start past bounds s ts is leaf;
   in_range = leaf_stays a p start past bounds s ts is stays;
 }
+
+-- a line has few pairs
+pub pairs_few : (low : ℕ) (ts : List (ℕ × ℤ)) → ArePairs low ts → 0 < length ts → low + length ts ≤ 2 ^ 32
+pairs_few low [] are some = absurd (omega arith)
+pairs_few low (t ∷ []) are some = let from = are.0 in let row = are.1.row in omega arith
+pairs_few low (t ∷ (u ∷ ts)) are some = let from = are.0 in let rest = pairs_few (t.0 + 1) (u ∷ ts) are.2 (omega arith) in omega arith
+
+-- one more multiplier
+pub renumbered_more : (k i : ℕ) (ts : List (ℕ × ℤ)) → i < length ts → renumbered k (take (i + 1) ts) ≡ renumbered k (take i ts) ++ (k + i, (get_or ts i (0, pos 0)).1) ∷ []
+renumbered_more k i [] below = absurd (omega arith)
+renumbered_more k zero (t ∷ ts) below = let e : k ≡ k + 0 = omega arith in ap (λ n. (n, t.1) ∷ []) e
+renumbered_more k (suc i) (t ∷ ts) below =
+    let e : k + 1 + i ≡ k + suc i = omega arith in
+    let more : suc i + 1 ≡ suc (i + 1) = omega arith in
+    ap (λ n. renumbered k (take n (t ∷ ts))) more ∙ ap (λ us. (k, t.1) ∷ us) (renumbered_more (k + 1) i ts (omega arith) ∙ ap (λ n. renumbered (k + 1) (take i ts) ++ (n, (get_or ts i (0, pos 0)).1) ∷ []) e)
+
+-- a pair's multiplier is in range
+pair_fits : (low : ℕ) (ts : List (ℕ × ℤ)) (i : ℕ) → ArePairs low ts → i < length ts → unsigned_abs (get_or ts i (0, pos 0)).1 < 2 ^ 127
+pair_fits low [] i are below = absurd (omega arith)
+pair_fits low (t ∷ ts) zero are below = let least = are.1.low in let most = are.1.high in omega (arith, ints)
+pair_fits low (t ∷ ts) (suc i) are below = pair_fits (t.0 + 1) ts i are.2 (omega arith)
+
+pub pair_clean : (low : ℕ) (ts : List (ℕ × ℤ)) (i : ℕ) → ArePairs low ts → i < length ts → to_z w128 (of_z w128 (get_or ts i (0, pos 0)).1) ≡ (get_or ts i (0, pos 0)).1
+pair_clean low ts i are below =
+    let z = (get_or ts i (0, pos 0)).1 in
+    let fits : FitsSigned w128 z = fits_signed_from_abs w128 z (pair_fits low ts i are below) in
+    to_z-of_z w128 z fits

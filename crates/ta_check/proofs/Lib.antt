@@ -5,10 +5,10 @@ mod LeafFaults
 mod Reasons
 mod Refusing
 mod OneFault
-mod FedLines
-mod CheckedSoFar
+mod Pieces
 mod Answering
 mod Leaves
+mod Picking
 mod JudgingMembers
 mod JudgingNodes
 mod JudgingProofs

@@ -1,12 +1,14 @@
 -- Certificates of a file (Farkas' lemma and integer branching over the words of this project's profile)
-use Rattle.std.specs.Prelude.{ℕ, ◌≡◌, List, map, slice_get, Some}
+use Rattle.std.specs.Prelude.{ℕ, ◌≡◌, ◌<◌, ◌^◌, List, length, map, slice_get, Some}
 use Rattle.ta_automaton.specs.declared.file.File.{File}
 use Rattle.ta_automaton.specs.declared.pattern.Pattern.{Pattern}
 use Rattle.ta_automaton.specs.Lists.{Each, Distinct}
-use Rattle.ta_automaton.specs.Runs.{Safe}
+use Rattle.ta_automaton.specs.Runs.{LoopsPure, Safe}
 use Rattle.ta_cert.specs.Tree.{Tree}
 use Rattle.ta_cert.specs.Laws.{AreShort}
 use Rattle.ta_cert.specs.Certificates.{AreWritable, CertText, cert_lines, proofs_of}
+use Rattle.ta_words.specs.declared.element.Element.{Element}
+use Rattle.ta_encode.specs.Laws.{SolvedWord}
 use Rattle.ta_encode.specs.Refutes.{ProofBy}
 use Rattle.ta_cursor.specs.Range.{Judged}
 
@@ -38,3 +40,23 @@ pub record PatternSafe (file : File) (number : ℕ) : Type 0 where
 -- so are all of these
 abbrev pub AllSafe : File → List ℕ → Type 0
 AllSafe file numbers = Each (PatternSafe file) numbers
+
+-- of the file's pattern of a number, under no set of fall guards that are false at the start, a complete legal word has a natural
+-- solution of its system
+pub record PatternUnsolved (file : File) (number : ℕ) : Type 0 where
+  pub pattern : Pattern
+  pub named : slice_get file.patterns number ≡ Some pattern
+  pub none : (start : ℕ) → start < 2 ^ length file.automaton.fall → (word : List Element) (values : List ℕ) → ¬ SolvedWord file.automaton pattern start word values
+
+-- so are all of these
+abbrev pub AllUnsolved : File → List ℕ → Type 0
+AllUnsolved file numbers = Each (PatternUnsolved file) numbers
+
+-- a certificate shows both of its patterns
+pub record Shown (file : File) (numbers : List ℕ) : Type 0 where
+  pub safe : AllSafe file numbers
+  pub unsolved : AllUnsolved file numbers
+
+-- a certificate of a file shows that its patterns are safe and that their words have no solution
+abbrev pub CertificatesShow : Type 0
+CertificatesShow = (file : File) (text numbers : List ℕ) → LoopsPure file.automaton → Certificate file text numbers → Shown file numbers

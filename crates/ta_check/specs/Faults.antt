@@ -96,3 +96,8 @@ TextAtFault file text _ = ⊥
 -- the first line at fault
 abbrev pub IsFirstFault : File → List ℕ → CertFault → Type 0
 IsFirstFault file text f = LineAtFault file text f ⊎ TextAtFault file text f
+
+-- a first fault that each longer text keeps: any but the end that comes too early
+abbrev pub IsLasting : File → List ℕ → CertFault → Type 0
+IsLasting file text (fault.Truncated n) = ⊥
+IsLasting file text f = IsFirstFault file text f

@@ -2,4 +2,5 @@ pub mod Certificate
 pub mod Lines
 pub mod Faults
 pub mod Positions
+pub mod Checkers
 pub mod Inside

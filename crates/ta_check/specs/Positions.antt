@@ -7,6 +7,7 @@ use Rattle.ta_cert.specs.declared.fault.CertFault.{CertFault}
 use Rattle.ta_cert.specs.declared.fault.CertFault.TheVariants as fault
 use Rattle.ta_encode.specs.System.{system_rows}
 use Rattle.ta_encode.specs.InPreorder.{Pending}
+use Rattle.ta_encode.specs.Marks.{IsEncoding}
 use Rattle.ta_cursor.specs.Cursors.{IsFirst, Within}
 use Rattle.ta_farkas.specs.declared.LeafFault.TheVariants as leaf
 use Rattle.ta_check.specs.declared.position.Position.{Position}
@@ -28,6 +29,7 @@ pub record InNewest (file : File) (s : Position) (at : Standing) : Type 0 where
   pub begun : at.begun ≡ number ∷ older
   pub pattern : Pattern
   pub within : Within file s.cursor number pattern at.pending
+  pub kept : IsEncoding file.automaton pattern s.encoding
 
 -- the position's fields are those of a standing
 pub record IsAt (file : File) (s : Position) (at : Standing) : Type 0 where

@@ -5,15 +5,13 @@ ghost use Rattle.std.specs.Prelude.{◌≢◌, ℕ, List, IfErr, IfOk};
 ghost use Rattle.ta_cert.specs.Laws.{IsErrOrMemory};
 ghost use Rattle.ta_cert.specs.declared.fault.CertFault.{CertFault as AnyFault};
 ghost use Rattle.ta_cert.specs.declared.fault.CertFault.TheVariants.{Memory};
-ghost use Rattle.ta_check.specs.Certificate.{AllSafe, Certificate};
+ghost use Rattle.ta_check.specs.Certificate.{AllSafe, AllUnsolved, Certificate};
 ghost use Rattle.ta_check.specs.Faults.{IsFirstFault};
 
 use crate::accepted::Accepted;
-use crate::feeding::{feed_line, next_piece};
-use crate::position::Position;
+use crate::checker::Checker;
 use std::alloc::Global;
-use ta_automaton::List;
-use ta_cert::{CertFault, Reader};
+use ta_cert::CertFault;
 use ta_scope::ScopedFile;
 
 /// Judges a certificate of a file. What is accepted is proved: the patterns that it names happen in
@@ -24,29 +22,9 @@ pub fn check(alloc: Global, scoped: &ScopedFile, text: &[u8]) -> Result<Accepted
     ensures fault { IfErr result (λ fault. fault ≢ Memory → IsFirstFault scoped.now.file text.now fault) }
     ensures exact { (fault : AnyFault) → IsFirstFault scoped.now.file text.now fault → IsErrOrMemory result fault }
     ensures safe { IfOk result (λ accepted. AllSafe scoped.now.file accepted.patterns) }
+    ensures unsolved { IfOk result (λ accepted. AllUnsolved scoped.now.file accepted.patterns) }
 {
-    judge(alloc, scoped, text)
-}
-
-/// Judges a certificate line by line.
-fn judge(alloc: Global, scoped: &ScopedFile, text: &[u8]) -> Result<Accepted, CertFault>
-    ensures accepted { IfOk result (λ accepted. Certificate scoped.now.file text.now accepted.patterns) }
-    ensures fault { IfErr result (λ fault. fault ≢ Memory → IsFirstFault scoped.now.file text.now fault) }
-{
-    let file = &scoped.file;
-    let mut reader = Reader::new(alloc);
-    let mut position = Position::new(alloc, file);
-    let mut rest = text;
-    'lines: while !rest.is_empty() {
-        let (piece, behind) = next_piece(rest);
-        rest = behind;
-        let Some((number, line)) = feed_line(&mut reader, piece)? else {
-            continue;
-        };
-        position.take_line(alloc, file, number, &line)?;
-    }
-    reader.finish()?;
-    Ok(Accepted {
-        patterns: List::from_vec(position.proved),
-    })
+    let mut checker = Checker::new(alloc, scoped);
+    checker.feed(text)?;
+    checker.finish()
 }

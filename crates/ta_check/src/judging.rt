@@ -14,7 +14,7 @@ use crate::position::Position;
 use std::alloc::Global;
 use ta_automaton::File;
 use ta_cert::{CertFault, Line, Node};
-use ta_encode::unknown_count;
+use ta_encode::{Encoding, unknown_count};
 use ta_words::is_complete;
 
 impl Position {
@@ -32,14 +32,20 @@ impl Position {
     {
         match line {
             Line::Header => Ok(()),
-            Line::Pattern(pattern) => self.begin(file, number, *pattern),
+            Line::Pattern(pattern) => self.begin(alloc, file, number, *pattern),
             Line::Tree(node) => self.take_node(alloc, file, number, node),
             Line::End => self.end(file, number),
         }
     }
 
     /// Takes the line that begins the proof of a pattern.
-    fn begin(&mut self, file: &File, number: u64, pattern: u32) -> Result<(), CertFault>
+    fn begin(
+        &mut self,
+        alloc: Global,
+        file: &File,
+        number: u64,
+        pattern: u32,
+    ) -> Result<(), CertFault>
         requires { IsSomewhere file.now self.old }
         ensures { (at : Standing) → IsAt file.now self.old at → Taken file.now at number (Pattern pattern) self.new result }
     {
@@ -54,6 +60,7 @@ impl Position {
         }
         self.proved.push(pattern)?;
         self.current = Some(pattern);
+        self.encoding = Encoding::new(alloc);
         Ok(())
     }
 
@@ -153,7 +160,15 @@ impl Position {
         requires form { ArePairs 0 multipliers.now }
         ensures { (at : Standing) → IsAt file.now self.old at → Taken file.now at number (Tree (Leaf multipliers.now)) self.new result }
     {
-        judge_leaf(alloc, file, pattern, &self.cursor, number, multipliers)?;
+        judge_leaf(
+            alloc,
+            file,
+            pattern,
+            &self.cursor,
+            &mut self.encoding,
+            number,
+            multipliers,
+        )?;
         if !self.cursor.leave(file, pattern)? {
             self.current = None;
         }

@@ -1,47 +1,91 @@
 //! The leaves of a certificate.
 #![tactic(auto)]
 
-ghost use Rattle.std.specs.Prelude.{ℕ, ℤ, List, Err};
+ghost use Rattle.std.specs.Prelude.{ℕ, ℤ, ◌≡◌, ◌<◌, ◌≤◌, ◌^◌, List, IfOk, OnOk, Err, length};
 ghost use Rattle.ta_automaton.specs.declared.file.File.{File as FileValue};
 ghost use Rattle.ta_automaton.specs.declared.pattern.Pattern.{Pattern};
 ghost use Rattle.ta_cert.specs.Lines.{ArePairs};
 ghost use Rattle.ta_encode.specs.InPreorder.{Pending};
+ghost use Rattle.ta_encode.specs.Marks.{IsEncoding};
+ghost use Rattle.ta_words.specs.Calls.{OfPattern};
 ghost use Rattle.ta_cursor.specs.Cursors.{IsWithin, Within, here};
 ghost use Rattle.ta_check.specs.Faults.{FirstLeafFault};
+ghost use Rattle.ta_check.specs.Inside.Leaves.{WithoutBounds, renumbered};
 ghost use Rattle.ta_check.specs.Positions.{LeafTaken};
 
-use std::alloc::Global;
+use std::alloc::{AllocError, Global};
+use std::mem;
 use ta_automaton::File;
 use ta_cert::CertFault;
 use ta_cursor::Cursor;
-use ta_encode::encode;
+use ta_encode::{Encoding, Grown, Named, named_rows};
 use ta_farkas::{LeafFault, check_leaf};
+use ta_linear::System;
 
-/// Judges a leaf at the cursor's word, in the line of this number.
+/// Judges a leaf at the cursor's word, in the line of this number. The rows of the word are written
+/// on from those of the leaf before; a bound's row is written where the leaf names it.
 pub(crate) fn judge_leaf(
     alloc: Global,
     file: &File,
     pattern: u32,
     cursor: &Cursor,
+    encoding: &mut Encoding,
     number: u64,
     multipliers: &[(u32, i128)],
 ) -> Result<(), CertFault>
     requires within { IsWithin file.now cursor.now pattern }
+    requires kept { OfPattern file.now pattern (λ p. IsEncoding file.now.automaton p encoding.old) }
     requires pairs { ArePairs 0 multipliers.now }
-    ensures { (p : Pattern) (pending : List Pending) → Within file.now cursor.now pattern p pending → LeafTaken file.now p (here cursor.now) number multipliers.now result }
+    ensures kept { OnOk result (OfPattern file.now pattern (λ p. IsEncoding file.now.automaton p encoding.new)) }
+    ensures taken { (p : Pattern) (pending : List Pending) → Within file.now cursor.now pattern p pending → LeafTaken file.now p (here cursor.now) number multipliers.now result }
 {
-    let encoded = encode(
-        alloc,
-        file,
-        pattern,
-        cursor.start_mask(),
-        cursor.word(),
-        cursor.bounds(),
-    )?;
-    match check_leaf(&encoded.system, multipliers) {
-        Ok(()) => Ok(()),
-        Err(fault) => Err(fault_in(number, fault)),
+    grow(alloc, file, pattern, cursor, encoding)?;
+    let system = &encoding.system;
+    match named_rows(alloc, system, cursor.bounds(), multipliers)? {
+        Named::Absent(row) => Err(CertFault::Row { line: number, row }),
+        Named::Rows(rows) => {
+            let again = renumbered(alloc, multipliers)?;
+            match check_leaf(&rows, again.as_slice()) {
+                Ok(()) => Ok(()),
+                Err(fault) => Err(fault_in(number, fault)),
+            }
+        }
     }
+}
+
+/// Writes the rows of the cursor's word, without bounds, on from those of another word.
+fn grow(
+    alloc: Global,
+    file: &File,
+    pattern: u32,
+    cursor: &Cursor,
+    encoding: &mut Encoding,
+) -> Result<(), AllocError>
+    requires within { IsWithin file.now cursor.now pattern }
+    requires kept { OfPattern file.now pattern (λ p. IsEncoding file.now.automaton p encoding.old) }
+    ensures kept { OnOk result (OfPattern file.now pattern (λ p. IsEncoding file.now.automaton p encoding.new)) }
+    ensures system { OnOk result (OfPattern file.now pattern (λ p. WithoutBounds file.now.automaton p (here cursor.now) encoding.new.system)) }
+{
+    let before = mem::replace(encoding, Encoding::new(alloc));
+    let start_mask = cursor.start_mask();
+    let Grown {
+        encoding: after,
+        same: _,
+    } = before.grown(alloc, file, pattern, start_mask, cursor.word(), &[])?;
+    *encoding = after;
+    Ok(())
+}
+
+/// The multipliers of a list, numbered from 0 by their places.
+fn renumbered(alloc: Global, multipliers: &[(u32, i128)]) -> Result<Vec<(u32, i128)>, AllocError>
+    requires { ArePairs 0 multipliers.now }
+    ensures { IfOk result (λ again. again.items ≡ renumbered 0 multipliers.now) }
+{
+    let mut again = Vec::new(alloc);
+    for (place, (_, multiplier)) in multipliers.iter().enumerate() {
+        again.push((place as u32, *multiplier))?;
+    }
+    Ok(again)
 }
 
 /// The fault of a leaf in the line of this number.

@@ -2,11 +2,14 @@
 #![tactic(auto)]
 
 mod accepted;
+mod checker;
 mod checking;
-mod feeding;
 mod judging;
+mod laws;
 mod leaf;
 mod position;
 
 pub use accepted::Accepted;
+pub use checker::Checker;
 pub use checking::check;
+pub use laws::certificates_show;

@@ -7,6 +7,7 @@ ghost use Rattle.ta_check.specs.Positions.{IsAt};
 use std::alloc::Global;
 use ta_automaton::File;
 use ta_cursor::Cursor;
+use ta_encode::Encoding;
 
 /// Where a certificate is being read.
 #[derive(Drop)]
@@ -17,6 +18,9 @@ pub(crate) struct Position {
     pub current: Option<u32>,
     /// The node whose line comes next. Between two proofs it is the first node.
     pub cursor: Cursor,
+    /// The rows of the word of the last leaf of the proof that is being read, so that those of the
+    /// next are written on from them. No answer depends on them.
+    pub encoding: Encoding,
 }
 
 impl Position {
@@ -29,6 +33,7 @@ impl Position {
             proved: Vec::new(alloc),
             current: None,
             cursor: Cursor::new(alloc),
+            encoding: Encoding::new(alloc),
         }
     }
 }

@@ -10,3 +10,4 @@ mod Firing
 mod Updating
 mod Moving
 mod Guarding
+mod Holdings

@@ -54,18 +54,24 @@ same_pending a b past before xs ys e f g = cc
 word_kept : (s t : Cursor) (f : Frame) → BeginAlike s t f.length f.bounds → word_of t f ≡ word_of s f
 word_kept s t f h = same_pending t.start_mask s.start_mask (reverse (take f.length t.word)) (reverse (take f.length s.word)) (take f.bounds t.bounds.items) (take f.bounds s.bounds.items) h.start (ap reverse h.word) h.bounds
 
-pub frames_kept : (a : Automaton) (p : Pattern) (s t : Cursor) (n m : ℕ) (fs : List Frame) → BeginAlike s t n m → FramesFit a p s n m fs → FramesFit a p t n m fs
-frames_kept a p s t n m [] h fit = tt
-frames_kept a p s t n m (f ∷ fs) h fit =
+pub frames_kept : (a : Automaton) (p : Pattern) (s t : Cursor) (w : Pending) (n m : ℕ) (fs : List Frame) → BeginAlike s t n m → FramesFit a p s w n m fs → FramesFit a p t w n m fs
+frames_kept a p s t w n m [] h fit = fit
+frames_kept a p s t w n m (f ∷ fs) h fit =
     let alike = alike_before s t n m f.length f.bounds h fit.0 fit.1 in
-    (fit.0, fit.1, subst (λ (w : Pending). FrameFits a p w f) (sym (word_kept s t f alike)) fit.2, frames_kept a p s t f.length f.bounds fs alike fit.3)
+    let same = sym (word_kept s t f alike) in (
+      fit.0,
+      fit.1,
+      subst (λ (v : Pending). FrameFits a p v f) same fit.2,
+      subst (λ (v : Pending). slice_get (parts a p v (node_of f.split)) f.next ≡ Some w) same fit.3,
+      subst (λ (v : Pending). FramesFit a p t v f.length f.bounds fs) same (frames_kept a p s t (word_of s f) f.length f.bounds fs alike fit.4),
+    )
 
-pub left_kept : (a : Automaton) (p : Pattern) (s t : Cursor) (n m : ℕ) (fs : List Frame) → BeginAlike s t n m → FramesFit a p s n m fs → all_behind a p t fs ≡ all_behind a p s fs
-left_kept a p s t n m [] h fit = ap (λ (k : ℕ). drop (k + 1) (all_starts a)) h.start
-left_kept a p s t n m (f ∷ fs) h fit =
+pub left_kept : (a : Automaton) (p : Pattern) (s t : Cursor) (w : Pending) (n m : ℕ) (fs : List Frame) → BeginAlike s t n m → FramesFit a p s w n m fs → all_behind a p t fs ≡ all_behind a p s fs
+left_kept a p s t w n m [] h fit = ap (λ (k : ℕ). drop (k + 1) (all_starts a)) h.start
+left_kept a p s t w n m (f ∷ fs) h fit =
     let alike = alike_before s t n m f.length f.bounds h fit.0 fit.1 in
     ap (λ (w : Pending). drop (f.next + 1) (parts a p w (node_of f.split)) ++ all_behind a p t fs) (word_kept s t f alike)
-    ∙ ap (λ (ws : List Pending). behind a p s f ++ ws) (left_kept a p s t f.length f.bounds fs alike fit.3)
+    ∙ ap (λ (ws : List Pending). behind a p s f ++ ws) (left_kept a p s t (word_of s f) f.length f.bounds fs alike fit.4)
 
 -- a cursor at which a node was opened, and whose word and bounds are the node's and more
 pub record Opened (old new : Cursor) (f : Frame) : Type 0 where
@@ -115,14 +121,16 @@ opened_on file old new number p w words f within o split legal fits part =
     let same : words ≡ within.words = (let e = within.left in cc) in
     let is = opened_word old new f o in
     let all : reverse new.frames.items ≡ f ∷ fs = ap reverse o.frames ∙ reverse-append old.frames.items (f ∷ []) in
-    let outer : FramesFit a p old f.length f.bounds fs = subst (λ (n : ℕ). FramesFit a p old n f.bounds fs) (sym o.elements) (subst (λ (m : ℕ). FramesFit a p old (length old.word) m fs) (sym o.marks) within.inside.frames) in
+    let outer : FramesFit a p old (here old) f.length f.bounds fs = subst (λ (n : ℕ). FramesFit a p old (here old) n f.bounds fs) (sym o.elements) (subst (λ (m : ℕ). FramesFit a p old (here old) (length old.word) m fs) (sym o.marks) within.inside.frames) in
+    let chain = subst (λ (v : Pending). slice_get (parts a p v (node_of f.split)) f.next ≡ Some (here new)) (at ∙ sym is) part in
+    let around = subst (λ (v : Pending). FramesFit a p new v f.length f.bounds fs) (sym is) (frames_kept a p old new (here old) f.length f.bounds fs alike outer) in
     let whole : FrameFits a p (here old) f = record { bounds = within.bounds; split = split } in
-    let fit : FramesFit a p new (length new.word) (length new.bounds.items) (f ∷ fs) =
-    (longer_by f.length old.word new.word o.more_word o.elements o.word, longer_by f.bounds old.bounds.items new.bounds.items o.more_bounds o.marks o.bounds, subst (λ (v : Pending). FrameFits a p v f) (sym is) whole, frames_kept a p old new f.length f.bounds fs alike outer) in
+    let fit : FramesFit a p new (here new) (length new.word) (length new.bounds.items) (f ∷ fs) =
+    (longer_by f.length old.word new.word o.more_word o.elements o.word, longer_by f.bounds old.bounds.items new.bounds.items o.more_bounds o.marks o.bounds, subst (λ (v : Pending). FrameFits a p v f) (sym is) whole, chain, around) in
     let rest = drop (f.next + 1) (parts a p w (node_of f.split)) ++ words in
     let left : rest ≡ all_behind a p new (f ∷ fs) =
     ap (λ (v : Pending). drop (f.next + 1) (parts a p v (node_of f.split)) ++ words) (at ∙ sym is)
-    ∙ ap (λ (ws : List Pending). behind a p new f ++ ws) (same ∙ within.inside.left ∙ sym (left_kept a p old new f.length f.bounds fs alike outer)) in
+    ∙ ap (λ (ws : List Pending). behind a p new f ++ ws) (same ∙ within.inside.left ∙ sym (left_kept a p old new (here old) f.length f.bounds fs alike outer)) in
     let dropped = ap (λ (ws : List Pending). ws ++ words) (next_dropped (parts a p w (node_of f.split)) f.next (here new) part) in
     subst (Within file new number p) (sym dropped) (record {
       words = rest;
@@ -130,7 +138,7 @@ opened_on file old new number p w words f within o split legal fits part =
         named = within.inside.named;
         start = subst (λ (k : ℕ). k < 2 ^ length a.fall) (sym o.start) within.inside.start;
         legal = legal;
-        frames = subst (FramesFit a p new (length new.word) (length new.bounds.items)) (sym all) fit;
+        frames = subst (FramesFit a p new (here new) (length new.word) (length new.bounds.items)) (sym all) fit;
         left = left ∙ ap (all_behind a p new) (sym all);
       };
       bounds = fits;
@@ -144,8 +152,8 @@ pub record Popped (old new : Cursor) (f : Frame) : Type 0 where
   pub word : new.word ≡ take f.length old.word
   pub bounds : new.bounds.items ≡ take f.bounds old.bounds.items
 
-popped_frames : (file : File) (old new : Cursor) (number : ℕ) (p : Pattern) (words : List Pending) (f : Frame) → Inside file old number p words → Popped old new f → FramesFit file.automaton p old (length old.word) (length old.bounds.items) (f ∷ reverse new.frames.items)
-popped_frames file old new number p words f inside o = subst (FramesFit file.automaton p old (length old.word) (length old.bounds.items)) (ap reverse o.frames ∙ reverse-append new.frames.items (f ∷ [])) inside.frames
+popped_frames : (file : File) (old new : Cursor) (number : ℕ) (p : Pattern) (words : List Pending) (f : Frame) → Inside file old number p words → Popped old new f → FramesFit file.automaton p old (here old) (length old.word) (length old.bounds.items) (f ∷ reverse new.frames.items)
+popped_frames file old new number p words f inside o = subst (FramesFit file.automaton p old (here old) (length old.word) (length old.bounds.items)) (ap reverse o.frames ∙ reverse-append new.frames.items (f ∷ [])) inside.frames
 
 -- the words behind the child of an open node are those of the node, and then those of the nodes around it
 pub record Reopened (file : File) (new : Cursor) (number : ℕ) (p : Pattern) (words : List Pending) (f : Frame) : Type 0 where
@@ -174,21 +182,21 @@ reopened file old new number p words f inside o =
     let whole : FrameFits a p (here new) f = subst (λ (v : Pending). FrameFits a p v f) (sym is) fit.2 in
     let elements : length new.word ≡ f.length = ap length o.word ∙ length-take-le f.length old.word fit.0 in
     let marks : length new.bounds.items ≡ f.bounds = ap length o.bounds ∙ length-take-le f.bounds old.bounds.items fit.1 in
-    let outer = frames_kept a p old new f.length f.bounds fs alike fit.3 in
+    let outer = subst (λ (v : Pending). FramesFit a p new v f.length f.bounds fs) (sym is) (frames_kept a p old new (word_of old f) f.length f.bounds fs alike fit.4) in
     let all : reverse old.frames.items ≡ f ∷ fs = ap reverse o.frames ∙ reverse-append new.frames.items (f ∷ []) in
     record {
       rest = all_behind a p new fs;
       left =
           inside.left ∙ ap (all_behind a p old) all
           ∙ ap (λ (v : Pending). drop (f.next + 1) (parts a p v (node_of f.split)) ++ all_behind a p old fs) (sym is)
-          ∙ ap (λ (ws : List Pending). drop (f.next + 1) (parts a p (here new) (node_of f.split)) ++ ws) (sym (left_kept a p old new f.length f.bounds fs alike fit.3));
+          ∙ ap (λ (ws : List Pending). drop (f.next + 1) (parts a p (here new) (node_of f.split)) ++ ws) (sym (left_kept a p old new (word_of old f) f.length f.bounds fs alike fit.4));
       within = record {
         words = all_behind a p new fs;
         inside = record {
           named = inside.named;
           start = subst (λ (k : ℕ). k < 2 ^ length a.fall) (sym o.start) inside.start;
           legal = subst (λ (k : ℕ). Legal a p k (reverse new.word)) (sym o.start) (subst (λ (xs : List Element). Legal a p old.start_mask (reverse xs)) (sym o.word) (prefix_is_legal a p old.start_mask old.word inside.legal f.length));
-          frames = subst (λ (n : ℕ). FramesFit a p new n (length new.bounds.items) fs) (sym elements) (subst (λ (m : ℕ). FramesFit a p new f.length m fs) (sym marks) outer);
+          frames = subst (λ (n : ℕ). FramesFit a p new (here new) n (length new.bounds.items) fs) (sym elements) (subst (λ (m : ℕ). FramesFit a p new (here new) f.length m fs) (sym marks) outer);
           left = refl;
         };
         bounds = whole.bounds;
@@ -200,5 +208,5 @@ reopened file old new number p words f inside o =
 -- an open node stands within the word
 pub frame_within : (file : File) (s : Cursor) (number : ℕ) (p : Pattern) (words : List Pending) (fs : List Frame) (f : Frame) → Inside file s number p words → s.frames.items ≡ fs ++ f ∷ [] → f.length ≤ length s.word
 frame_within file s number p words fs f inside e =
-    let fit = subst (FramesFit file.automaton p s (length s.word) (length s.bounds.items)) (ap reverse e ∙ reverse-append fs (f ∷ [])) inside.frames in
+    let fit = subst (FramesFit file.automaton p s (here s) (length s.word) (length s.bounds.items)) (ap reverse e ∙ reverse-append fs (f ∷ [])) inside.frames in
     fit.0

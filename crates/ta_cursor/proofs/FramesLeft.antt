@@ -17,6 +17,9 @@ pub record SamePlace (s t : Cursor) : Type 0 where
   pub bounds : t.bounds.items ≡ s.bounds.items
   pub frames : t.frames.items ≡ s.frames.items
 
+same_here : (s t : Cursor) → SamePlace s t → here t ≡ here s
+same_here s t same = let start = same.start in let word = same.word in let bounds = same.bounds in cc
+
 pub inside_moved : (file : File) (s t : Cursor) (number : ℕ) (p : Pattern) (words : List Pending) → Inside file s number p words → SamePlace s t → Inside file t number p words
 inside_moved file s t number p words inside same =
     let a = file.automaton in
@@ -24,16 +27,16 @@ inside_moved file s t number p words inside same =
     let m = length s.bounds.items in
     let fs = reverse s.frames.items in
     let alike : BeginAlike s t n m = record { start = same.start; word = ap (take n) same.word; bounds = ap (take m) same.bounds } in
-    let fit = frames_kept a p s t n m fs alike inside.frames in
+    let fit = subst (λ (v : Pending). FramesFit a p t v n m fs) (sym (same_here s t same)) (frames_kept a p s t (here s) n m fs alike inside.frames) in
     let all : fs ≡ reverse t.frames.items = ap reverse (sym same.frames) in
     record {
       named = inside.named;
       start = subst (λ (k : ℕ). k < 2 ^ length a.fall) (sym same.start) inside.start;
       legal = subst (λ (k : ℕ). Legal a p k (reverse t.word)) (sym same.start) (subst (λ (xs : List Element). Legal a p s.start_mask (reverse xs)) (sym same.word) inside.legal);
       frames =
-          subst (FramesFit a p t (length t.word) (length t.bounds.items)) all
-          (subst (λ (xs : List Element). FramesFit a p t (length xs) (length t.bounds.items) fs) (sym same.word) (subst (λ (bs : List Bound). FramesFit a p t n (length bs) fs) (sym same.bounds) fit));
-      left = inside.left ∙ sym (left_kept a p s t n m fs alike inside.frames) ∙ ap (all_behind a p t) all;
+          subst (FramesFit a p t (here t) (length t.word) (length t.bounds.items)) all
+          (subst (λ (xs : List Element). FramesFit a p t (here t) (length xs) (length t.bounds.items) fs) (sym same.word) (subst (λ (bs : List Bound). FramesFit a p t (here t) n (length bs) fs) (sym same.bounds) fit));
+      left = inside.left ∙ sym (left_kept a p s t (here s) n m fs alike inside.frames) ∙ ap (all_behind a p t) all;
     }
 
 -- the cursor left open nodes behind which nothing comes

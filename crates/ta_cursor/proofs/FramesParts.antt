@@ -173,7 +173,7 @@ emptied_within file s number p named o below =
         named = named;
         start = below;
         legal = subst (Legal a p s.start_mask) past tt;
-        frames = subst (λ (fs : List Frame). FramesFit a p s (length s.word) (length s.bounds.items) (reverse fs)) (sym o.frames) tt;
+        frames = subst (λ (fs : List Frame). FramesFit a p s (here s) (length s.word) (length s.bounds.items) (reverse fs)) (sym o.frames) (ap reverse o.word, o.bounds);
         left = ap (λ (fs : List Frame). all_behind a p s (reverse fs)) (sym o.frames);
       };
       bounds = subst (BoundsFit a p) reached tt;

@@ -50,21 +50,24 @@ pub record FrameFits (a : Automaton) (p : Pattern) (w : Pending) (f : Frame) : T
   pub bounds : BoundsFit a p w
   pub split : SplitFits (length (meanings a p w.start w.past)) f.split
 
--- open nodes, the innermost first, each of which stands at a beginning of the word and of the bounds of the one inside it
-abbrev pub FramesFit : Automaton → Pattern → Cursor → ℕ → ℕ → List Frame → Type 0
-FramesFit a p s elements bounds [] = Unit {0}
-FramesFit a p s elements bounds (f ∷ fs) =
+-- open nodes, the innermost first, each of which stands at a beginning of the word and of the bounds of the one inside it, and the
+-- child of it that is being read is where the one inside it stands, the innermost's where the cursor is; the outermost stands at
+-- the empty word without bounds
+abbrev pub FramesFit : Automaton → Pattern → Cursor → Pending → ℕ → ℕ → List Frame → Type 0
+FramesFit a p s w elements bounds [] = (w.past ≡ []) × (w.bounds ≡ [])
+FramesFit a p s w elements bounds (f ∷ fs) =
     (f.length ≤ elements)
     × (f.bounds ≤ bounds)
     × FrameFits a p (word_of s f) f
-    × FramesFit a p s f.length f.bounds fs
+    × (slice_get (parts a p (word_of s f) (node_of f.split)) f.next ≡ Some w)
+    × FramesFit a p s (word_of s f) f.length f.bounds fs
 
 -- within the trees of the file's pattern of a number, where these words come behind the child that is being read
 pub record Inside (file : File) (s : Cursor) (number : ℕ) (pattern : Pattern) (words : List Pending) : Type 0 where
   pub named : slice_get file.patterns number ≡ Some pattern
   pub start : s.start_mask < 2 ^ length file.automaton.fall
   pub legal : Legal file.automaton pattern s.start_mask (reverse s.word)
-  pub frames : FramesFit file.automaton pattern s (length s.word) (length s.bounds.items) (reverse s.frames.items)
+  pub frames : FramesFit file.automaton pattern s (here s) (length s.word) (length s.bounds.items) (reverse s.frames.items)
   pub left : words ≡ all_behind file.automaton pattern s (reverse s.frames.items)
 
 -- before the node that stands at the first of these words

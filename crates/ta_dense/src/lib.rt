@@ -21,6 +21,3 @@ pub use kept::DensePivot;
 pub use laws::{pivots_keep_dictionaries, rows_are_unique, slacks_are_a_dictionary};
 pub use narrow::NarrowDictionary;
 pub use small_pivot::NarrowPivot;
-
-#[cfg(test)]
-mod tests;

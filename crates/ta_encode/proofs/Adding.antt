@@ -54,11 +54,11 @@ pub counter_line : (a : Automaton) (ms : List Meaning) (l : ℕ) (place : ℕ) (
 counter_line a ms l place row e h =
     with_coefficients (pos 0) _ _ row (map_same (line_coefficient a ((place, pos 1) ∷ []) false Same) (λ m. place_coefficient a m (location_place a l)) ms (λ m. single (place_coefficient a m place) ∙ ap (place_coefficient a m) e)) h
 
-AllBelow-append : (n : ℕ) (xs ys : List Row) → AllBelow n xs → AllBelow n ys → AllBelow n (xs ++ ys)
+pub AllBelow-append : (n : ℕ) (xs ys : List Row) → AllBelow n xs → AllBelow n ys → AllBelow n (xs ++ ys)
 AllBelow-append n [] ys h g = g
 AllBelow-append n (x ∷ xs) ys h g = (h.0, AllBelow-append n xs ys h.1 g)
 
-RowsOf-append : (ls ms : List LinearRow) (xs ys : List Row) → RowsOf ls xs → RowsOf ms ys → RowsOf (ls ++ ms) (xs ++ ys)
+pub RowsOf-append : (ls ms : List LinearRow) (xs ys : List Row) → RowsOf ls xs → RowsOf ms ys → RowsOf (ls ++ ms) (xs ++ ys)
 RowsOf-append [] ms [] ys h g = g
 RowsOf-append (l ∷ ls) ms (x ∷ xs) ys h g = (h.0, RowsOf-append ls ms xs ys h.1 g)
 RowsOf-append [] ms (x ∷ xs) ys h g = absurd h

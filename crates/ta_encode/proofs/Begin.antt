@@ -29,7 +29,7 @@ use Rattle.ta_encode.proofs.Start.{sum_total, one_if_comm, start_rises}
 use Rattle.ta_encode.proofs.Switch.{KeptEmpty}
 use Rattle.ta_automaton.proofs.Fire.{natural, pos_natural, length_numbers, at_index, past_numbers, Whole}
 use Rattle.ta_automaton.proofs.Thresholds.{processes_value as processes_at, resilience_at}
-use Rattle.ta_automaton.proofs.Trails.{trail_here}
+use Rattle.ta_encode.proofs.Appending.{trail_begun}
 use Rattle.ta_encode.proofs.Segment.{fits_whole}
 use Rattle.ta_encode.proofs.Values.{place_value, AllHold-right, left_part, condition_back, in_append, in_filter}
 use Rattle.ta_encode.proofs.Safety.{prefix_rows, take_apart}
@@ -210,19 +210,21 @@ first_initial a p vs h =
       shared_zero = shared_none a p vs;
     }
 
-pub begin_at : (a : Automaton) (p : Pattern) (start : ℕ) (vs : List ℕ) → At a p start [] vs (meanings a p start []) (first_of a p vs)
+pub begin_at : (a : Automaton) (p : Pattern) (start : ℕ) (vs : List ℕ) → At a p start [] vs (meanings a p start []) (first_of a p vs) [] (λ e. 0)
 unfolding meanings has_event has_rise
-begin_at a p start vs = record {
-  config = first_of a p vs;
-  trail = trail_here a (KeptEmpty p) (first_of a p vs) (λ l t. counter_none a p vs l (λ i. false≢true (sym (true_not _ (in_filter (λ k. not (has_bit p.empty k)) l a.initial i)) ∙ t)));
-  whole = first_whole a p vs;
-  values = first_values a p vs;
-  rises = λ i row at h. absurd (false≢true h);
-  position = λ e. 0;
-  happened = λ e event h at. absurd (false≢true h);
-  bounded = λ e h. absurd (false≢true h);
-  ordered = λ e f event h at set b. absurd (false≢true h);
-}
+begin_at a p start vs =
+    let begun = trail_begun a (KeptEmpty p) (first_of a p vs) (λ l t. counter_none a p vs l (λ i. false≢true (sym (true_not _ (in_filter (λ k. not (has_bit p.empty k)) l a.initial i)) ∙ t))) in
+    record {
+      config = first_of a p vs;
+      trail = begun.trail;
+      is = begun.is;
+      whole = first_whole a p vs;
+      values = first_values a p vs;
+      rises = λ i row at h. absurd (false≢true h);
+      happened = λ e event h at. absurd (false≢true h);
+      bounded = λ e h. absurd (false≢true h);
+      ordered = λ e f event h at set b. absurd (false≢true h);
+    }
 
 -- all rows of a word begin with those at the start
 pub begin_rows : (a : Automaton) (p : Pattern) (start : ℕ) (past : List Element) (vs : List ℕ) → AllHold vs (word_rows a p start past) → AllHold vs (start_rows a p start)

@@ -8,6 +8,10 @@ pub mod Theorems
 pub mod CodeRows
 pub mod Preorders
 pub mod Marking
+pub mod Appending
+pub mod Forward
+pub mod Singles
+pub mod Whole
 mod Running
 mod Changes
 mod Sparse
@@ -22,9 +26,10 @@ mod Start
 mod RowSums
 mod Reorder
 mod Safety
-mod Segment
-mod Values
+pub mod Segment
+pub mod Values
 mod Unwind
 mod Begin
 mod Starts
 mod Realize
+mod Naming

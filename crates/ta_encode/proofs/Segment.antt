@@ -1,5 +1,5 @@
--- the firings of an element, without circuits, are legal where their end is natural
-use Rattle.std.proofs.Common.{IsBitSet, ◌≡◌, ◌≢◌, inl, inr, ℕ, ◌+◌, ◌<◌, ◌≤◌, pos, ◌+ℤ◌, ◌≤ℤ◌, List, [], ◌∷◌, length, eqb, cond, true, false, not, arith, sym, ap, ◌∙◌, refl, subst, slice_get, get_or, Some, None, Option}
+-- the firings of an element, in an order that goes forward, are legal where their end is natural
+use Rattle.std.proofs.Common.{IsBitSet, ◌≡◌, ◌≢◌, inl, inr, ℕ, zero, suc, ◌+◌, ◌<◌, ◌≤◌, pos, ◌+ℤ◌, ◌≤ℤ◌, List, [], ◌∷◌, ◌++◌, length, eqb, cond, true, false, not, arith, sym, ap, ◌∙◌, refl, subst, slice_get, get_or, Some, None, Option}
 use Rattle.std.proofs.lemmas.Int.{ints}
 use Rattle.std.proofs.lemmas.Bool.{cases_Bool, and_parts, false≢true, eqb-false}
 use Rattle.std.proofs.lemmas.Bool.Decides.{nat_tests}
@@ -11,18 +11,19 @@ use Rattle.ta_automaton.specs.declared.automaton.Automaton.{Automaton}
 use Rattle.ta_automaton.proofs.Sums.{terms_value-same}
 use Rattle.ta_automaton.specs.declared.pattern.Pattern.{Pattern}
 use Rattle.ta_automaton.specs.Runs.{Config, value_at, Step, Steps, MaskedHold, InScope}
+use Rattle.ta_automaton.specs.Lists.{Each}
 use Rattle.ta_automaton.specs.Masks.{has_bit, all_below, implies, In}
 use Rattle.ta_words.specs.declared.element.Element.{Element}
 use Rattle.ta_words.specs.Words.{has_rise, has_fallen, may_fire}
 use Rattle.ta_automaton.specs.Places.{one_if, location_place}
 use Rattle.ta_automaton.specs.Sums.{total}
-use Rattle.ta_automaton.proofs.Moves.{Fits, value_at-location, one_if-ne}
+use Rattle.ta_automaton.proofs.Moves.{Fits, move_at, value_at-location, one_if-ne}
 use Rattle.ta_automaton.proofs.MaskTests.{all_below-at, implies-at, true_not, bit_true}
 use Rattle.ta_encode.proofs.Switch.{KeptEmpty}
-use Rattle.ta_automaton.proofs.Onward.{change_of, change_location, EachRule, Piece, after, holds_before_last, fire_in_order}
-use Rattle.ta_automaton.proofs.Rearranged.{rearrange}
+use Rattle.ta_automaton.proofs.Onward.{change_of, change_location, EachRule, Onward, Piece, holds_before_last, fire_in_order}
 use Rattle.ta_automaton.proofs.Fire.{Whole, fire, fire_whole, fire_step}
-use Rattle.ta_automaton.proofs.Trails.{Trail, Grows, trail_push, grows_same, grows_more}
+use Rattle.ta_automaton.proofs.Trails.{Trail, Grows}
+use Rattle.ta_encode.proofs.Appending.{trail_append}
 
 -- a rule with this number
 abbrev pub Exists : Automaton → ℕ → Type 0
@@ -30,8 +31,7 @@ Exists a r = (rule : Rule) × (slice_get a.rules r ≡ Some rule)
 
 -- each fired rule may fire after the word
 abbrev pub EachMay : Automaton → Pattern → ℕ → List Element → List ℕ → Type 0
-EachMay a p start past [] = Unit {0}
-EachMay a p start past (o ∷ os) = (may_fire a p start past (slice_get a.rules o) ≡ true) × EachMay a p start past os
+EachMay a p start past os = Each (λ o. may_fire a p start past (slice_get a.rules o) ≡ true) os
 
 pub may_at : (a : Automaton) (p : Pattern) (start : ℕ) (past : List Element) (os : List ℕ) (o : ℕ) → EachMay a p start past os → In o os → may_fire a p start past (slice_get a.rules o) ≡ true
 may_at a p start past [] o h i = absurd i
@@ -65,7 +65,7 @@ pub may_rules : (a : Automaton) (p : Pattern) (start : ℕ) (past : List Element
 may_rules a p start past [] h = tt
 may_rules a p start past (o ∷ os) h = (may_exists a p start past o h.0, may_rules a p start past os h.1)
 
-may_from : (a : Automaton) (p : Pattern) (start : ℕ) (past : List Element) (os : List ℕ) → ((o : ℕ) → In o os → may_fire a p start past (slice_get a.rules o) ≡ true) → EachMay a p start past os
+pub may_from : (a : Automaton) (p : Pattern) (start : ℕ) (past : List Element) (os : List ℕ) → ((o : ℕ) → In o os → may_fire a p start past (slice_get a.rules o) ≡ true) → EachMay a p start past os
 may_from a p start past [] f = tt
 may_from a p start past (o ∷ os) f = (f o (inl refl), may_from a p start past os (λ q i. f q (inr i)))
 
@@ -73,6 +73,7 @@ may_from a p start past (o ∷ os) f = (f o (inl refl), may_from a p start past 
 pub record Segment (a : Automaton) (p : Pattern) (start : ℕ) (past : List Element) (d : Config) (os : List ℕ) : Type 0 where
   pub whole : Whole a d
   pub may : EachMay a p start past os
+  pub onward : Onward a os
   pub rises : (i : ℕ) (row : Row) → slice_get a.rise i ≡ Some row → has_rise past i ≡ true → RowHolds (value_at d) row
   pub falls : (j : ℕ) (row : Row) → slice_get a.fall j ≡ Some row → has_fallen start past j ≡ false → pos 0 ≤ℤ value_of (λ i. value_at d i +ℤ total (change_of a i) os) row.form
   pub ends : (l : ℕ) → l < length a.locations → has_bit p.empty l ≡ false → pos 0 ≤ℤ (value_at d (location_place a l) +ℤ total (change_of a (location_place a l)) os)
@@ -99,7 +100,7 @@ may_fall : (a : Automaton) (p : Pattern) (start : ℕ) (past : List Element) (ru
 may_fall a p start past rule m j row at set = true_not _ (implies-at _ _ (all_below-at (length a.fall) (λ k. implies (has_bit rule.fall k) (not (has_fallen start past k))) m.fall j (slice_get_within _ _ _ at)) (bit_true rule.fall j set))
 
 -- one firing at which the guards hold and a process is there
-pub fire_one : (a : Automaton) (p : Pattern) (start : ℕ) (past : List Element) (d : Config) (r : ℕ) → Whole a d → may_fire a p start past (slice_get a.rules r) ≡ true → ((i : ℕ) (row : Row) → slice_get a.rise i ≡ Some row → has_rise past i ≡ true → RowHolds (value_at d) row) → ((j : ℕ) (row : Row) → slice_get a.fall j ≡ Some row → has_fallen start past j ≡ false → RowHolds (value_at d) row) → KeptEmpty p d → ((rule : Rule) → slice_get a.rules r ≡ Some rule → 1 ≤ get_or d.counters rule.from 0) → (next : Config) × Step a r d next × Whole a next × KeptEmpty p next
+fire_one : (a : Automaton) (p : Pattern) (start : ℕ) (past : List Element) (d : Config) (r : ℕ) → Whole a d → may_fire a p start past (slice_get a.rules r) ≡ true → ((i : ℕ) (row : Row) → slice_get a.rise i ≡ Some row → has_rise past i ≡ true → RowHolds (value_at d) row) → ((j : ℕ) (row : Row) → slice_get a.fall j ≡ Some row → has_fallen start past j ≡ false → RowHolds (value_at d) row) → KeptEmpty p d → ((rule : Rule) → slice_get a.rules r ≡ Some rule → 1 ≤ get_or d.counters rule.from 0) → (next : Config) × Step a r d next × Whole a next × KeptEmpty p next
 fire_one a p start past d r whole may rises falls empty some =
     let w = may_exists a p start past r may in
     let rule = w.0 in
@@ -113,6 +114,7 @@ fire_one a p start past d r whole may rises falls empty some =
 pub record Fired (a : Automaton) (p : Pattern) (first d : Config) (t : Trail a (KeptEmpty p) first d) (os : List ℕ) : Type 0 where
   pub end : Config
   pub trail : Trail a (KeptEmpty p) first end
+  pub is : trail.rules ≡ t.rules ++ os
   pub grows : Grows a (KeptEmpty p) first d end t trail
   pub whole : Whole a end
   pub values : (i : ℕ) → value_at end i ≡ (value_at d i +ℤ total (change_of a i) os)
@@ -128,38 +130,41 @@ empty_total a p start past (o ∷ os) l h set =
     let to : one_if (w.0).to l ≡ pos 0 = one_if-ne (w.0).to l (λ e. false≢true (sym m.to ∙ ap (has_bit p.empty) e ∙ set)) in
     omega (arith, ints, change_location a l o w.0 w.1, from, to, empty_total a p start past os l h.1 set)
 
--- a run goes on by steps of rules that may fire
-go_steps : (a : Automaton) (p : Pattern) (start : ℕ) (past : List Element) (first d : Config) (t : Trail a (KeptEmpty p) first d) (os : List ℕ) (later : List Config) (end : Config) → EachMay a p start past os → Steps a d os later → slice_get (d ∷ later) (length os) ≡ Some end → KeptEmpty p d → (new : Trail a (KeptEmpty p) first end) × Grows a (KeptEmpty p) first d end t new
-go_steps a p start past first d t [] [] end may steps last empty = subst (λ (e : Config). (new : Trail a (KeptEmpty p) first e) × Grows a (KeptEmpty p) first d e t new) (same_config d end last) (t, grows_same a (KeptEmpty p) first d t) where
+-- along steps of rules that may fire, what is kept empty stays empty
+kept_along : (a : Automaton) (p : Pattern) (start : ℕ) (past : List Element) (d : Config) (os : List ℕ) (later : List Config) → EachMay a p start past os → Steps a d os later → KeptEmpty p d → (j : ℕ) (c : Config) → slice_get (d ∷ later) j ≡ Some c → KeptEmpty p c
+kept_along a p start past d os later may steps empty zero c at = subst (KeptEmpty p) (same_config d c at) empty where
   same_config : (x y : Config) → Some x ≡ Some y → x ≡ y
   same_config x y e = cc
-go_steps a p start past first d t [] (c ∷ cs) end may steps last empty = absurd steps
-go_steps a p start past first d t (o ∷ os) [] end may steps last empty = absurd steps
-go_steps a p start past first d t (o ∷ os) (c ∷ cs) end may steps last empty =
-    let kept = kept_after a p start past d c o steps.0 may.0 empty in
-    let pushed = trail_push a (KeptEmpty p) first d t o c steps.0 kept in
-    let more = go_steps a p start past first c pushed.0 os cs end may.1 steps.1 last kept in
-    (more.0, grows_more a (KeptEmpty p) first d c end t pushed.0 more.0 pushed.1 more.1)
+kept_along a p start past d [] [] may steps empty (suc j) c at = absurd (cc)
+kept_along a p start past d [] (n ∷ later) may steps empty (suc j) c at = absurd steps
+kept_along a p start past d (o ∷ os) [] may steps empty (suc j) c at = absurd steps
+kept_along a p start past d (o ∷ os) (n ∷ later) may steps empty (suc j) c at = kept_along a p start past n os later may.1 steps.1 (kept_after a p start past d n o steps.0 may.0 empty) j c at
 
-pub fire_all : (a : Automaton) (p : Pattern) (start : ℕ) (past : List Element) (first : Config) → InScope a → (os : List ℕ) (d : Config) (t : Trail a (KeptEmpty p) first d) → Segment a p start past d os → Fired a p first d t os
-fire_all a p start past first scope os d t s =
-    let r = rearrange a scope (length os) os (may_rules a p start past os s.may) (omega arith) in
-    let may : EachMay a p start past r.firings = may_from a p start past r.firings (λ o i. may_at a p start past os o s.may (r.among o i)) in
-    let rules = may_rules a p start past r.firings may in
-    let parts : (o : ℕ) (rule : Rule) → In o r.firings → slice_get a.rules o ≡ Some rule → May a p start past rule = (λ o rule i named. may_parts a p start past rule (ap (may_fire a p start past) (sym named) ∙ may_at a p start past os o s.may (r.among o i))) in
-    let same : (i : ℕ) → after a (value_at d) r.firings i ≡ (value_at d i +ℤ total (change_of a i) os) = (λ i. ap (λ z. value_at d i +ℤ z) (r.sums i)) in
-    let piece : Piece a d r.firings = record {
+-- a run goes on by firings that go forward
+pub fire_all : (a : Automaton) (p : Pattern) (start : ℕ) (past : List Element) (first : Config) (os : List ℕ) (d : Config) (t : Trail a (KeptEmpty p) first d) → Segment a p start past d os → Fired a p first d t os
+fire_all a p start past first os d t s =
+    let rules = may_rules a p start past os s.may in
+    let parts : (o : ℕ) (rule : Rule) → In o os → slice_get a.rules o ≡ Some rule → May a p start past rule = (λ o rule i named. may_parts a p start past rule (ap (may_fire a p start past) (sym named) ∙ may_at a p start past os o s.may i)) in
+    let piece : Piece a d os = record {
       whole = s.whole;
       exist = rules;
       rises = λ o rule i named k row at set. s.rises k row at (may_rise a p start past rule (parts o rule i named) k row at set);
-      falls = λ o rule i named j row at set. holds_before_last a (value_at d) r.firings rules j row at
-          (let held = s.falls j row at (may_fall a p start past rule (parts o rule i named) j row at set) in
-          omega (arith, ints, held, terms_value-same row.form.terms (after a (value_at d) r.firings) (λ i. value_at d i +ℤ total (change_of a i) os) same));
+      falls = λ o rule i named j row at set. holds_before_last a (value_at d) os rules j row at (s.falls j row at (may_fall a p start past rule (parts o rule i named) j row at set));
       ends = λ l b. elim (cases_Bool (has_bit p.empty l)) [
-        | inl e ↦ omega (arith, ints, empty_total a p start past r.firings l may e, value_at-location a d l (fits_whole a d s.whole))
-        | inr e ↦ omega (arith, ints, s.ends l b e, same (location_place a l))
+        | inl e ↦ omega (arith, ints, empty_total a p start past os l s.may e, value_at-location a d l (fits_whole a d s.whole))
+        | inr e ↦ s.ends l b e
       ];
     } in
-    let f = fire_in_order a r.firings d r.onward piece in
-    let g = go_steps a p start past first d t r.firings f.later f.end may f.steps f.last s.empty in
-    record { end = f.end; trail = g.0; grows = g.1; whole = f.whole; values = λ i. f.values i ∙ same i }
+    let f = fire_in_order a os d s.onward piece in
+    let g = trail_append a (KeptEmpty p) first d t os f.later f.end f.steps f.last (kept_along a p start past d os f.later s.may f.steps s.empty) in
+    record { end = f.end; trail = g.trail; is = g.is; grows = g.grows; whole = f.whole; values = f.values }
+
+-- a run goes on by one firing
+pub fire_last : (a : Automaton) (p : Pattern) (start : ℕ) (past : List Element) (first d : Config) (t : Trail a (KeptEmpty p) first d) (r : ℕ) → Whole a d → may_fire a p start past (slice_get a.rules r) ≡ true → ((i : ℕ) (row : Row) → slice_get a.rise i ≡ Some row → has_rise past i ≡ true → RowHolds (value_at d) row) → ((j : ℕ) (row : Row) → slice_get a.fall j ≡ Some row → has_fallen start past j ≡ false → RowHolds (value_at d) row) → KeptEmpty p d → ((rule : Rule) → slice_get a.rules r ≡ Some rule → 1 ≤ get_or d.counters rule.from 0) → Fired a p first d t (r ∷ [])
+unfolding total
+fire_last a p start past first d t r whole may rises falls empty some =
+    let f = fire_one a p start past d r whole may rises falls empty some in
+    let moved = move_at a r d f.0 (fits_whole a d whole) (fits_whole a f.0 f.2) f.1 in
+    let steps : Steps a d (r ∷ []) (f.0 ∷ []) = (f.1, tt) in
+    let g = trail_append a (KeptEmpty p) first d t (r ∷ []) (f.0 ∷ []) f.0 steps refl (kept_along a p start past d (r ∷ []) (f.0 ∷ []) (may, tt) steps empty) in
+    record { end = f.0; trail = g.trail; is = g.is; grows = g.grows; whole = f.2; values = λ i. omega (arith, ints, moved i) }

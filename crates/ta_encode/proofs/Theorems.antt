@@ -11,14 +11,14 @@ use Rattle.ta_words.specs.declared.element.Element.{Element}
 use Rattle.ta_words.specs.Words.{Legal, is_complete}
 use Rattle.ta_encode.specs.Unknowns.{Parameter, Start, start_locations, start_meanings, meanings}
 use Rattle.ta_encode.specs.System.{word_rows, SolvesWord}
-use Rattle.ta_encode.specs.Laws.{start_values, RunsReorder, ProofsShowSafety, ProofsLeaveNoSolution, SolutionsBecomeRuns}
+use Rattle.ta_encode.specs.Laws.{start_values, steps_of, RunsReorder, ProofsShowSafety, ProofsLeaveNoSolution, SolutionsBecomeRuns, StepsOfSolutionsRun}
 use Rattle.ta_encode.proofs.Moments.{AllHold-left}
 use Rattle.ta_encode.proofs.Start.{parameter_values, start_counts}
 use Rattle.ta_encode.proofs.Switch.{Begins}
 use Rattle.ta_encode.proofs.Reorder.{AfterEarlier, describe}
 use Rattle.ta_encode.proofs.Safety.{take_apart, none_solves, proof_safe}
 use Rattle.ta_encode.proofs.Prefixes.{prefix_fewer, prefix_solves}
-use Rattle.ta_encode.proofs.Realize.{solution_runs}
+use Rattle.ta_encode.proofs.Realize.{some_firings, solution_runs}
 
 earlier : (file : File) (n : ℕ) (p : Pattern) → slice_get file.patterns n ≡ Some p → AfterEarlier p
 earlier file n p at = after_earlier (length file.automaton.parameters + length file.automaton.shared + length file.automaton.locations) (length file.automaton.locations) p (pattern_within file n p at)
@@ -80,10 +80,17 @@ pub no_solution : ProofsLeaveNoSolution
 no_solution a p trees proof start b word vs s =
     none_solves a p trees proof start b (reverse word) vs s.legal s.complete (AllHold-left vs (word_rows a p start (reverse word)) [] s.solves.rows_hold)
 
-pub runs : SolutionsBecomeRuns
+pub these_run : StepsOfSolutionsRun
 unfolding meanings
-runs file n p at scope start word vs s =
+these_run file n p at start word vs s firings fires =
     let a = file.automaton in
     let f = take_apart (reverse word) [] in
     let fewer : length (start_meanings a p) ≤ length (meanings a p start (reverse word)) = subst (λ (q : List Element). length (start_meanings a p) ≤ length (meanings a p start q)) f.1 (prefix_fewer a p start [] f.0) in
-    solution_runs a p (earlier file n p at) scope start (reverse word) vs s.legal s.complete (AllHold-left vs (word_rows a p start (reverse word)) [] s.solves.rows_hold) (omega (arith, s.solves.count))
+    solution_runs a p (earlier file n p at) start (reverse word) vs firings fires s.legal s.complete (AllHold-left vs (word_rows a p start (reverse word)) [] s.solves.rows_hold) (omega (arith, s.solves.count))
+
+pub runs : SolutionsBecomeRuns
+runs file n p at scope start word vs s =
+    let a = file.automaton in
+    let some = some_firings a p start (reverse word) vs scope (AllHold-left vs (word_rows a p start (reverse word)) [] s.solves.rows_hold) in
+    let these = these_run file n p at start word vs s some.0 some.1 in
+    record { first = these.first; rules = steps_of some.0; begins = these.begins; occurs = these.occurs }

@@ -1,15 +1,21 @@
 -- What words, their systems and their refutations say of runs (the reordering theorem after POPL 2017, with start sets
 -- and joint falls as this project's own)
-use Rattle.std.specs.Prelude.{ℕ, ◌<◌, ◌^◌, ◌≡◌, true, List, [], ◌++◌, length, map, reverse, take, slice_get, slice_index, Some}
+use Rattle.std.specs.Prelude.{ℕ, ℤ, ◌<◌, ◌≤◌, ◌^◌, ◌≡◌, ◌≢◌, ◌==◌, if◌then◌else◌, true, List, [], ◌∷◌, ◌++◌, length, map, reverse, take, drop, slice_get, slice_index, Some}
+use Rattle.ta_automaton.specs.declared.rule.Rule.{Rule}
 use Rattle.ta_automaton.specs.declared.automaton.Automaton.{Automaton}
 use Rattle.ta_automaton.specs.declared.pattern.Pattern.{Pattern}
 use Rattle.ta_automaton.specs.declared.file.File.{File}
+use Rattle.ta_automaton.specs.Lists.{Each}
+use Rattle.ta_automaton.specs.Masks.{numbers_from}
+use Rattle.ta_automaton.specs.Places.{rule_change}
 use Rattle.ta_automaton.specs.Runs.{Config, InScope, LoopsPure, Occurs, Safe}
+use Rattle.ta_automaton.specs.Sums.{total}
 use Rattle.ta_cert.specs.Tree.{Tree}
 use Rattle.ta_words.specs.declared.element.Element.{Element}
-use Rattle.ta_words.specs.Words.{Legal, is_complete}
-use Rattle.ta_encode.specs.Unknowns.{meanings, start_locations, start_meanings}
-use Rattle.ta_encode.specs.System.{SolvesWord}
+use Rattle.ta_words.specs.declared.element.Element.TheVariants.{Event, Rise, Fall}
+use Rattle.ta_words.specs.Words.{Legal, is_complete, may_fire}
+use Rattle.ta_encode.specs.Unknowns.{Meaning, Single, meanings, counts_after, place_coefficient, start_locations, start_meanings}
+use Rattle.ta_encode.specs.System.{SolvesWord, combine}
 use Rattle.ta_encode.specs.Refutes.{ProofOf}
 
 -- a complete legal word, and natural values that solve its system without bounds
@@ -60,6 +66,75 @@ ProofsLeaveNoSolution =
     → (start : ℕ) → start < 2 ^ length a.fall
     → (word : List Element) (values : List ℕ) → SolvedWord a p start word values
     → ⊥
+
+-- where a step leaves, neither it nor a later one arrives
+abbrev pub GoesForward : Automaton → List ℕ → Type 0
+GoesForward a rules =
+    (i j q r : ℕ) (early late : Rule) → i ≤ j → slice_get rules i ≡ Some q → slice_get rules j ≡ Some r
+    → slice_get a.rules q ≡ Some early → slice_get a.rules r ≡ Some late → early.from ≢ late.to
+
+-- what the Counts of the element after a word add at a place
+abbrev pub counts_change : Automaton → Pattern → ℕ → List Element → List ℕ → ℕ → ℤ
+counts_change a p start past values place =
+    combine (map (λ m. place_coefficient a m place) (counts_after a p start past)) (drop (length (meanings a p start past)) values)
+
+-- unit steps before the element after a word: each may fire after the word, they go forward, and together they add at each
+-- place what the element's Counts add there
+pub record Fires (a : Automaton) (p : Pattern) (start : ℕ) (past : List Element) (values rules : List ℕ) : Type 0 where
+  pub allowed : Each (λ r. may_fire a p start past (slice_get a.rules r) ≡ true) rules
+  pub forward : GoesForward a rules
+  pub adds : (place : ℕ) → total (λ r. rule_change a (slice_get a.rules r) place) rules ≡ counts_change a p start past values place
+
+-- the unknown that stands for something has the value 1
+abbrev pub IsOne : List Meaning → List ℕ → Meaning → Type 0
+IsOne ms values m = (i : ℕ) × (slice_get ms i ≡ Some m) × (slice_get values i ≡ Some 1)
+
+-- unit steps of a Fall after a word: those of its Counts, and then the rule whose Single is 1
+pub record FiresFall (a : Automaton) (p : Pattern) (start : ℕ) (past : List Element) (mask : ℕ) (values rules : List ℕ) : Type 0 where
+  pub front : List ℕ
+  pub last : ℕ
+  pub cut : rules ≡ front ++ last ∷ []
+  pub fires : Fires a p start past values front
+  pub single : IsOne (meanings a p start (Fall mask ∷ past)) values (Single (length past) last)
+
+-- unit steps for each element of a word, those of the newest element first
+abbrev pub WordFires : Automaton → Pattern → ℕ → List Element → List ℕ → List (List ℕ) → Type 0
+WordFires a p start [] values [] = Unit {0}
+WordFires a p start [] values (rules ∷ older) = ⊥
+WordFires a p start (element ∷ past) values [] = ⊥
+WordFires a p start (Event e ∷ past) values (rules ∷ older) = Fires a p start past values rules × WordFires a p start past values older
+WordFires a p start (Rise i ∷ past) values (rules ∷ older) = Fires a p start past values rules × WordFires a p start past values older
+WordFires a p start (Fall mask ∷ past) values (rules ∷ older) = FiresFall a p start past mask values rules × WordFires a p start past values older
+
+-- all unit steps, in order
+abbrev pub steps_of : List (List ℕ) → List ℕ
+steps_of [] = []
+steps_of (rules ∷ older) = steps_of older ++ rules
+
+-- how many unit steps stand before an event of a word: those up to the end of its element
+abbrev pub position_in : List Element → List (List ℕ) → ℕ → ℕ
+position_in [] firings e = 0
+position_in (element ∷ past) [] e = 0
+position_in (Event f ∷ past) (rules ∷ older) e = if e == f then length (steps_of (rules ∷ older)) else position_in past older e
+position_in (Rise i ∷ past) (rules ∷ older) e = position_in past older e
+position_in (Fall mask ∷ past) (rules ∷ older) e = position_in past older e
+
+-- the pattern occurs in the run of these unit steps, from a configuration that has the parameters and the start counts of an
+-- assignment, and each event happens at the end of its element
+pub record RunsThrough (a : Automaton) (p : Pattern) (past : List Element) (values : List ℕ) (firings : List (List ℕ)) : Type 0 where
+  pub first : Config
+  pub begins : start_values a p first ≡ take (length (start_meanings a p)) values
+  pub occurs : Occurs a p first (steps_of firings)
+  pub there : occurs.positions ≡ map (position_in past firings) (numbers_from 0 (length p.events))
+
+-- a complete legal word with a natural solution: whatever unit steps are taken for each element, as its Counts and its
+-- Single say and forward, make a run in which the pattern occurs
+abbrev pub StepsOfSolutionsRun : Type 0
+StepsOfSolutionsRun =
+    (file : File) (n : ℕ) (p : Pattern) → slice_get file.patterns n ≡ Some p
+    → (start : ℕ) (word : List Element) (values : List ℕ) → SolvedWord file.automaton p start word values
+    → (firings : List (List ℕ)) → WordFires file.automaton p start (reverse word) values firings
+    → RunsThrough file.automaton p (reverse word) values firings
 
 -- a run in which the pattern occurs, from a configuration that has the parameters and the start counts of an assignment
 pub record HasRun (a : Automaton) (p : Pattern) (values : List ℕ) : Type 0 where

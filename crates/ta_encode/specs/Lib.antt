@@ -5,5 +5,6 @@ pub mod Laws
 pub mod Code
 pub mod Lines
 pub mod Marks
+pub mod Named
 pub mod InPreorder
 pub mod Inside

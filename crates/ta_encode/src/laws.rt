@@ -4,7 +4,7 @@
 
 ghost use Rattle.ta_encode.specs.InPreorder.{ProofsAreDetermined, ProofsReadInOrder};
 ghost use Rattle.ta_encode.specs.Refutes.{LeafOfRows};
-ghost use Rattle.ta_encode.specs.Laws.{ProofsLeaveNoSolution, ProofsShowSafety, RunsReorder, SolutionsBecomeRuns};
+ghost use Rattle.ta_encode.specs.Laws.{ProofsLeaveNoSolution, ProofsShowSafety, RunsReorder, SolutionsBecomeRuns, StepsOfSolutionsRun};
 
 /// Every run in which a pattern occurs is described by a word whose system it solves.
 pub fn runs_reorder()
@@ -21,9 +21,11 @@ pub fn proofs_leave_no_solution()
     ensures { ProofsLeaveNoSolution }
 {}
 
-/// A complete legal word with a natural solution gives a run in which the pattern occurs.
+/// A complete legal word with a natural solution gives a run in which the pattern occurs: any steps
+/// that go forward make one, and where no rule with an update lies on a cycle there are such steps.
 pub fn solutions_become_runs()
-    ensures { SolutionsBecomeRuns }
+    ensures these { StepsOfSolutionsRun }
+    ensures some { SolutionsBecomeRuns }
 {}
 
 /// A proof may be judged node by node, and a list of nodes is that of at most one proof.

@@ -9,6 +9,7 @@ mod growing;
 mod laws;
 mod line;
 mod meaning;
+mod named;
 mod place;
 mod rows;
 mod unknowns;
@@ -21,3 +22,4 @@ pub use laws::{
     solutions_become_runs,
 };
 pub use meaning::{Bound, Meaning, Side};
+pub use named::{Named, named_rows};

@@ -4,7 +4,7 @@
 ghost use Rattle.std.specs.Prelude.{ℕ, ◌+◌, ◌*◌, ◌^◌, ◌≡◌, ◌≤◌, ◌<◌, ◌≤ℤ◌, ◌<ℤ◌, ◌∷◌, [], OnOk, filter, length, map, negsuc, not, pos, unsigned_abs};
 ghost use Rattle.ta_linear.specs.Numbers.{InRange};
 ghost use Rattle.ta_automaton.specs.Masks.{has_bit, numbers_from};
-ghost use Rattle.ta_encode.specs.Lines.{BoundsWithin};
+ghost use Rattle.ta_encode.specs.Lines.{BoundWithin, BoundsWithin};
 ghost use Rattle.ta_encode.specs.Inside.Lines.{Adds, SmallCondition, SmallForm, SmallRows, block_row, bound_constant, bound_sense, constant_in_sense, in_sense, start_sense, turned_row};
 ghost use Rattle.ta_encode.specs.declared.line.Sense.TheVariants.{Opposite, Same};
 ghost use Rattle.ta_encode.specs.System.{bound_row, condition_rows, counter_row, form_row, guard_rows, opposite, processes_row, start_guard_rows};
@@ -261,11 +261,26 @@ pub(crate) fn push_bounds(
     ensures { OnOk result (Adds (map bound_row bounds.now) unknowns rows.old.items rows.new.items) }
 {
     for bound in bounds {
-        let unknown = bound.unknown as usize;
-        let constant = bound_constant(bound.side, bound.floor);
-        let sense = bound_sense(bound.side);
-        push_block(alloc, constant, unknown, unknown + 1, sense, rows)?;
+        push_bound(alloc, unknowns, *bound, rows)?;
     }
+    Ok(())
+}
+
+/// The row of a bound.
+pub(crate) fn push_bound(
+    alloc: Global,
+    unknowns: usize,
+    bound: Bound,
+    rows: &mut Vec<Row>,
+) -> Result<(), AllocError>
+    requires numbers { unknowns < 2 ^ 32 }
+    requires bound { BoundWithin unknowns bound }
+    ensures { OnOk result (Adds (bound_row bound ∷ []) unknowns rows.old.items rows.new.items) }
+{
+    let unknown = bound.unknown as usize;
+    let constant = bound_constant(bound.side, bound.floor);
+    let sense = bound_sense(bound.side);
+    push_block(alloc, constant, unknown, unknown + 1, sense, rows)?;
     Ok(())
 }
 

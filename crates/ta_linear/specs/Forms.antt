@@ -1,3 +1,4 @@
+-- Sums, multiples and negations of linear forms, by their numbers, and where they leave the range (elementary; the range is this project's profile)
 use Rattle.std.specs.Prelude.{ℕ, ℤ, pos, ◌+◌, ◌<◌, ◌≤◌, ◌+ℤ◌, ◌*ℤ◌, ◌-ℤ◌, neg_ℤ, ◌==◌, ◌≡◌, ◌⊎◌, List, length, if◌then◌else◌}
 use Rattle.ta_linear.specs.Numbers.{InRange}
 use Rattle.ta_linear.specs.Terms.{coefficient, IsNormal}
@@ -19,6 +20,7 @@ pub record IsMultiple (multiple a : Form) (factor : ℤ) : Type 0 where
   pub constant : multiple.constant ≡ (factor *ℤ a.constant)
   pub coefficients : (x : ℕ) → coefficient multiple.terms x ≡ (factor *ℤ coefficient a.terms x)
 
+-- the constant or some coefficient of the exact multiple is out of range
 abbrev pub MultipleLeaves : Form → ℤ → Type 0
 MultipleLeaves a factor =
     ¬ InRange (factor *ℤ a.constant) ⊎ ((x : ℕ) × ¬ InRange (factor *ℤ coefficient a.terms x))

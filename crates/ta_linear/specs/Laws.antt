@@ -1,3 +1,4 @@
+-- What sums, multiples, negations and leaves say of values (elementary; Farkas' lemma in the direction that a refutation rests on)
 use Rattle.std.specs.Prelude.{ℕ, ℤ, ◌≡◌, ◌+ℤ◌, ◌-ℤ◌, ◌*ℤ◌, pos, neg_ℤ, ◌↔◌, List}
 use Rattle.ta_linear.specs.Numbers.{InRange}
 use Rattle.ta_linear.specs.Forms.{IsSum, SumLeaves, IsMultiple, MultipleLeaves, IsNegation}

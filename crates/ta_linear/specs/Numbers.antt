@@ -1,3 +1,4 @@
+-- The range of the program's numbers (this project's profile)
 use Rattle.std.specs.Prelude.{ℤ, unsigned_abs, ◌<◌, ◌^◌}
 
 -- the range of the program's numbers: an absolute value below 2^127 (this project's profile)

@@ -1,3 +1,4 @@
+-- Sums of products in the order in which they are formed, and where these leave the range (this project's profile)
 use Rattle.std.specs.Prelude.{ℕ, ℤ, ◌+ℤ◌, ◌*ℤ◌, List, [], ◌∷◌}
 use Rattle.ta_linear.specs.Numbers.{InRange}
 

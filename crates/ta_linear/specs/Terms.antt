@@ -1,3 +1,4 @@
+-- Lists of terms: what stands before a variable, and when they are normal (this project's profile)
 use Rattle.std.specs.Prelude.{ℕ, ℤ, pos, ◌+◌, ◌+ℤ◌, ◌==◌, ◌≤◌, ◌≢◌, List, [], ◌∷◌, if◌then◌else◌}
 use Rattle.std.proofs.Props.{props}
 use Rattle.ta_linear.specs.Numbers.{InRange}
@@ -20,6 +21,7 @@ IsNormal low high (t ∷ ts) = (low ≤ t.0) × IsTerm t × IsNormal (t.0 + 1) h
 IsTerm-prop : (t : ℕ × ℤ) → IsProp (IsTerm t)
 IsTerm-prop t = hlevel props
 
+-- that terms are normal is a proposition
 pub IsNormal-prop : (low high : ℕ) (ts : List (ℕ × ℤ)) → IsProp (IsNormal low high ts)
 IsNormal-prop low high [] = hlevel props
 IsNormal-prop low high (t ∷ ts) = hlevel (props, IsTerm-prop t, IsNormal-prop (t.0 + 1) high ts)

@@ -8,8 +8,6 @@ mod law;
 mod list;
 mod number;
 mod row;
-#[cfg(test)]
-mod tests;
 
 pub use fault::{LinearFault, OutOfRange};
 pub use form::Form;

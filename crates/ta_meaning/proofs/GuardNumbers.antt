@@ -118,7 +118,7 @@ pub record OneRow (ns : Names) (c : TreeComparison) (row : Row) : Type 0 where
   pub resolved : ResolvedComparison (guard_names ns) (plain_comparison c) rows
   pub only : rows.rows ≡ row ∷ []
 
-abbrev size : Names → ℕ
+abbrev pub size : Names → ℕ
 size ns = length (guard_names ns)
 
 pub comparison_rows_are : (ns : Names) (c : TreeComparison) (rows : Comparison) → ResolvedComparison (guard_names ns) (plain_comparison c) rows → comparison_rows (guard_names ns) (plain_comparison c) ≡ map (linear_of (size ns)) rows.rows
@@ -128,7 +128,7 @@ comparison_rows_are ns c rows resolved =
 one_row_is : (ns : Names) (c : TreeComparison) (row : Row) → OneRow ns c row → comparison_rows (guard_names ns) (plain_comparison c) ≡ linear_of (size ns) row ∷ []
 one_row_is ns c row one = comparison_rows_are ns c one.rows one.resolved ∙ ap (map (linear_of (size ns))) one.only
 
-one_row_over : (ns : Names) (c : TreeComparison) (row : Row) → OneRow ns c row → RowOver (size ns) row
+pub one_row_over : (ns : Names) (c : TreeComparison) (row : Row) → OneRow ns c row → RowOver (size ns) row
 one_row_over ns c row one = let h = subst (λ (zs : List Row). Each (RowOver (size ns)) zs) one.only one.resolved.over in h.0
 
 over_kinds : (ns : Names) (row : Row) → RowOver (size ns) row → RowOver (length ns.parameters + length ns.shared) row

@@ -50,3 +50,8 @@ mod InOrder
 mod SumsInOrder
 mod TreesInOrder
 mod TextInOrder
+mod MadeForms
+mod MadePatterns
+mod MadeRules
+mod MadeFiles
+mod TextAnswers

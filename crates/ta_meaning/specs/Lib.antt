@@ -9,4 +9,5 @@ pub mod Reading
 pub mod SumParts
 pub mod Laws
 pub mod Offsets
+pub mod Answers
 pub mod Inside

@@ -1,6 +1,7 @@
 //! What an automaton file means: from a tree to an automaton with its patterns, or the first fault.
 #![tactic(auto)]
 
+mod answers;
 mod conditions;
 mod declarations;
 mod file;
@@ -19,6 +20,7 @@ mod sums;
 mod thresholds;
 mod updates;
 
+pub use answers::texts_have_answers;
 pub use file::resolve;
 pub use laws::meanings_are_unique;
 pub use offset_law::faults_rise;

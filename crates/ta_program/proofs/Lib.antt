@@ -1,6 +1,17 @@
 mod WordsTaken
 mod WordsBudget
+mod WordsPrefix
 mod VerdictsMade
 mod VerdictsOnce
+mod PiecesMade
+mod Within
+mod DraftsMade
+mod CertificatesMade
+mod Certifying
+mod CertificatesOnce
+mod UnsafePrinted
 mod Meanings
 mod Clauses
+mod WordsDiffer
+mod Accepted
+mod RunsReplayed

@@ -1,55 +1,70 @@
 -- what is known of verdicts as they are made and counted
-use Rattle.std.proofs.Common.{◌≡◌, ℕ, suc, ◌+◌, ◌<◌, ◌≤◌, List, [], ◌∷◌, ◌++◌, Bool, true, false, length, take, arith, refl, sym, ap, subst, ◌∙◌, Some, slice_get, get_or}
-use Rattle.std.specs.Prelude.{filter}
+use Rattle.std.proofs.Common.{◌≡◌, ℕ, suc, ◌+◌, ◌<◌, ◌≤◌, List, [], ◌∷◌, ◌++◌, length, take, arith, refl, sym, ap, subst, ◌∙◌, Some, slice_get, get_or}
 use Rattle.std.proofs.Math.Seq.{take-length}
 use Rattle.std.proofs.lemmas.List.{length-take-le, take_more}
 use Rattle.std.proofs.lemmas.Option.{get_or_from_slice_get}
 use Rattle.ta_automaton.specs.declared.file.File.{File}
 use Rattle.ta_automaton.specs.declared.pattern.Pattern.{Pattern}
 use Rattle.ta_automaton.specs.Lists.{Each}
-use Rattle.ta_automaton.specs.Runs.{InScope, LoopsPure}
+use Rattle.ta_automaton.specs.Runs.{LoopsPure}
 use Rattle.ta_cert.specs.declared.line.Node.{Node}
-use Rattle.ta_cert.specs.declared.line.Node.TheVariants as node
 use Rattle.ta_words.specs.Calls.{OfPattern}
+use Rattle.ta_encode.specs.InPreorder.{Pending}
 use Rattle.ta_encode.specs.declared.encoded.Solution.{Solution}
 use Rattle.ta_encode.proofs.Switch.{some_at}
-use Rattle.ta_encode.proofs.Theorems.{runs}
-use Rattle.ta_walk.specs.Ends.{NodeOf, SolutionAt, TreeIs}
+use Rattle.ta_walk.specs.declared.end.PlaceKind.{PlaceKind}
+use Rattle.ta_walk.specs.Ends.{NodeOf, SolutionAt, TreeIs, leaf_count}
+use Rattle.ta_walk.specs.Visit.{LeavesAt}
 use Rattle.ta_walk.proofs.ProofsMade.{refuted_safe}
 use Rattle.ta_walk.proofs.WordsSolved.{found_solved}
+use Rattle.ta_report.specs.declared.verdict.ReportKind.{ReportKind}
+use Rattle.ta_report.specs.declared.verdict.ReportKind.TheVariants as kind
 use Rattle.ta_report.specs.declared.verdict.Verdict.{Verdict}
 use Rattle.ta_report.specs.Report.{VerdictFits}
-use Rattle.ta_program.specs.Verify.{AreVerdicts, FoundHolds, SafeHolds, VerdictHolds, VerdictsHold, leaf_count}
-
--- whether a node is a leaf
-abbrev pub is_leaf : Node → Bool
-is_leaf (node.Leaf ts) = true
-is_leaf node.Extend = false
-is_leaf (node.Split unknown floor) = false
-
-pub leaves_counted : (ns : List Node) → length (filter is_leaf ns) ≡ leaf_count ns
-leaves_counted [] = refl
-leaves_counted (node.Leaf ts ∷ ns) = ap suc (leaves_counted ns) ∙ omega arith
-leaves_counted (node.Extend ∷ ns) = leaves_counted ns
-leaves_counted (node.Split unknown floor ∷ ns) = leaves_counted ns
+use Rattle.ta_witness.specs.Witness.{IsSolution, WitnessLeaves}
+use Rattle.ta_program.specs.Verify.{AreVerdicts, LeavesIn, RunLeaves, SafeHolds, VerdictHolds, VerdictsHold, place_of}
 
 -- a refuted pattern is safe
 pub safe_holds : (file : File) (number : ℕ) (p : Pattern) → slice_get file.patterns number ≡ Some p → LoopsPure file.automaton → (budget : ℕ) → budget ≤ 1000000000 → (tree : List Node) (nodes leaves : ℕ) → TreeIs file.automaton p budget tree nodes → leaves ≡ leaf_count tree → SafeHolds file p budget nodes leaves
 safe_holds file number p at loops budget within tree nodes leaves is counted =
     record { safe = (refuted_safe file number p at loops budget within tree nodes is).1; tree = tree; is = is; counted = counted }
 
--- a pattern whose word has a solution occurs in a run
-pub found_holds : (file : File) (number : ℕ) (p : Pattern) → slice_get file.patterns number ≡ Some p → InScope file.automaton → (budget nodes : ℕ) (solution : Solution) → NodeOf file.automaton p budget nodes (SolutionAt file.automaton p number solution) → FoundHolds file number p budget nodes
-found_holds file number p at scope budget nodes solution found =
+-- what a walk finds is a solution
+pub solution_is : (file : File) (number : ℕ) (p : Pattern) → slice_get file.patterns number ≡ Some p → (budget nodes : ℕ) (solution : Solution) → NodeOf file.automaton p budget nodes (SolutionAt file.automaton p number solution) → IsSolution file solution
+solution_is file number p at budget nodes solution found =
     let solved = found_solved file.automaton p number budget nodes solution found in
     record {
-      solution = solution;
-      node = found;
+      pattern = p;
+      named = ap (slice_get file.patterns) found.holds.pattern ∙ at;
       values = solved.0;
       are = solved.1;
       solved = solved.3;
-      run = runs file number p at scope solution.start_mask solution.word solved.0 solved.3;
     }
+
+pub solution_found : (file : File) (number : ℕ) → number < length file.patterns → (budget nodes : ℕ) (solution : Solution) → OfPattern file number (λ p. NodeOf file.automaton p budget nodes (SolutionAt file.automaton p number solution)) → IsSolution file solution
+solution_found file number within budget nodes solution found =
+    let at = some_at file.patterns number within in
+    solution_is file number at.0 at.1 budget nodes solution (found at.0 at.1)
+
+-- what is known of a node
+pub of_node : (file : File) (p : Pattern) (budget number : ℕ) (fact other : Pending → Type 0) → ((w : Pending) → fact w → other w) → NodeOf file.automaton p budget number fact → NodeOf file.automaton p budget number other
+of_node file p budget number fact other gives node =
+    record { before = node.before; number_is = node.number_is; within = node.within; word = node.word; visited = node.visited; holds = gives node.word node.holds }
+
+-- where a walk says that a number leaves the range, it does
+leaves_in : (file : File) (number : ℕ) (p : Pattern) (k : PlaceKind) (r : ReportKind) (w : Pending) → place_of r ≡ k → LeavesAt file.automaton p w k → LeavesIn file number p r w
+leaves_in file number p k (kind.Pivot pivot) w same leaves = subst (LeavesAt file.automaton p w) (sym same) leaves
+leaves_in file number p k kind.Leaf w same leaves = subst (LeavesAt file.automaton p w) (sym same) leaves
+leaves_in file number p k kind.Run w same leaves = absurd (subst (LeavesAt file.automaton p w) (sym same) leaves)
+
+pub overflow_holds : (file : File) (number : ℕ) (p : Pattern) (budget node : ℕ) (k : PlaceKind) (r : ReportKind) → place_of r ≡ k → NodeOf file.automaton p budget node (λ w. LeavesAt file.automaton p w k) → NodeOf file.automaton p budget node (LeavesIn file number p r)
+overflow_holds file number p budget node k r same found =
+    of_node file p budget node (λ w. LeavesAt file.automaton p w k) (LeavesIn file number p r) (λ w. leaves_in file number p k r w same) found
+
+-- the run of a whole node leaves the range
+pub run_leaves : (file : File) (number : ℕ) (p : Pattern) (budget node : ℕ) (solution : Solution) → NodeOf file.automaton p budget node (SolutionAt file.automaton p number solution) → WitnessLeaves file solution → NodeOf file.automaton p budget node (LeavesIn file number p kind.Run)
+run_leaves file number p budget node solution found leaves =
+    of_node file p budget node (SolutionAt file.automaton p number solution) (RunLeaves file number p) (λ w whole. record { solution = solution; whole = whole; run = leaves }) found
 
 -- one more verdict at the end
 holds_more : (file : File) (budget number : ℕ) (ps : List Pattern) (vs : List Verdict) (p : Pattern) (v : Verdict) → VerdictsHold file budget number ps vs → VerdictHolds file budget (number + length ps) p v → VerdictsHold file budget number (ps ++ p ∷ []) (vs ++ v ∷ [])
@@ -71,13 +86,13 @@ as_many file budget number (p ∷ ps) (v ∷ vs) hold = ap suc (as_many file bud
 pub record VerdictsSoFar (file : File) (budget count done : ℕ) (vs : List Verdict) : Type 0 where
   pub counted : count ≡ length file.patterns
   pub hold : VerdictsHold file budget 0 (take done file.patterns) vs
-  pub fit : Each VerdictFits vs
+  pub fit : Each (VerdictFits file) vs
 
-fit_more : (vs : List Verdict) (v : Verdict) → Each VerdictFits vs → VerdictFits v → Each VerdictFits (vs ++ v ∷ [])
-fit_more [] v fit fits = (fits, tt)
-fit_more (w ∷ vs) v fit fits = (fit.0, fit_more vs v fit.1 fits)
+fit_more : (file : File) (vs : List Verdict) (v : Verdict) → Each (VerdictFits file) vs → VerdictFits file v → Each (VerdictFits file) (vs ++ v ∷ [])
+fit_more file [] v fit fits = (fits, tt)
+fit_more file (w ∷ vs) v fit fits = (fit.0, fit_more file vs v fit.1 fits)
 
-pub so_far_more : (file : File) (budget count done : ℕ) (vs : List Verdict) (v : Verdict) → VerdictsSoFar file budget count done vs → done < count → OfPattern file done (λ p. VerdictHolds file budget done p v) → VerdictFits v → VerdictsSoFar file budget count (done + 1) (vs ++ v ∷ [])
+pub so_far_more : (file : File) (budget count done : ℕ) (vs : List Verdict) (v : Verdict) → VerdictsSoFar file budget count done vs → done < count → OfPattern file done (λ p. VerdictHolds file budget done p v) → VerdictFits file v → VerdictsSoFar file budget count (done + 1) (vs ++ v ∷ [])
 so_far_more file budget count done vs v so below here fits =
     let ps = file.patterns in
     let counted = so.counted in
@@ -91,8 +106,15 @@ so_far_more file budget count done vs v so below here fits =
     record {
       counted = counted;
       hold = subst (λ (qs : List Pattern). VerdictsHold file budget 0 qs (vs ++ v ∷ [])) more (holds_more file budget 0 (take done ps) vs p v so.hold (subst (λ (k : ℕ). VerdictHolds file budget k p v) number (here p at.1)));
-      fit = fit_more vs v so.fit fits;
+      fit = fit_more file vs v so.fit fits;
     }
+
+-- there are so many patterns, and as many verdicts
+pub so_many : (file : File) (budget count done : ℕ) (vs : List Verdict) → VerdictsSoFar file budget count done vs → done < count → (done < length file.patterns) × (length vs ≡ done)
+so_many file budget count done vs so below =
+    let counted = so.counted in
+    let within : done < length file.patterns = omega arith in
+    (within, as_many file budget 0 (take done file.patterns) vs so.hold ∙ length-take-le done file.patterns (omega arith))
 
 -- a verdict on each of all patterns
 pub all_made : (file : File) (budget count : ℕ) (vs : List Verdict) → VerdictsSoFar file budget count count vs → AreVerdicts file budget vs

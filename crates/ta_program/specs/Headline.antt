@@ -1,6 +1,7 @@
--- What status 0 says, and no more. `verify FILE`: FILE holds a text that means an automaton with patterns, and each of these
--- patterns occurs in no run. `check FILE CERT`: so does each pattern that the output says is proved. Who believes this reads these
--- definitions and those that they name, and no others.
+-- What a status says, and no more. `verify FILE` with status 0: FILE holds a text that means an automaton with patterns, and each
+-- of these patterns occurs in no run; with status 1: some pattern of it occurs in a run. `check FILE CERT` with status 0: each
+-- pattern that the output says is proved occurs in no run. Who believes this reads these definitions and those that they name, and
+-- no others.
 use Rattle.std.specs.Prelude.{ℕ, ◌≡◌, List, codes, slice_get, Option, Some}
 use Rattle.ta_syntax.specs.Grammar.{PlainTree}
 use Rattle.ta_syntax.specs.TreeOf.{IsTextOf}
@@ -31,6 +32,17 @@ pub record EachPatternSafe (view : View) (name : List ℕ) : Type 0 where
   pub holds : HoldsFile view name file
   pub safe : Each (runs.Safe file.automaton) file.patterns
 
+-- a name holds a file, some pattern of which occurs in a run
+pub record SomePatternOccurs (view : View) (name : List ℕ) : Type 0 where
+  pub file : File
+  pub holds : HoldsFile view name file
+  pub number : ℕ
+  pub pattern : Pattern
+  pub among : slice_get file.patterns number ≡ Some pattern
+  pub first : runs.Config
+  pub rules : List ℕ
+  pub occurs : runs.Occurs file.automaton pattern first rules
+
 -- a name holds a file, and each pattern of it whose line the output gained with this word occurs in no run
 pub record EachPrintedSafe (word : List ℕ) (view : View) (name : List ℕ) (written written' : Option (List ℕ)) : Type 0 where
   pub file : File
@@ -39,7 +51,9 @@ pub record EachPrintedSafe (word : List ℕ) (view : View) (name : List ℕ) (wr
   pub gained : written' ≡ with_text written text
   pub safe : (number : ℕ) (p : Pattern) → slice_get file.patterns number ≡ Some p → HasLine (told_of p.name word) text → runs.Safe file.automaton p
 
--- `verify FILE` and `check FILE CERT` with status 0, of what is seen in the calls of the run and in the files
-pub record ZeroIsSafe (number : ℕ) (words : List (List ℕ)) (files : Option Told) (calls calls' : List Call) (written written' : Option (List ℕ)) : Type 0 where
-  pub verify : (name : List ℕ) (budget : ℕ) → request_of words ≡ Some (Verify name budget) → number ≡ 0 → Grew (λ read. EachPatternSafe (seen files read) name) calls calls'
-  pub check : (name certificate : List ℕ) → request_of words ≡ Some (Check name certificate) → number ≡ 0 → Grew (λ read. EachPrintedSafe (codes "proved") (seen files read) name written written') calls calls'
+-- `verify FILE` with status 0 and with status 1, and `check FILE CERT` with status 0, of what is seen in the calls of the run and
+-- in the files
+pub record StatusTells (number : ℕ) (words : List (List ℕ)) (files : Option Told) (calls calls' : List Call) (written written' : Option (List ℕ)) : Type 0 where
+  pub safe : (name : List ℕ) (budget : ℕ) (out : Option (List ℕ)) → request_of words ≡ Some (Verify name budget out) → number ≡ 0 → Grew (λ read. EachPatternSafe (seen files read) name) calls calls'
+  pub occurs : (name : List ℕ) (budget : ℕ) (out : Option (List ℕ)) → request_of words ≡ Some (Verify name budget out) → number ≡ 1 → Grew (λ read. SomePatternOccurs (seen files read) name) calls calls'
+  pub proved : (name certificate : List ℕ) → request_of words ≡ Some (Check name certificate) → number ≡ 0 → Grew (λ read. EachPrintedSafe (codes "proved") (seen files read) name written written') calls calls'

@@ -2,8 +2,14 @@ pub mod Words
 pub mod Taken
 pub mod Kinds
 pub mod Check
+pub mod Compress
 pub mod Replay
 pub mod Verify
+pub mod Certified
+pub mod Reporting
 pub mod Requests
 pub mod Headline
+pub mod Printed
 pub mod Program
+pub mod Laws
+pub mod Inside

@@ -8,6 +8,7 @@ taken_of taken = record {
   first = option_map (λ w. w.now) taken.first;
   second = option_map (λ w. w.now) taken.second;
   nodes = option_map (λ w. w.now) taken.nodes;
+  certificate = option_map (λ w. w.now) taken.certificate;
   ended = taken.ended;
   awaits = taken.awaits;
 }

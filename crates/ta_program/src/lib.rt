@@ -2,8 +2,13 @@
 #![tactic(auto)]
 
 mod budget;
+mod certified;
 mod check;
+mod compress;
+mod draft;
+mod laws;
 mod limits;
+mod pieces;
 mod reading;
 mod replay;
 mod requests;
@@ -11,7 +16,7 @@ mod running;
 mod verify;
 mod words;
 
+pub use laws::{
+    printed_runs_are_replayed, verdicts_are_determined, written_certificates_are_accepted,
+};
 pub use running::run;
-
-#[cfg(test)]
-mod tests;

@@ -2,6 +2,7 @@
 #![tactic(auto)]
 
 use crate::check::judge_check;
+use crate::compress::judge_compress;
 use crate::replay::judge_replay;
 use crate::verify::judge_verify;
 use crate::words::Request;
@@ -17,8 +18,9 @@ impl<'a> Command for Request<'a> {
     fn judge<S: Shelf>(&self, alloc: Global, shelf: &mut S) -> Result<Answer, Refusal<'_>> {
         match self {
             Request::Check { file, certificate } => judge_check(alloc, shelf, file, certificate),
+            Request::Compress { file, run } => judge_compress(alloc, shelf, file, run),
             Request::Replay { file, run } => judge_replay(alloc, shelf, file, run),
-            Request::Verify { file, budget } => judge_verify(alloc, shelf, file, budget),
+            Request::Verify { file, budget, out } => judge_verify(alloc, shelf, file, budget, *out),
         }
     }
 }

@@ -3,8 +3,8 @@
 
 ghost use Rattle.std.specs.Prelude.{◌≡◌, map, option_map};
 ghost use Rattle.ta_shell.specs.Ends.{Quiet, state};
-ghost use Rattle.ta_program.specs.Headline.{ZeroIsSafe};
-ghost use Rattle.ta_program.specs.Program.{CheckProves, Completes, ExactlySo, Opens, PrintedIsSafe, ReplayShows, Runs, Tellings, UsageExactly, VerifyReports};
+ghost use Rattle.ta_program.specs.Headline.{StatusTells};
+ghost use Rattle.ta_program.specs.Program.{CertificateWritten, CheckProves, Completes, ExactlySo, KeepsFiles, Opens, PrintedHolds, ReplayShows, RunShortens, Runs, Tellings, UsageExactly, VerifyReports};
 ghost use Rattle.ta_program.specs.Requests.{asked};
 ghost use Rattle.ta_program.specs.Words.{request_of};
 
@@ -18,12 +18,13 @@ const USAGE: &str =
     "tav: usage: verify FILE [--nodes N] [--certificate OUT] [--json], check FILE CERT, replay FILE RUN, compress FILE RUN, bench K\n";
 
 /// Does what the words ask for, and answers the number that the process ends with: 0 where all is
-/// done, 1 where some pattern is found, 2 where none is and some is unknown, 3 where FILE hinders, 4
-/// where CERT or RUN does, 5 where the words are no command's, 6 where the shelf or the output
-/// failed, and 7 for want of memory.
+/// done, 1 where some pattern is unsafe, 2 where none is and some is unknown, 3 where FILE hinders, 4
+/// where CERT or RUN does, or the certificate is too long, 5 where the words are no command's, 6 where
+/// the shelf or the output failed, and 7 for want of memory.
 ///
 /// A file is read and judged whole before the next one is opened, and a text is made whole before
-/// it is written. A failing `err` changes nothing.
+/// it is written. A certificate is put on the shelf before the report is written, and nothing else is
+/// ever put there. A failing `err` changes nothing.
 pub fn run<S: Shelf, O: Sink, E: Sink>(
     alloc: Global,
     words: &[&str],
@@ -31,14 +32,16 @@ pub fn run<S: Shelf, O: Sink, E: Sink>(
     out: &mut O,
     err: &mut E,
 ) -> u8
-    ensures headline { ZeroIsSafe result (map (λ w. w.now) words.now) (S.files shelf.old) (S.calls shelf.old) (S.calls shelf.new) (O.written out.old) (O.written out.new) }
+    ensures headline { StatusTells result (map (λ w. w.now) words.now) (S.files shelf.old) (S.calls shelf.old) (S.calls shelf.new) (O.written out.old) (O.written out.new) }
     ensures verify { VerifyReports result (map (λ w. w.now) words.now) (S.files shelf.old) (S.calls shelf.old) (S.calls shelf.new) (O.written out.old) (O.written out.new) }
+    ensures certificate { CertificateWritten result (map (λ w. w.now) words.now) (S.files shelf.old) (S.files shelf.new) (S.calls shelf.old) (S.calls shelf.new) (O.written out.old) (O.written out.new) }
     ensures check { CheckProves result (map (λ w. w.now) words.now) (S.files shelf.old) (S.calls shelf.old) (S.calls shelf.new) (O.written out.old) (O.written out.new) }
     ensures replay { ReplayShows result (map (λ w. w.now) words.now) (S.files shelf.old) (S.calls shelf.old) (S.calls shelf.new) (O.written out.old) (O.written out.new) }
-    ensures printed { PrintedIsSafe result (map (λ w. w.now) words.now) (S.files shelf.old) (S.calls shelf.old) (S.calls shelf.new) (O.written out.old) (O.written out.new) }
+    ensures compress { RunShortens result (map (λ w. w.now) words.now) (S.files shelf.old) (S.calls shelf.old) (S.calls shelf.new) (O.written out.old) (O.written out.new) }
+    ensures printed { PrintedHolds result (map (λ w. w.now) words.now) (S.files shelf.old) (S.calls shelf.old) (S.calls shelf.new) (O.written out.old) (O.written out.new) }
     ensures usage { UsageExactly result (map (λ w. w.now) words.now) }
     ensures exact { ExactlySo result (map (λ w. w.now) words.now) (S.files shelf.old) }
-    ensures kept { S.files shelf.new ≡ S.files shelf.old }
+    ensures kept { KeepsFiles result (map (λ w. w.now) words.now) (S.files shelf.old) (S.files shelf.new) }
     ensures opened { Opens (request_of (map (λ w. w.now) words.now)) (S.calls shelf.old) (S.calls shelf.new) }
     ensures runs { Runs (request_of (map (λ w. w.now) words.now)) result
         (state (S.files shelf.old) (S.calls shelf.old) (S.faults shelf.old) (O.written out.old) (O.faults out.old) (O.stalls out.old) (E.written err.old) (E.faults err.old) (E.stalls err.old))

@@ -1,71 +1,87 @@
 //! The command `verify`.
 #![tactic(auto)]
 
-ghost use Rattle.std.specs.Prelude.{◌≡◌, ◌<◌, ◌≤◌, [], IfOk, length, Option};
+ghost use Rattle.std.specs.Prelude.{ℕ, ◌≡◌, ◌<◌, [], IfOk, is_some, length, None, Option, option_map};
+ghost use Rattle.ta_automaton.specs.declared.pattern.Pattern.{Pattern};
 ghost use Rattle.ta_report.specs.Report.{VerdictFits};
 ghost use Rattle.ta_shelf.specs.Calls.{Grew};
 ghost use Rattle.ta_shelf.specs.Put.{Told};
 ghost use Rattle.ta_shell.specs.Commands.{Says};
 ghost use Rattle.ta_shell.specs.Reading.{ReadCause};
-ghost use Rattle.ta_shell.specs.Stages.{replies};
+ghost use Rattle.ta_walk.specs.Ends.{NodeOf, SolutionAt};
+ghost use Rattle.ta_witness.specs.Witness.{IsSolution};
 ghost use Rattle.ta_words.specs.Calls.{OfPattern};
-ghost use Rattle.ta_program.specs.Verify.{AreVerdicts, Reports, VerdictHolds, is_found, is_unknown, leaf_count, place_of, verdicts_number, verify_meaning};
+ghost use Rattle.ta_program.specs.Certified.{safe_ones, tree_size};
+ghost use Rattle.ta_program.specs.Inside.Drafts.{AddsTree, Drafted, HasProofs, HasTrees};
+ghost use Rattle.ta_program.specs.Reporting.{report_meaning, verify_meaning};
+ghost use Rattle.ta_program.specs.Verify.{AreVerdicts, VerdictHolds, is_unknown, is_unsafe, place_of, verdicts_number};
 
 use crate::budget::Budget;
+use crate::certified::answer_certified;
+use crate::draft::Draft;
 use crate::reading::read_legal;
 use std::alloc::{AllocError, Global};
-use ta_cert::Node;
+use ta_cert::Line;
 use ta_dense::NarrowDictionary;
+use ta_encode::Solution;
 use ta_report::{ReportKind, Verdict, report_text};
 use ta_scope::ScopedFile;
 use ta_shelf::{Shelf, Text};
 use ta_shell::{Answer, Refusal};
-use ta_walk::{PlaceKind, WalkEnd, walk};
+use ta_walk::{PlaceKind, VisitEnd, visit};
+use ta_witness::{WitnessFault, witness};
 
-/// Reads a file, and gives a verdict on each of its patterns.
+/// Reads a file, gives a verdict on each of its patterns, and puts the certificate of those that are
+/// safe in the file OUT, where that is asked for.
 pub(crate) fn judge_verify<'a, S: Shelf>(
     alloc: Global,
     shelf: &mut S,
     file: &'a str,
     budget: &Budget,
+    out: Option<&'a str>,
 ) -> Result<Answer, Refusal<'a>>
-    ensures says { Grew (Says (verify_meaning file.now budget.now.nodes) (S.files shelf.old) result) (S.calls shelf.old) (S.calls shelf.new) }
+    ensures says { Grew (Says (verify_meaning file.now budget.now.nodes (option_map (λ w. w.now) out.entry)) (S.files shelf.old) result) (S.calls shelf.old) (S.calls shelf.new) }
     ensures cause { ReadCause result (S.faults shelf.old) (S.faults shelf.new) }
     ensures kept { S.files shelf.new ≡ S.files shelf.old }
 {
     match read_legal(alloc, shelf, file) {
-        Ok(scoped) => answer_report(alloc, &scoped, budget),
+        Ok(scoped) => answer_report(alloc, &scoped, budget, out),
         Err(refusal) => Err(refusal),
     }
 }
 
-/// The answer with a verdict on each pattern of a file.
+/// The answer with a verdict on each pattern of a file, and the certificate that is asked for.
 fn answer_report<'a>(
     alloc: Global,
     scoped: &ScopedFile,
     budget: &Budget,
+    out: Option<&'a str>,
 ) -> Result<Answer, Refusal<'a>>
-    ensures says { (files : Option Told) → Says (replies [] (Reports scoped.now.file budget.now.nodes)) files result [] }
+    ensures says { (files : Option Told) → Says (report_meaning scoped.now.file budget.now.nodes (option_map (λ w. w.now) out.entry)) files result [] }
     ensures cause { ReadCause result 0 0 }
 {
-    let Ok(verdicts) = verdicts_on(alloc, scoped, budget) else {
+    let Ok(mut draft) = Draft::begin(alloc, out.is_some(), &Line::Header) else {
+        return Err(Refusal::Memory);
+    };
+    let Ok(verdicts) = verdicts_on(alloc, scoped, budget, &mut draft) else {
         return Err(Refusal::Memory);
     };
     let number = number_of(verdicts.as_slice());
-    match report_text(alloc, scoped.file(), verdicts.as_slice()) {
-        Ok(text) => {
-            let text = Text::from_string(text.into_string());
-            Ok(Answer::writing(alloc, number, text))
-        }
-        Err(AllocError) => Err(Refusal::Memory),
+    let Ok(text) = report_text(alloc, scoped.file(), verdicts.as_slice()) else {
+        return Err(Refusal::Memory);
+    };
+    let text = Text::from_string(text.into_string());
+    match out {
+        None => Ok(Answer::writing(alloc, number, text)),
+        Some(name) => answer_certified(alloc, number, text, name, draft),
     }
 }
 
-/// The number of a report: 1 where some pattern is found, else 2 where some is unknown, else 0.
+/// The number of a report: 1 where some pattern is unsafe, else 2 where some is unknown, else 0.
 fn number_of(verdicts: &[Verdict]) -> u8
     ensures { result ≡ verdicts_number verdicts.now }
 {
-    if verdicts.iter().any(is_found) {
+    if verdicts.iter().any(is_unsafe) {
         1
     } else if verdicts.iter().any(is_unknown) {
         2
@@ -74,69 +90,120 @@ fn number_of(verdicts: &[Verdict]) -> u8
     }
 }
 
-/// Whether a pattern is found to occur in a run.
-fn is_found(verdict: &Verdict) -> bool
-    ensures { result ≡ is_found verdict.now }
+/// Whether a pattern occurs in a run.
+fn is_unsafe(verdict: &Verdict) -> bool
+    ensures { result ≡ is_unsafe verdict.now }
 {
-    matches!(verdict, Verdict::Found { .. })
+    matches!(verdict, Verdict::Unsafe { .. })
 }
 
-/// Whether a pattern is neither safe nor found.
+/// Whether a pattern is neither safe nor unsafe.
 fn is_unknown(verdict: &Verdict) -> bool
     ensures { result ≡ is_unknown verdict.now }
 {
     matches!(verdict, Verdict::Spent { .. } | Verdict::Overflow { .. })
 }
 
-/// A verdict on each pattern of a file, in order.
+/// A verdict on each pattern of a file, in order. The trees of those that are safe are added to a
+/// draft.
 fn verdicts_on(
     alloc: Global,
     scoped: &ScopedFile,
     budget: &Budget,
+    draft: &mut Draft,
 ) -> Result<Vec<Verdict>, AllocError>
-    ensures { IfOk result (λ verdicts. AreVerdicts scoped.now.file budget.now.nodes verdicts.items) }
+    requires begun { HasProofs draft.old [] }
+    ensures verdicts { IfOk result (λ verdicts. AreVerdicts scoped.now.file budget.now.nodes verdicts.items) }
+    ensures trees { IfOk result (λ verdicts. HasTrees scoped.now.file budget.now.nodes (safe_ones 0 scoped.now.file.patterns verdicts.items) draft.new) }
+    ensures wanted { IfOk result (λ verdicts. draft.new.wanted ≡ draft.old.wanted) }
 {
     let count = scoped.file.patterns.as_slice().len() as u32;
     let mut verdicts = Vec::new(alloc);
     for pattern in 0..count {
-        verdicts.push(verdict_on(alloc, scoped, pattern, budget)?)?;
+        verdicts.push(next_verdict(alloc, scoped, pattern, budget, draft)?)?;
     }
     Ok(verdicts)
 }
 
-/// The verdict on the pattern of a number.
+/// The verdict on the pattern of a number, whose tree is added to a draft where it is safe.
+fn next_verdict(
+    alloc: Global,
+    scoped: &ScopedFile,
+    pattern: u32,
+    budget: &Budget,
+    draft: &mut Draft,
+) -> Result<Verdict, AllocError>
+    requires { pattern < length scoped.now.file.patterns }
+    ensures holds { IfOk result (λ verdict. OfPattern scoped.now.file pattern (λ p. VerdictHolds scoped.now.file budget.now.nodes pattern p verdict)) }
+    ensures fits { IfOk result (VerdictFits scoped.now.file) }
+    ensures adds { IfOk result (λ verdict. OfPattern scoped.now.file pattern (λ p. AddsTree scoped.now.file budget.now.nodes pattern p verdict draft.old draft.new)) }
+    ensures wanted { IfOk result (λ verdict. draft.new.wanted ≡ draft.old.wanted) }
+{
+    let mut proof = Draft::begin(alloc, draft.wanted, &Line::Pattern(pattern))?;
+    let verdict = verdict_on(alloc, scoped, pattern, budget, &mut proof)?;
+    if !is_safe(&verdict) {
+        return Ok(verdict);
+    }
+    draft.add(alloc, proof)?;
+    Ok(verdict)
+}
+
+/// Whether a verdict says that a pattern is safe.
+fn is_safe(verdict: &Verdict) -> bool
+    ensures { result ≡ is_some (tree_size verdict.now) }
+{
+    matches!(verdict, Verdict::Safe { .. })
+}
+
+/// The verdict on the pattern of a number. The lines of its tree, if it is safe, stand at the end of
+/// a draft then.
 fn verdict_on(
     alloc: Global,
     scoped: &ScopedFile,
     pattern: u32,
     budget: &Budget,
+    draft: &mut Draft,
 ) -> Result<Verdict, AllocError>
     requires { pattern < length scoped.now.file.patterns }
     ensures holds { IfOk result (λ verdict. OfPattern scoped.now.file pattern (λ p. VerdictHolds scoped.now.file budget.now.nodes pattern p verdict)) }
-    ensures fits { IfOk result (λ verdict. VerdictFits verdict) }
+    ensures fits { IfOk result (VerdictFits scoped.now.file) }
+    ensures drafted { IfOk result (λ verdict. OfPattern scoped.now.file pattern (λ p. Drafted scoped.now.file budget.now.nodes pattern p verdict draft.old draft.new)) }
 {
-    match walk::<NarrowDictionary>(alloc, scoped, pattern, budget.nodes)? {
-        WalkEnd::Refuted { nodes, count } => Ok(Verdict::Safe {
+    match visit::<NarrowDictionary, Draft>(alloc, scoped, pattern, budget.nodes, draft)? {
+        VisitEnd::Refuted { count, leaves } => Ok(Verdict::Safe {
             nodes: count,
-            leaves: count_leaves(nodes.as_slice()),
+            leaves,
         }),
-        WalkEnd::Found { count, .. } => Ok(Verdict::Found { nodes: count }),
-        WalkEnd::Spent { count } => Ok(Verdict::Spent { nodes: count }),
-        WalkEnd::Overflow { node, kind } => Ok(Verdict::Overflow {
+        VisitEnd::Found { count, solution } => verdict_of(alloc, scoped, count, &solution),
+        VisitEnd::Spent { count } => Ok(Verdict::Spent { nodes: count }),
+        VisitEnd::Overflow { node, kind } => Ok(Verdict::Overflow {
             node,
             kind: report_kind(kind),
         }),
     }
 }
 
-/// How many of some nodes are leaves.
-fn count_leaves(nodes: &[Node]) -> u64
-    ensures { result ≡ leaf_count nodes.now }
+/// The verdict where the node of a number is the first whole one: the pattern occurs in the run of
+/// its solution, unless a number of the run's replay leaves the range.
+fn verdict_of(
+    alloc: Global,
+    scoped: &ScopedFile,
+    node: u64,
+    solution: &Solution,
+) -> Result<Verdict, AllocError>
+    requires { IsSolution scoped.now.file solution.now }
+    ensures holds { (budget number : ℕ) (p : Pattern) → NodeOf scoped.now.file.automaton p budget node (SolutionAt scoped.now.file.automaton p number solution.now) → IfOk result (λ verdict. VerdictHolds scoped.now.file budget number p verdict) }
+    ensures no_tree { IfOk result (λ verdict. tree_size verdict ≡ None) }
+    ensures fits { IfOk result (VerdictFits scoped.now.file) }
 {
-    nodes
-        .iter()
-        .filter(|node| matches!(node, Node::Leaf(_)))
-        .count() as u64
+    match witness(alloc, scoped, solution) {
+        Ok(run) => Ok(Verdict::Unsafe { nodes: node, run }),
+        Err(WitnessFault::Overflow) => Ok(Verdict::Overflow {
+            node,
+            kind: ReportKind::Run,
+        }),
+        Err(WitnessFault::Memory) => Err(AllocError),
+    }
 }
 
 /// The place of a walk, as a report names it.

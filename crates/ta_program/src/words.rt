@@ -6,41 +6,65 @@ ghost use Rattle.std.specs.Char.{is_ascii_digit};
 ghost use Rattle.std.specs.List.{list_all};
 ghost use Rattle.ta_program.specs.Requests.{asked};
 ghost use Rattle.ta_program.specs.Taken.{taken_of};
-ghost use Rattle.ta_program.specs.Words.{is_dashed, form_of, nothing, with_plain, with_nodes, take_word, take_all, name_of, budget_of, is_budget, asked_of, request_of};
+ghost use Rattle.ta_program.specs.Words.Asked.{Verify};
+ghost use Rattle.ta_program.specs.Words.{asked_of, awaiting, budget_of, form_of, is_budget, is_dashed, name_of, nothing, out_of, request_of, take_all, take_word, with_awaited, with_certificate, with_free, with_option, with_plain, with_value, with_word};
 
 use crate::budget::Budget;
 
 /// What the words ask for, with the names of files.
 #[derive(Drop)]
 pub(crate) enum Request<'a> {
-    Check { file: &'a str, certificate: &'a str },
-    Replay { file: &'a str, run: &'a str },
-    Verify { file: &'a str, budget: Budget },
+    Check {
+        file: &'a str,
+        certificate: &'a str,
+    },
+    Compress {
+        file: &'a str,
+        run: &'a str,
+    },
+    Replay {
+        file: &'a str,
+        run: &'a str,
+    },
+    Verify {
+        file: &'a str,
+        budget: Budget,
+        out: Option<&'a str>,
+    },
 }
 
 /// The commands.
 #[derive(Clone, Copy)]
 enum Command {
     Check,
+    Compress,
     Replay,
     Verify,
 }
 
-/// The form of a command's words: how many plain words there are, 1 or 2, and whether `--nodes N` may
-/// be given.
+/// The options that have a value.
+#[derive(Clone, Copy)]
+enum Valued {
+    Nodes,
+    Certificate,
+}
+
+/// The form of a command's words: how many plain words there are, 1 or 2, and whether options may be
+/// given.
 #[derive(Clone, Copy)]
 struct Form {
     command: Command,
     plain: usize,
-    nodes: bool,
+    options: bool,
 }
 
 /// The form of the words of the command of a name: a command has one row here.
 fn form_of(name: &str) -> Option<Form>
     ensures { result ≡ form_of name.now }
 {
-    let (command, plain, nodes) = match name {
+    let (command, plain, options) = match name {
         "check" => (Command::Check, 2, false),
+        "compress" => (Command::Compress, 2, false),
         "replay" => (Command::Replay, 2, false),
         "verify" => (Command::Verify, 1, true),
         _ => return None,
@@ -48,19 +72,20 @@ fn form_of(name: &str) -> Option<Form>
     Some(Form {
         command,
         plain,
-        nodes,
+        options,
     })
 }
 
-/// What was taken of the words so far: the plain words, the value of `--nodes`, whether `--` stood
-/// there, and whether the next word is a value.
+/// What was taken of the words so far: the plain words, the values of `--nodes` and `--certificate`,
+/// whether `--` stood there, and whose value the next word is.
 #[derive(Clone, Copy)]
 struct Taken<'a> {
     first: Option<&'a str>,
     second: Option<&'a str>,
     nodes: Option<&'a str>,
+    certificate: Option<&'a str>,
     ended: bool,
-    awaits: bool,
+    awaits: Option<Valued>,
 }
 
 /// What the words ask for.
@@ -87,8 +112,9 @@ fn take_all<'a>(form: Form, words: &[&'a str]) -> Option<Taken<'a>>
         first: None,
         second: None,
         nodes: None,
+        certificate: None,
         ended: false,
-        awaits: false,
+        awaits: None,
     };
     'taking: for word in words {
         let Some(more) = taken.with(form, word) else {
@@ -104,37 +130,85 @@ impl<'a> Taken<'a> {
     fn with(self, form: Form, word: &'a str) -> Option<Taken<'a>>
         ensures { option_map taken_of result ≡ take_word form (taken_of self.entry) word.now }
     {
-        if self.awaits {
-            return if is_dashed(word) {
-                None
-            } else {
-                self.with_nodes(word)
-            };
+        match self.awaits {
+            Some(option) => self.with_awaited(option, word),
+            None if self.ended => self.with_plain(form, word),
+            None => self.with_free(form, word),
         }
-        if self.ended {
-            return self.with_plain(form, word);
+    }
+
+    /// With a word that is the value of an option.
+    fn with_awaited(self, option: Valued, word: &'a str) -> Option<Taken<'a>>
+        ensures { option_map taken_of result ≡ with_awaited (taken_of self.entry) option word.now }
+    {
+        if is_dashed(word) {
+            None
+        } else {
+            self.with_value(option, word)
         }
+    }
+
+    /// With a word that is no value and does not stand behind `--`.
+    fn with_free(self, form: Form, word: &'a str) -> Option<Taken<'a>>
+        ensures { option_map taken_of result ≡ with_free form (taken_of self.entry) word.now }
+    {
         if word == "--" {
             return Some(Taken {
                 ended: true,
                 ..self
             });
         }
-        if form.nodes {
-            if word == "--nodes" {
-                return Some(Taken {
-                    awaits: true,
-                    ..self
-                });
-            }
-            if let Some(value) = word.strip_prefix("--nodes=") {
-                return self.with_nodes(value);
-            }
+        if form.options {
+            self.with_option(form, word)
+        } else {
+            self.with_word(form, word)
         }
+    }
+
+    /// With a word that may be an option.
+    fn with_option(self, form: Form, word: &'a str) -> Option<Taken<'a>>
+        ensures { option_map taken_of result ≡ with_option form (taken_of self.entry) word.now }
+    {
+        if word == "--nodes" {
+            return Some(self.awaiting(Valued::Nodes));
+        }
+        if let Some(value) = word.strip_prefix("--nodes=") {
+            return self.with_value(Valued::Nodes, value);
+        }
+        self.with_certificate(form, word)
+    }
+
+    /// With a word that may be the option `--certificate`.
+    fn with_certificate(self, form: Form, word: &'a str) -> Option<Taken<'a>>
+        ensures { option_map taken_of result ≡ with_certificate form (taken_of self.entry) word.now }
+    {
+        if word == "--certificate" {
+            return Some(self.awaiting(Valued::Certificate));
+        }
+        if let Some(value) = word.strip_prefix("--certificate=") {
+            return self.with_value(Valued::Certificate, value);
+        }
+        self.with_word(form, word)
+    }
+
+    /// With a word that is no option.
+    fn with_word(self, form: Form, word: &'a str) -> Option<Taken<'a>>
+        ensures { option_map taken_of result ≡ with_word form (taken_of self.entry) word.now }
+    {
         if is_dashed(word) {
             None
         } else {
             self.with_plain(form, word)
+        }
+    }
+
+    /// Where the next word is the value of an option.
+    fn awaiting(self, option: Valued) -> Taken<'a>
+        ensures { taken_of result ≡ awaiting (taken_of self.entry) option }
+    {
+        Taken {
+            awaits: Some(option),
+            ..self
         }
     }
 
@@ -157,18 +231,22 @@ impl<'a> Taken<'a> {
         }
     }
 
-    /// With the value of `--nodes`, where it wasn't given.
-    fn with_nodes(self, value: &'a str) -> Option<Taken<'a>>
-        ensures { option_map taken_of result ≡ with_nodes (taken_of self.entry) value.now }
+    /// With the value of an option, where it wasn't given.
+    fn with_value(self, option: Valued, value: &'a str) -> Option<Taken<'a>>
+        ensures { option_map taken_of result ≡ with_value (taken_of self.entry) option value.now }
     {
-        if self.nodes.is_none() {
-            Some(Taken {
+        match option {
+            Valued::Nodes if self.nodes.is_none() => Some(Taken {
                 nodes: Some(value),
-                awaits: false,
+                awaits: None,
                 ..self
-            })
-        } else {
-            None
+            }),
+            Valued::Certificate if self.certificate.is_none() => Some(Taken {
+                certificate: Some(value),
+                awaits: None,
+                ..self
+            }),
+            _ => None,
         }
     }
 
@@ -176,7 +254,7 @@ impl<'a> Taken<'a> {
     fn request(self, command: Command) -> Option<Request<'a>>
         ensures { option_map asked result ≡ asked_of command (taken_of self.entry) }
     {
-        if self.awaits {
+        if self.awaits.is_some() {
             return None;
         }
         let Some(file) = name_of(self.first) else {
@@ -187,18 +265,40 @@ impl<'a> Taken<'a> {
                 Some(certificate) => Some(Request::Check { file, certificate }),
                 None => None,
             },
+            Command::Compress => match name_of(self.second) {
+                Some(run) => Some(Request::Compress { file, run }),
+                None => None,
+            },
             Command::Replay => match name_of(self.second) {
                 Some(run) => Some(Request::Replay { file, run }),
                 None => None,
             },
             Command::Verify => match budget_of(self.nodes) {
-                Some(nodes) => Some(Request::Verify {
-                    file,
-                    budget: Budget { nodes },
-                }),
+                Some(nodes) => self.request_verify(file, Budget { nodes }),
                 None => None,
             },
         }
+    }
+
+    /// What `verify` asks for.
+    fn request_verify(self, file: &'a str, budget: Budget) -> Option<Request<'a>>
+        ensures { option_map asked result ≡ option_map (Verify file.now budget.nodes) (out_of file.now (taken_of self.entry).certificate) }
+    {
+        match out_of(file, self.certificate) {
+            Some(out) => Some(Request::Verify { file, budget, out }),
+            None => None,
+        }
+    }
+}
+
+/// The name of the file OUT, where it is given: it isn't empty, and differs from that of FILE.
+fn out_of<'a>(file: &str, out: Option<&'a str>) -> Option<Option<&'a str>>
+    ensures { option_map (λ o. option_map (λ w. w.now) o) result ≡ out_of file.now (option_map (λ w. w.now) out.entry) }
+{
+    match out {
+        None => Some(None),
+        Some(name) if !name.is_empty() && name != file => Some(Some(name)),
+        Some(_) => None,
     }
 }
 

@@ -11,7 +11,7 @@ use Rattle.ta_replay.specs.Fits.{LineFits}
 use Rattle.ta_replay.specs.Shows.{MarksAt, ShowsPattern, marks_count}
 use Rattle.ta_replay.proofs.Lines.{some_at}
 
-sum_below : (ℕ → ℕ) → ℕ → ℕ
+unfoldable pub sum_below : (ℕ → ℕ) → ℕ → ℕ
 sum_below f zero = 0
 sum_below f (suc n) = sum_below f n + f n
 

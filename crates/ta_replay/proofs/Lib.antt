@@ -4,6 +4,9 @@ pub mod Decimals
 pub mod Forms
 pub mod Statements
 pub mod RunFacts
+pub mod RunFronts
+pub mod TextsShort
+pub mod Occurring
 mod NumberedNames
 mod ListSteps
 mod ValueLines
@@ -13,14 +16,15 @@ mod OneRun
 mod OneFault
 mod WholeTexts
 mod PrintedLines
-mod Occurring
-mod Lines
+pub mod PieceLines
+pub mod Lines
 mod Values
-mod Paths
+pub mod Paths
 mod Along
 mod Begins
 mod Ends
-mod Counting
-mod Showing
+pub mod Counting
+pub mod Showing
 mod Refusing
 mod Naming
+mod TextAnswers

@@ -194,10 +194,10 @@ step_no_end a p (Step rule factor) fits = differ 0 (line_of a p (Step rule facto
 step_no_end a p (Mark event) fits = differ 0 (line_of a p (Mark event)) (codes "end") refl
 
 -- the lines of a run but its last
-front_lines : (file : File) (run : Run) → Fits file run → List (List ℕ)
+pub front_lines : (file : File) (run : Run) → Fits file run → List (List ℕ)
 front_lines file run fits = head_line file run.pattern ∷ (value_lines (slots file.automaton) (values_of run) ++ map (line_of file.automaton fits.pattern) run.lines)
 
-front_whole : (file : File) (run : Run) (fits : Fits file run) → run_lines file run ≡ front_lines file run fits ++ (codes "end" ∷ [])
+pub front_whole : (file : File) (run : Run) (fits : Fits file run) → run_lines file run ≡ front_lines file run fits ++ (codes "end" ∷ [])
 unfolding front_lines
 front_whole file run fits =
     let a = file.automaton in
@@ -207,7 +207,7 @@ each_step_no_end : (a : Automaton) (p : Pattern) (ls : List RunLine) → Each (L
 each_step_no_end a p [] fit = tt
 each_step_no_end a p (l ∷ ls) fit = (step_no_end a p l fit.0, each_step_no_end a p ls fit.1)
 
-front_no_end : (file : File) (run : Run) (fits : Fits file run) → Each IsNoEnd (front_lines file run fits)
+pub front_no_end : (file : File) (run : Run) (fits : Fits file run) → Each IsNoEnd (front_lines file run fits)
 unfolding front_lines
 front_no_end file run fits =
     let a = file.automaton in

@@ -45,7 +45,7 @@ at_further c (x ∷ xs) d more k e end at =
     let n : suc (length xs + k) ≡ suc (length xs) + k = omega arith in
     subst (λ m. slice_get (c ∷ x ∷ (xs ++ more)) m ≡ Some e) n (at_further x xs d more k e end at)
 
-at_either : (c : runs.Config) (later : List runs.Config) (d : runs.Config) (more : List runs.Config) (j : ℕ) (e : runs.Config) → At c later (length later) d → At c (later ++ more) j e → At c later j e ⊎ ((k : ℕ) × At d more k e)
+pub at_either : (c : runs.Config) (later : List runs.Config) (d : runs.Config) (more : List runs.Config) (j : ℕ) (e : runs.Config) → At c later (length later) d → At c (later ++ more) j e → At c later j e ⊎ ((k : ℕ) × At d more k e)
 at_either c [] d more j e end at = inr (j, subst (λ x. slice_get (x ∷ more) j ≡ Some e) (same_Some c d end) at)
 at_either c (x ∷ xs) d more zero e end at = inl at
 at_either c (x ∷ xs) d more (suc j) e end at = at_either x xs d more j e end at

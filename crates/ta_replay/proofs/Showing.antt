@@ -92,7 +92,7 @@ changed a c rules later steps fits k d at place =
     omega (arith, ints, h g, move_at a r b x f g step place))
     c rules later steps k d at fits
 
-total-replicate : (f : ℕ → ℤ) (k r : ℕ) → total f (replicate k r) ≡ (pos k *ℤ f r)
+pub total-replicate : (f : ℕ → ℤ) (k r : ℕ) → total f (replicate k r) ≡ (pos k *ℤ f r)
 unfolding total
 total-replicate f zero r = sym (zero-*ℤ (f r))
 total-replicate f (suc k) r =
@@ -100,7 +100,7 @@ total-replicate f (suc k) r =
     omega (arith, ints, total-replicate f k r, ap (λ z. z *ℤ f r) e, distributes_right (pos 1) (pos k) (f r), one_times (f r))
 
 -- what lines change
-lines-change : (a : Automaton) (p : Pattern) (place : ℕ) (lines : List RunLine) → Each (LineFits a p) lines → total (λ r. rule_change a (slice_get a.rules r) place) (unit_steps lines) ≡ total (line_change a place) lines
+pub lines-change : (a : Automaton) (p : Pattern) (place : ℕ) (lines : List RunLine) → Each (LineFits a p) lines → total (λ r. rule_change a (slice_get a.rules r) place) (unit_steps lines) ≡ total (line_change a place) lines
 unfolding total
 lines-change a p place [] fits = refl
 lines-change a p place (Step r k ∷ lines) fits =

@@ -1,8 +1,10 @@
 pub mod Fits
 pub mod Shows
+pub mod Pieces
 pub mod Replays
 pub mod ReplayFaults
 pub mod RunText
 pub mod TextFaults
 pub mod Reading
+pub mod Answers
 pub mod Inside

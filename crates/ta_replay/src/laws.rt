@@ -1,9 +1,27 @@
-//! What a run that shows its pattern says of the pattern.
+//! What runs that show their patterns say of them, and what pieces say of the runs that they make. The
+//! functions do nothing: their contracts state the laws.
 #![tactic(auto)]
 
+ghost use Rattle.ta_replay.specs.Answers.{TextsHaveAnswers};
 ghost use Rattle.ta_replay.specs.Shows.{ShownRunsOccur};
+ghost use Rattle.ta_replay.specs.Pieces.{PiecesAreShort, PiecesShow};
 
-/// It does nothing: its contract states that a shown run is an occurrence.
+/// A shown run is an occurrence.
 pub fn shown_runs_occur()
     ensures { ShownRunsOccur }
+{}
+
+/// Pieces of a run, each with at most one step of a rule and a single last one, have few steps.
+pub fn pieces_are_short()
+    ensures { PiecesAreShort }
+{}
+
+/// A run of pieces at whose ends the marked events happen shows its pattern.
+pub fn pieces_show()
+    ensures { PiecesShow }
+{}
+
+/// A text is that of a run of the file, or has a first fault at a line.
+pub fn texts_have_answers()
+    ensures { TextsHaveAnswers }
 {}

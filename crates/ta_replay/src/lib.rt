@@ -12,7 +12,7 @@ mod words;
 mod writing;
 
 pub use fault::RunFault;
-pub use laws::shown_runs_occur;
+pub use laws::{pieces_are_short, pieces_show, shown_runs_occur, texts_have_answers};
 pub use reading::read_run;
 pub use replaying::replay;
 pub use run::{Run, RunLine, Shown};

@@ -5,12 +5,16 @@ use Rattle.std.proofs.lemmas.Fmt.{decimal_injective, decimal_is_IsNumeral}
 use Rattle.std.proofs.lemmas.List.{append_cancel_left}
 use Rattle.std.proofs.lemmas.Str.Parse.{digit_from_value}
 use Rattle.ta_automaton.specs.declared.pattern.Pattern.{Pattern}
+use Rattle.ta_automaton.specs.declared.file.File.{File}
 use Rattle.ta_automaton.specs.Lists.{Each}
+use Rattle.ta_replay.specs.declared.run.Run.{Run as RunOf}
+use Rattle.ta_replay.specs.RunText.{run_text}
+use Rattle.ta_replay.proofs.RunFronts.{run_front}
 use Rattle.ta_report.specs.declared.verdict.ReportKind.{ReportKind}
 use Rattle.ta_report.specs.declared.verdict.ReportKind.TheVariants.{Pivot, Leaf, Run}
 use Rattle.ta_report.specs.declared.verdict.Verdict.{Verdict}
-use Rattle.ta_report.specs.declared.verdict.Verdict.TheVariants.{Safe, Found, Spent, Overflow}
-use Rattle.ta_report.specs.Report.{PlaceFits, ReportsAreDistinct, VerdictFits, place_text, verdict_line, verdict_lines, verdict_text}
+use Rattle.ta_report.specs.declared.verdict.Verdict.TheVariants.{Safe, Unsafe, Spent, Overflow}
+use Rattle.ta_report.specs.Report.{PlaceFits, ReportsAreDistinct, VerdictFits, place_text, run_part, verdict_line, verdict_lines, verdict_text}
 
 -- a number is written in digits
 written : (n : ℕ) → n < 2 ^ 64 → AllDigits 10 (decimal n)
@@ -50,6 +54,10 @@ pub apart : {X : Type 0} (x y : ℕ) (xs ys : List ℕ) → x < y ⊎ y < x → 
 apart x y xs ys (inl less) e = let same : x ≡ y = cc in absurd (omega arith)
 apart x y xs ys (inr less) e = let same : x ≡ y = cc in absurd (omega arith)
 
+-- texts that begin otherwise behind two bytes differ
+pub apart_third : {X : Type 0} (a b x y : ℕ) (xs ys : List ℕ) → x < y ⊎ y < x → a ∷ b ∷ x ∷ xs ≡ a ∷ b ∷ y ∷ ys → X
+apart_third a b x y xs ys other e = let tails : x ∷ xs ≡ y ∷ ys = cc in apart x y xs ys other tails
+
 -- the place in front of a line's end is determined
 place_same : (j k : ReportKind) (r s : List ℕ) → PlaceFits j → PlaceFits k → place_text j ++ (10 ∷ r) ≡ place_text k ++ (10 ∷ s) → (j ≡ k) × (r ≡ s)
 place_same (Pivot m) (Pivot n) r s fj fk e =
@@ -68,37 +76,40 @@ place_same Run Run r s fj fk e = (refl, append_cancel_left (codes "run\n") r s e
 spent_flat : (n : ℕ) (t : List ℕ) → verdict_text (Spent n) ++ (10 ∷ t) ≡ codes "unknown, " ++ (decimal n ++ (codes " nodes spent\n" ++ t))
 spent_flat n t = ap (λ tail. codes "unknown, " ++ tail) (append_assoc (decimal n) (codes " nodes spent") (10 ∷ t))
 
--- the verdict in front of a line's end is determined
-verdict_same : (v w : Verdict) (r s : List ℕ) → VerdictFits v → VerdictFits w → verdict_text v ++ (10 ∷ r) ≡ verdict_text w ++ (10 ∷ s) → (v ≡ w) × (r ≡ s)
-verdict_same (Safe m k) (Safe n l) r s fv fw e =
+-- what is said of an unsafe pattern, and what stands behind it
+unsafe_flat : (n : ℕ) (run : RunOf) (t : List ℕ) → verdict_text (Unsafe n run) ++ (10 ∷ t) ≡ codes "unsafe, " ++ (decimal n ++ (codes " nodes\n" ++ t))
+unsafe_flat n run t = ap (λ tail. codes "unsafe, " ++ tail) (append_assoc (decimal n) (codes " nodes") (10 ∷ t))
+
+-- the verdict in front of a line's end is determined, and so is what stands behind its run
+verdict_same : (file : File) (v w : Verdict) (r s : List ℕ) → VerdictFits file v → VerdictFits file w → verdict_text v ++ (10 ∷ (run_part file v ++ r)) ≡ verdict_text w ++ (10 ∷ (run_part file w ++ s)) → (v ≡ w) × (r ≡ s)
+verdict_same file (Safe m k) (Safe n l) r s fv fw e =
     let flat : (x y : ℕ) (t : List ℕ) → verdict_text (Safe x y) ++ (10 ∷ t) ≡ codes "safe, " ++ (decimal x ++ (codes " nodes, " ++ (decimal y ++ (codes " leaves\n" ++ t)))) =
     λ x y t. ap (λ tail. codes "safe, " ++ tail) (append_assoc (decimal x) (codes " nodes, " ++ (decimal y ++ codes " leaves")) (10 ∷ t) ∙ ap (λ tail. decimal x ++ (codes " nodes, " ++ tail)) (append_assoc (decimal y) (codes " leaves") (10 ∷ t))) in
     let first = number_same 32 m n _ _ (lit< tt) fv.0 fw.0 (append_cancel_left (codes "safe, ") _ _ (sym (flat m k r) ∙ e ∙ flat n l s)) in
     let second = number_same 32 k l _ _ (lit< tt) fv.1 fw.1 (append_cancel_left (codes "nodes, ") _ _ first.1) in
     (ap (λ x. Safe x k) first.0 ∙ ap (λ y. Safe n y) second.0, append_cancel_left (codes "leaves\n") r s second.1)
-verdict_same (Safe m k) (Found n) r s fv fw e = apart 115 102 _ _ (inr (lit< tt)) e
-verdict_same (Safe m k) (Spent n) r s fv fw e = apart 115 117 _ _ (inl (lit< tt)) e
-verdict_same (Safe m k) (Overflow n j) r s fv fw e = apart 115 117 _ _ (inl (lit< tt)) e
-verdict_same (Found m) (Safe n l) r s fv fw e = apart 102 115 _ _ (inl (lit< tt)) e
-verdict_same (Found m) (Found n) r s fv fw e =
-    let flat : (x : ℕ) (t : List ℕ) → verdict_text (Found x) ++ (10 ∷ t) ≡ codes "found, " ++ (decimal x ++ (codes " nodes\n" ++ t)) =
-    λ x t. ap (λ tail. codes "found, " ++ tail) (append_assoc (decimal x) (codes " nodes") (10 ∷ t)) in
-    let first = number_same 32 m n _ _ (lit< tt) fv fw (append_cancel_left (codes "found, ") _ _ (sym (flat m r) ∙ e ∙ flat n s)) in
-    (ap Found first.0, append_cancel_left (codes "nodes\n") r s first.1)
-verdict_same (Found m) (Spent n) r s fv fw e = apart 102 117 _ _ (inl (lit< tt)) e
-verdict_same (Found m) (Overflow n j) r s fv fw e = apart 102 117 _ _ (inl (lit< tt)) e
-verdict_same (Spent m) (Safe n l) r s fv fw e = apart 117 115 _ _ (inr (lit< tt)) e
-verdict_same (Spent m) (Found n) r s fv fw e = apart 117 102 _ _ (inr (lit< tt)) e
-verdict_same (Spent m) (Spent n) r s fv fw e =
+verdict_same file (Safe m k) (Unsafe n run) r s fv fw e = apart 115 117 _ _ (inl (lit< tt)) e
+verdict_same file (Safe m k) (Spent n) r s fv fw e = apart 115 117 _ _ (inl (lit< tt)) e
+verdict_same file (Safe m k) (Overflow n j) r s fv fw e = apart 115 117 _ _ (inl (lit< tt)) e
+verdict_same file (Unsafe m run) (Safe n l) r s fv fw e = apart 117 115 _ _ (inr (lit< tt)) e
+verdict_same file (Unsafe m run) (Unsafe n other) r s fv fw e =
+    let first = number_same 32 m n _ _ (lit< tt) fv.0 fw.0 (append_cancel_left (codes "unsafe, ") _ _ (sym (unsafe_flat m run (run_text file run ++ r)) ∙ e ∙ unsafe_flat n other (run_text file other ++ s))) in
+    let second = run_front file run other r s fv.1 fw.1 (append_cancel_left (codes "nodes\n") _ _ first.1) in
+    (ap (λ x. Unsafe x run) first.0 ∙ ap (λ y. Unsafe n y) second.0, second.1)
+verdict_same file (Unsafe m run) (Spent n) r s fv fw e = apart_third 117 110 115 107 _ _ (inr (lit< tt)) e
+verdict_same file (Unsafe m run) (Overflow n j) r s fv fw e = apart_third 117 110 115 107 _ _ (inr (lit< tt)) e
+verdict_same file (Spent m) (Safe n l) r s fv fw e = apart 117 115 _ _ (inr (lit< tt)) e
+verdict_same file (Spent m) (Unsafe n run) r s fv fw e = apart_third 117 110 107 115 _ _ (inl (lit< tt)) e
+verdict_same file (Spent m) (Spent n) r s fv fw e =
     let first = number_same 32 m n _ _ (lit< tt) fv fw (append_cancel_left (codes "unknown, ") _ _ (sym (spent_flat m r) ∙ e ∙ spent_flat n s)) in
     (ap Spent first.0, append_cancel_left (codes "nodes spent\n") r s first.1)
-verdict_same (Spent m) (Overflow n j) r s fv fw e =
+verdict_same file (Spent m) (Overflow n j) r s fv fw e =
     absurd (number_other m 111 _ _ fv (lit≤ tt) (append_cancel_left (codes "unknown, ") _ _ (sym (spent_flat m r) ∙ e)))
-verdict_same (Overflow m j) (Safe n l) r s fv fw e = apart 117 115 _ _ (inr (lit< tt)) e
-verdict_same (Overflow m j) (Found n) r s fv fw e = apart 117 102 _ _ (inr (lit< tt)) e
-verdict_same (Overflow m j) (Spent n) r s fv fw e =
+verdict_same file (Overflow m j) (Safe n l) r s fv fw e = apart 117 115 _ _ (inr (lit< tt)) e
+verdict_same file (Overflow m j) (Unsafe n run) r s fv fw e = apart_third 117 110 107 115 _ _ (inl (lit< tt)) e
+verdict_same file (Overflow m j) (Spent n) r s fv fw e =
     absurd (number_other n 111 _ _ fw (lit≤ tt) (append_cancel_left (codes "unknown, ") _ _ (sym (spent_flat n s) ∙ sym e)))
-verdict_same (Overflow m j) (Overflow n k) r s fv fw e =
+verdict_same file (Overflow m j) (Overflow n k) r s fv fw e =
     let flat : (x : ℕ) (i : ReportKind) (t : List ℕ) → verdict_text (Overflow x i) ++ (10 ∷ t) ≡ codes "unknown, outside 128 bits at node " ++ (decimal x ++ (codes ", " ++ (place_text i ++ (10 ∷ t)))) =
     λ x i t. ap (λ tail. codes "unknown, outside 128 bits at node " ++ tail) (append_assoc (decimal x) (codes ", " ++ place_text i) (10 ∷ t)) in
     let first = number_same 44 m n _ _ (lit< tt) fv.0 fw.0 (append_cancel_left (codes "unknown, outside 128 bits at node ") _ _ (sym (flat m j r) ∙ e ∙ flat n k s)) in
@@ -110,26 +121,26 @@ line_flat : (p : Pattern) (v : Verdict) (r : List ℕ) → verdict_line p v ++ r
 line_flat p v r =
     ap (λ tail. codes "pattern " ++ tail) (append_assoc p.name (codes ": " ++ (verdict_text v ++ (10 ∷ []))) r ∙ ap (λ tail. p.name ++ (codes ": " ++ tail)) (append_assoc (verdict_text v) (10 ∷ []) r))
 
--- the verdict of a line is determined, and so is what stands behind it
-line_same : (p : Pattern) (v w : Verdict) (r s : List ℕ) → VerdictFits v → VerdictFits w → verdict_line p v ++ r ≡ verdict_line p w ++ s → (v ≡ w) × (r ≡ s)
-line_same p v w r s fv fw e =
-    let named = append_cancel_left (codes "pattern ") _ _ (sym (line_flat p v r) ∙ e ∙ line_flat p w s) in
+-- the verdict of a line is determined, and so is what stands behind its run
+line_same : (file : File) (p : Pattern) (v w : Verdict) (r s : List ℕ) → VerdictFits file v → VerdictFits file w → verdict_line p v ++ (run_part file v ++ r) ≡ verdict_line p w ++ (run_part file w ++ s) → (v ≡ w) × (r ≡ s)
+line_same file p v w r s fv fw e =
+    let named = append_cancel_left (codes "pattern ") _ _ (sym (line_flat p v (run_part file v ++ r)) ∙ e ∙ line_flat p w (run_part file w ++ s)) in
     let told = append_cancel_left p.name _ _ named in
-    verdict_same v w r s fv fw (append_cancel_left (codes ": ") _ _ told)
+    verdict_same file v w r s fv fw (append_cancel_left (codes ": ") _ _ told)
 
 -- the verdicts of lines are determined
-lines_same : (ps : List Pattern) (vs ws : List Verdict) → length vs ≡ length ps → length ws ≡ length ps → Each VerdictFits vs → Each VerdictFits ws → verdict_lines ps vs ≡ verdict_lines ps ws → vs ≡ ws
-lines_same [] [] [] cv cw fv fw e = refl
-lines_same [] [] (w ∷ ws) cv cw fv fw e = cc
-lines_same [] (v ∷ vs) ws cv cw fv fw e = absurd (omega arith)
-lines_same (p ∷ ps) [] ws cv cw fv fw e = absurd (omega arith)
-lines_same (p ∷ ps) (v ∷ vs) [] cv cw fv fw e = absurd (omega arith)
-lines_same (p ∷ ps) (v ∷ vs) (w ∷ ws) cv cw fv fw e =
-    let parts = line_same p v w (verdict_lines ps vs) (verdict_lines ps ws) fv.0 fw.0 e in
-    let rest = lines_same ps vs ws (omega arith) (omega arith) fv.1 fw.1 parts.1 in
+lines_same : (file : File) (ps : List Pattern) (vs ws : List Verdict) → length vs ≡ length ps → length ws ≡ length ps → Each (VerdictFits file) vs → Each (VerdictFits file) ws → verdict_lines file ps vs ≡ verdict_lines file ps ws → vs ≡ ws
+lines_same file [] [] [] cv cw fv fw e = refl
+lines_same file [] [] (w ∷ ws) cv cw fv fw e = cc
+lines_same file [] (v ∷ vs) ws cv cw fv fw e = absurd (omega arith)
+lines_same file (p ∷ ps) [] ws cv cw fv fw e = absurd (omega arith)
+lines_same file (p ∷ ps) (v ∷ vs) [] cv cw fv fw e = absurd (omega arith)
+lines_same file (p ∷ ps) (v ∷ vs) (w ∷ ws) cv cw fv fw e =
+    let parts = line_same file p v w (verdict_lines file ps vs) (verdict_lines file ps ws) fv.0 fw.0 e in
+    let rest = lines_same file ps vs ws (omega arith) (omega arith) fv.1 fw.1 parts.1 in
     ap (λ x. x ∷ vs) parts.0 ∙ ap (λ xs. w ∷ xs) rest
 
 pub reports_distinct : ReportsAreDistinct
 reports_distinct file vs ws cv cw fv fw e =
     let lines = append_cancel_left (codes "\n") _ _ (append_cancel_left file.automaton.name _ _ (append_cancel_left (codes "automaton ") _ _ e)) in
-    lines_same file.patterns vs ws cv cw fv fw lines
+    lines_same file file.patterns vs ws cv cw fv fw lines

@@ -1,6 +1,5 @@
 -- What a printed line of a pattern says.
-use Rattle.std.proofs.Common.{ℕ, zero, suc, ◌+◌, ◌<◌, ◌≤◌, ◌^◌, ◌≡◌, ◌⊎◌, inl, inr, Bool, true, false, List, [], ◌∷◌, ◌++◌, length, map, codes, decimal, refl, sym, ap, subst, ◌∙◌, append_assoc, arith, lit<, slice_get, Option, Some, None, IsTrue, if◌then◌else◌}
-use Rattle.std.specs.List.{AllByRecursion}
+use Rattle.std.proofs.Common.{ℕ, zero, suc, ◌+◌, ◌<◌, ◌^◌, ◌≡◌, ◌⊎◌, inl, inr, Bool, true, false, List, [], ◌∷◌, ◌++◌, map, codes, decimal, refl, sym, ap, subst, ◌∙◌, append_assoc, arith, lit<, slice_get, Some, if◌then◌else◌}
 use Rattle.std.proofs.lemmas.Fmt.{decimal_is_IsNumeral}
 use Rattle.std.proofs.lemmas.List.{append_cancel_left}
 use Rattle.ta_automaton.specs.declared.file.File.{File}
@@ -8,20 +7,25 @@ use Rattle.ta_automaton.specs.declared.pattern.Pattern.{Pattern}
 use Rattle.ta_automaton.specs.Lists.{Distinct, Each}
 use Rattle.ta_automaton.specs.Names.{Name}
 use Rattle.ta_automaton.specs.Patterns.{PatternWithin, pattern_name}
+use Rattle.ta_replay.specs.declared.run.Run.{Run as RunOf}
+use Rattle.ta_replay.specs.Fits.{Fits}
+use Rattle.ta_replay.specs.RunText.{lines_text, named_line, run_lines, run_text, valued_line}
 use Rattle.ta_replay.specs.TextFaults.{Avoids}
 use Rattle.ta_replay.proofs.Bytes.{avoids-append, first_byte}
 use Rattle.ta_replay.proofs.Decimals.{digits_avoid}
 use Rattle.ta_replay.proofs.Forms.{word_avoids}
 use Rattle.ta_replay.proofs.RunFacts.{clear}
-use Rattle.ta_replay.proofs.Statements.{word_of}
+use Rattle.ta_replay.proofs.RunFronts.{each_run_line, no_feeds}
+use Rattle.ta_replay.proofs.Statements.{differ, word_of}
 use Rattle.ta_report.specs.declared.verdict.ReportKind.{ReportKind}
 use Rattle.ta_report.specs.declared.verdict.ReportKind.TheVariants.{Pivot, Leaf, Run}
 use Rattle.ta_report.specs.declared.verdict.Verdict.{Verdict}
-use Rattle.ta_report.specs.declared.verdict.Verdict.TheVariants.{Safe, Found, Spent, Overflow}
-use Rattle.ta_report.specs.Check.{is_proved, proof_line, proof_lines, proof_word}
-use Rattle.ta_report.specs.Printed.{HasLine, PrintedProved, PrintedSafe, told_of}
-use Rattle.ta_report.specs.Report.{PlaceFits, VerdictFits, place_text, verdict_line, verdict_lines, verdict_text}
-use Rattle.ta_report.proofs.Distinct.{apart}
+use Rattle.ta_report.specs.declared.verdict.Verdict.TheVariants.{Safe, Unsafe, Spent, Overflow}
+use Rattle.ta_report.specs.Check.{is_proved, proof_lines, proof_word}
+use Rattle.ta_report.specs.Printed.{LineAt, PrintedProved, PrintedSafe, PrintedUnsafe, told_of}
+use Rattle.ta_report.specs.PrintedRuns.{Begins, IsPlain, PrintedRuns, RunsArePrinted}
+use Rattle.ta_report.specs.Report.{PlaceFits, VerdictFits, place_text, report_text, run_part, verdict_lines, verdict_text}
+use Rattle.ta_report.proofs.Distinct.{apart, apart_third}
 
 -- a line feed behind which something stands is that of the first line, or stands behind that one
 behind_line : (xs rest before tail : List ℕ) → Avoids 10 xs → xs ++ (10 ∷ rest) ≡ before ++ (10 ∷ tail) → (rest ≡ tail) ⊎ ((more : List ℕ) × (rest ≡ more ++ (10 ∷ tail)))
@@ -31,9 +35,28 @@ behind_line (x ∷ xs) rest [] tail free e = let head : x ≡ 10 = cc in absurd 
 behind_line (x ∷ xs) rest (y ∷ ys) tail free e = let same : xs ++ (10 ∷ rest) ≡ ys ++ (10 ∷ tail) = cc in behind_line xs rest ys tail free.1 same
 
 -- a line begins so, or one behind it does
-here_or_behind : (front xs rest : List ℕ) → Avoids 10 xs → HasLine front (xs ++ (10 ∷ rest)) → ((behind : List ℕ) × (xs ++ (10 ∷ rest) ≡ front ++ behind)) ⊎ HasLine front rest
-here_or_behind front xs rest free (behind, inl e) = inl (behind, e)
-here_or_behind front xs rest free (behind, inr (before, e)) = inr (behind, behind_line xs rest before (front ++ behind) free e)
+here_or_behind : (front xs rest behind : List ℕ) → Avoids 10 xs → LineAt front behind (xs ++ (10 ∷ rest)) → (xs ++ (10 ∷ rest) ≡ front ++ behind) ⊎ LineAt front behind rest
+here_or_behind front xs rest behind free (inl e) = inl e
+here_or_behind front xs rest behind free (inr (before, e)) = inr (behind_line xs rest before (front ++ behind) free e)
+
+-- a line of a text is one of a text with more lines in front
+later_line : (front behind xs rest : List ℕ) → LineAt front behind rest → LineAt front behind (xs ++ (10 ∷ rest))
+later_line front behind xs rest (inl e) = inr (xs, ap (λ t. xs ++ (10 ∷ t)) e)
+later_line front behind xs rest (inr (before, e)) = inr (xs ++ (10 ∷ before), ap (λ t. xs ++ (10 ∷ t)) e ∙ sym (append_assoc xs (10 ∷ before) (10 ∷ (front ++ behind))))
+
+later_lines : (front behind rest : List ℕ) (more : List (List ℕ)) → LineAt front behind rest → LineAt front behind (lines_text more ++ rest)
+later_lines front behind rest [] at = at
+later_lines front behind rest (l ∷ ls) at = subst (LineAt front behind) (sym (append_assoc l (10 ∷ lines_text ls) rest)) (later_line front behind l (lines_text ls ++ rest) (later_lines front behind rest ls at))
+
+-- a line that begins so together with its line feed begins so
+within_line : (front l tail behind : List ℕ) → Avoids 10 front → l ++ (10 ∷ tail) ≡ front ++ behind → Begins front l
+within_line [] l tail behind free e = (l, refl)
+within_line (x ∷ front) [] tail behind free e = let head : x ≡ 10 = cc in absurd (free.0 head)
+within_line (x ∷ front) (y ∷ l) tail behind free e =
+    let head : y ≡ x = cc in
+    let rest : l ++ (10 ∷ tail) ≡ front ++ behind = cc in
+    let more = within_line front l tail behind free.1 rest in
+    (more.0, ap (λ z. z ∷ l) head ∙ ap (λ t. x ∷ t) more.1)
 
 -- what is told of a pattern, and what stands behind it
 told_flat : (name word tail : List ℕ) → told_of name word ++ tail ≡ codes "pattern " ++ (name ++ (codes ": " ++ (word ++ tail)))
@@ -59,26 +82,63 @@ told_same name other word front rest behind is is_other e =
     let said = parts.1 in
     (parts.0, cc)
 
--- a line for each pattern
-abbrev lines_of : List Pattern → List (List ℕ) → List ℕ
+-- no plain line tells of a pattern
+plain_other : (line tail behind : List ℕ) → IsPlain line → line ++ (10 ∷ tail) ≡ codes "pattern " ++ behind → ⊥
+plain_other line tail behind plain e = plain.other (within_line (codes "pattern ") line tail behind (clear (codes "pattern ") refl) e)
+
+past_plain : (name front behind rest : List ℕ) (more : List (List ℕ)) → Each IsPlain more → LineAt (told_of name front) behind (lines_text more ++ rest) → LineAt (told_of name front) behind rest
+past_plain name front behind rest [] plain at = at
+past_plain name front behind rest (l ∷ ls) plain at =
+    elim (here_or_behind (told_of name front) l (lines_text ls ++ rest) behind plain.0.no_feed (subst (LineAt (told_of name front) behind) (append_assoc l (10 ∷ lines_text ls) rest) at)) [
+      | inl here ↦ absurd (plain_other l (lines_text ls ++ rest) (name ++ (codes ": " ++ (front ++ behind))) plain.0 (here ∙ told_flat name front behind))
+      | inr later ↦ past_plain name front behind rest ls plain.1 later
+    ]
+
+-- what a text says of a pattern: the words of its line, and the lines behind it
+pub record Said : Type 0 where
+  pub word : List ℕ
+  pub more : List (List ℕ)
+
+abbrev IsSaid : Said → Type 0
+IsSaid s = Avoids 10 s.word × Each IsPlain s.more
+
+-- what is said of each pattern
+abbrev lines_of : List Pattern → List Said → List ℕ
 lines_of [] ws = []
 lines_of (p ∷ ps) [] = []
-lines_of (p ∷ ps) (w ∷ ws) = told_of p.name w ++ (10 ∷ lines_of ps ws)
+lines_of (p ∷ ps) (w ∷ ws) = told_of p.name w.word ++ (10 ∷ (lines_text w.more ++ lines_of ps ws))
 
-no_line : (front : List ℕ) (x : ℕ) (xs : List ℕ) → front ≡ x ∷ xs → HasLine front [] → ⊥
-no_line [] x xs is has = cc
-no_line (y ∷ ys) x xs is (behind, inl e) = cc
-no_line (y ∷ ys) x xs is (behind, inr ([], e)) = cc
-no_line (y ∷ ys) x xs is (behind, inr (b ∷ before, e)) = cc
+-- nothing is left, or the line of a pattern
+abbrev IsNext : List ℕ → Type 0
+IsNext text = (text ≡ []) ⊎ Begins (codes "pattern ") text
+
+lines_next : (ps : List Pattern) (ws : List Said) → IsNext (lines_of ps ws)
+lines_next [] ws = inl refl
+lines_next (p ∷ ps) [] = inl refl
+lines_next (p ∷ ps) (w ∷ ws) = inr (p.name ++ (codes ": " ++ (w.word ++ (10 ∷ (lines_text w.more ++ lines_of ps ws)))), told_flat p.name w.word (10 ∷ (lines_text w.more ++ lines_of ps ws)))
+
+no_line : (front behind : List ℕ) (x : ℕ) (xs : List ℕ) → front ≡ x ∷ xs → LineAt front behind [] → ⊥
+no_line [] behind x xs is has = cc
+no_line (y ∷ ys) behind x xs is (inl e) = cc
+no_line (y ∷ ys) behind x xs is (inr ([], e)) = cc
+no_line (y ∷ ys) behind x xs is (inr (b ∷ before, e)) = cc
+
+-- a line of the first pattern, or of one behind it
+first_or_later : (q : Pattern) (w : Said) (rest name front behind : List ℕ) → Name q.name → IsSaid w → LineAt (told_of name front) behind (told_of q.name w.word ++ (10 ∷ (lines_text w.more ++ rest))) → (told_of q.name w.word ++ (10 ∷ (lines_text w.more ++ rest)) ≡ told_of name front ++ behind) ⊎ LineAt (told_of name front) behind rest
+first_or_later q w rest name front behind is clear at =
+    elim (here_or_behind (told_of name front) (told_of q.name w.word) (lines_text w.more ++ rest) behind (told_clear q.name w.word is clear.0) at) [
+      | inl here ↦ inl here
+      | inr later ↦ inr (past_plain name front behind rest w.more clear.1 later)
+    ]
 
 -- a name that lines tell of is a pattern's
-named : {P : Pattern → Type 0} (ps : List Pattern) (ws : List (List ℕ)) (name front : List ℕ) → ((p : Pattern) → P p → Name p.name) → Each P ps → Each (Avoids 10) ws → Name name → HasLine (told_of name front) (lines_of ps ws) → ¬ Each (λ y. name ≡ y → ⊥) (map pattern_name ps)
-named [] ws name front names are clears is has = absurd (no_line (told_of name front) 112 _ refl has)
-named (p ∷ ps) [] name front names are clears is has = absurd (no_line (told_of name front) 112 _ refl has)
-named (p ∷ ps) (w ∷ ws) name front names are clears is has = λ none.
-    elim (here_or_behind (told_of name front) (told_of p.name w) (lines_of ps ws) (told_clear p.name w (names p are.0) clears.0) has) [
-      | inl here ↦ none.0 (sym (told_same p.name name w front (10 ∷ lines_of ps ws) here.0 (names p are.0) is here.1).0)
-      | inr behind ↦ named ps ws name front names are.1 clears.1 is behind none.1
+named : {P : Pattern → Type 0} (ps : List Pattern) (ws : List Said) (name front behind : List ℕ) → ((p : Pattern) → P p → Name p.name) → Each P ps → Each IsSaid ws → Name name → LineAt (told_of name front) behind (lines_of ps ws) → ¬ Each (λ y. name ≡ y → ⊥) (map pattern_name ps)
+named [] ws name front behind names are clears is at = absurd (no_line (told_of name front) behind 112 _ refl at)
+named (p ∷ ps) [] name front behind names are clears is at = absurd (no_line (told_of name front) behind 112 _ refl at)
+named (p ∷ ps) (w ∷ ws) name front behind names are clears is at = λ none.
+    elim (first_or_later p w (lines_of ps ws) name front behind (names p are.0) clears.0 at) [
+      | inl here ↦ none.0 (sym (told_same p.name name w.word front (10 ∷ (lines_text w.more ++ lines_of ps ws)) behind (names p are.0) is here).0)
+      | inr later ↦ named ps ws name front behind names are.1 clears.1 is later none.1
     ]
 
 -- each item but none is this one
@@ -87,22 +147,54 @@ not_there name [] k p at same none = cc
 not_there name (q ∷ ps) zero p at same none = let is : q ≡ p = cc in none.0 (sym same ∙ ap pattern_name (sym is))
 not_there name (q ∷ ps) (suc k) p at same none = not_there name ps k p at same none.1
 
--- what the line of a pattern says
-said_at : {P : Pattern → Type 0} (ps : List Pattern) (ws : List (List ℕ)) (k : ℕ) (p : Pattern) (front : List ℕ) → ((q : Pattern) → P q → Name q.name) → Each P ps → Distinct (map pattern_name ps) → Each (Avoids 10) ws → Name p.name
-    → slice_get ps k ≡ Some p → HasLine (told_of p.name front) (lines_of ps ws) → (w : List ℕ) × (slice_get ws k ≡ Some w) × (rest : List ℕ) × (behind : List ℕ) × (w ++ (10 ∷ rest) ≡ front ++ behind)
-said_at [] ws k p front names are distinct clears is at has = cc
-said_at (q ∷ ps) [] k p front names are distinct clears is at has = absurd (no_line (told_of p.name front) 112 _ refl has)
-said_at (q ∷ ps) (w ∷ ws) zero p front names are distinct clears is at has =
+-- what the line of a pattern says, and what stands behind it
+pub record SaidAt (ws : List Said) (k : ℕ) (front behind : List ℕ) : Type 0 where
+  pub said : Said
+  pub at : slice_get ws k ≡ Some said
+  pub rest : List ℕ
+  pub next : IsNext rest
+  pub same : said.word ++ (10 ∷ (lines_text said.more ++ rest)) ≡ front ++ behind
+
+said_at : {P : Pattern → Type 0} (ps : List Pattern) (ws : List Said) (k : ℕ) (p : Pattern) (front behind : List ℕ) → ((q : Pattern) → P q → Name q.name) → Each P ps → Distinct (map pattern_name ps) → Each IsSaid ws → Name p.name
+    → slice_get ps k ≡ Some p → LineAt (told_of p.name front) behind (lines_of ps ws) → SaidAt ws k front behind
+said_at [] ws k p front behind names are distinct clears is at has = cc
+said_at (q ∷ ps) [] k p front behind names are distinct clears is at has = absurd (no_line (told_of p.name front) behind 112 _ refl has)
+said_at (q ∷ ps) (w ∷ ws) zero p front behind names are distinct clears is at has =
     let same : q ≡ p = cc in
-    elim (here_or_behind (told_of p.name front) (told_of q.name w) (lines_of ps ws) (told_clear q.name w (names q are.0) clears.0) has) [
-      | inl here ↦ (w, refl, lines_of ps ws, here.0, (told_same q.name p.name w front (10 ∷ lines_of ps ws) here.0 (names q are.0) is here.1).1)
-      | inr behind ↦ absurd (named ps ws p.name front names are.1 clears.1 is behind (subst (λ n. Each (λ y. n ≡ y → ⊥) (map pattern_name ps)) (ap pattern_name same) distinct.0))
+    elim (first_or_later q w (lines_of ps ws) p.name front behind (names q are.0) clears.0 has) [
+      | inl here ↦ record { said = w; at = refl; rest = lines_of ps ws; next = lines_next ps ws; same = (told_same q.name p.name w.word front (10 ∷ (lines_text w.more ++ lines_of ps ws)) behind (names q are.0) is here).1 }
+      | inr later ↦ absurd (named ps ws p.name front behind names are.1 clears.1 is later (subst (λ n. Each (λ y. n ≡ y → ⊥) (map pattern_name ps)) (ap pattern_name same) distinct.0))
     ]
-said_at (q ∷ ps) (w ∷ ws) (suc k) p front names are distinct clears is at has =
-    elim (here_or_behind (told_of p.name front) (told_of q.name w) (lines_of ps ws) (told_clear q.name w (names q are.0) clears.0) has) [
-      | inl here ↦ absurd (not_there q.name ps k p at (sym (told_same q.name p.name w front (10 ∷ lines_of ps ws) here.0 (names q are.0) is here.1).0) distinct.0)
-      | inr behind ↦ said_at ps ws k p front names are.1 distinct.1 clears.1 is at behind
+said_at (q ∷ ps) (w ∷ ws) (suc k) p front behind names are distinct clears is at has =
+    elim (first_or_later q w (lines_of ps ws) p.name front behind (names q are.0) clears.0 has) [
+      | inl here ↦ absurd (not_there q.name ps k p at (sym (told_same q.name p.name w.word front (10 ∷ (lines_text w.more ++ lines_of ps ws)) behind (names q are.0) is here).0) distinct.0)
+      | inr later ↦ (
+          let found = said_at ps ws k p front behind names are.1 distinct.1 clears.1 is at later in
+          record { said = found.said; at = found.at; rest = found.rest; next = found.next; same = found.same })
     ]
+
+-- the line of a pattern, and what stands behind it
+pub record StandsAt (p : Pattern) (s : Said) (text : List ℕ) : Type 0 where
+  pub rest : List ℕ
+  pub next : IsNext rest
+  pub stands : LineAt (told_of p.name s.word) (10 ∷ (lines_text s.more ++ rest)) text
+
+stands_at : (ps : List Pattern) (ws : List Said) (k : ℕ) (p : Pattern) (s : Said) → slice_get ps k ≡ Some p → slice_get ws k ≡ Some s → StandsAt p s (lines_of ps ws)
+stands_at [] ws k p s at said = cc
+stands_at (q ∷ ps) [] k p s at said = cc
+stands_at (q ∷ ps) (w ∷ ws) zero p s at said =
+    let same : q ≡ p = cc in
+    let is : w ≡ s = cc in
+    subst (λ (o : Pattern). StandsAt o s (told_of q.name w.word ++ (10 ∷ (lines_text w.more ++ lines_of ps ws)))) same
+    (subst (λ (o : Said). StandsAt q o (told_of q.name w.word ++ (10 ∷ (lines_text w.more ++ lines_of ps ws)))) is
+    record { rest = lines_of ps ws; next = lines_next ps ws; stands = inl refl })
+stands_at (q ∷ ps) (w ∷ ws) (suc k) p s at said =
+    let later = stands_at ps ws k p s at said in
+    record {
+      rest = later.rest;
+      next = later.next;
+      stands = later_line (told_of p.name s.word) (10 ∷ (lines_text s.more ++ later.rest)) (told_of q.name w.word) (lines_text w.more ++ lines_of ps ws) (later_lines (told_of p.name s.word) (10 ∷ (lines_text s.more ++ later.rest)) (lines_of ps ws) w.more later.stands);
+    }
 
 -- a line of a text is that of a pattern
 line_of_word : (name w rest : List ℕ) → (codes "pattern " ++ (name ++ (codes ": " ++ (w ++ codes "\n")))) ++ rest ≡ told_of name w ++ (10 ∷ rest)
@@ -110,13 +202,30 @@ line_of_word name w rest =
     ap (λ t. codes "pattern " ++ t) (append_assoc name (codes ": " ++ (w ++ codes "\n")) rest ∙ ap (λ t. name ++ (codes ": " ++ t)) (append_assoc w (codes "\n") rest)) ∙ sym (told_flat name w (10 ∷ rest))
 
 -- no pattern is told of in the first line
-behind_first : (file : File) (front text rest : List ℕ) → Name file.automaton.name → text ≡ (codes "automaton " ++ file.automaton.name) ++ (10 ∷ rest) → (name : List ℕ) → HasLine (told_of name front) text → HasLine (told_of name front) rest
-behind_first file front text rest is e name has =
+behind_first : (file : File) (front behind text rest : List ℕ) → Name file.automaton.name → text ≡ (codes "automaton " ++ file.automaton.name) ++ (10 ∷ rest) → (name : List ℕ) → LineAt (told_of name front) behind text → LineAt (told_of name front) behind rest
+behind_first file front behind text rest is e name at =
     let free = avoids-append 10 (codes "automaton ") file.automaton.name (clear (codes "automaton ") refl) (no_feed file.automaton.name is) in
-    elim (here_or_behind (told_of name front) (codes "automaton " ++ file.automaton.name) rest free (subst (HasLine (told_of name front)) e has)) [
-      | inl here ↦ apart 97 112 _ _ (inl (lit< tt)) here.1
-      | inr behind ↦ behind
+    elim (here_or_behind (told_of name front) (codes "automaton " ++ file.automaton.name) rest behind free (subst (LineAt (told_of name front) behind) e at)) [
+      | inl here ↦ apart 97 112 _ _ (inl (lit< tt)) here
+      | inr later ↦ later
     ]
+
+-- no line of a run tells of a pattern
+run_other : (file : File) (run : RunOf) → Each (λ line. ¬ Begins (codes "pattern ") line) (run_lines file run)
+run_other file run = each_run_line (λ line. ¬ Begins (codes "pattern ") line) file run
+    (λ name begins. differ 0 (named_line (codes "run ") name) (codes "pattern " ++ begins.0) refl begins.1)
+    (λ name v begins. differ 2 (valued_line (codes "parameter ") name v) (codes "pattern " ++ begins.0) refl begins.1)
+    (λ name v begins. differ 0 (valued_line (codes "start ") name v) (codes "pattern " ++ begins.0) refl begins.1)
+    (λ name v begins. differ 0 (valued_line (codes "step ") name v) (codes "pattern " ++ begins.0) refl begins.1)
+    (λ name begins. differ 0 (named_line (codes "mark ") name) (codes "pattern " ++ begins.0) refl begins.1)
+    (λ begins. differ 0 (codes "end") (codes "pattern " ++ begins.0) refl begins.1)
+
+each_plain : (ls : List (List ℕ)) → Each (Avoids 10) ls → Each (λ line. ¬ Begins (codes "pattern ") line) ls → Each IsPlain ls
+each_plain [] free other = tt
+each_plain (l ∷ ls) free other = (record { no_feed = free.0; other = other.0 }, each_plain ls free.1 other.1)
+
+run_plain : (file : File) (run : RunOf) → Fits file run → Each IsPlain (run_lines file run)
+run_plain file run fits = each_plain (run_lines file run) (no_feeds file run fits) (run_other file run)
 
 -- the lines of a report
 number_clear : (n : ℕ) → n < 2 ^ 64 → Avoids 10 (decimal n)
@@ -130,72 +239,181 @@ place_clear (Pivot pivot) fits = avoids-append 10 (codes "pivot ") (decimal pivo
 place_clear Leaf fits = clear (codes "leaf") refl
 place_clear Run fits = clear (codes "run") refl
 
-verdict_clear : (v : Verdict) → VerdictFits v → Avoids 10 (verdict_text v)
-verdict_clear (Safe n l) fits = between (codes "safe, ") _ n (clear (codes "safe, ") refl) fits.0 (between (codes " nodes, ") _ l (clear (codes " nodes, ") refl) fits.1 (clear (codes " leaves") refl))
-verdict_clear (Found n) fits = between (codes "found, ") _ n (clear (codes "found, ") refl) fits (clear (codes " nodes") refl)
-verdict_clear (Spent n) fits = between (codes "unknown, ") _ n (clear (codes "unknown, ") refl) fits (clear (codes " nodes spent") refl)
-verdict_clear (Overflow n kind) fits =
+verdict_clear : (file : File) (v : Verdict) → VerdictFits file v → Avoids 10 (verdict_text v)
+verdict_clear file (Safe n l) fits = between (codes "safe, ") _ n (clear (codes "safe, ") refl) fits.0 (between (codes " nodes, ") _ l (clear (codes " nodes, ") refl) fits.1 (clear (codes " leaves") refl))
+verdict_clear file (Unsafe n run) fits = between (codes "unsafe, ") _ n (clear (codes "unsafe, ") refl) fits.0 (clear (codes " nodes") refl)
+verdict_clear file (Spent n) fits = between (codes "unknown, ") _ n (clear (codes "unknown, ") refl) fits (clear (codes " nodes spent") refl)
+verdict_clear file (Overflow n kind) fits =
     let place = avoids-append 10 (codes ", ") (place_text kind) (clear (codes ", ") refl) (place_clear kind fits.1) in
     between (codes "unknown, outside 128 bits at node ") _ n (clear (codes "unknown, outside 128 bits at node ") refl) fits.0 place
 
-verdicts_clear : (vs : List Verdict) → Each VerdictFits vs → Each (Avoids 10) (map verdict_text vs)
-verdicts_clear [] fits = tt
-verdicts_clear (v ∷ vs) fits = (verdict_clear v fits.0, verdicts_clear vs fits.1)
+-- what a report says of a pattern
+abbrev run_more : File → Verdict → List (List ℕ)
+run_more file (Safe nodes leaves) = []
+run_more file (Unsafe nodes run) = run_lines file run
+run_more file (Spent nodes) = []
+run_more file (Overflow node kind) = []
 
-verdict_lines_are : (ps : List Pattern) (vs : List Verdict) → verdict_lines ps vs ≡ lines_of ps (map verdict_text vs)
-verdict_lines_are [] vs = refl
-verdict_lines_are (p ∷ ps) [] = refl
-verdict_lines_are (p ∷ ps) (v ∷ vs) = line_of_word p.name (verdict_text v) (verdict_lines ps vs) ∙ ap (λ rest. told_of p.name (verdict_text v) ++ (10 ∷ rest)) (verdict_lines_are ps vs)
+abbrev said_of : File → Verdict → Said
+said_of file v = record { word = verdict_text v; more = run_more file v }
 
-verdict_at : (vs : List Verdict) (k : ℕ) (w : List ℕ) → slice_get (map verdict_text vs) k ≡ Some w → (v : Verdict) × (slice_get vs k ≡ Some v) × (verdict_text v ≡ w)
-verdict_at [] k w at = cc
-verdict_at (v ∷ vs) zero w at = (v, refl, cc)
-verdict_at (v ∷ vs) (suc k) w at = verdict_at vs k w at
+more_plain : (file : File) (v : Verdict) → VerdictFits file v → Each IsPlain (run_more file v)
+more_plain file (Safe nodes leaves) fits = tt
+more_plain file (Unsafe nodes run) fits = run_plain file run fits.1
+more_plain file (Spent nodes) fits = tt
+more_plain file (Overflow node kind) fits = tt
+
+more_text : (file : File) (v : Verdict) → run_part file v ≡ lines_text (run_more file v)
+more_text file (Safe nodes leaves) = refl
+more_text file (Unsafe nodes run) = refl
+more_text file (Spent nodes) = refl
+more_text file (Overflow node kind) = refl
+
+verdicts_clear : (file : File) (vs : List Verdict) → Each (VerdictFits file) vs → Each IsSaid (map (said_of file) vs)
+verdicts_clear file [] fits = tt
+verdicts_clear file (v ∷ vs) fits = ((verdict_clear file v fits.0, more_plain file v fits.0), verdicts_clear file vs fits.1)
+
+verdict_lines_are : (file : File) (ps : List Pattern) (vs : List Verdict) → verdict_lines file ps vs ≡ lines_of ps (map (said_of file) vs)
+verdict_lines_are file [] vs = refl
+verdict_lines_are file (p ∷ ps) [] = refl
+verdict_lines_are file (p ∷ ps) (v ∷ vs) =
+    line_of_word p.name (verdict_text v) (run_part file v ++ verdict_lines file ps vs) ∙ ap (λ part. told_of p.name (verdict_text v) ++ (10 ∷ (part ++ verdict_lines file ps vs))) (more_text file v)
+    ∙ ap (λ rest. told_of p.name (verdict_text v) ++ (10 ∷ (lines_text (run_more file v) ++ rest))) (verdict_lines_are file ps vs)
+
+said_get : (file : File) (vs : List Verdict) (k : ℕ) (s : Said) → slice_get (map (said_of file) vs) k ≡ Some s → (v : Verdict) × (slice_get vs k ≡ Some v) × (said_of file v ≡ s)
+said_get file [] k s at = cc
+said_get file (v ∷ vs) zero s at = (v, refl, cc)
+said_get file (v ∷ vs) (suc k) s at = said_get file vs k s at
+
+verdict_get : (file : File) (vs : List Verdict) (k : ℕ) (v : Verdict) → slice_get vs k ≡ Some v → slice_get (map (said_of file) vs) k ≡ Some (said_of file v)
+verdict_get file [] k v at = cc
+verdict_get file (w ∷ vs) zero v at = let same : w ≡ v = cc in ap (λ (o : Verdict). Some (said_of file o)) same
+verdict_get file (w ∷ vs) (suc k) v at = verdict_get file vs k v at
 
 safe_word : (v : Verdict) (rest behind : List ℕ) → verdict_text v ++ (10 ∷ rest) ≡ codes "safe, " ++ behind → (n : ℕ) × (l : ℕ) × (v ≡ Safe n l)
 safe_word (Safe n l) rest behind e = (n, l, refl)
-safe_word (Found n) rest behind e = apart 102 115 _ _ (inl (lit< tt)) e
+safe_word (Unsafe n run) rest behind e = apart 117 115 _ _ (inr (lit< tt)) e
 safe_word (Spent n) rest behind e = apart 117 115 _ _ (inr (lit< tt)) e
 safe_word (Overflow n kind) rest behind e = apart 117 115 _ _ (inr (lit< tt)) e
+
+unsafe_word : (v : Verdict) (rest behind : List ℕ) → verdict_text v ++ (10 ∷ rest) ≡ codes "unsafe, " ++ behind → (n : ℕ) × (run : RunOf) × (v ≡ Unsafe n run)
+unsafe_word (Safe n l) rest behind e = apart 115 117 _ _ (inl (lit< tt)) e
+unsafe_word (Unsafe n run) rest behind e = (n, run, refl)
+unsafe_word (Spent n) rest behind e = apart_third 117 110 107 115 _ _ (inl (lit< tt)) e
+unsafe_word (Overflow n kind) rest behind e = apart_third 117 110 107 115 _ _ (inl (lit< tt)) e
 
 within_name : (places locations : ℕ) (p : Pattern) → PatternWithin places locations p → Name p.name
 within_name places locations p is = is.name
 
-each_at : (P : Pattern → Type 0) (ps : List Pattern) (k : ℕ) (p : Pattern) → Each P ps → slice_get ps k ≡ Some p → P p
-each_at P [] k p are at = cc
-each_at P (q ∷ ps) zero p are at = let same : q ≡ p = cc in subst P same are.0
-each_at P (q ∷ ps) (suc k) p are at = each_at P ps k p are.1 at
+pub each_at : {X : Type 0} (P : X → Type 0) (xs : List X) (k : ℕ) (x : X) → Each P xs → slice_get xs k ≡ Some x → P x
+each_at P [] k x are at = cc
+each_at P (y ∷ xs) zero x are at = let same : y ≡ x = cc in subst P same are.0
+each_at P (y ∷ xs) (suc k) x are at = each_at P xs k x are.1 at
+
+-- the first line of a report, and those behind it
+report_flat : (file : File) (vs : List Verdict) → report_text file vs ≡ (codes "automaton " ++ file.automaton.name) ++ (10 ∷ lines_of file.patterns (map (said_of file) vs))
+report_flat file vs = sym (append_assoc (codes "automaton ") file.automaton.name (10 ∷ verdict_lines file file.patterns vs)) ∙ ap (λ lines. (codes "automaton " ++ file.automaton.name) ++ (10 ∷ lines)) (verdict_lines_are file file.patterns vs)
+
+-- the verdict that a line of a report tells, and what stands behind it
+pub record Told (file : File) (vs : List Verdict) (k : ℕ) (front behind : List ℕ) : Type 0 where
+  pub verdict : Verdict
+  pub at : slice_get vs k ≡ Some verdict
+  pub rest : List ℕ
+  pub next : IsNext rest
+  pub same : verdict_text verdict ++ (10 ∷ (lines_text (run_more file verdict) ++ rest)) ≡ front ++ behind
+
+told_at : (file : File) (vs : List Verdict) (k : ℕ) (p : Pattern) (front behind : List ℕ) → slice_get file.patterns k ≡ Some p → Each (VerdictFits file) vs → LineAt (told_of p.name front) behind (report_text file vs) → Told file vs k front behind
+told_at file vs k p front behind at fits has =
+    let lines = behind_first file front behind (report_text file vs) (lines_of file.patterns (map (said_of file) vs)) file.automaton.shape.name_legal (report_flat file vs) p.name has in
+    let name = within_name _ _ p (each_at _ file.patterns k p file.shape.within at) in
+    let found = said_at file.patterns (map (said_of file) vs) k p front behind (within_name _ _) file.shape.within file.shape.distinct (verdicts_clear file vs fits) name at lines in
+    let verdict = said_get file vs k found.said found.at in
+    record {
+      verdict = verdict.0;
+      at = verdict.1;
+      rest = found.rest;
+      next = found.next;
+      same = ap (λ (s : Said). s.word ++ (10 ∷ (lines_text s.more ++ found.rest))) verdict.2 ∙ found.same;
+    }
 
 pub printed_safe : PrintedSafe
 printed_safe file vs k p at fits has =
-    let lines = subst (HasLine (told_of p.name (codes "safe, "))) (verdict_lines_are file.patterns vs) (behind_first file (codes "safe, ") _ (verdict_lines file.patterns vs) file.automaton.shape.name_legal (sym (append_assoc (codes "automaton ") file.automaton.name (10 ∷ verdict_lines file.patterns vs))) p.name has) in
-    let name = within_name _ _ p (each_at _ file.patterns k p file.shape.within at) in
-    let said = said_at file.patterns (map verdict_text vs) k p (codes "safe, ") (within_name _ _) file.shape.within file.shape.distinct (verdicts_clear vs fits) name at lines in
-    let verdict = verdict_at vs k said.0 said.1 in
-    let word = safe_word verdict.0 said.2 said.3 (ap (λ w. w ++ (10 ∷ said.2)) verdict.2 ∙ said.4) in
-    (word.0, word.1, verdict.1 ∙ ap Some word.2)
+    let told = told_at file vs k p (codes "safe, ") has.0 at fits has.1 in
+    let word = safe_word told.verdict (lines_text (run_more file told.verdict) ++ told.rest) has.0 told.same in
+    (word.0, word.1, told.at ∙ ap Some word.2)
+
+pub printed_unsafe : PrintedUnsafe
+printed_unsafe file vs k p at fits has =
+    let told = told_at file vs k p (codes "unsafe, ") has.0 at fits has.1 in
+    let word = unsafe_word told.verdict (lines_text (run_more file told.verdict) ++ told.rest) has.0 told.same in
+    (word.0, word.1, told.at ∙ ap Some word.2)
+
+-- the text of a run stands behind the line of its pattern
+pub runs_printed : RunsArePrinted
+runs_printed file vs k p at fits nodes run is =
+    let fit : VerdictFits file (Unsafe nodes run) = each_at (VerdictFits file) vs k (Unsafe nodes run) fits is in
+    let found = stands_at file.patterns (map (said_of file) vs) k p (said_of file (Unsafe nodes run)) at (verdict_get file vs k (Unsafe nodes run) is) in
+    record {
+      lines = run_lines file run;
+      bytes_are = refl;
+      plain = run_plain file run fit.1;
+      words = decimal nodes ++ codes " nodes";
+      no_feed = avoids-append 10 (decimal nodes) (codes " nodes") (number_clear nodes fit.0) (clear (codes " nodes") refl);
+      behind = found.rest;
+      ends = found.next;
+      stands = subst (LineAt (told_of p.name (verdict_text (Unsafe nodes run))) (10 ∷ (run_text file run ++ found.rest))) (sym (report_flat file vs)) (later_line (told_of p.name (verdict_text (Unsafe nodes run))) (10 ∷ (run_text file run ++ found.rest)) (codes "automaton " ++ file.automaton.name) (lines_of file.patterns (map (said_of file) vs)) found.stands);
+    }
+
+-- plain lines up to the next pattern, or to the end, are determined
+not_next : (line tail text : List ℕ) → IsPlain line → IsNext text → text ≡ line ++ (10 ∷ tail) → ⊥
+not_next [] tail text plain (inl none) e = cc
+not_next (x ∷ xs) tail text plain (inl none) e = cc
+not_next line tail text plain (inr begins) e = plain_other line tail begins.0 plain (sym e ∙ begins.1)
+
+plain_same : (ms ls : List (List ℕ)) (x y : List ℕ) → Each IsPlain ms → Each IsPlain ls → IsNext x → IsNext y → lines_text ms ++ x ≡ lines_text ls ++ y → lines_text ms ≡ lines_text ls
+plain_same [] [] x y pm pl nx ny e = refl
+plain_same [] (l ∷ ls) x y pm pl nx ny e = absurd (not_next l (lines_text ls ++ y) x pl.0 nx (e ∙ append_assoc l (10 ∷ lines_text ls) y))
+plain_same (m ∷ ms) [] x y pm pl nx ny e = absurd (not_next m (lines_text ms ++ x) y pm.0 ny (sym e ∙ append_assoc m (10 ∷ lines_text ms) x))
+plain_same (m ∷ ms) (l ∷ ls) x y pm pl nx ny e =
+    let parts = first_byte 10 m l (lines_text ms ++ x) (lines_text ls ++ y) pm.0.no_feed pl.0.no_feed (sym (append_assoc m (10 ∷ lines_text ms) x) ∙ e ∙ append_assoc l (10 ∷ lines_text ls) y) in
+    ap (λ h. h ++ (10 ∷ lines_text ms)) parts.0 ∙ ap (λ t. l ++ (10 ∷ t)) (plain_same ms ls x y pm.1 pl.1 nx ny parts.1)
+
+-- the lines behind that of an unsafe pattern are those of its run
+run_of_word : (file : File) (v : Verdict) (rest words bytes behind : List ℕ) → VerdictFits file v → Avoids 10 words → (lines : List (List ℕ)) → bytes ≡ lines_text lines → Each IsPlain lines → IsNext rest → IsNext behind → verdict_text v ++ (10 ∷ (lines_text (run_more file v) ++ rest)) ≡ (codes "unsafe, " ++ words) ++ (10 ∷ (bytes ++ behind)) → (n : ℕ) × (run : RunOf) × (v ≡ Unsafe n run) × (bytes ≡ run_text file run)
+run_of_word file v rest words bytes behind fits free lines are plain next ends e =
+    let is = unsafe_word v (lines_text (run_more file v) ++ rest) (words ++ (10 ∷ (bytes ++ behind))) (e ∙ append_assoc (codes "unsafe, ") words (10 ∷ (bytes ++ behind))) in
+    let parts = first_byte 10 (verdict_text v) (codes "unsafe, " ++ words) (lines_text (run_more file v) ++ rest) (bytes ++ behind) (verdict_clear file v fits) (avoids-append 10 (codes "unsafe, ") words (clear (codes "unsafe, ") refl) free) e in
+    let same = plain_same (run_more file v) lines rest behind (more_plain file v fits) plain next ends (parts.1 ∙ ap (λ b. b ++ behind) are) in
+    (is.0, is.1, is.2, are ∙ sym same ∙ sym (more_text file v) ∙ ap (run_part file) is.2)
+
+pub printed_runs : PrintedRuns
+printed_runs file vs k p at fits bytes part =
+    let told = told_at file vs k p (codes "unsafe, " ++ part.words) (10 ∷ (bytes ++ part.behind)) at fits part.stands in
+    let fit : VerdictFits file told.verdict = each_at (VerdictFits file) vs k told.verdict fits told.at in
+    let is = run_of_word file told.verdict told.rest part.words bytes part.behind fit part.no_feed part.lines part.bytes_are part.plain told.next part.ends told.same in
+    (is.0, is.1, told.at ∙ ap Some is.2, is.3)
 
 -- the lines of `check`
-abbrev words_from : List ℕ → ℕ → List Pattern → List (List ℕ)
+abbrev words_from : List ℕ → ℕ → List Pattern → List Said
 words_from numbers number [] = []
-words_from numbers number (p ∷ ps) = proof_word numbers number ∷ words_from numbers (number + 1) ps
+words_from numbers number (p ∷ ps) = record { word = proof_word numbers number; more = [] } ∷ words_from numbers (number + 1) ps
 
 word_clear : (b : Bool) → Avoids 10 (if b then codes "proved" else codes "not proved")
 word_clear true = clear (codes "proved") refl
 word_clear false = clear (codes "not proved") refl
 
-words_clear : (numbers : List ℕ) (number : ℕ) (ps : List Pattern) → Each (Avoids 10) (words_from numbers number ps)
+words_clear : (numbers : List ℕ) (number : ℕ) (ps : List Pattern) → Each IsSaid (words_from numbers number ps)
 words_clear numbers number [] = tt
-words_clear numbers number (p ∷ ps) = (word_clear (is_proved numbers number), words_clear numbers (number + 1) ps)
+words_clear numbers number (p ∷ ps) = ((word_clear (is_proved numbers number), tt), words_clear numbers (number + 1) ps)
 
 proof_lines_are : (numbers : List ℕ) (number : ℕ) (ps : List Pattern) → proof_lines numbers number ps ≡ lines_of ps (words_from numbers number ps)
 proof_lines_are numbers number [] = refl
 proof_lines_are numbers number (p ∷ ps) =
     line_of_word p.name (proof_word numbers number) (proof_lines numbers (number + 1) ps) ∙ ap (λ rest. told_of p.name (proof_word numbers number) ++ (10 ∷ rest)) (proof_lines_are numbers (number + 1) ps)
 
-word_at : (numbers : List ℕ) (number : ℕ) (ps : List Pattern) (k : ℕ) (w : List ℕ) → slice_get (words_from numbers number ps) k ≡ Some w → proof_word numbers (number + k) ≡ w
+word_at : (numbers : List ℕ) (number : ℕ) (ps : List Pattern) (k : ℕ) (w : Said) → slice_get (words_from numbers number ps) k ≡ Some w → proof_word numbers (number + k) ≡ w.word
 word_at numbers number [] k w at = cc
-word_at numbers number (p ∷ ps) zero w at = let same : Some (proof_word numbers number) ≡ Some w = at in let is : proof_word numbers number ≡ w = cc in let here : number + 0 ≡ number = omega arith in ap (proof_word numbers) here ∙ is
+word_at numbers number (p ∷ ps) zero w at = let same : record { word = proof_word numbers number; more = [] } ≡ w = cc in let is : proof_word numbers number ≡ w.word = ap (λ (s : Said). s.word) same in let here : number + 0 ≡ number = omega arith in ap (proof_word numbers) here ∙ is
 word_at numbers number (p ∷ ps) (suc k) w at = let there : number + suc k ≡ (number + 1) + k = omega arith in ap (proof_word numbers) there ∙ word_at numbers (number + 1) ps k w at
 
 proved_word : (b : Bool) (rest behind : List ℕ) → (if b then codes "proved" else codes "not proved") ++ (10 ∷ rest) ≡ codes "proved" ++ behind → b ≡ true
@@ -206,10 +424,11 @@ pub printed_proved : PrintedProved
 printed_proved file numbers k p at has =
     let flat : (codes "automaton " ++ (file.automaton.name ++ codes "\n")) ++ proof_lines numbers 0 file.patterns ≡ (codes "automaton " ++ file.automaton.name) ++ (10 ∷ proof_lines numbers 0 file.patterns) =
     ap (λ t. codes "automaton " ++ t) (append_assoc file.automaton.name (codes "\n") (proof_lines numbers 0 file.patterns)) ∙ sym (append_assoc (codes "automaton ") file.automaton.name (10 ∷ proof_lines numbers 0 file.patterns)) in
-    let lines = subst (HasLine (told_of p.name (codes "proved"))) (proof_lines_are numbers 0 file.patterns) (behind_first file (codes "proved") _ (proof_lines numbers 0 file.patterns) file.automaton.shape.name_legal flat p.name has) in
+    let lines = subst (LineAt (told_of p.name (codes "proved")) has.0) (proof_lines_are numbers 0 file.patterns) (behind_first file (codes "proved") has.0 _ (proof_lines numbers 0 file.patterns) file.automaton.shape.name_legal flat p.name has.1) in
     let name = within_name _ _ p (each_at _ file.patterns k p file.shape.within at) in
-    let said = said_at file.patterns (words_from numbers 0 file.patterns) k p (codes "proved") (within_name _ _) file.shape.within file.shape.distinct (words_clear numbers 0 file.patterns) name at lines in
-    let word = word_at numbers 0 file.patterns k said.0 said.1 in
-    let proved : is_proved numbers (0 + k) ≡ true = proved_word (is_proved numbers (0 + k)) said.2 said.3 (ap (λ w. w ++ (10 ∷ said.2)) word ∙ said.4) in
+    let found = said_at file.patterns (words_from numbers 0 file.patterns) k p (codes "proved") has.0 (within_name _ _) file.shape.within file.shape.distinct (words_clear numbers 0 file.patterns) name at lines in
+    let word = word_at numbers 0 file.patterns k found.said found.at in
+    let behind = lines_text found.said.more ++ found.rest in
+    let proved : is_proved numbers (0 + k) ≡ true = proved_word (is_proved numbers (0 + k)) behind has.0 (ap (λ w. w ++ (10 ∷ behind)) word ∙ found.same) in
     let number : 0 + k ≡ k = omega arith in
     subst (λ n. is_proved numbers n ≡ true) number proved

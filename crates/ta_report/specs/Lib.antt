@@ -3,3 +3,4 @@ pub mod Faults
 pub mod Check
 pub mod Shown
 pub mod Printed
+pub mod PrintedRuns

@@ -1,16 +1,21 @@
 -- What a printed line of a pattern says (this project's profile)
-use Rattle.std.specs.Prelude.{ℕ, ◌≡◌, ◌⊎◌, List, ◌∷◌, ◌++◌, codes, length, slice_get, Some, IsTrue}
+use Rattle.std.specs.Prelude.{ℕ, ◌≡◌, ◌⊎◌, List, ◌∷◌, ◌++◌, codes, slice_get, Some, IsTrue}
 use Rattle.ta_automaton.specs.declared.file.File.{File}
 use Rattle.ta_automaton.specs.declared.pattern.Pattern.{Pattern}
 use Rattle.ta_report.specs.Check.{check_text, is_proved}
 use Rattle.ta_automaton.specs.Lists.{Each}
+use Rattle.ta_replay.specs.declared.run.Run.{Run}
 use Rattle.ta_report.specs.Report.{VerdictFits, report_text}
 use Rattle.ta_report.specs.declared.verdict.Verdict.{Verdict}
-use Rattle.ta_report.specs.declared.verdict.Verdict.TheVariants.{Safe}
+use Rattle.ta_report.specs.declared.verdict.Verdict.TheVariants.{Safe, Unsafe}
 
--- some line of a text begins so: the first one, or one behind a line feed
+-- a line of a text begins so, with this behind it: the first line, or one behind a line feed
+abbrev pub LineAt : List ℕ → List ℕ → List ℕ → Type 0
+LineAt front behind text = (text ≡ front ++ behind) ⊎ ((before : List ℕ) × (text ≡ before ++ (10 ∷ (front ++ behind))))
+
+-- some line of a text begins so
 abbrev pub HasLine : List ℕ → List ℕ → Type 0
-HasLine front text = (behind : List ℕ) × ((text ≡ front ++ behind) ⊎ ((before : List ℕ) × (text ≡ before ++ (10 ∷ (front ++ behind)))))
+HasLine front text = (behind : List ℕ) × LineAt front behind text
 
 -- a pattern's name, and what is said of it
 abbrev pub told_of : List ℕ → List ℕ → List ℕ
@@ -20,9 +25,17 @@ told_of name word = codes "pattern " ++ (name ++ (codes ": " ++ word))
 abbrev pub PrintedSafe : Type 0
 PrintedSafe =
     (file : File) (verdicts : List Verdict) (number : ℕ) (pattern : Pattern) → slice_get file.patterns number ≡ Some pattern
-    → Each VerdictFits verdicts
+    → Each (VerdictFits file) verdicts
     → HasLine (told_of pattern.name (codes "safe, ")) (report_text file verdicts)
     → (nodes : ℕ) × (leaves : ℕ) × (slice_get verdicts number ≡ Some (Safe nodes leaves))
+
+-- a pattern that a report prints as unsafe has the verdict Unsafe
+abbrev pub PrintedUnsafe : Type 0
+PrintedUnsafe =
+    (file : File) (verdicts : List Verdict) (number : ℕ) (pattern : Pattern) → slice_get file.patterns number ≡ Some pattern
+    → Each (VerdictFits file) verdicts
+    → HasLine (told_of pattern.name (codes "unsafe, ")) (report_text file verdicts)
+    → (nodes : ℕ) × (run : Run) × (slice_get verdicts number ≡ Some (Unsafe nodes run))
 
 -- a pattern that the text of `check` prints as proved is among the proved ones
 abbrev pub PrintedProved : Type 0

@@ -92,7 +92,7 @@ fn one(head: &'static str, number: u64) -> Phrase
 {
     Phrase::One {
         head,
-        number,
+        number: u128::from(number),
         tail: "",
     }
 }
@@ -103,7 +103,7 @@ fn closed(head: &'static str, number: u32, tail: &'static str) -> Phrase
 {
     Phrase::One {
         head,
-        number: u64::from(number),
+        number: u128::from(number),
         tail,
     }
 }

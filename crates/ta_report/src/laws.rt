@@ -1,18 +1,28 @@
 //! What a text tells. The functions do nothing: their contracts state the laws.
 #![tactic(auto)]
 
-ghost use Rattle.ta_report.specs.Printed.{PrintedProved, PrintedSafe};
+ghost use Rattle.ta_report.specs.Printed.{PrintedProved, PrintedSafe, PrintedUnsafe};
+ghost use Rattle.ta_report.specs.PrintedRuns.{PrintedRuns, RunsArePrinted};
 ghost use Rattle.ta_report.specs.Report.{ReportsAreDistinct};
 
 /// It does nothing: its contract states that two reports of a file with one text have the same
-/// verdicts.
+/// verdicts, and the same runs inside.
 pub fn reports_are_distinct()
     ensures { ReportsAreDistinct }
 {}
 
 /// It does nothing: its contract states that a pattern that is printed as safe has the verdict
-/// Safe, and that one printed as proved is among the proved ones.
+/// Safe, one printed as unsafe the verdict Unsafe, and that one printed as proved is among the
+/// proved ones.
 pub fn lines_tell()
     ensures safe { PrintedSafe }
+    ensures unsafe_ { PrintedUnsafe }
     ensures proved { PrintedProved }
+{}
+
+/// It does nothing: its contract states that the lines behind that of an unsafe pattern, up to the
+/// next pattern's or the end, are the text of its run.
+pub fn runs_are_printed()
+    ensures there { RunsArePrinted }
+    ensures only { PrintedRuns }
 {}

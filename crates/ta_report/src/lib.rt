@@ -5,12 +5,10 @@ mod check;
 mod faults;
 mod laws;
 mod report;
-#[cfg(test)]
-mod tests;
 mod verdict;
 
 pub use check::{check_text, shown_line};
 pub use faults::{cert_fault_phrase, file_fault_phrase, run_fault_phrase};
-pub use laws::{lines_tell, reports_are_distinct};
+pub use laws::{lines_tell, reports_are_distinct, runs_are_printed};
 pub use report::report_text;
 pub use verdict::{ReportKind, Verdict};

@@ -5,6 +5,7 @@ ghost use Rattle.std.specs.Prelude.{Some};
 ghost use Rattle.ta_report.specs.Report.{place_text, verdict_text};
 
 use std::fmt;
+use ta_replay::Run;
 
 /// Where a number left 128 bits.
 #[derive(Clone, Copy, Debug, PartialEq, Eq)]
@@ -18,12 +19,12 @@ pub enum ReportKind {
 }
 
 /// What is said of a pattern, within a budget of nodes. Nodes are counted from 1.
-#[derive(Clone, Copy, Debug, PartialEq, Eq)]
+#[derive(Drop)]
 pub enum Verdict {
     /// It occurs in no run: its tree has these many nodes, of which so many are leaves.
     Safe { nodes: u64, leaves: u64 },
-    /// The node of this number is the first whose word has a solution.
-    Found { nodes: u64 },
+    /// It occurs in this run: that of the node of this number, the first whose word has a solution.
+    Unsafe { nodes: u64, run: Run },
     /// These many nodes were visited, and the tree has more.
     Spent { nodes: u64 },
     /// At the node of this number a number left 128 bits.
@@ -48,7 +49,7 @@ impl fmt::Display for Verdict {
     fn fmt<W: fmt::Write>(&self, f: &mut fmt::Formatter<W>) -> fmt::Result {
         match self {
             Verdict::Safe { nodes, leaves } => write!(f, "safe, {nodes} nodes, {leaves} leaves"),
-            Verdict::Found { nodes } => write!(f, "found, {nodes} nodes"),
+            Verdict::Unsafe { nodes, .. } => write!(f, "unsafe, {nodes} nodes"),
             Verdict::Spent { nodes } => write!(f, "unknown, {nodes} nodes spent"),
             Verdict::Overflow { node, kind } => {
                 write!(f, "unknown, outside 128 bits at node {node}, {kind}")

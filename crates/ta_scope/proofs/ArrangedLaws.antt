@@ -25,13 +25,13 @@ last_of o (q ∷ []) i = (q, refl)
 last_of o (q ∷ r ∷ os) i = let w = last_of r (r ∷ os) (inl refl) in (w.0, ap (λ (xs : List ℕ). q ∷ xs) w.1)
 
 -- what the steps have from their list
-record FromCounts (a : Automaton) (counts : List ℤ) (os : List ℕ) : Type 0 where
+pub record FromCounts (a : Automaton) (counts : List ℤ) (os : List ℕ) : Type 0 where
   pub onward : Onward a os
   pub named : (q : ℕ) → In q os → (rule : Rule) × (slice_get a.rules q ≡ Some rule)
   pub above : (q : ℕ) → In q os → pos 1 ≤ℤ count_at counts q
   pub sums : (i : ℕ) → total (change_of a i) os ≡ weighted a counts i
 
-from_counts : (a : Automaton) → InScope a → (counts : List ℤ) → Counts a counts → (steps : List (ℕ × ℤ)) → ArrangedOf a counts steps → FromCounts a counts (unit_steps steps)
+pub from_counts : (a : Automaton) → InScope a → (counts : List ℤ) → Counts a counts → (steps : List (ℕ × ℤ)) → ArrangedOf a counts steps → FromCounts a counts (unit_steps steps)
 from_counts a scope counts c steps s =
     let rest : Rest a counts s.rest = rest_all a scope counts counts s.later s.rest (rest_same a counts c) s.taken_out in
     let along : FromCounts a counts (unit_steps (steps_along a s.rest s.order)) = record {

@@ -1,13 +1,15 @@
 -- lemmas for the crates above
+pub mod ScopeAnswers
 pub mod Reaching
 pub mod Judging
+pub mod ArrangedOnce
+pub mod Arranging
+pub mod ArrangedLaws
 mod Places
 mod Cycles
 mod OrderLaws
-mod ThreeRules
 mod FirstPaths
 mod Stepping
 mod Taken
 mod Circulations
 mod Listing
-mod ArrangedLaws

@@ -64,7 +64,7 @@ leaving : (l : ℕ) (o : Option Rule) → leads_out_of l o ≡ true → (rule : 
 leaving l None h = absurd (false≢true h)
 leaving l (Some rule) h = (rule, refl, eqb-true rule.from l h)
 
-step_from : (a : Automaton) (counts : List ℤ) (l r : ℕ) → is_step_from a counts l r ≡ true → StepFrom a counts l r
+pub step_from : (a : Automaton) (counts : List ℤ) (l r : ℕ) → is_step_from a counts l r ≡ true → StepFrom a counts l r
 step_from a counts l r h =
     let parts = and_parts _ _ h in
     let w = leaving l (slice_get a.rules r) parts.0 in

@@ -1,13 +1,14 @@
 -- Arranged steps are legal (this project's profile)
-use Rattle.std.specs.Prelude.{ℕ, ℤ, pos, ◌<◌, ◌≡◌, ◌≤ℤ◌, ◌+ℤ◌, ◌*ℤ◌, List, [], ◌∷◌, ◌++◌, length, flat_map, replicate, unsigned_abs, slice_get, Some, IsBitSet}
+use Rattle.std.specs.Prelude.{ℕ, ℤ, pos, ◌<◌, ◌≡◌, ◌≤ℤ◌, ◌+ℤ◌, ◌*ℤ◌, ◌≤◌, List, [], ◌∷◌, ◌++◌, length, map, flat_map, replicate, unsigned_abs, slice_get, Some, IsBitSet}
 use Rattle.ta_linear.specs.Values.{RowHolds}
 use Rattle.ta_linear.specs.declared.row.Row.{Row}
 use Rattle.ta_automaton.specs.declared.rule.Rule.{Rule}
 use Rattle.ta_automaton.specs.declared.automaton.Automaton.{Automaton}
+use Rattle.ta_automaton.specs.Lists.{Each}
 use Rattle.ta_automaton.specs.Masks.{numbers_from}
 use Rattle.ta_automaton.specs.Places.{Whole, rule_change, location_place}
 use Rattle.ta_automaton.specs.Runs.{Config, value_at, Steps, At, InScope}
-use Rattle.ta_automaton.specs.Sums.{total}
+use Rattle.ta_automaton.specs.Sums.{total, times_in}
 use Rattle.ta_scope.specs.Arranged.{Counts, ArrangedOf, count_at}
 
 -- the unit steps of a list: each rule as often as its factor says
@@ -28,9 +29,11 @@ GuardsHold a counts mask rows point =
     (r : ℕ) (rule : Rule) → slice_get a.rules r ≡ Some rule → pos 1 ≤ℤ count_at counts r
     → (i : ℕ) (row : Row) → slice_get rows i ≡ Some row → IsBitSet (mask rule) i → RowHolds point row
 
+-- a rule's rise guards
 abbrev pub rise_mask : Rule → ℕ
 rise_mask rule = rule.rise
 
+-- a rule's fall guards
 abbrev pub fall_mask : Rule → ℕ
 fall_mask rule = rule.fall
 
@@ -72,3 +75,21 @@ ArrangedStepsReachTheEnd =
     → GuardsHold a counts fall_mask a.fall (value_at_end a c counts)
     → ((l : ℕ) → l < length a.locations → pos 0 ≤ℤ value_at_end a c counts (location_place a l))
     → LeadsToEnd a c counts (unit_steps steps)
+
+-- counts have one list of arranged steps
+abbrev pub ArrangedStepsAreDetermined : Type 0
+ArrangedStepsAreDetermined = (a : Automaton) (counts : List ℤ) (xs ys : List (ℕ × ℤ)) → ArrangedOf a counts xs → ArrangedOf a counts ys → xs ≡ ys
+
+-- steps of existing rules, each rule at most once, and each as often as its factor says: at least once, at most its count
+pub record StepsWithin (a : Automaton) (counts : List ℤ) (steps : List (ℕ × ℤ)) : Type 0 where
+  pub exist : Each (λ (step : ℕ × ℤ). step.0 < length a.rules) steps
+  pub once : (r : ℕ) → times_in r (map (λ (step : ℕ × ℤ). step.0) steps) ≤ 1
+  pub factors : Each (λ (step : ℕ × ℤ). (pos 1 ≤ℤ step.1) × (step.1 ≤ℤ count_at counts step.0)) steps
+
+-- arranged steps are such steps of their counts
+abbrev pub ArrangedStepsAreWithin : Type 0
+ArrangedStepsAreWithin =
+    (a : Automaton) → InScope a
+    → (counts : List ℤ) → Counts a counts
+    → (steps : List (ℕ × ℤ)) → ArrangedOf a counts steps
+    → StepsWithin a counts steps

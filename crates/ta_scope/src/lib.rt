@@ -1,6 +1,7 @@
 //! The shape of an automaton's cycles, and the order of its locations.
 #![tactic(auto)]
 
+mod answers;
 mod arrange;
 mod circulation;
 mod fault;
@@ -10,10 +11,9 @@ mod order;
 mod path;
 mod reach;
 mod scoped;
-#[cfg(test)]
-mod tests;
 
+pub use answers::scopes_have_answers;
 pub use arrange::Arranged;
 pub use fault::ScopeFault;
-pub use laws::arranged_steps_are_legal;
+pub use laws::{arranged_steps_are_determined, arranged_steps_are_legal};
 pub use scoped::{ScopedFile, scope};

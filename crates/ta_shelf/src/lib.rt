@@ -34,6 +34,3 @@ pub use sink::Sink;
 pub use std_sink::StdSink;
 pub use text::Text;
 pub use writing::write_whole;
-
-#[cfg(test)]
-mod tests;

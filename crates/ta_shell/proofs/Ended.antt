@@ -5,6 +5,7 @@ use Rattle.ta_shell.specs.declared.answer.Refusal.{Refusal}
 use Rattle.ta_shell.specs.declared.answer.Refusal.TheVariants.{Refused, ReadFailed, PutFailed, Memory}
 use Rattle.ta_shell.specs.Commands.{Answers, Judges, Meaning}
 use Rattle.ta_shell.specs.Ends.{End, Finishes, State, Tells}
+use Rattle.ta_shell.specs.Ends.End.{Done, NoMemory, Stopped, Unput, Unread, Unwritten}
 use Rattle.ta_shell.specs.Lines.{line_of, number_of}
 use Rattle.ta_shell.specs.Puts.{Stand}
 use Rattle.ta_shell.specs.Reading.{ReadCause}
@@ -23,26 +24,26 @@ refused m view (Refused n name why) number before after judges cause kept only =
     let same : number ≡ n = only.numbered in
     let three = judges.0 in
     let four = judges.1 in
-    inr (inl (record { three = omega arith; four = omega arith; line = line_of (Refused n name why); holds = rw same judges.2; kept = kept; no_fault = cause; nothing = only.nothing; told = only.told }))
+    Stopped (record { three = omega arith; four = omega arith; line = line_of (Refused n name why); holds = rw same judges.2; kept = kept; no_fault = cause; nothing = only.nothing; told = only.told })
 refused m view (ReadFailed name) number before after judges cause kept only =
-    inr (inr (inl (record { six = only.numbered; name = name.now; read = judges; kept = kept; faulted = cause; nothing = only.nothing; told = only.told })))
+    Unread (record { six = only.numbered; name = name.now; read = judges; kept = kept; faulted = cause; nothing = only.nothing; told = only.told })
 refused m view (PutFailed name) number before after judges cause kept only = absurd judges
 refused m view Memory number before after judges cause kept only =
-    inr (inr (inr (inr (inr (record { seven = only.numbered; stopped = inl kept; no_fault = cause; nothing = only.nothing; told = only.told })))))
+    NoMemory (record { seven = only.numbered; stopped = inl kept; no_fault = cause; nothing = only.nothing; told = only.told })
 
 -- a file of the answer was not put
 pub not_put : (m : Meaning) (view : View) (answer : Answer) (refusal : Refusal) (number : ℕ) (before after : State) → Answers m view answer → PutsAll (Err refusal) answer.puts before.shelf.files after.shelf.files → PutCause (Err refusal) before.shelf.faults after.shelf.faults → Only refusal number before after → End m view number before after
 not_put m view answer (Refused n name why) number before after holds puts cause only = absurd puts
 not_put m view answer (ReadFailed name) number before after holds puts cause only = absurd puts
 not_put m view answer (PutFailed name) number before after holds puts cause only =
-    inr (inr (inr (inl (record { six = only.numbered; name = name.now; stopped = record { answer = answer; holds = holds; stopped = puts }; faulted = cause; nothing = only.nothing; told = only.told }))))
+    Unput (record { six = only.numbered; name = name.now; stopped = record { answer = answer; holds = holds; stopped = puts }; faulted = cause; nothing = only.nothing; told = only.told })
 not_put m view answer Memory number before after holds puts cause only =
-    inr (inr (inr (inr (inr (record { seven = only.numbered; stopped = inr (puts.0, record { answer = answer; holds = holds; stopped = puts.1 }); no_fault = cause; nothing = only.nothing; told = only.told })))))
+    NoMemory (record { seven = only.numbered; stopped = inr (puts.0, record { answer = answer; holds = holds; stopped = puts.1 }); no_fault = cause; nothing = only.nothing; told = only.told })
 
 -- the text was written, or begun
 pub finished : (m : Meaning) (view : View) (answer : Answer) (number : ℕ) (before after : State) → Answers m view answer → Stand answer.puts before.shelf.files after.shelf.files → after.shelf.faults ≡ before.shelf.faults → Finishes answer.number answer.text number before.out after.out before.err after.err → End m view number before after
 finished m view answer number before after holds stand no_fault finishes =
     elim finishes [
-      | inl w ↦ inl (record { answer = answer; holds = holds; numbered = w.0; stand = stand; no_fault = no_fault; written = w.1; calm = w.2; silent = w.3 })
-      | inr w ↦ inr (inr (inr (inr (inl (record { six = w.0; answer = answer; holds = holds; stand = stand; no_fault = no_fault; begun = w.1; failed = w.2; told = w.3 })))))
+      | inl w ↦ Done (record { answer = answer; holds = holds; numbered = w.0; stand = stand; no_fault = no_fault; written = w.1; calm = w.2; silent = w.3 })
+      | inr w ↦ Unwritten (record { six = w.0; answer = answer; holds = holds; stand = stand; no_fault = no_fault; begun = w.1; failed = w.2; told = w.3 })
     ]

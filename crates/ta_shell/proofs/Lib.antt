@@ -2,7 +2,9 @@
 pub mod Clauses
 pub mod Views
 pub mod Read
+pub mod Joined
 mod Pieces
 mod PutOrder
+mod PutPieces
 mod Ended
 mod ReadCalls

@@ -12,7 +12,7 @@ use Rattle.ta_shell.specs.declared.phrase.Phrase.{Phrase}
 use Rattle.ta_shell.specs.Lines.{file_line, phrase_text}
 use Rattle.ta_shell.specs.Reading.{IsUnreadable, Reads}
 use Rattle.ta_shell.specs.Sights.{Absent, Longer, View, in_files, seen}
-use Rattle.ta_shell.specs.Stages.{Hinders, IsAtFault, IsOf, Kind, Stage, after, replies}
+use Rattle.ta_shell.specs.Stages.{Hinders, IsAtFault, IsOf, Kind, Stage, after, replies, settles}
 use Rattle.ta_shell.proofs.Views.{Monotone, Sub, has_more, not_absent, not_longer, sub_told, sub_within, whole_one}
 
 unreadable_more : (v w : View) → Sub v w → (name : List ℕ) (limit : ℕ) (words : List ℕ) → IsUnreadable v name limit words → IsUnreadable w name limit words
@@ -105,6 +105,9 @@ module _ {A F : Type 0} (kind : Kind A F) where
 
 pub replies_monotone : (puts : List (List ℕ)) (Such : Answer → Type 0) → Monotone (replies puts Such)
 replies_monotone puts Such = record { answers = λ v w sub answer h. h; refuses = λ v w sub number line h. h; reads = λ v w sub name h. h }
+
+pub settles_monotone : (puts : List (List ℕ)) (Such : Answer → Type 0) (Wrong : ℕ → List ℕ → Type 0) → Monotone (settles puts Such Wrong)
+settles_monotone puts Such Wrong = record { answers = λ v w sub answer h. h; refuses = λ v w sub number line h. h; reads = λ v w sub name h. h }
 
 -- told files leave one number where a meaning grows and leaves one
 pub decides : (m : Meaning) → Monotone m → ((told : Told) (number other : ℕ) → IsSo m (in_files told) number → IsSo m (in_files told) other → number ≡ other) → Decides m

@@ -117,14 +117,13 @@ pub record OutOfMemory (m : Meaning) (view : View) (number : ℕ) (before after 
   pub told : Tells memory_line before.err after.err
 
 -- one of these ends
-abbrev pub End : Meaning → View → ℕ → State → State → Type 0
-End m view number before after =
-    Answered m view number before after
-    ⊎ (Hindered m view number before after
-    ⊎ (NotRead m view number before after
-    ⊎ (NotPut m view number before after
-    ⊎ (NotWritten m view number before after
-    ⊎ OutOfMemory m view number before after))))
+pub data End (m : Meaning) (view : View) (number : ℕ) (before after : State) : Type 0 where
+  Done : Answered m view number before after → End m view number before after
+  Stopped : Hindered m view number before after → End m view number before after
+  Unread : NotRead m view number before after → End m view number before after
+  Unput : NotPut m view number before after → End m view number before after
+  Unwritten : NotWritten m view number before after → End m view number before after
+  NoMemory : OutOfMemory m view number before after → End m view number before after
 
 -- how a command ends that says this, by what is seen in the calls that it makes and in the files
 pub record Ends (m : Meaning) (number : ℕ) (before after : State) : Type 0 where

@@ -1,11 +1,20 @@
 -- The files that an answer puts on the shelf (this project's profile)
-use Rattle.std.specs.Prelude.{ℕ, ◌≡◌, ◌⊎◌, List, [], ◌∷◌, Contains, Option, Some}
+use Rattle.std.specs.Prelude.{ℕ, ◌≡◌, ◌⊎◌, List, [], ◌∷◌, ◌++◌, Contains, Option, Some}
 use Rattle.ta_shelf.specs.Put.{OthersStay, Told, WhereTold}
 use Rattle.ta_shell.specs.declared.answer.Put.{Put}
 
+-- texts, one behind the other
+abbrev pub texts_joined : List (List ℕ) → List ℕ
+texts_joined [] = []
+texts_joined (t ∷ ts) = t ++ texts_joined ts
+
+-- what is put
+abbrev pub put_bytes : Put → List ℕ
+put_bytes put = texts_joined put.pieces
+
 -- a file holds what is put, and every other file is as it was
 pub record Holds (put : Put) (before after : Told) : Type 0 where
-  pub held : after put.name ≡ Some put.bytes
+  pub held : after put.name ≡ Some (put_bytes put)
   pub others : OthersStay put.name before after
 
 -- each stands, one after the other

@@ -70,6 +70,16 @@ replies puts Such = record {
   puts = puts;
 }
 
+-- the same, but that something may hinder: with this number and this line
+abbrev pub settles : List (List ℕ) → (Answer → Type 0) → (ℕ → List ℕ → Type 0) → Meaning
+settles puts Such Wrong = record {
+  answers = λ view answer. Such answer;
+  refuses = λ view number line. Wrong number line;
+  reads = λ view other. ⊥;
+  opens = λ calls. calls ≡ [];
+  puts = puts;
+}
+
 -- this text with this number, and no file is put
 pub record Writes (number : ℕ) (text : List ℕ) (answer : Answer) : Type 0 where
   pub numbered : answer.number ≡ number

@@ -1,17 +1,19 @@
 //! What a command answers.
 #![tactic(auto)]
 
+ghost use Rattle.std.specs.Prelude.{◌≡◌, ◌∷◌, [], IfOk};
 ghost use Rattle.ta_shell.specs.Stages.{Writes};
 
 use crate::phrase::Phrase;
-use std::alloc::Global;
+use std::alloc::{AllocError, Global};
 use ta_shelf::{List, Text};
 
-/// A file to be put on the shelf: its name and its bytes.
+/// A file to be put on the shelf: its name, and its text in pieces. So a long text, which grew in
+/// pieces, is never copied.
 #[derive(Drop)]
 pub struct Put {
     pub name: Text,
-    pub bytes: List<u8>,
+    pub pieces: List<Text>,
 }
 
 /// A text, and the number that the process ends with once it is written; the files are put on the
@@ -54,5 +56,18 @@ impl Answer {
             text,
             puts: List::from_vec(Vec::new(alloc)),
         }
+    }
+
+    /// The answer that puts a file and then writes a text.
+    pub fn putting(alloc: Global, number: u8, text: Text, put: Put) -> Result<Answer, AllocError>
+        ensures { IfOk result (λ answer. (answer.number ≡ number) × (answer.text ≡ text) × (answer.puts ≡ put ∷ [])) }
+    {
+        let mut puts = Vec::new(alloc);
+        puts.push(put)?;
+        Ok(Answer {
+            number,
+            text,
+            puts: List::from_vec(puts),
+        })
     }
 }

@@ -9,7 +9,7 @@ pub enum Phrase {
     /// A number between words.
     One {
         head: &'static str,
-        number: u64,
+        number: u128,
         tail: &'static str,
     },
     /// Two numbers among words.
@@ -26,5 +26,5 @@ pub enum Phrase {
 #[derive(Clone, Copy, Drop)]
 pub enum Piece<'a> {
     Words(&'a str),
-    Number(u64),
+    Number(u128),
 }

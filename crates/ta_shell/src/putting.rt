@@ -36,5 +36,8 @@ fn put_file<S: Shelf>(shelf: &mut S, put: &Put) -> Result<(), PutFault>
 {
     let name = put.name.as_str();
     shelf.create(name)?;
-    shelf.append(name, put.bytes.as_slice())
+    for piece in put.pieces.as_slice() {
+        shelf.append(name, piece.as_str().as_bytes())?;
+    }
+    Ok(())
 }

@@ -41,7 +41,7 @@ pub fn read_text<'a, S: Shelf>(
             name,
             why: Phrase::One {
                 head: "longer than ",
-                number: limit.bytes,
+                number: limit.bytes as u128,
                 tail: " bytes",
             },
         }),

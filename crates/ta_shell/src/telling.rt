@@ -78,7 +78,10 @@ fn tell_of_file<E: Sink>(err: &mut E, name: &str, why: &Phrase)
                 Piece::Words(middle),
                 Piece::Words(tail),
             );
-            let (first, second) = (Piece::Number(first), Piece::Number(second));
+            let (first, second) = (
+                Piece::Number(u128::from(first)),
+                Piece::Number(u128::from(second)),
+            );
             tell_pieces(
                 err,
                 &[begin, name, between, head, first, middle, second, tail, end],

@@ -20,3 +20,5 @@ mod Prefixes
 mod FollowLemmas
 mod RunSteps
 mod BranchLemmas
+mod RunEndings
+mod SystemEnds

@@ -6,4 +6,5 @@ pub mod Vertex
 pub mod Ends
 pub mod Branch
 pub mod Laws
+pub mod Answers
 pub mod Inside

@@ -1,6 +1,7 @@
 //! Laws of the least-index rule, each the contract of a function that does nothing.
 #![tactic(auto)]
 
+ghost use Rattle.ta_simplex.specs.Answers.{RunsHaveEnds, SystemsHaveEnds};
 ghost use Rattle.ta_simplex.specs.Laws.{MultipliersAreFew, PrefixesGoFirst, RunsAreDetermined, WholeVerticesSolve};
 
 /// The rule leaves no choice: a system has one list of bases and at most one end.
@@ -21,4 +22,11 @@ pub fn multipliers_are_few()
 /// The pivots of a system are the first pivots of each longer system that begins with it.
 pub fn prefixes_go_first()
     ensures { PrefixesGoFirst }
+{}
+
+/// The rule's run ends for each system, and the system is refuted or has a vertex; or some pivot
+/// leaves the range.
+pub fn runs_have_ends()
+    ensures runs { RunsHaveEnds }
+    ensures systems { SystemsHaveEnds }
 {}

@@ -13,7 +13,10 @@ mod vertex;
 pub use branch::{Branch, Standing};
 pub use fault::SolveFault;
 pub use fraction::Fraction;
-pub use laws::{multipliers_are_few, prefixes_go_first, runs_are_determined, whole_vertices_solve};
+pub use laws::{
+    multipliers_are_few, prefixes_go_first, runs_are_determined, runs_have_ends,
+    whole_vertices_solve,
+};
 pub use solving::{Ended, resume, solve};
 use ta_linear::List;
 
@@ -25,6 +28,3 @@ pub enum End {
     /// A value for each unknown, at least 0, at which each row holds.
     Vertex(List<Fraction>),
 }
-
-#[cfg(test)]
-mod tests;

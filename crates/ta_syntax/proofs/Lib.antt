@@ -21,3 +21,9 @@ mod WithinLimits
 mod PrintedTokens
 mod ReadBack
 mod UniqueTrees
+mod TextTokens
+mod FirstTokens
+mod TreeLimits
+mod BuiltSums
+mod BuiltTrees
+pub mod TextTrees

@@ -58,13 +58,13 @@ all_passed p (x ∷ xs) e = step (p x) refl (λ h. all_passed p xs h) e
     step true h f e = (h, f e)
     step false h f e = absurd cc
 
-abbrev same_bytes : List ℕ → List ℕ → Bool
+abbrev pub same_bytes : List ℕ → List ℕ → Bool
 same_bytes [] [] = true
 same_bytes (a ∷ x) (b ∷ y) = (a == b) && same_bytes x y
 same_bytes _ _ = false
 
 -- the keyword that a word is
-abbrev keyword_of : List ℕ → Mark
+abbrev pub keyword_of : List ℕ → Mark
 keyword_of w =
     cond (same_bytes w (codes "automaton")) mark.Automaton (cond (same_bytes w (codes "parameters")) mark.Parameters (cond (same_bytes w (codes "shared")) mark.Shared (cond (same_bytes w (codes "locations")) mark.Locations
     (cond (same_bytes w (codes "initial")) mark.Initial (cond (same_bytes w (codes "processes")) mark.Processes (cond (same_bytes w (codes "resilience")) mark.Resilience (cond (same_bytes w (codes "rule")) mark.Rule
@@ -72,21 +72,21 @@ keyword_of w =
     (cond (same_bytes w (codes "empty")) mark.Empty (cond (same_bytes w (codes "event")) mark.Event mark.After)))))))))))))
 
 -- a keyword
-record IsWordMark (m : Mark) : Type 0 where
-  each : AllByRecursion (λ b. IsTrue (is_word b)) (mark_bytes m)
-  first : BeginsByLetter (mark_bytes m)
-  longest : (b : ℕ) → lengthens (kind.Fixed m) b ≡ is_word b
-  known : keyword_of (mark_bytes m) ≡ m
+pub record IsWordMark (m : Mark) : Type 0 where
+  pub each : AllByRecursion (λ b. IsTrue (is_word b)) (mark_bytes m)
+  pub first : BeginsByLetter (mark_bytes m)
+  pub longest : (b : ℕ) → lengthens (kind.Fixed m) b ≡ is_word b
+  pub known : keyword_of (mark_bytes m) ≡ m
 
-abbrev StartsSign : List ℕ → Type 0
+abbrev pub StartsSign : List ℕ → Type 0
 StartsSign [] = ⊥
 StartsSign (b ∷ bs) = (is_letter b ≡ false) × (is_ascii_digit b ≡ false) × (is_white b ≡ false) × (b ≡ 35 → ⊥)
 
 -- a sign
-record IsSignMark (m : Mark) : Type 0 where
-  first : StartsSign (mark_bytes m)
-  known : (bs : List ℕ) → IsLongest (kind.Fixed m) bs → sign_of (mark_bytes m ++ bs) ≡ m
-  begins : (bs : List ℕ) → begins_mark (mark_bytes m ++ bs) ≡ true
+pub record IsSignMark (m : Mark) : Type 0 where
+  pub first : StartsSign (mark_bytes m)
+  pub known : (bs : List ℕ) → IsLongest (kind.Fixed m) bs → sign_of (mark_bytes m ++ bs) ≡ m
+  pub begins : (bs : List ℕ) → begins_mark (mark_bytes m ++ bs) ≡ true
 
 lone_begins : (b : ℕ) (bs : List ℕ) → is_lone b ≡ true → begins_mark (b ∷ bs) ≡ true
 lone_begins b [] e = e
@@ -96,7 +96,7 @@ no_next : (n : ℕ) (m : Mark) (bs : List ℕ) → ((b : ℕ) → lengthens (kin
 no_next n m [] same h = refl
 no_next n m (b ∷ bs) same h = sym (same b) ∙ h
 
-mark_is : (m : Mark) → IsWordMark m ⊎ IsSignMark m
+pub mark_is : (m : Mark) → IsWordMark m ⊎ IsSignMark m
 mark_is mark.Plus = inr (record { first = (refl, refl, refl, λ e. omega arith); known = λ bs h. let e = no_next 61 mark.Plus bs (λ b. refl) h in rw e refl; begins = λ bs. lone_begins 43 bs refl })
 mark_is mark.Minus = inr (record { first = (refl, refl, refl, λ e. omega arith); known = λ bs h. let e = no_next 62 mark.Minus bs (λ b. refl) h in rw e refl; begins = λ bs. lone_begins 45 bs refl })
 mark_is mark.Less = inr (record { first = (refl, refl, refl, λ e. omega arith); known = λ bs h. let e = no_next 61 mark.Less bs (λ b. refl) h in rw e refl; begins = λ bs. lone_begins 60 bs refl })

@@ -54,7 +54,7 @@ digits_ascii (x ∷ xs) h = IsAscii-cons x xs (digit_ascii x h.0) (digits_ascii 
 pub letter_word : (b : ℕ) → IsTrue (is_letter b) → is_word b ≡ true
 letter_word b h = grind (arith, nat_tests)
 
-longest_name : (n : List ℕ) (xs : List ℕ) → Fails is_word xs → IsLongest (kind.Name n) xs
+pub longest_name : (n : List ℕ) (xs : List ℕ) → Fails is_word xs → IsLongest (kind.Name n) xs
 longest_name n [] h = tt
 longest_name n (x ∷ xs) h = h
 

@@ -1,4 +1,4 @@
--- What the readers of optional lists, rules, patterns and events say.
+-- What the readers of optional lists, rules, patterns and events say (this project's profile)
 use Rattle.std.specs.Prelude.{ℕ, ◌≡◌, ◌≤◌, List, [], ◌∷◌, ◌++◌, length}
 use Rattle.ta_syntax.specs.Grammar.{listed, led, ended, each}
 use Rattle.ta_syntax.specs.Stated.{Offsets, unplaced}
@@ -31,9 +31,11 @@ pub record KeptBlock (m : Mark) (c d : Counts) : Type 0 where
   pub patterns : d.patterns ≡ c.patterns
   pub events : (m ≡ mark.Pattern → ⊥) → d.events ≡ c.events
 
+-- what stands behind a block's keyword was read, whatever part may come after
 pub record TookBlock (m : Mark) (p : Part) (body : List Kind) (stated : List Offsets) (tokens rest : List Token) : Type 0 where
   pub shorter : length rest ≤ length tokens
   pub reads : (K : Part) (c : Counts) → IsEntered m c → (d : Counts) × KeptBlock m c d × Reads (both p K) c tokens rest K d body stated
 
+-- what stands behind a block's keyword could not be read, whatever part may come after
 abbrev pub BlockStops : Mark → Part → ℕ → List Token → FileFault → Type 0
 BlockStops m p end tokens e = (K : Part) (c : Counts) → IsEntered m c → Stopped (Text (both p K)) c end tokens e

@@ -1,4 +1,4 @@
--- The first token with which a text leaves the grammar or its limits.
+-- The first token with which a text leaves the grammar or its limits (this project's profile)
 use Rattle.std.specs.Prelude.{ℕ, ◌≡◌, List, [], ◌∷◌, ◌++◌, length}
 use Rattle.ta_syntax.specs.Grammar.{FileText}
 use Rattle.ta_syntax.specs.Limits.{Counts, at_start, run, Within, IsDeep, IsMany}
@@ -8,6 +8,7 @@ use Rattle.ta_syntax.specs.declared.placed.Token.{Token}
 use Rattle.ta_syntax.specs.declared.fault.FileFault.{FileFault}
 use Rattle.ta_syntax.specs.declared.fault.FileFault.TheVariants as fault
 
+-- the kinds of tokens, in order
 abbrev pub kinds : List Token → List Kind
 kinds [] = []
 kinds (t ∷ ts) = t.kind ∷ kinds ts

@@ -1,4 +1,4 @@
--- Automaton files as trees without offsets, and the tokens of each tree: one equation for each production of the grammar.
+-- Automaton files as trees without offsets, and the tokens of each tree: one equation for each production of the grammar (this project's profile)
 use Rattle.std.specs.Prelude.{ℕ, ◌≡◌, Bool, true, false, List, [], ◌∷◌, ◌++◌}
 use Rattle.std.specs.List.{AllByRecursion}
 use Rattle.ta_syntax.specs.Kinds.{IsNameText, IsDigits}
@@ -11,6 +11,7 @@ use Rattle.ta_syntax.specs.declared.tokens.Relation.TheVariants as relation
 use Rattle.ta_syntax.specs.declared.sums.Sign.{Sign}
 use Rattle.ta_syntax.specs.declared.sums.Sign.TheVariants as sign
 
+-- sums, terms and factors
 mutual
   -- terms, each with its sign
   pub data Terms : Type 0 where
@@ -29,19 +30,23 @@ mutual
     named : List ℕ → Factor
     nested : Terms → Factor
 
+-- two sums and the sign between them
 pub record PlainComparison : Type 0 where
   pub left : Terms
   pub relation : Relation
   pub right : Terms
 
+-- a location, and whether it is marked as initial
 pub record PlainLocation : Type 0 where
   pub name : List ℕ
   pub initial : Bool
 
+-- a shared variable and the digits of what is added to it
 pub record PlainUpdate : Type 0 where
   pub name : List ℕ
   pub amount : List ℕ
 
+-- a rule: its name, its two locations, its guards and its updates
 pub record PlainRule : Type 0 where
   pub name : List ℕ
   pub from : List ℕ
@@ -49,11 +54,13 @@ pub record PlainRule : Type 0 where
   pub guards : List PlainComparison
   pub updates : List PlainUpdate
 
+-- an event: its name, the events that it comes after, and its condition
 pub record PlainEvent : Type 0 where
   pub name : List ℕ
   pub after : List (List ℕ)
   pub condition : List PlainComparison
 
+-- a pattern: its name, its start condition, the locations that stay empty, and its events
 pub record PlainPattern : Type 0 where
   pub name : List ℕ
   pub start : List PlainComparison
@@ -71,6 +78,7 @@ pub record PlainTree : Type 0 where
   pub rules : List PlainRule
   pub patterns : List PlainPattern
 
+-- the sign before a term
 abbrev pub sign_kind : Sign → Kind
 sign_kind sign.Plus = kind.Fixed mark.Plus
 sign_kind sign.Minus = kind.Fixed mark.Minus
@@ -83,6 +91,7 @@ relation_kind relation.Equal = kind.Fixed mark.Equal
 relation_kind relation.AtLeast = kind.Fixed mark.AtLeast
 relation_kind relation.More = kind.Fixed mark.More
 
+-- the tokens of sums, terms and factors
 abbrev mutual
   -- Sum = [ "-" ] Term { ( "+" | "-" ) Term }
   pub sum_kinds : Terms → List Kind
@@ -134,6 +143,7 @@ abbrev pub each : {A B : Type 0} → (A → List B) → List A → List B
 each item [] = []
 each item (x ∷ xs) = item x ++ each item xs
 
+-- a name in a list of names
 abbrev pub name_kinds : List ℕ → List Kind
 name_kinds n = kind.Name n ∷ []
 
@@ -142,6 +152,7 @@ abbrev pub initial_kinds : Bool → List Kind
 initial_kinds true = kind.Fixed mark.Initial ∷ []
 initial_kinds false = []
 
+-- Location = Name [ "initial" ]
 abbrev pub location_kinds : PlainLocation → List Kind
 location_kinds l = kind.Name l.name ∷ initial_kinds l.initial
 
@@ -183,22 +194,26 @@ file_kinds t =
     ∷ kind.Fixed mark.Resilience ∷ (listed kind.Fixed comparison_kinds t.resilience ++ kind.Fixed mark.Semicolon
     ∷ (each rule_kinds t.rules ++ each pattern_kinds t.patterns))))))
 
+-- sums, terms and factors of the grammar
 abbrev mutual
   -- a sum has at least one term, no term is blank, names are legal and numbers are digits
   pub IsSum : Terms → Type 0
   IsSum done = ⊥
   IsSum (term s t ts) = IsTerm t × AreTerms ts
 
+  -- the terms after the first: there may be none
   pub AreTerms : Terms → Type 0
   AreTerms done = Unit {0}
   AreTerms (term s t ts) = IsTerm t × AreTerms ts
 
+  -- a term of the grammar
   pub IsTerm : Term → Type 0
   IsTerm (number d) = IsDigits d
   IsTerm (times d f) = IsDigits d × IsFactor f
   IsTerm (alone f) = IsFactor f
   IsTerm blank = ⊥
 
+  -- a factor of the grammar
   pub IsFactor : Factor → Type 0
   IsFactor (named n) = IsNameText n
   IsFactor (nested ts) = IsSum ts
@@ -208,14 +223,17 @@ abbrev pub IsSome : {A : Type 0} → List A → Type 0
 IsSome [] = ⊥
 IsSome (x ∷ xs) = Unit {0}
 
+-- both sums are of the grammar
 pub record IsComparison (c : PlainComparison) : Type 0 where
   pub left : IsSum c.left
   pub right : IsSum c.right
 
+-- the name is legal, and the amount is digits
 pub record IsUpdate (u : PlainUpdate) : Type 0 where
   pub name : IsNameText u.name
   pub amount : IsDigits u.amount
 
+-- the names are legal, and the guards and updates are of the grammar
 pub record IsRule (r : PlainRule) : Type 0 where
   pub name : IsNameText r.name
   pub from : IsNameText r.from
@@ -223,12 +241,14 @@ pub record IsRule (r : PlainRule) : Type 0 where
   pub guards : AllByRecursion IsComparison r.guards
   pub updates : AllByRecursion IsUpdate r.updates
 
+-- the names are legal, and there is at least one comparison
 pub record IsEvent (e : PlainEvent) : Type 0 where
   pub name : IsNameText e.name
   pub after : AllByRecursion IsNameText e.after
   pub some : IsSome e.condition
   pub condition : AllByRecursion IsComparison e.condition
 
+-- the names are legal, and the conditions and events are of the grammar
 pub record IsPattern (p : PlainPattern) : Type 0 where
   pub name : IsNameText p.name
   pub start : AllByRecursion IsComparison p.start

@@ -1,4 +1,4 @@
--- What a token is, in bytes.
+-- What a token is, in bytes (this project's profile)
 use Rattle.std.specs.Prelude.{ℕ, ◌≡◌, ◌==◌, ◌||◌, Bool, List, [], ◌∷◌, codes}
 use Rattle.std.specs.Char.{is_ascii_alphabetic, is_ascii_digit}
 use Rattle.std.specs.List.{AllByRecursion}
@@ -9,12 +9,15 @@ use Rattle.ta_syntax.specs.declared.tokens.Kind.TheVariants as kind
 use Rattle.ta_syntax.specs.declared.tokens.Mark.{Mark}
 use Rattle.ta_syntax.specs.declared.tokens.Mark.TheVariants as mark
 
+-- a blank, a tab, a line feed or a carriage return
 abbrev pub is_white : ℕ → Bool
 is_white b = b == 32 || b == 9 || b == 10 || b == 13
 
+-- a letter of ASCII, or `_`
 abbrev pub is_letter : ℕ → Bool
 is_letter b = is_ascii_alphabetic b || b == 95
 
+-- a byte of a name behind its first
 abbrev pub is_word : ℕ → Bool
 is_word b = is_letter b || is_ascii_digit b
 
@@ -57,15 +60,18 @@ mark_bytes mark.Empty = codes "empty"
 mark_bytes mark.Event = codes "event"
 mark_bytes mark.After = codes "after"
 
+-- how a token is written
 abbrev pub kind_bytes : Kind → List ℕ
 kind_bytes (kind.Name n) = n
 kind_bytes (kind.Number d) = d
 kind_bytes (kind.Fixed m) = mark_bytes m
 
+-- a letter or `_` stands first
 abbrev pub BeginsByLetter : List ℕ → Type 0
 BeginsByLetter [] = ⊥
 BeginsByLetter (b ∷ bs) = IsTrue (is_letter b)
 
+-- digits, at least one
 abbrev pub IsDigits : List ℕ → Type 0
 IsDigits [] = ⊥
 IsDigits (b ∷ bs) = AllByRecursion (λ c. IsTrue (is_ascii_digit c)) (b ∷ bs)
@@ -76,6 +82,7 @@ pub record IsNameText (n : List ℕ) : Type 0 where
   pub each : AllByRecursion (λ b. IsTrue (is_word b)) n
   pub free : (m : Mark) → mark_bytes m ≡ n → ⊥
 
+-- a token that a text can have
 abbrev pub IsKind : Kind → Type 0
 IsKind (kind.Name n) = IsNameText n
 IsKind (kind.Number d) = IsDigits d
@@ -89,13 +96,16 @@ letter-prop : (bs : List ℕ) → IsProp (BeginsByLetter bs)
 letter-prop [] = hlevel props
 letter-prop (b ∷ bs) = hlevel props
 
+-- that bytes are digits is a proposition
 pub IsDigits-prop : (bs : List ℕ) → IsProp (IsDigits bs)
 IsDigits-prop [] = hlevel props
 IsDigits-prop (b ∷ bs) = all-prop is_ascii_digit (b ∷ bs)
 
+-- so is that they are a name
 pub IsNameText-prop : (n : List ℕ) → IsProp (IsNameText n)
 IsNameText-prop n = hlevel (props, letter-prop n, all-prop is_word n)
 
+-- so is that a token can stand in a text
 pub IsKind-prop : (k : Kind) → IsProp (IsKind k)
 IsKind-prop (kind.Name n) = IsNameText-prop n
 IsKind-prop (kind.Number d) = IsDigits-prop d

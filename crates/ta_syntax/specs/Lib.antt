@@ -13,4 +13,5 @@ pub mod BlockReading
 pub mod Printed
 pub mod TreeOf
 pub mod TokenLaws
+pub mod AnswerLaws
 pub mod Inside

@@ -1,4 +1,4 @@
--- The limits of lists and of depth: as one scan over the tokens, and in plain words over trees.
+-- The limits of lists and of depth: as one scan over the tokens, and in plain words over trees (this project's profile)
 use Rattle.std.specs.Prelude.{ℕ, suc, ◌-◌, ◌≤◌, ◌⊎◌, List, [], ◌∷◌, length}
 use Rattle.std.specs.List.{AllByRecursion}
 use Rattle.ta_syntax.specs.Grammar.{PlainComparison, PlainRule, PlainEvent, PlainPattern, PlainTree}
@@ -17,6 +17,7 @@ pub record Counts : Type 0 where
   pub patterns : ℕ
   pub events : ℕ
 
+-- before the first token nothing is counted
 abbrev pub at_start : Counts
 at_start = record { open_now = 0; commas = 0; limit = 1; rules = 0; patterns = 0; events = 0 }
 
@@ -50,6 +51,7 @@ after c (kind.Name n) = c
 after c (kind.Number d) = c
 after c (kind.Fixed m) = after_mark c m
 
+-- the counts after tokens
 abbrev pub run : Counts → List Kind → Counts
 run c [] = c
 run c (k ∷ ks) = run (after c k) ks
@@ -77,20 +79,24 @@ Within c (k ∷ ks) = (IsDeep c k → ⊥) × (IsMany c k → ⊥) × Within (af
 
 -- ---- the same in plain words
 
+-- at most 32 parentheses of a comparison are open at once
 pub record IsShallow (c : PlainComparison) : Type 0 where
   pub left : sum_depth c.left ≤ 32
   pub right : sum_depth c.right ≤ 32
 
+-- a rule has at most 16 guards and 16 updates
 pub record IsRuleWithin (r : PlainRule) : Type 0 where
   pub guards : length r.guards ≤ 16
   pub shallow : AllByRecursion IsShallow r.guards
   pub updates : length r.updates ≤ 16
 
+-- an event comes after at most 8 others, and its condition has at most 16 comparisons
 pub record IsEventWithin (e : PlainEvent) : Type 0 where
   pub after : length e.after ≤ 8
   pub condition : length e.condition ≤ 16
   pub shallow : AllByRecursion IsShallow e.condition
 
+-- a pattern has at most 16 comparisons at its start, 32 locations that stay empty, and 8 events
 pub record IsPatternWithin (p : PlainPattern) : Type 0 where
   pub start : length p.start ≤ 16
   pub shallow : AllByRecursion IsShallow p.start

@@ -1,4 +1,4 @@
--- What the readers of lists and of their items say.
+-- What the readers of lists and of their items say (this project's profile)
 use Rattle.std.specs.Prelude.{ℕ, ◌≡◌, ◌-◌, ◌≤◌, Bool, true, false, List, ◌∷◌, ◌++◌, length}
 use Rattle.ta_syntax.specs.Grammar.{listed}
 use Rattle.ta_syntax.specs.Stated.{Offsets, unplaced}
@@ -26,10 +26,12 @@ pub record IsReady (c : Counts) : Type 0 where
   pub closed : c.open_now ≡ 0
   pub room : HasRoom c
 
+-- an item of a list was read, whatever part may come after that does not go on with it
 pub record TookItem (p : Part) (text : List Kind) (stated : List Offsets) (tokens rest : List Token) : Type 0 where
   pub shorter : length rest ≤ length tokens
   pub reads : (K : Part) (c : Counts) → Avoids extends_item K → IsReady c → Reads (both p K) c tokens rest K c text stated
 
+-- an item of a list could not be read
 abbrev pub ItemStops : Part → ℕ → List Token → FileFault → Type 0
 ItemStops p end tokens e = (K : Part) (c : Counts) → Avoids extends_item K → IsReady c → Stopped (Text (both p K)) c end tokens e
 

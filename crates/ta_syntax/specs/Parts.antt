@@ -1,4 +1,4 @@
--- The grammar cut into parts, so that what may still come after some tokens is a part too. The readers' own contracts speak of parts; that the part of a file has the texts of the grammar's trees is proved.
+-- The grammar cut into parts, so that what may still come after some tokens is a part too (this project's profile). The readers' own contracts speak of parts; that the part of a file has the texts of the grammar's trees is proved.
 use Rattle.std.specs.Prelude.{ℕ, ◌≡◌, ◌⊎◌, List, [], ◌∷◌, ◌++◌}
 use Rattle.std.specs.List.{AllByRecursion}
 use Rattle.ta_syntax.specs.Kinds.{IsNameText, IsDigits}
@@ -9,6 +9,7 @@ use Rattle.ta_syntax.specs.declared.tokens.Mark.{Mark}
 use Rattle.ta_syntax.specs.declared.tokens.Mark.TheVariants as mark
 use Rattle.ta_syntax.specs.declared.tokens.Relation.{Relation}
 
+-- a part of the grammar, or what may still come
 pub data Part : Type 0 where
   nothing : Part
   a_mark : Mark → Part

@@ -1,4 +1,4 @@
--- How tokens are printed.
+-- How tokens are printed (this project's profile)
 use Rattle.std.specs.Prelude.{ℕ, zero, suc, ◌≡◌, List, [], ◌∷◌, ◌++◌}
 use Rattle.ta_syntax.specs.Kinds.{kind_bytes}
 use Rattle.ta_syntax.specs.declared.tokens.Kind.{Kind}

@@ -1,4 +1,4 @@
--- What the readers of parts say. Each reader takes the tokens that are left, and its clause holds whatever part may come after.
+-- What the readers of parts say (this project's profile). Each reader takes the tokens that are left, and its clause holds whatever part may come after.
 use Rattle.std.specs.Prelude.{ℕ, ◌≡◌, ◌+◌, ◌<◌, ◌≤◌, Bool, true, false, List, [], ◌∷◌, ◌++◌, length}
 use Rattle.ta_syntax.specs.Grammar.{IsSum, IsTerm, IsFactor, sum_kinds, term_kinds, factor_kinds, relation_kind}
 use Rattle.ta_syntax.specs.PlainSums.{plain_sum, plain_term, plain_factor, sum_depth, term_depth, factor_depth}
@@ -54,6 +54,7 @@ pub record BeginsWith (tokens : List Token) (k : Kind) (rest : List Token) : Typ
 abbrev pub IsOther : List Token → Mark → Type 0
 IsOther tokens m = (first : Token) (rest : List Token) → tokens ≡ first ∷ rest → first.kind ≡ kind.Fixed m → ⊥
 
+-- another token than that mark stands first, or none, and the fault says so at its offset
 abbrev pub IsUnexpected : ℕ → List Token → Mark → FileFault → Type 0
 IsUnexpected end tokens m (fault.Syntax at) = IsOther tokens m × (at ≡ offset_of end tokens)
 IsUnexpected end tokens m _ = ⊥

@@ -1,4 +1,4 @@
--- The tokens of a text: the longest that fits, with white space and comments between.
+-- The tokens of a text: the longest that fits, with white space and comments between (this project's profile)
 use Rattle.std.specs.Prelude.{ℕ, ◌≡◌, ◌+◌, ◌==◌, ◌||◌, ◌&&◌, ◌⊎◌, Bool, true, false, List, [], ◌∷◌, ◌++◌, length}
 use Rattle.std.specs.Char.{is_ascii_digit}
 use Rattle.std.specs.List.{AllByRecursion}
@@ -35,6 +35,7 @@ lengthens (kind.Fixed mark.Equal) b = false
 lengthens (kind.Fixed mark.AtLeast) b = false
 lengthens (kind.Fixed _) b = is_word b
 
+-- no longer token stands where this one ends
 abbrev pub IsLongest : Kind → List ℕ → Type 0
 IsLongest k [] = Unit {0}
 IsLongest k (b ∷ bs) = lengthens k b ≡ false
@@ -46,9 +47,11 @@ IsSpace last false [] = Unit {0}
 IsSpace last true (b ∷ bs) = ((b ≡ 10) × IsSpace last false bs) ⊎ ((b ≡ 10 → ⊥) × IsSpace last true bs)
 IsSpace last false (b ∷ bs) = (IsTrue (is_white b) × IsSpace last false bs) ⊎ ((b ≡ 35) × IsSpace last true bs)
 
+-- white space and whole comments
 abbrev pub IsGap : List ℕ → Type 0
 IsGap = IsSpace false false
 
+-- the same before the end, where a comment needs no line feed
 abbrev pub IsLastGap : List ℕ → Type 0
 IsLastGap = IsSpace true false
 

@@ -1,6 +1,7 @@
 //! Automaton files: tokens, trees, reading and printing.
 #![tactic(auto)]
 
+mod answers;
 mod blocks;
 mod clauses;
 mod fault;
@@ -23,6 +24,7 @@ mod text;
 mod tokens;
 mod tree;
 
+pub use answers::{texts_have_tokens, texts_have_trees, tokens_have_answers};
 pub use fault::FileFault;
 pub use file::read_tree;
 pub use laws::{printed_has_tokens, tokens_are_unique};
@@ -35,8 +37,3 @@ pub use sums::{Sign, TreeFactor, TreeSum, TreeTerm};
 pub use text::Text;
 pub use tokens::{Kind, Mark, Relation};
 pub use tree::{Tree, TreeComparison, TreeEvent, TreeLocation, TreePattern, TreeRule, TreeUpdate};
-
-#[cfg(test)]
-mod print_tests;
-#[cfg(test)]
-mod tests;

@@ -1,6 +1,7 @@
 -- lemmas for the crates above
 pub mod WordsSolved
 pub mod ProofsMade
+pub mod NodesShort
 pub mod DeterminedEnds
 mod RowCounts
 mod WordsVisited
@@ -8,7 +9,6 @@ mod TableausInRange
 mod SplitsFit
 mod MultiplierCoefficients
 mod NodesWritten
-mod NodesShort
 mod DeterminedMultipliers
 mod DeterminedNodes
 mod DeterminedOutcomes
@@ -19,3 +19,4 @@ mod DeterminedVisits
 mod Vertices
 mod Nodes
 mod WalkSoFar
+mod LeavesCounted

@@ -19,7 +19,7 @@ use Rattle.ta_walk.proofs.WordsVisited.{Waits, next_wait}
 use Rattle.ta_walk.proofs.RowCounts.{few_unknowns}
 
 -- a row or an unknown has at most 10 digits, and a multiplier or a floor at most 39
-row_short : (k : ℕ) → k < 2 ^ 32 → length (decimal k) ≤ 10
+pub row_short : (k : ℕ) → k < 2 ^ 32 → length (decimal k) ≤ 10
 row_short k below =
     let small : 2 ^ 32 < 10 ^ 10 = lit< tt in
     length-decimal-le_wide 10 k (omega arith) (omega arith) (wide k (2 ^ 32) below (omega arith))

@@ -13,6 +13,8 @@ use Rattle.ta_encode.specs.declared.encoded.Solution.{Solution}
 use Rattle.ta_encode.specs.InPreorder.{Pending, all_starts, RefutedInOrder}
 use Rattle.ta_encode.specs.Laws.{SolvedWord}
 use Rattle.ta_cursor.specs.Range.{Judged}
+use Rattle.ta_walk.specs.declared.end.VisitEnd.{VisitEnd}
+use Rattle.ta_walk.specs.declared.end.VisitEnd.TheVariants as visit
 use Rattle.ta_walk.specs.declared.end.WalkEnd.{WalkEnd}
 use Rattle.ta_walk.specs.declared.end.WalkEnd.TheVariants.{Refuted, Found, Spent, Overflow}
 use Rattle.ta_walk.specs.Visit.{Visits, WholeAt, LeavesAt}
@@ -58,6 +60,27 @@ IsEnd a p number budget (Refuted nodes count) = TreeIs a p budget nodes count
 IsEnd a p number budget (Found count solution) = NodeOf a p budget count (SolutionAt a p number solution)
 IsEnd a p number budget (Spent count) = IsSpent a p budget count
 IsEnd a p number budget (Overflow node kind) = NodeOf a p budget node (λ w. LeavesAt a p w kind)
+
+-- how many of some nodes are leaves
+abbrev pub leaf_count : List Node → ℕ
+leaf_count [] = 0
+leaf_count (Leaf ts ∷ ns) = leaf_count ns + 1
+leaf_count (Extend ∷ ns) = leaf_count ns
+leaf_count (Split unknown floor ∷ ns) = leaf_count ns
+
+-- the tree has so many nodes, within the budget, and so many of them are leaves; what was kept is what they leave
+pub record TreeKept (a : Automaton) (p : Pattern) (budget : ℕ) (Keeps : List Node → Type 0) (count leaves : ℕ) : Type 0 where
+  pub nodes : List Node
+  pub is : TreeIs a p budget nodes count
+  pub counted : leaves ≡ leaf_count nodes
+  pub kept : Keeps nodes
+
+-- how a visit ends whose nodes were handed on: a walk ends so, and of the nodes of a whole tree the rest is kept
+abbrev pub IsVisitEnd : Automaton → Pattern → ℕ → ℕ → (List Node → Type 0) → VisitEnd → Type 0
+IsVisitEnd a p number budget Keeps (visit.Refuted count leaves) = TreeKept a p budget Keeps count leaves
+IsVisitEnd a p number budget Keeps (visit.Found count solution) = IsEnd a p number budget (Found count solution)
+IsVisitEnd a p number budget Keeps (visit.Spent count) = IsEnd a p number budget (Spent count)
+IsVisitEnd a p number budget Keeps (visit.Overflow node kind) = IsEnd a p number budget (Overflow node kind)
 
 -- a walk has one end
 abbrev pub EndsAreDetermined : Type 0

@@ -94,7 +94,7 @@ pub record LeafLeaves (a : Automaton) (p : Pattern) (w : Pending) : Type 0 where
   pub refuted : RefutedAt a p w multipliers
   pub leaves : LeafStays (system_rows a p w.start w.past w.bounds) multipliers → ⊥
 
--- where a number of a node leaves the range; runs aren't made yet
+-- where a number of a node leaves the range. A walk makes no run, so it never says that one leaves it
 abbrev pub LeavesAt : Automaton → Pattern → Pending → PlaceKind → Type 0
 LeavesAt a p w (kind.Pivot count) = OfSystem a p w (λ s. OverflowsAt (slack_tableau s) count)
 LeavesAt a p w kind.Leaf = LeafLeaves a p w

@@ -16,6 +16,20 @@ pub enum PlaceKind {
     Run,
 }
 
+/// How a visit of a pattern's tree ends whose nodes were handed on as they came. Nodes are counted as
+/// those of a walk.
+#[derive(Drop)]
+pub enum VisitEnd {
+    /// The tree has so many nodes, of which so many are leaves, and they are a proof of the pattern.
+    Refuted { count: u64, leaves: u64 },
+    /// The node of this number has a complete word and whole values that solve its system.
+    Found { count: u64, solution: Solution },
+    /// These many nodes were visited, and the tree has more.
+    Spent { count: u64 },
+    /// At the node of this number a number left 128 bits.
+    Overflow { node: u64, kind: PlaceKind },
+}
+
 /// How the walk of a pattern ends. Nodes are counted from 1, over all start sets, in the order of the
 /// visit.
 #[derive(Drop)]

@@ -3,11 +3,13 @@
 #![tactic(auto)]
 
 mod end;
+mod keeper;
 mod laws;
 mod node;
 mod vertex;
 mod walking;
 
-pub use end::{PlaceKind, WalkEnd};
+pub use end::{PlaceKind, VisitEnd, WalkEnd};
+pub use keeper::Keeper;
 pub use laws::{ends_are_determined, found_words_are_solved, refuted_patterns_are_safe};
-pub use walking::walk;
+pub use walking::{visit, walk};

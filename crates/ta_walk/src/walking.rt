@@ -1,15 +1,16 @@
 //! The walk.
 #![tactic(auto)]
 
-ghost use Rattle.std.specs.Prelude.{◌<◌, ◌≤◌, ◌≡◌, ◌∷◌, ◌++◌, IfOk, List, length};
+ghost use Rattle.std.specs.Prelude.{◌+◌, ◌<◌, ◌≤◌, ◌≡◌, [], ◌∷◌, ◌++◌, IfOk, List, length};
 ghost use Rattle.ta_automaton.specs.declared.pattern.Pattern.{Pattern};
 ghost use Rattle.ta_words.specs.Calls.{OfPattern};
 ghost use Rattle.ta_encode.specs.InPreorder.{Pending, parts};
 ghost use Rattle.ta_cursor.specs.Cursors.{GoesOn, IsWithin, Within, here};
 ghost use Rattle.ta_walk.specs.Visit.{NodeAt};
-ghost use Rattle.ta_walk.specs.Ends.{IsEnd};
+ghost use Rattle.ta_walk.specs.Ends.{IsEnd, IsVisitEnd, leaf_count};
 
-use crate::end::WalkEnd;
+use crate::end::{VisitEnd, WalkEnd};
+use crate::keeper::{Keeper, Nodes};
 use crate::node::{Solved, grow, solve_node};
 use std::alloc::{AllocError, Global};
 use ta_automaton::File;
@@ -25,6 +26,8 @@ use ta_simplex::Branch;
 /// where it is complete, the least unknown that isn't whole is split. The visit ends where no word
 /// is left, at the first whole node, at the first number that leaves 128 bits, or where the budget
 /// is spent.
+///
+/// The nodes are kept in memory: `visit` hands them on as they come.
 pub fn walk<D: Dictionary>(
     alloc: Global,
     scoped: &ScopedFile,
@@ -36,11 +39,40 @@ pub fn walk<D: Dictionary>(
     requires limit { nodes ≤ 1000000000 }
     ensures { IfOk result (λ end. OfPattern scoped.now.file pattern (λ p. IsEnd scoped.now.file.automaton p pattern nodes end)) }
 {
+    let mut kept = Nodes {
+        items: Vec::new(alloc),
+    };
+    match visit::<D, Nodes>(alloc, scoped, pattern, nodes, &mut kept)? {
+        VisitEnd::Refuted { count, .. } => Ok(WalkEnd::Refuted {
+            nodes: List::from_vec(kept.items),
+            count,
+        }),
+        VisitEnd::Found { count, solution } => Ok(WalkEnd::Found { count, solution }),
+        VisitEnd::Spent { count } => Ok(WalkEnd::Spent { count }),
+        VisitEnd::Overflow { node, kind } => Ok(WalkEnd::Overflow { node, kind }),
+    }
+}
+
+/// Visits the tree of a pattern as `walk` does, and hands each node on as it comes: no node stays in
+/// memory but those that the keeper keeps.
+pub fn visit<D: Dictionary, K: Keeper>(
+    alloc: Global,
+    scoped: &ScopedFile,
+    pattern: u32,
+    nodes: u64,
+    keeper: &mut K,
+) -> Result<VisitEnd, AllocError>
+    requires exists { pattern < length scoped.now.file.patterns }
+    requires some { 0 < nodes }
+    requires limit { nodes ≤ 1000000000 }
+    requires keeps { K.keeps keeper.old keeper.old [] }
+    ensures { IfOk result (λ end. OfPattern scoped.now.file pattern (λ p. IsVisitEnd scoped.now.file.automaton p pattern nodes (K.keeps keeper.old keeper.new) end)) }
+{
     let file = &scoped.file;
     let mut cursor = Cursor::new(alloc);
     let mut encoding = Encoding::new(alloc);
     let mut branch: Branch<D> = Branch::new(alloc);
-    let mut found = Vec::new(alloc);
+    let mut leaves = 0;
     for before in 0..nodes {
         let count = before + 1;
         let Grown {
@@ -50,22 +82,33 @@ pub fn walk<D: Dictionary>(
         encoding = next;
         let system = &encoding.system;
         match solve_node(alloc, file, pattern, &cursor, system, same, &mut branch)? {
-            Solved::Leaves(kind) => return Ok(WalkEnd::Overflow { node: count, kind }),
+            Solved::Leaves(kind) => return Ok(VisitEnd::Overflow { node: count, kind }),
             Solved::Whole(values) => {
                 let solution = solution_at(pattern, cursor, values);
-                return Ok(WalkEnd::Found { count, solution });
+                return Ok(VisitEnd::Found { count, solution });
             }
             Solved::Inner(node) => {
                 let more = go_on(&mut cursor, file, pattern, &node)?;
-                found.push(node)?;
+                leaves = leaves_with(leaves, &node);
+                keeper.take(alloc, node)?;
                 if !more {
-                    let nodes = List::from_vec(found);
-                    return Ok(WalkEnd::Refuted { nodes, count });
+                    return Ok(VisitEnd::Refuted { count, leaves });
                 }
             }
         }
     }
-    Ok(WalkEnd::Spent { count: nodes })
+    Ok(VisitEnd::Spent { count: nodes })
+}
+
+/// How many leaves there are with one more node.
+fn leaves_with(leaves: u64, node: &Node) -> u64
+    requires { leaves < 1000000000 }
+    ensures { result ≡ leaves + leaf_count (node.now ∷ []) }
+{
+    match node {
+        Node::Leaf(_) => leaves + 1,
+        Node::Extend | Node::Split { .. } => leaves,
+    }
 }
 
 /// Goes on behind the node that stands at a cursor, and says whether another comes.

@@ -1,4 +1,4 @@
--- Masks of locations that grow along some of the rules
+-- Masks of locations that grow along some of the rules (this project's profile)
 use Rattle.std.specs.Prelude.{ℕ, ◌≡◌, ◌⊎◌, slice_get, Some, IsBitSet}
 use Rattle.ta_automaton.specs.declared.rule.Rule.{Rule}
 use Rattle.ta_automaton.specs.declared.automaton.Automaton.{Automaton}

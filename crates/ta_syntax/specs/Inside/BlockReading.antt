@@ -1,4 +1,4 @@
--- What the readers of optional lists, rules, patterns and events say.
+-- What the readers of optional lists, rules, patterns and events say (this project's profile)
 use Rattle.std.specs.Prelude.{ℕ, ◌≡◌, ◌≤◌, List, [], ◌∷◌, ◌++◌, length}
 use Rattle.ta_syntax.specs.Grammar.{listed, led, ended, each}
 use Rattle.ta_syntax.specs.Stated.{Offsets, unplaced}
@@ -33,6 +33,7 @@ pub record Kept (c d : Counts) : Type 0 where
   pub patterns : d.patterns ≡ c.patterns
   pub events : d.events ≡ c.events
 
+-- the tokens were read, and the counts that blocks need were kept
 pub record ReadsKept (L : Part) (c : Counts) (tokens rest : List Token) (M : Part) (text : List Kind) (stated : List Offsets) : Type 0 where
   pub counts : Counts
   pub kept : Kept c counts
@@ -53,60 +54,72 @@ Leads _ n = ⊥
 
 -- ---- a name and a mark
 
+-- a name and a mark were read
 pub record TookNameThen (m : Mark) (end : ℕ) (name : Spelled) (tokens rest : List Token) : Type 0 where
   pub mid : List Token
   pub named : BeginsWith tokens (kind.Name name.name) mid
   pub marked : BeginsWith mid (kind.Fixed m) rest
   pub placed : name.at ≡ offset_of end tokens
 
+-- there is no name with this mark behind it
 abbrev pub NameThenStops : Mark → ℕ → List Token → FileFault → Type 0
 NameThenStops m end tokens e = (K : Part) (c : Counts) → HasRoom c → Stopped (Text (both a_name (both (a_mark m) K))) c end tokens e
 
 -- ---- a list and a semicolon
 
+-- a list and the semicolon behind it were read
 pub record TookEnd {A : Type 0} (p : Part) (spelled : A → List Kind) (stated : A → List Offsets) (limit : ℕ) (items : List A) (tokens rest : List Token) : Type 0 where
   pub some : 1 ≤ length items
   pub few : length items ≤ limit
   pub shorter : length rest ≤ length tokens
   pub reads : (K : Part) (c : Counts) → IsFresh limit c → ReadsKept (both (list_part p) (both (a_mark mark.Semicolon) K)) c tokens rest K (listed kind.Fixed spelled items ++ kind.Fixed mark.Semicolon ∷ []) (listed unplaced stated items ++ [] ∷ [])
 
+-- a list with its semicolon could not be read
 abbrev pub EndStops : Part → ℕ → ℕ → List Token → FileFault → Type 0
 EndStops p limit end tokens e = (K : Part) (c : Counts) → IsFresh limit c → Stopped (Text (both (list_part p) (both (a_mark mark.Semicolon) K))) c end tokens e
 
 -- ---- [ keyword list ]
 
+-- an optional list behind its keyword was read
 pub record TookLed {A : Type 0} (m : Mark) (p : Part) (spelled : A → List Kind) (stated : A → List Offsets) (limit : ℕ) (items : List A) (tokens rest : List Token) : Type 0 where
   pub few : length items ≤ limit
   pub shorter : length rest ≤ length tokens
   pub reads : (K : Part) (c : Counts) → Avoids extends_list K → AvoidsMark m K → IsReady c → ReadsKept (both (maybe m (list_part p)) K) c tokens rest K (led kind.Fixed m spelled items) (led unplaced m stated items)
 
+-- an optional list could not be read
 abbrev pub LedStops : Mark → Part → ℕ → List Token → FileFault → Type 0
 LedStops m p end tokens e = (K : Part) (c : Counts) → Avoids extends_list K → AvoidsMark m K → IsReady c → Stopped (Text (both (maybe m (list_part p)) K)) c end tokens e
 
 -- ---- [ keyword list ";" ]
 
+-- an optional list between its keyword and a semicolon was read
 pub record TookEnded {A : Type 0} (m : Mark) (p : Part) (spelled : A → List Kind) (stated : A → List Offsets) (limit : ℕ) (items : List A) (tokens rest : List Token) : Type 0 where
   pub few : length items ≤ limit
   pub shorter : length rest ≤ length tokens
   pub reads : (K : Part) (c : Counts) → AvoidsMark m K → IsReady c → ReadsKept (both (maybe m (both (list_part p) (a_mark mark.Semicolon))) K) c tokens rest K (ended kind.Fixed m spelled items) (ended unplaced m stated items)
 
+-- an optional list with its semicolon could not be read
 abbrev pub EndedStops : Mark → Part → ℕ → List Token → FileFault → Type 0
 EndedStops m p end tokens e = (K : Part) (c : Counts) → AvoidsMark m K → IsReady c → Stopped (Text (both (maybe m (both (list_part p) (a_mark mark.Semicolon))) K)) c end tokens e
 
 -- ---- keyword [ list ] ";"
 
+-- a keyword, a list that may be empty, and a semicolon
 abbrev pub declared_part : Mark → Part → Part → Part
 declared_part m p K = both (a_mark m) (both (upto mark.Semicolon (list_part p)) K)
 
+-- a keyword, a list and a semicolon were read
 pub record TookDeclared {A : Type 0} (m : Mark) (p : Part) (spelled : A → List Kind) (stated : A → List Offsets) (limit : ℕ) (items : List A) (tokens rest : List Token) : Type 0 where
   pub few : length items ≤ limit
   pub reads : (K : Part) (c : Counts) → IsReady c → ReadsKept (declared_part m p K) c tokens rest K (kind.Fixed m ∷ (listed kind.Fixed spelled items ++ kind.Fixed mark.Semicolon ∷ [])) ([] ∷ (listed unplaced stated items ++ [] ∷ []))
 
+-- a keyword, a list and a semicolon could not be read
 abbrev pub DeclaredStops : Mark → Part → ℕ → List Token → FileFault → Type 0
 DeclaredStops m p end tokens e = (K : Part) (c : Counts) → IsReady c → Stopped (Text (declared_part m p K)) c end tokens e
 
 -- ---- blocks: rules, patterns and events
 
+-- how many blocks of a kind were counted so far
 abbrev pub block_count : Mark → Counts → ℕ
 block_count mark.Rule c = c.rules
 block_count mark.Pattern c = c.patterns
@@ -127,14 +140,17 @@ pub record KeptOthers (m : Mark) (c d : Counts) : Type 0 where
   pub rules : (m ≡ mark.Rule → ⊥) → d.rules ≡ c.rules
   pub patterns : (m ≡ mark.Pattern → ⊥) → d.patterns ≡ c.patterns
 
+-- the mark in front of what is made of an item
 abbrev pub with_mark : {A B : Type 0} → B → (A → List B) → A → List B
 with_mark first body x = first ∷ body x
 
+-- all blocks of a kind that stand here were read
 pub record TookBlocks {A : Type 0} (m : Mark) (p : Part) (body : A → List Kind) (stated : A → List Offsets) (limit : ℕ) (items : List A) (tokens rest : List Token) : Type 0 where
   pub few : length items ≤ limit
   pub shorter : length rest ≤ length tokens
   pub reads : (K : Part) (c : Counts) → AvoidsMark m K → IsReady c → block_count m c ≡ 0
       → (d : Counts) × KeptOthers m c d × Reads (both (many m p) K) c tokens rest K d (each (with_mark (kind.Fixed m) body) items) (each (with_mark [] stated) items)
 
+-- some block could not be read
 abbrev pub BlocksStop : Mark → Part → ℕ → List Token → FileFault → Type 0
 BlocksStop m p end tokens e = (K : Part) (c : Counts) → AvoidsMark m K → IsReady c → block_count m c ≡ 0 → Stopped (Text (both (many m p) K)) c end tokens e

@@ -1,4 +1,4 @@
--- What the readers of a file and of its head say.
+-- What the readers of a file and of its head say (this project's profile)
 use Rattle.std.specs.Prelude.{ℕ, ◌≡◌, ◌≤◌, List, [], ◌∷◌, ◌++◌, length}
 use Rattle.ta_syntax.specs.Grammar.{file_kinds, sum_kinds, listed, IsSum}
 use Rattle.ta_syntax.specs.PlainSums.{plain_sum, sum_depth}
@@ -19,25 +19,31 @@ use Rattle.ta_syntax.specs.declared.sums.TreeSum.{TreeSum}
 use Rattle.ta_syntax.specs.declared.tree.TreeLocation.{TreeLocation}
 use Rattle.ta_syntax.specs.declared.tree.Tree.{Tree}
 
+-- the locations, and what comes after them
 abbrev pub locations_part : Part → Part
 locations_part K = both (a_mark mark.Locations) (both (list_part location_part) (both (a_mark mark.Semicolon) K))
 
+-- the locations were read
 pub record TookLocations (at : ℕ) (locations : List TreeLocation) (tokens rest : List Token) : Type 0 where
   pub some : 1 ≤ length locations
   pub few : length locations ≤ 32
   pub reads : (K : Part) (c : Counts) → IsReady c → ReadsKept (locations_part K) c tokens rest K (kind.Fixed mark.Locations ∷ (listed kind.Fixed spell_location locations ++ kind.Fixed mark.Semicolon ∷ [])) ((at ∷ []) ∷ (listed unplaced location_stated locations ++ [] ∷ []))
 
+-- the locations could not be read
 abbrev pub LocationsStop : ℕ → List Token → FileFault → Type 0
 LocationsStop end tokens e = (K : Part) (c : Counts) → IsReady c → Stopped (Text (locations_part K)) c end tokens e
 
+-- the number of processes, and what comes after it
 abbrev pub processes_part : Part → Part
 processes_part K = both (a_mark mark.Processes) (both a_sum (both (a_mark mark.Semicolon) K))
 
+-- the number of processes was read
 pub record TookProcesses (at : ℕ) (s : TreeSum) (tokens rest : List Token) : Type 0 where
   pub is : IsSum (plain_sum s)
   pub shallow : sum_depth (plain_sum s) ≤ 32
   pub reads : (K : Part) (c : Counts) → IsReady c → ReadsKept (processes_part K) c tokens rest K (kind.Fixed mark.Processes ∷ (sum_kinds (plain_sum s) ++ kind.Fixed mark.Semicolon ∷ [])) ([] ∷ (at_first at (sum_stated s) ++ [] ∷ []))
 
+-- the number of processes could not be read
 abbrev pub ProcessesStop : ℕ → List Token → FileFault → Type 0
 ProcessesStop end tokens e = (K : Part) (c : Counts) → IsReady c → Stopped (Text (processes_part K)) c end tokens e
 

@@ -1,4 +1,4 @@
--- What the readers of lists and of their items say.
+-- What the readers of lists and of their items say (this project's profile)
 use Rattle.std.specs.Prelude.{ℕ, ◌≡◌, ◌-◌, ◌≤◌, Bool, true, false, List, ◌∷◌, ◌++◌, length}
 use Rattle.ta_syntax.specs.Grammar.{listed}
 use Rattle.ta_syntax.specs.Stated.{Offsets, unplaced}
@@ -36,11 +36,13 @@ pub record IsFresh (limit : ℕ) (c : Counts) : Type 0 where
 abbrev pub with_commas : ℕ → Counts → Counts
 with_commas n c = record { open_now = c.open_now; commas = n; limit = c.limit; rules = c.rules; patterns = c.patterns; events = c.events }
 
+-- a list was read, whatever part may come after that does not go on with it
 pub record TookList {A : Type 0} (p : Part) (spelled : A → List Kind) (stated : A → List Offsets) (limit : ℕ) (items : List A) (tokens rest : List Token) : Type 0 where
   pub some : 1 ≤ length items
   pub few : length items ≤ limit
   pub shorter : length rest ≤ length tokens
   pub reads : (K : Part) (c : Counts) → Avoids extends_list K → IsFresh limit c → Reads (both (list_part p) K) c tokens rest K (with_commas (length items - 1) c) (listed kind.Fixed spelled items) (listed unplaced stated items)
 
+-- a list could not be read
 abbrev pub ListStops : Part → ℕ → ℕ → List Token → FileFault → Type 0
 ListStops p limit end tokens e = (K : Part) (c : Counts) → Avoids extends_list K → IsFresh limit c → Stopped (Text (both (list_part p) K)) c end tokens e

@@ -1,4 +1,4 @@
--- The grammar cut into parts, so that what may still come after some tokens is a part too. The readers' own contracts speak of parts; that the part of a file has the texts of the grammar's trees is proved.
+-- The grammar cut into parts, so that what may still come after some tokens is a part too (this project's profile). The readers' own contracts speak of parts; that the part of a file has the texts of the grammar's trees is proved.
 use Rattle.std.specs.Prelude.{ℕ, ◌≡◌, ◌⊎◌, List, [], ◌∷◌, ◌++◌}
 use Rattle.std.specs.List.{AllByRecursion}
 use Rattle.ta_syntax.specs.Kinds.{IsNameText, IsDigits}
@@ -14,12 +14,15 @@ use Rattle.ta_syntax.specs.Parts.{Part, a_mark, a_name, a_number, a_relation, a_
 abbrev pub list_part : Part → Part
 list_part p = both p (many mark.Comma p)
 
+-- Location = Name [ "initial" ]
 abbrev pub location_part : Part
 location_part = both a_name (maybe mark.Initial nothing)
 
+-- Update = Name "+=" Number
 abbrev pub update_part : Part
 update_part = both a_name (both (a_mark mark.PlusEquals) a_number)
 
+-- Comparison = Sum Relation Sum
 abbrev pub comparison_part : Part
 comparison_part = both a_sum (both a_relation a_sum)
 
@@ -39,6 +42,7 @@ pattern_part = both a_name (both (a_mark mark.OpenBrace) (both (maybe mark.Start
 abbrev pub blocks_part : Part
 blocks_part = both (many mark.Rule rule_part) (many mark.Pattern pattern_part)
 
+-- a whole file
 abbrev pub file_part : Part
 file_part =
     both (a_mark mark.Automaton) (both a_name (both (a_mark mark.Semicolon)

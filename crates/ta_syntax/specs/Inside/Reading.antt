@@ -1,4 +1,4 @@
--- What the readers of parts say. Each reader takes the tokens that are left, and its clause holds whatever part may come after.
+-- What the readers of parts say (this project's profile). Each reader takes the tokens that are left, and its clause holds whatever part may come after.
 use Rattle.std.specs.Prelude.{ℕ, ◌≡◌, ◌+◌, ◌<◌, ◌≤◌, Bool, true, false, List, [], ◌∷◌, ◌++◌, length}
 use Rattle.ta_syntax.specs.Grammar.{IsSum, IsTerm, IsFactor, sum_kinds, term_kinds, factor_kinds, relation_kind}
 use Rattle.ta_syntax.specs.PlainSums.{plain_sum, plain_term, plain_factor, sum_depth, term_depth, factor_depth}
@@ -39,6 +39,7 @@ is_operator (kind.Fixed mark.Minus) = true
 is_operator (kind.Fixed mark.Star) = true
 is_operator _ = false
 
+-- whether a token is a comma
 abbrev pub is_comma : Kind → Bool
 is_comma (kind.Fixed mark.Comma) = true
 is_comma _ = false
@@ -60,6 +61,7 @@ abbrev pub NoName : List Kind → Type 0
 NoName (kind.Name n ∷ ks) = ⊥
 NoName _ = Unit {0}
 
+-- no name stands first, and the fault says so at its offset
 abbrev pub IsUnnamed : ℕ → List Token → FileFault → Type 0
 IsUnnamed end tokens fault.Memory = Unit {0}
 IsUnnamed end tokens (fault.Syntax at) = NoName (kinds tokens) × (at ≡ offset_of end tokens)
@@ -84,29 +86,35 @@ is_sum_start _ = false
 
 -- ---- sums
 
+-- a factor was read, whatever part may come after
 pub record TookFactor (left : ℕ) (f : TreeFactor) (tokens rest : List Token) : Type 0 where
   pub is : IsFactor (plain_factor f)
   pub shallow : factor_depth (plain_factor f) ≤ left
   pub shorter : length rest ≤ length tokens
   pub reads : (K : Part) (c : Counts) → MayOpen left c → Reads (both a_factor K) c tokens rest K c (factor_kinds (plain_factor f)) (sum_factor_stated f)
 
+-- a term was read, whatever part may come after that does not go on with it
 pub record TookTerm (left : ℕ) (t : TreeTerm) (tokens rest : List Token) : Type 0 where
   pub is : IsTerm (plain_term t)
   pub shallow : term_depth (plain_term t) ≤ left
   pub shorter : length rest ≤ length tokens
   pub reads : (K : Part) (c : Counts) → Avoids is_star K → MayOpen left c → Reads (both a_term K) c tokens rest K c (term_kinds (plain_term t)) (sum_term_stated t)
 
+-- a sum was read, whatever part may come after that does not go on with it
 pub record TookSum (left : ℕ) (s : TreeSum) (tokens rest : List Token) : Type 0 where
   pub is : IsSum (plain_sum s)
   pub shallow : sum_depth (plain_sum s) ≤ left
   pub shorter : length rest ≤ length tokens
   pub reads : (K : Part) (c : Counts) → Avoids is_operator K → MayOpen left c → Reads (both a_sum K) c tokens rest K c (sum_kinds (plain_sum s)) (sum_stated s)
 
+-- a factor could not be read
 abbrev pub FactorStops : ℕ → ℕ → List Token → FileFault → Type 0
 FactorStops left end tokens e = (K : Part) (c : Counts) → MayOpen left c → Stopped (Text (both a_factor K)) c end tokens e
 
+-- a term could not be read
 abbrev pub TermStops : ℕ → ℕ → List Token → FileFault → Type 0
 TermStops left end tokens e = (K : Part) (c : Counts) → Avoids is_star K → MayOpen left c → Stopped (Text (both a_term K)) c end tokens e
 
+-- a sum could not be read
 abbrev pub SumStops : ℕ → ℕ → List Token → FileFault → Type 0
 SumStops left end tokens e = (K : Part) (c : Counts) → Avoids is_operator K → MayOpen left c → Stopped (Text (both a_sum K)) c end tokens e

@@ -1,4 +1,4 @@
--- The tokens of a text: the longest that fits, with white space and comments between.
+-- The tokens of a text: the longest that fits, with white space and comments between (this project's profile)
 use Rattle.std.specs.Prelude.{ℕ, ◌≡◌, ◌+◌, ◌==◌, ◌||◌, ◌&&◌, ◌⊎◌, Bool, true, false, List, [], ◌∷◌, ◌++◌, length}
 use Rattle.std.specs.Char.{is_ascii_digit}
 use Rattle.std.specs.List.{AllByRecursion}
@@ -26,6 +26,7 @@ BeginsNoGap (b ∷ bs) = (is_white b ≡ false) × (b ≡ 35 → ⊥)
 abbrev pub SkipsComment : List ℕ → List ℕ → Type 0
 SkipsComment bytes rest = (text : List ℕ) × AllByRecursion (λ b. b ≡ 10 → ⊥) text × ((bytes ≡ text ++ 10 ∷ rest) ⊎ ((bytes ≡ text) × (rest ≡ [])))
 
+-- one white byte, or one comment, was gone past
 abbrev pub SkipsPiece : List ℕ → List ℕ → Type 0
 SkipsPiece [] rest = ⊥
 SkipsPiece (b ∷ bs) rest = (IsTrue (is_white b) × (bs ≡ rest)) ⊎ ((b ≡ 35) × SkipsComment bs rest)
@@ -34,6 +35,7 @@ SkipsPiece (b ∷ bs) rest = (IsTrue (is_white b) × (bs ≡ rest)) ⊎ ((b ≡ 
 abbrev pub SkipsGap : List ℕ → List ℕ → Type 0
 SkipsGap bytes rest = (gap : List ℕ) × (bytes ≡ gap ++ rest) × (IsGap gap ⊎ (IsLastGap gap × (rest ≡ [])))
 
+-- a digit stands first
 abbrev pub BeginsByDigit : List ℕ → Type 0
 BeginsByDigit [] = ⊥
 BeginsByDigit (b ∷ bs) = IsTrue (is_ascii_digit b)

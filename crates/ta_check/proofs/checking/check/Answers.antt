@@ -1,12 +1,39 @@
-use Rattle.ta_scope.proofs.Judging.{loops_pure}
-use Rattle.ta_check.proofs.Answering.{exact_answer, refused_answer, safe_answer}
+use Rattle.std.proofs.Common.{[], ap, ◌∙◌, subst}
+use Rattle.std.proofs.lemmas.Result.{err_from_is_err_and}
+use Rattle.ta_automaton.specs.declared.file.File.{File}
+use Rattle.ta_scope.specs.declared.scoped.ScopedFile.{ScopedFile}
+use Rattle.ta_check.specs.Checkers.{Finished}
+use Rattle.ta_check.proofs.Answering.{exact_answer, refused_answer, finished_accepts, finished_faults, fed_faults}
 use Rattle.ta_check.proofs.checking.check.Goals as goal
 
+pub returns-in_err-feed-clause-fault : goal.returns-in_err-feed-clause-fault
+returns-in_err-feed-clause-fault c =
+    let p = err_from_is_err_and c.from_residual.result c.from_residual.ensures.1 in
+    let same = ap (λ (s : ScopedFile). s.file) (c.feed.ensures.file ∙ c.new-checker.ensures.file) in
+    rw (p.1, p.2) (fed_faults c.feed.new.self c.args.scoped.now.file c.args.text.now c.in_err-feed.field-0.0 same (c.in_err-feed.ensures.answer [] c.new-checker.ensures.stands))
+
+pub returns-in_err-feed-clause-refused : goal.returns-in_err-feed-clause-refused
+returns-in_err-feed-clause-refused c = refused_answer c.args.scoped.now.file c.args.text.now c.from_residual.result (returns-in_err-feed-clause-fault c)
+
+pub returns-in_err-feed-clause-exact : goal.returns-in_err-feed-clause-exact
+returns-in_err-feed-clause-exact c =
+    let p = err_from_is_err_and c.from_residual.result c.from_residual.ensures.1 in
+    exact_answer c.args.scoped.now.file c.args.text.now c.from_residual.result (rw (p.1) tt) (returns-in_err-feed-clause-fault c)
+
+pub returns-clause-accepted : goal.returns-clause-accepted
+returns-clause-accepted c =
+    let same = ap (λ (s : ScopedFile). s.file) (c.feed.ensures.file ∙ c.new-checker.ensures.file) in
+    let answer = c.finish.ensures.answer c.args.text.now (c.in_ok-feed.ensures.answer [] c.new-checker.ensures.stands) in
+    finished_accepts c.args.scoped.now.file c.args.text.now c.finish.result (subst (λ (f : File). Finished f c.args.text.now c.finish.result) same answer)
+
+pub returns-clause-fault : goal.returns-clause-fault
+returns-clause-fault c =
+    let same = ap (λ (s : ScopedFile). s.file) (c.feed.ensures.file ∙ c.new-checker.ensures.file) in
+    let answer = c.finish.ensures.answer c.args.text.now (c.in_ok-feed.ensures.answer [] c.new-checker.ensures.stands) in
+    finished_faults c.args.scoped.now.file c.args.text.now c.finish.result (subst (λ (f : File). Finished f c.args.text.now c.finish.result) same answer)
+
 pub returns-clause-refused : goal.returns-clause-refused
-returns-clause-refused c = refused_answer c.args.scoped.now.file c.args.text.now c.judge.result c.judge.ensures.fault
+returns-clause-refused c = refused_answer c.args.scoped.now.file c.args.text.now c.finish.result (returns-clause-fault c)
 
 pub returns-clause-exact : goal.returns-clause-exact
-returns-clause-exact c = exact_answer c.args.scoped.now.file c.args.text.now c.judge.result c.judge.ensures.accepted c.judge.ensures.fault
-
-pub returns-clause-safe : goal.returns-clause-safe
-returns-clause-safe c = safe_answer c.args.scoped.now.file c.args.text.now c.judge.result (loops_pure c.args.scoped.now.file.automaton c.args.scoped.now.in_scope) c.judge.ensures.accepted
+returns-clause-exact c = exact_answer c.args.scoped.now.file c.args.text.now c.finish.result (returns-clause-accepted c) (returns-clause-fault c)

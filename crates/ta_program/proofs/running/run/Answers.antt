@@ -1,16 +1,22 @@
 use Rattle.std.proofs.Common.{map}
 use Rattle.ta_shell.specs.Ends.{state}
-use Rattle.ta_program.proofs.Clauses.{check_proves, completes, exactly_so, printed_is_safe, replay_shows, verify_reports, zero_is_safe}
+use Rattle.ta_program.proofs.Clauses.{certificate_written, check_proves, completes, exactly_so, keeps_files, printed_holds, replay_shows, run_shortens, verify_reports, status_tells}
 use Rattle.ta_program.proofs.running.run.Goals as goal
 
 pub returns-clause-runs : goal.returns-clause-runs
 returns-clause-runs g c = rw c.read_words-request.ensures at c.obey.ensures
 
 pub returns-clause-headline : goal.returns-clause-headline
-returns-clause-headline g c = zero_is_safe (map (λ w. w.now) c.args.words.now) c.obey.result (state (g.S.Shelf.files c.args.shelf.now) (g.S.Shelf.calls c.args.shelf.now) (g.S.Shelf.faults c.args.shelf.now) (g.O.Sink.written c.args.out.now) (g.O.Sink.faults c.args.out.now) (g.O.Sink.stalls c.args.out.now) (g.E.Sink.written c.args.err.now) (g.E.Sink.faults c.args.err.now) (g.E.Sink.stalls c.args.err.now)) (state (g.S.Shelf.files c.obey.new.shelf) (g.S.Shelf.calls c.obey.new.shelf) (g.S.Shelf.faults c.obey.new.shelf) (g.O.Sink.written c.obey.new.out) (g.O.Sink.faults c.obey.new.out) (g.O.Sink.stalls c.obey.new.out) (g.E.Sink.written c.obey.new.err) (g.E.Sink.faults c.obey.new.err) (g.E.Sink.stalls c.obey.new.err)) (returns-clause-runs g c)
+returns-clause-headline g c = status_tells (map (λ w. w.now) c.args.words.now) c.obey.result (state (g.S.Shelf.files c.args.shelf.now) (g.S.Shelf.calls c.args.shelf.now) (g.S.Shelf.faults c.args.shelf.now) (g.O.Sink.written c.args.out.now) (g.O.Sink.faults c.args.out.now) (g.O.Sink.stalls c.args.out.now) (g.E.Sink.written c.args.err.now) (g.E.Sink.faults c.args.err.now) (g.E.Sink.stalls c.args.err.now)) (state (g.S.Shelf.files c.obey.new.shelf) (g.S.Shelf.calls c.obey.new.shelf) (g.S.Shelf.faults c.obey.new.shelf) (g.O.Sink.written c.obey.new.out) (g.O.Sink.faults c.obey.new.out) (g.O.Sink.stalls c.obey.new.out) (g.E.Sink.written c.obey.new.err) (g.E.Sink.faults c.obey.new.err) (g.E.Sink.stalls c.obey.new.err)) (returns-clause-runs g c)
 
 pub returns-clause-verify : goal.returns-clause-verify
 returns-clause-verify g c = verify_reports (map (λ w. w.now) c.args.words.now) c.obey.result (state (g.S.Shelf.files c.args.shelf.now) (g.S.Shelf.calls c.args.shelf.now) (g.S.Shelf.faults c.args.shelf.now) (g.O.Sink.written c.args.out.now) (g.O.Sink.faults c.args.out.now) (g.O.Sink.stalls c.args.out.now) (g.E.Sink.written c.args.err.now) (g.E.Sink.faults c.args.err.now) (g.E.Sink.stalls c.args.err.now)) (state (g.S.Shelf.files c.obey.new.shelf) (g.S.Shelf.calls c.obey.new.shelf) (g.S.Shelf.faults c.obey.new.shelf) (g.O.Sink.written c.obey.new.out) (g.O.Sink.faults c.obey.new.out) (g.O.Sink.stalls c.obey.new.out) (g.E.Sink.written c.obey.new.err) (g.E.Sink.faults c.obey.new.err) (g.E.Sink.stalls c.obey.new.err)) (returns-clause-runs g c)
+
+pub returns-clause-certificate : goal.returns-clause-certificate
+returns-clause-certificate g c = certificate_written (map (λ w. w.now) c.args.words.now) c.obey.result (state (g.S.Shelf.files c.args.shelf.now) (g.S.Shelf.calls c.args.shelf.now) (g.S.Shelf.faults c.args.shelf.now) (g.O.Sink.written c.args.out.now) (g.O.Sink.faults c.args.out.now) (g.O.Sink.stalls c.args.out.now) (g.E.Sink.written c.args.err.now) (g.E.Sink.faults c.args.err.now) (g.E.Sink.stalls c.args.err.now)) (state (g.S.Shelf.files c.obey.new.shelf) (g.S.Shelf.calls c.obey.new.shelf) (g.S.Shelf.faults c.obey.new.shelf) (g.O.Sink.written c.obey.new.out) (g.O.Sink.faults c.obey.new.out) (g.O.Sink.stalls c.obey.new.out) (g.E.Sink.written c.obey.new.err) (g.E.Sink.faults c.obey.new.err) (g.E.Sink.stalls c.obey.new.err)) (returns-clause-runs g c)
+
+pub returns-clause-kept : goal.returns-clause-kept
+returns-clause-kept g c = keeps_files (map (λ w. w.now) c.args.words.now) c.obey.result (state (g.S.Shelf.files c.args.shelf.now) (g.S.Shelf.calls c.args.shelf.now) (g.S.Shelf.faults c.args.shelf.now) (g.O.Sink.written c.args.out.now) (g.O.Sink.faults c.args.out.now) (g.O.Sink.stalls c.args.out.now) (g.E.Sink.written c.args.err.now) (g.E.Sink.faults c.args.err.now) (g.E.Sink.stalls c.args.err.now)) (state (g.S.Shelf.files c.obey.new.shelf) (g.S.Shelf.calls c.obey.new.shelf) (g.S.Shelf.faults c.obey.new.shelf) (g.O.Sink.written c.obey.new.out) (g.O.Sink.faults c.obey.new.out) (g.O.Sink.stalls c.obey.new.out) (g.E.Sink.written c.obey.new.err) (g.E.Sink.faults c.obey.new.err) (g.E.Sink.stalls c.obey.new.err)) (returns-clause-runs g c)
 
 pub returns-clause-check : goal.returns-clause-check
 returns-clause-check g c = check_proves (map (λ w. w.now) c.args.words.now) c.obey.result (state (g.S.Shelf.files c.args.shelf.now) (g.S.Shelf.calls c.args.shelf.now) (g.S.Shelf.faults c.args.shelf.now) (g.O.Sink.written c.args.out.now) (g.O.Sink.faults c.args.out.now) (g.O.Sink.stalls c.args.out.now) (g.E.Sink.written c.args.err.now) (g.E.Sink.faults c.args.err.now) (g.E.Sink.stalls c.args.err.now)) (state (g.S.Shelf.files c.obey.new.shelf) (g.S.Shelf.calls c.obey.new.shelf) (g.S.Shelf.faults c.obey.new.shelf) (g.O.Sink.written c.obey.new.out) (g.O.Sink.faults c.obey.new.out) (g.O.Sink.stalls c.obey.new.out) (g.E.Sink.written c.obey.new.err) (g.E.Sink.faults c.obey.new.err) (g.E.Sink.stalls c.obey.new.err)) (returns-clause-runs g c)
@@ -18,8 +24,11 @@ returns-clause-check g c = check_proves (map (λ w. w.now) c.args.words.now) c.o
 pub returns-clause-replay : goal.returns-clause-replay
 returns-clause-replay g c = replay_shows (map (λ w. w.now) c.args.words.now) c.obey.result (state (g.S.Shelf.files c.args.shelf.now) (g.S.Shelf.calls c.args.shelf.now) (g.S.Shelf.faults c.args.shelf.now) (g.O.Sink.written c.args.out.now) (g.O.Sink.faults c.args.out.now) (g.O.Sink.stalls c.args.out.now) (g.E.Sink.written c.args.err.now) (g.E.Sink.faults c.args.err.now) (g.E.Sink.stalls c.args.err.now)) (state (g.S.Shelf.files c.obey.new.shelf) (g.S.Shelf.calls c.obey.new.shelf) (g.S.Shelf.faults c.obey.new.shelf) (g.O.Sink.written c.obey.new.out) (g.O.Sink.faults c.obey.new.out) (g.O.Sink.stalls c.obey.new.out) (g.E.Sink.written c.obey.new.err) (g.E.Sink.faults c.obey.new.err) (g.E.Sink.stalls c.obey.new.err)) (returns-clause-runs g c)
 
+pub returns-clause-compress : goal.returns-clause-compress
+returns-clause-compress g c = run_shortens (map (λ w. w.now) c.args.words.now) c.obey.result (state (g.S.Shelf.files c.args.shelf.now) (g.S.Shelf.calls c.args.shelf.now) (g.S.Shelf.faults c.args.shelf.now) (g.O.Sink.written c.args.out.now) (g.O.Sink.faults c.args.out.now) (g.O.Sink.stalls c.args.out.now) (g.E.Sink.written c.args.err.now) (g.E.Sink.faults c.args.err.now) (g.E.Sink.stalls c.args.err.now)) (state (g.S.Shelf.files c.obey.new.shelf) (g.S.Shelf.calls c.obey.new.shelf) (g.S.Shelf.faults c.obey.new.shelf) (g.O.Sink.written c.obey.new.out) (g.O.Sink.faults c.obey.new.out) (g.O.Sink.stalls c.obey.new.out) (g.E.Sink.written c.obey.new.err) (g.E.Sink.faults c.obey.new.err) (g.E.Sink.stalls c.obey.new.err)) (returns-clause-runs g c)
+
 pub returns-clause-printed : goal.returns-clause-printed
-returns-clause-printed g c = printed_is_safe (map (λ w. w.now) c.args.words.now) c.obey.result (state (g.S.Shelf.files c.args.shelf.now) (g.S.Shelf.calls c.args.shelf.now) (g.S.Shelf.faults c.args.shelf.now) (g.O.Sink.written c.args.out.now) (g.O.Sink.faults c.args.out.now) (g.O.Sink.stalls c.args.out.now) (g.E.Sink.written c.args.err.now) (g.E.Sink.faults c.args.err.now) (g.E.Sink.stalls c.args.err.now)) (state (g.S.Shelf.files c.obey.new.shelf) (g.S.Shelf.calls c.obey.new.shelf) (g.S.Shelf.faults c.obey.new.shelf) (g.O.Sink.written c.obey.new.out) (g.O.Sink.faults c.obey.new.out) (g.O.Sink.stalls c.obey.new.out) (g.E.Sink.written c.obey.new.err) (g.E.Sink.faults c.obey.new.err) (g.E.Sink.stalls c.obey.new.err)) (returns-clause-runs g c)
+returns-clause-printed g c = printed_holds (map (λ w. w.now) c.args.words.now) c.obey.result (state (g.S.Shelf.files c.args.shelf.now) (g.S.Shelf.calls c.args.shelf.now) (g.S.Shelf.faults c.args.shelf.now) (g.O.Sink.written c.args.out.now) (g.O.Sink.faults c.args.out.now) (g.O.Sink.stalls c.args.out.now) (g.E.Sink.written c.args.err.now) (g.E.Sink.faults c.args.err.now) (g.E.Sink.stalls c.args.err.now)) (state (g.S.Shelf.files c.obey.new.shelf) (g.S.Shelf.calls c.obey.new.shelf) (g.S.Shelf.faults c.obey.new.shelf) (g.O.Sink.written c.obey.new.out) (g.O.Sink.faults c.obey.new.out) (g.O.Sink.stalls c.obey.new.out) (g.E.Sink.written c.obey.new.err) (g.E.Sink.faults c.obey.new.err) (g.E.Sink.stalls c.obey.new.err)) (returns-clause-runs g c)
 
 pub returns-clause-exact : goal.returns-clause-exact
 returns-clause-exact g c = exactly_so (map (λ w. w.now) c.args.words.now) c.obey.result (state (g.S.Shelf.files c.args.shelf.now) (g.S.Shelf.calls c.args.shelf.now) (g.S.Shelf.faults c.args.shelf.now) (g.O.Sink.written c.args.out.now) (g.O.Sink.faults c.args.out.now) (g.O.Sink.stalls c.args.out.now) (g.E.Sink.written c.args.err.now) (g.E.Sink.faults c.args.err.now) (g.E.Sink.stalls c.args.err.now)) (state (g.S.Shelf.files c.obey.new.shelf) (g.S.Shelf.calls c.obey.new.shelf) (g.S.Shelf.faults c.obey.new.shelf) (g.O.Sink.written c.obey.new.out) (g.O.Sink.faults c.obey.new.out) (g.O.Sink.stalls c.obey.new.out) (g.E.Sink.written c.obey.new.err) (g.E.Sink.faults c.obey.new.err) (g.E.Sink.stalls c.obey.new.err)) (returns-clause-runs g c)

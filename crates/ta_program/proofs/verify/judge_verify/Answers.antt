@@ -1,13 +1,15 @@
-use Rattle.std.proofs.Common.{[], refl}
+use Rattle.std.proofs.Common.{option_map, refl}
 use Rattle.ta_scope.specs.declared.scoped.ScopedFile.{ScopedFile}
-use Rattle.ta_shell.specs.Stages.{replies}
-use Rattle.ta_shell.proofs.Read.{grew_none, grew_then, replies_monotone}
+use Rattle.ta_shell.proofs.Read.{grew_none, grew_then}
+use Rattle.ta_program.specs.Certified.{may_put}
 use Rattle.ta_program.specs.Kinds.{file_kind}
-use Rattle.ta_program.specs.Verify.{Reports}
+use Rattle.ta_program.specs.Reporting.{report_meaning}
+use Rattle.ta_program.proofs.Meanings.{report_monotone}
 use Rattle.ta_program.proofs.verify.judge_verify.Goals as goal
 
 pub returns-in-Ok-clause-says : goal.returns-in-Ok-clause-says
 returns-in-Ok-clause-says g c =
     let budget = c.args.budget.now.nodes in
-    grew_then file_kind c.args.file.now [] (λ file. replies [] (Reports file budget)) (λ file. replies_monotone [] (Reports file budget)) (λ (s : ScopedFile). s.file) _ c.in-Ok.scoped c.answer_report.result _ _ _ (λ v. refl)
+    let out = option_map (λ w. w.now) c.args.out in
+    grew_then file_kind c.args.file.now (may_put out) (λ file. report_meaning file budget out) (λ file. report_monotone file budget out) (λ (s : ScopedFile). s.file) _ c.in-Ok.scoped c.answer_report.result _ _ _ (λ v. refl)
     c.in-Ok.ensures.stage (grew_none _ _ c.answer_report.result _ (c.answer_report.ensures.says (g.S.Shelf.files c.args.shelf.now)))

@@ -21,7 +21,7 @@ returns-then-not-branch c = λ at is.
     let n = newest c.args.file.now s at c.args.pattern c.requires.current is in
     let may : is_complete n.pattern (reverse s.cursor.word) ≡ false = ap (λ w. is_complete n.pattern (reverse w)) (sym c.word.ensures) ∙ sym (c.is_complete.ensures n.pattern n.within.inside.named) ∙ c.if-is_complete.false in
     let went = rw c.if-not-branch.true at (c.in_ok-extend.ensures n.pattern (here s.cursor) n.within.words (first_within c.args.file.now s at c.args.pattern n)) in
-    node_taken c.args.file.now s _ at c.args.pattern c.args.number node.Extend false n is may refl refl went
+    node_taken c.args.file.now s _ at c.args.pattern c.args.number node.Extend false n is may refl refl n.kept went
 
 pub returns-else-not-branch : goal.returns-else-not-branch
 returns-else-not-branch c = λ at is.
@@ -29,4 +29,4 @@ returns-else-not-branch c = λ at is.
     let n = newest c.args.file.now s at c.args.pattern c.requires.current is in
     let may : is_complete n.pattern (reverse s.cursor.word) ≡ false = ap (λ w. is_complete n.pattern (reverse w)) (sym c.word.ensures) ∙ sym (c.is_complete.ensures n.pattern n.within.inside.named) ∙ c.if-is_complete.false in
     let went = rw c.if-not-branch.false at (c.in_ok-extend.ensures n.pattern (here s.cursor) n.within.words (first_within c.args.file.now s at c.args.pattern n)) in
-    node_taken c.args.file.now s _ at c.args.pattern c.args.number node.Extend true n is may refl c.requires.current went
+    node_taken c.args.file.now s _ at c.args.pattern c.args.number node.Extend true n is may refl c.requires.current n.kept went

@@ -33,4 +33,4 @@ returns c = λ at is.
     let may : c.args.unknown < length (meanings c.args.file.now.automaton n.pattern s.cursor.start_mask (reverse s.cursor.word)) = subst (λ (k : ℕ). c.args.unknown < k) count c.if-unknown-unknown_count.false in
     let fits : FitsSigned w128 c.args.floor = c.ranges.floor in
     let went = simp to_z-of_z at (c.in_ok-split.ensures n.pattern (here s.cursor) n.within.words (first_within c.args.file.now s at c.args.pattern n)) in
-    node_taken c.args.file.now s _ at c.args.pattern c.args.number (node.Split c.args.unknown c.args.floor) true n is may refl c.requires.current (goes_within c.args.file.now _ c.args.pattern n.pattern _ went)
+    node_taken c.args.file.now s _ at c.args.pattern c.args.number (node.Split c.args.unknown c.args.floor) true n is may refl c.requires.current n.kept (goes_within c.args.file.now _ c.args.pattern n.pattern _ went)

@@ -1,0 +1,247 @@
+-- the rows that a leaf names, judged apart from the others
+use Rattle.std.proofs.Common.{◌≡◌, ℕ, zero, suc, ◌+◌, ◌<◌, ◌≤◌, ◌^◌, ℤ, pos, ◌+ℤ◌, ◌*ℤ◌, ◌≤ℤ◌, ◌<ℤ◌, cond, nat_lt, List, [], ◌∷◌, length, reverse, slice_get, Option, Some, refl, sym, ap, subst, ◌∙◌, arith}
+use Rattle.ta_linear.specs.Numbers.{InRange}
+use Rattle.ta_linear.specs.Sums.{StaysInRange}
+use Rattle.ta_linear.specs.Leaf.{weighted, AreMultipliers, LeafOf, coefficient_in, constant_in}
+use Rattle.ta_linear.specs.declared.row.Row.{Row}
+use Rattle.ta_linear.specs.declared.row.System.{System}
+use Rattle.ta_cert.specs.Lines.{ArePairs}
+use Rattle.ta_automaton.specs.declared.automaton.Automaton.{Automaton}
+use Rattle.ta_automaton.specs.declared.file.File.{File}
+use Rattle.ta_automaton.specs.declared.pattern.Pattern.{Pattern}
+use Rattle.ta_encode.specs.System.{LinearRow, system_rows}
+use Rattle.ta_encode.specs.Code.{RowOf, RowsOf, SystemOf}
+use Rattle.ta_encode.specs.Named.{row_numbered, rows_named, number_at, AreThere, FirstAbsent}
+use Rattle.ta_encode.specs.InPreorder.{Pending}
+use Rattle.ta_encode.specs.Lines.{BoundsWithin}
+use Rattle.ta_encode.proofs.CodeRows.{rows_count}
+use Rattle.ta_encode.proofs.Drafts.{meanings_few}
+use Rattle.ta_encode.proofs.Whole.{whole_system}
+use Rattle.ta_words.proofs.Counts.{legal_length}
+use Rattle.ta_words.proofs.Lists.{events_named}
+use Rattle.ta_cursor.specs.declared.cursor.Cursor.{Cursor}
+use Rattle.ta_cursor.specs.Cursors.{Within}
+use Rattle.ta_farkas.specs.Columns.{part_in, column_sum, ColumnStays, CheckStays}
+use Rattle.ta_farkas.specs.Faults.{row_at, FirstMissing, FineBefore, IsFirstFault}
+use Rattle.ta_farkas.specs.declared.LeafFault.{LeafFault}
+use Rattle.ta_farkas.specs.declared.LeafFault.TheVariants.{RowNumber, Overflow, Positive, NotNegative}
+use Rattle.ta_cursor.specs.Range.{Judged}
+use Rattle.ta_check.specs.Faults.{FirstLeafFault}
+use Rattle.ta_check.specs.Inside.Leaves.{renumbered}
+use Rattle.ta_check.proofs.Leaves.{judged}
+
+-- one list names rows of a system and another those of another, and what a function takes of them is the same one by one
+Alike : (Option Row → ℤ) → List Row → List Row → List (ℕ × ℤ) → List (ℕ × ℤ) → Type 0
+Alike f rs qs [] [] = Unit {0}
+Alike f rs qs (t ∷ ts) (u ∷ us) = (t.1 ≡ u.1) × (f (slice_get rs t.0) ≡ f (slice_get qs u.0)) × Alike f rs qs ts us
+Alike f rs qs [] (u ∷ us) = ⊥
+Alike f rs qs (t ∷ ts) [] = ⊥
+
+alike_sum : (f : Option Row → ℤ) (rs qs : List Row) (ts us : List (ℕ × ℤ)) → Alike f rs qs ts us → weighted f rs ts ≡ weighted f qs us
+unfolding Alike weighted
+alike_sum f rs qs [] [] h = refl
+alike_sum f rs qs (t ∷ ts) (u ∷ us) h =
+    ap (λ z. (z *ℤ f (slice_get rs t.0)) +ℤ weighted f rs ts) h.0
+    ∙ ap (λ z. (u.1 *ℤ z) +ℤ weighted f rs ts) h.1
+    ∙ ap (λ z. (u.1 *ℤ f (slice_get qs u.0)) +ℤ z) (alike_sum f rs qs ts us h.2)
+alike_sum f rs qs [] (u ∷ us) h = absurd h
+alike_sum f rs qs (t ∷ ts) [] h = absurd h
+
+alike_stays : (f : Option Row → ℤ) (rs qs : List Row) (so : ℤ) (ts us : List (ℕ × ℤ)) → Alike f rs qs ts us → StaysInRange (λ k. f (slice_get rs k)) so ts → StaysInRange (λ k. f (slice_get qs k)) so us
+unfolding Alike
+alike_stays f rs qs so [] [] h stays = tt
+alike_stays f rs qs so (t ∷ ts) (u ∷ us) h stays =
+    let same : (t.1 *ℤ f (slice_get rs t.0)) ≡ (u.1 *ℤ f (slice_get qs u.0)) = ap (λ z. z *ℤ f (slice_get rs t.0)) h.0 ∙ ap (λ z. u.1 *ℤ z) h.1 in
+    (subst InRange same stays.0, subst (λ z. InRange (so +ℤ z)) same stays.1, alike_stays f rs qs (so +ℤ (u.1 *ℤ f (slice_get qs u.0))) ts us h.2 (subst (λ z. StaysInRange (λ k. f (slice_get rs k)) (so +ℤ z) ts) same stays.2))
+alike_stays f rs qs so [] (u ∷ us) h stays = absurd h
+alike_stays f rs qs so (t ∷ ts) [] h stays = absurd h
+
+alike_back : (f : Option Row → ℤ) (rs qs : List Row) (ts us : List (ℕ × ℤ)) → Alike f rs qs ts us → Alike f qs rs us ts
+unfolding Alike
+alike_back f rs qs [] [] h = tt
+alike_back f rs qs (t ∷ ts) (u ∷ us) h = (sym h.0, sym h.1, alike_back f rs qs ts us h.2)
+alike_back f rs qs [] (u ∷ us) h = absurd h
+alike_back f rs qs (t ∷ ts) [] h = absurd h
+
+-- a function that takes the same of two rows of the code that are one row of the word
+Respects : (Option Row → ℤ) → Type 0
+Respects f = (l : LinearRow) (r q : Row) → RowOf l r → RowOf l q → f (Some r) ≡ f (Some q)
+
+coefficients_respect : (x : ℕ) → Respects (coefficient_in x)
+unfolding Respects
+coefficients_respect x l r q is also = is.coefficients x ∙ sym (also.coefficients x)
+
+constants_respect : Respects constant_in
+unfolding Respects
+constants_respect l r q is also = is.constant ∙ sym also.constant
+
+parts_respect : (n column : ℕ) → Respects (part_in n column)
+unfolding Respects
+parts_respect n column l r q is also =
+    ap (λ z. cond (nat_lt column n) z (constant_in (Some r))) (coefficients_respect column l r q is also)
+    ∙ ap (λ z. cond (nat_lt column n) (coefficient_in column (Some q)) z) (constants_respect l r q is also)
+
+-- the row of a number
+at_number : (ls : List LinearRow) (rs : List Row) (n : ℕ) → RowsOf ls rs → n < length ls → (r : Row) × (slice_get rs n ≡ Some r) × RowOf (row_numbered ls n) r
+at_number [] rs n is below = absurd (omega arith)
+at_number (l ∷ ls) (r ∷ rs) zero is below = (r, refl, is.0)
+at_number (l ∷ ls) (r ∷ rs) (suc n) is below = at_number ls rs n is.1 (omega arith)
+at_number (l ∷ ls) [] n is below = absurd is
+
+-- each row that a list names is there, behind the first too
+there_behind : (count : ℕ) (t : ℕ × ℤ) (ts : List (ℕ × ℤ)) → AreThere count (t ∷ ts) → AreThere count ts
+there_behind count t ts there = λ i below. there (suc i) (omega arith)
+
+-- rows that are picked in the order of a list, the first of them at place k, are the rows that it names
+picked_alike : (f : Option Row → ℤ) → Respects f → (ls : List LinearRow) (rs qs : List Row) (ts : List (ℕ × ℤ)) (k : ℕ) (zs : List Row) → RowsOf ls rs → RowsOf (rows_named ls ts) zs → ((i : ℕ) → slice_get qs (i + k) ≡ slice_get zs i) → AreThere (length ls) ts → Alike f rs qs ts (renumbered k ts)
+unfolding Alike Respects
+picked_alike f respects ls rs qs [] k zs is picked place there = tt
+picked_alike f respects ls rs qs (t ∷ ts) k (z ∷ zs) is picked place there =
+    let r = at_number ls rs t.0 is (there 0 (omega arith)) in
+    let here : slice_get qs k ≡ Some z = (let e : 0 + k ≡ k = omega arith in ap (slice_get qs) (sym e) ∙ place 0) in (
+      refl,
+      ap f r.1 ∙ respects (row_numbered ls t.0) r.0 z r.2 picked.0 ∙ ap f (sym here),
+      picked_alike f respects ls rs qs ts (k + 1) zs is picked.1 (λ i. (let e : i + (k + 1) ≡ suc i + k = omega arith in ap (slice_get qs) e ∙ place (suc i))) (there_behind (length ls) t ts there),
+    )
+picked_alike f respects ls rs qs (t ∷ ts) k [] is picked place there = absurd picked
+
+-- the numbers of picked rows
+renumbered_count : (k : ℕ) (ts : List (ℕ × ℤ)) → length (renumbered k ts) ≡ length ts
+renumbered_count k [] = refl
+renumbered_count k (t ∷ ts) = ap suc (renumbered_count (k + 1) ts)
+
+renumbered_at : (k : ℕ) (ts : List (ℕ × ℤ)) (i : ℕ) → i < length ts → row_at (renumbered k ts) i ≡ k + i
+renumbered_at k [] i below = absurd (omega arith)
+renumbered_at k (t ∷ ts) zero below = omega arith
+renumbered_at k (t ∷ ts) (suc i) below = renumbered_at (k + 1) ts i (omega arith) ∙ (let e : k + 1 + i ≡ k + suc i = omega arith in e)
+
+-- they rise, and multipliers stay as they are
+pub renumbered_rise : (k low : ℕ) (ts : List (ℕ × ℤ)) → k ≤ low → ArePairs low ts → AreMultipliers k (2 ^ 32) (renumbered k ts)
+renumbered_rise k low [] below are = tt
+renumbered_rise k low (t ∷ ts) below are =
+    let from = are.0 in
+    let row = are.1.row in
+    (omega arith, omega arith, are.1.low, renumbered_rise (k + 1) (t.0 + 1) ts (omega arith) are.2)
+
+-- a system, and another of the rows that a list names in it
+record Picked (s z : System) (ts : List (ℕ × ℤ)) : Type 0 where
+  unknowns : z.unknowns ≡ s.unknowns
+  count : length z.rows ≡ length ts
+  there : AreThere (length s.rows) ts
+  alike : (f : Option Row → ℤ) → Respects f → Alike f s.rows z.rows ts (renumbered 0 ts)
+
+named_count : (ls : List LinearRow) (ts : List (ℕ × ℤ)) (zs : List Row) → RowsOf (rows_named ls ts) zs → length zs ≡ length ts
+named_count ls [] [] is = refl
+named_count ls (t ∷ ts) (z ∷ zs) is = ap suc (named_count ls ts zs is.1)
+named_count ls [] (z ∷ zs) is = absurd is
+named_count ls (t ∷ ts) [] is = absurd is
+
+picked : (ls : List LinearRow) (s z : System) (ts : List (ℕ × ℤ)) → RowsOf ls s.rows → z.unknowns ≡ s.unknowns → RowsOf (rows_named ls ts) z.rows → AreThere (length ls) ts → Picked s z ts
+picked ls s z ts is unknowns named there = record {
+  unknowns = unknowns;
+  count = named_count ls ts z.rows named;
+  there = subst (λ n. AreThere n ts) (sym (rows_count ls s.rows is)) there;
+  alike = λ f respects. picked_alike f respects ls s.rows z.rows ts 0 z.rows is named (λ i. (let e : i + 0 ≡ i = omega arith in ap (slice_get z.rows) e)) there;
+}
+
+-- the sums of a column
+picked_sum : (s z : System) (ts : List (ℕ × ℤ)) (column : ℕ) → Picked s z ts → column_sum z (renumbered 0 ts) column ≡ column_sum s ts column
+picked_sum s z ts column p =
+    ap (λ n. weighted (part_in n column) z.rows (renumbered 0 ts)) p.unknowns
+    ∙ sym (alike_sum (part_in s.unknowns column) s.rows z.rows ts (renumbered 0 ts) (p.alike (part_in s.unknowns column) (parts_respect s.unknowns column)))
+
+-- a column stays in range
+picked_stays : (s z : System) (ts : List (ℕ × ℤ)) (column : ℕ) → Picked s z ts → ColumnStays z (renumbered 0 ts) column → ColumnStays s ts column
+picked_stays s z ts column p stays =
+    alike_stays (part_in s.unknowns column) z.rows s.rows (pos 0) (renumbered 0 ts) ts
+    (alike_back (part_in s.unknowns column) s.rows z.rows ts (renumbered 0 ts) (p.alike (part_in s.unknowns column) (parts_respect s.unknowns column)))
+    (subst (λ n. StaysInRange (λ k. part_in n column (slice_get z.rows k)) (pos 0) (renumbered 0 ts)) p.unknowns stays)
+
+picked_leaves : (s z : System) (ts : List (ℕ × ℤ)) (column : ℕ) → Picked s z ts → ColumnStays s ts column → ColumnStays z (renumbered 0 ts) column
+picked_leaves s z ts column p stays =
+    subst (λ n. StaysInRange (λ k. part_in n column (slice_get z.rows k)) (pos 0) (renumbered 0 ts)) (sym p.unknowns)
+    (alike_stays (part_in s.unknowns column) s.rows z.rows (pos 0) ts (renumbered 0 ts) (p.alike (part_in s.unknowns column) (parts_respect s.unknowns column)) stays)
+
+picked_fine : (s z : System) (ts : List (ℕ × ℤ)) (column : ℕ) → Picked s z ts → FineBefore z (renumbered 0 ts) column → FineBefore s ts column
+picked_fine s z ts column p fine = record {
+  exist = p.there;
+  in_range = λ c before. picked_stays s z ts c p (fine.in_range c before);
+  none_positive = λ c before. subst (λ x. x ≤ℤ pos 0) (picked_sum s z ts c p) (fine.none_positive c before);
+}
+
+-- no picked row is missing
+none_missing : (s z : System) (ts : List (ℕ × ℤ)) (row : ℕ) → Picked s z ts → FirstMissing z (renumbered 0 ts) row → ⊥
+none_missing s z ts row p m =
+    let count = p.count in
+    let same = renumbered_count 0 ts in
+    let below = m.below in
+    let is = m.is in
+    let missing = m.missing in
+    let at = renumbered_at 0 ts m.at (omega arith) in
+    omega arith
+
+-- the first fault over the picked rows is that over all
+picked_fault : (s z : System) (ts : List (ℕ × ℤ)) (f : LeafFault) → Picked s z ts → IsFirstFault z (renumbered 0 ts) f → IsFirstFault s ts f
+picked_fault s z ts (RowNumber row) p first = absurd (none_missing s z ts row p first)
+picked_fault s z ts (Overflow column) p first = (subst (λ n. column ≤ n) p.unknowns first.0, picked_fine s z ts column p first.1, λ stays. first.2 (picked_leaves s z ts column p stays))
+picked_fault s z ts (Positive unknown) p first = (subst (λ n. unknown < n) p.unknowns first.0, picked_fine s z ts unknown p first.1, picked_stays s z ts unknown p first.2, subst (λ x. pos 0 <ℤ x) (picked_sum s z ts unknown p) first.3)
+picked_fault s z ts NotNegative p first = (
+  subst (FineBefore s ts) p.unknowns (picked_fine s z ts z.unknowns p first.0),
+  subst (ColumnStays s ts) p.unknowns (picked_stays s z ts z.unknowns p first.1),
+  subst (λ n. pos 0 ≤ℤ column_sum s ts n) p.unknowns (subst (λ x. pos 0 ≤ℤ x) (picked_sum s z ts z.unknowns p) first.2),
+)
+
+-- row numbers of a line that are there
+there_rise : (low count : ℕ) (ts : List (ℕ × ℤ)) → ArePairs low ts → AreThere count ts → AreMultipliers low count ts
+there_rise low count [] are there = tt
+there_rise low count (t ∷ ts) are there = (are.0, there 0 (omega arith), are.1.low, there_rise (t.0 + 1) count ts are.2 (there_behind count t ts there))
+
+-- a leaf over the picked rows is one over all
+picked_leaf : (s z : System) (ts : List (ℕ × ℤ)) → ArePairs 0 ts → Picked s z ts → LeafOf z (renumbered 0 ts) → LeafOf s ts
+picked_leaf s z ts are p leaf = record {
+  multipliers = there_rise 0 (length s.rows) ts are p.there;
+  none_positive = λ x. subst (λ v. v ≤ℤ pos 0) (sym (alike_sum (coefficient_in x) s.rows z.rows ts (renumbered 0 ts) (p.alike (coefficient_in x) (coefficients_respect x)))) (leaf.none_positive x);
+  negative = subst (λ v. v <ℤ pos 0) (sym (alike_sum constant_in s.rows z.rows ts (renumbered 0 ts) (p.alike constant_in constants_respect))) leaf.negative;
+}
+
+picked_check : (s z : System) (ts : List (ℕ × ℤ)) → Picked s z ts → CheckStays z (renumbered 0 ts) → CheckStays s ts
+picked_check s z ts p stays = λ column most. picked_stays s z ts column p (stays column (subst (λ n. column ≤ n) (sym p.unknowns) most))
+
+-- a leaf that is judged over the rows that it names is judged over all
+pub judged_picked : (a : Automaton) (p : Pattern) (w : Pending) (s z : System) (ts : List (ℕ × ℤ)) → SystemOf a p w.start w.past w.bounds s → ArePairs 0 ts → z.unknowns ≡ s.unknowns → RowsOf (rows_named (system_rows a p w.start w.past w.bounds) ts) z.rows → AreThere (length (system_rows a p w.start w.past w.bounds)) ts → LeafOf z (renumbered 0 ts) → CheckStays z (renumbered 0 ts) → Judged (system_rows a p w.start w.past w.bounds) ts
+judged_picked a p w s z ts is are unknowns named there leaf stays =
+    let q = picked (system_rows a p w.start w.past w.bounds) s z ts is.rows unknowns named there in
+    judged a p w.start w.past w.bounds s ts is (picked_leaf s z ts are q leaf) (picked_check s z ts q stays)
+
+pub fault_picked : (a : Automaton) (p : Pattern) (w : Pending) (s z : System) (ts : List (ℕ × ℤ)) (f : LeafFault) → SystemOf a p w.start w.past w.bounds s → z.unknowns ≡ s.unknowns → RowsOf (rows_named (system_rows a p w.start w.past w.bounds) ts) z.rows → AreThere (length (system_rows a p w.start w.past w.bounds)) ts → IsFirstFault z (renumbered 0 ts) f → FirstLeafFault a p w ts f
+fault_picked a p w s z ts f is unknowns named there first = record {
+  system = s;
+  is = is;
+  first = picked_fault s z ts f (picked (system_rows a p w.start w.past w.bounds) s z ts is.rows unknowns named there) first;
+}
+
+-- the first number that no row has
+pub fault_absent : (a : Automaton) (p : Pattern) (w : Pending) (s : System) (ts : List (ℕ × ℤ)) (row : ℕ) → SystemOf a p w.start w.past w.bounds s → FirstAbsent (length (system_rows a p w.start w.past w.bounds)) ts row → FirstLeafFault a p w ts (RowNumber row)
+fault_absent a p w s ts row is first =
+    let count = rows_count (system_rows a p w.start w.past w.bounds) s.rows is.rows in
+    record {
+      system = s;
+      is = is;
+      first = record {
+        at = first.at;
+        below = first.below;
+        is = first.is;
+        missing = subst (λ n. n ≤ row) (sym count) first.absent;
+        first = λ j before. subst (λ n. number_at ts j < n) (sym count) (first.first j before);
+      };
+    }
+
+-- the cursor's word has a system with its bounds
+pub whole_here : (file : File) (s : Cursor) (number : ℕ) (p : Pattern) (pending : List Pending) (z : System) → Within file s number p pending → SystemOf file.automaton p s.start_mask (reverse s.word) [] z → (w : System) × SystemOf file.automaton p s.start_mask (reverse s.word) s.bounds.items w
+whole_here file s number p pending z within is =
+    let a = file.automaton in
+    let past = reverse s.word in
+    let short : length past ≤ 30 = legal_length a p s.start_mask past (events_named file number p within.inside.named).limit within.inside.legal in
+    let few = meanings_few a p s.start_mask past in
+    let count = is.unknowns in
+    whole_system a p s.start_mask past s.bounds.items z (omega arith) is (subst (λ n. BoundsWithin n s.bounds.items) (sym is.unknowns) within.bounds)

@@ -1,0 +1,136 @@
+//! Judging a certificate that comes in pieces.
+#![tactic(auto)]
+
+ghost use Rattle.std.specs.Prelude.{ℕ, ◌≡◌, ◌↔◌, ◌++◌, [], true, List as Bytes, IfOk, IsErrOf, is_err};
+ghost use Rattle.ta_check.specs.Certificate.{AllSafe, AllUnsolved};
+ghost use Rattle.ta_check.specs.Checkers.{Fed, Finished, IsExactEnd, IsExactFeed, IsSound, Stand, StandsFor};
+ghost use Rattle.ta_check.specs.Inside.Pieces.{NextTaken, StandSomewhere, TakenTo};
+
+use crate::accepted::Accepted;
+use crate::position::Position;
+use std::alloc::Global;
+use ta_automaton::{File, List};
+use ta_cert::{CertFault, Ended, Reader};
+use ta_scope::ScopedFile;
+
+/// Judges a certificate of a file whose text comes in pieces. It keeps of the text the unfinished
+/// line, and the place in the proof that is being read; nothing of the lines before.
+#[derive(Drop)]
+pub struct Checker<'a> {
+    alloc: Global,
+    scoped: &'a ScopedFile,
+    reader: Reader,
+    failed: bool,
+    position: Position,
+}
+
+/// Takes the line that the next line feed of some bytes ends, and says how many bytes that were; or
+/// keeps all of them where there is none.
+fn take_next(
+    alloc: Global,
+    file: &File,
+    reader: &mut Reader,
+    position: &mut Position,
+    bytes: &[u8],
+) -> Result<Option<usize>, CertFault>
+    requires { StandSomewhere file.now reader.old position.old }
+    ensures { (text : Bytes ℕ) → Stand file.now reader.old position.old text → NextTaken file.now text bytes.now reader.new position.new result }
+{
+    match reader.feed_line(bytes)? {
+        None => Ok(None),
+        Some(
+            Ended {
+                number,
+                line,
+                taken,
+            },
+        ) => {
+            position.take_line(alloc, file, number, &line)?;
+            Ok(Some(taken))
+        }
+    }
+}
+
+/// Takes the lines of a piece, and keeps what stands behind them.
+fn take_lines(
+    alloc: Global,
+    file: &File,
+    reader: &mut Reader,
+    position: &mut Position,
+    piece: &[u8],
+) -> Result<(), CertFault>
+    requires { StandSomewhere file.now reader.old position.old }
+    ensures { (text : Bytes ℕ) → Stand file.now reader.old position.old text → TakenTo file.now (text ++ piece.now) reader.new position.new result }
+{
+    let mut rest = piece;
+    'lines: while let Some(taken) = take_next(alloc, file, reader, position, rest)? {
+        let (_, behind) = rest.split_at(taken);
+        rest = behind;
+    }
+    Ok(())
+}
+
+impl<'a> Checker<'a> {
+    /// A judge before the first piece. It takes no memory.
+    pub fn new(alloc: Global, scoped: &'a ScopedFile) -> Checker<'a>
+        ensures stands { StandsFor result [] }
+        ensures file { result.scoped.now ≡ scoped.now }
+    {
+        Checker {
+            alloc,
+            scoped,
+            reader: Reader::new(alloc),
+            failed: false,
+            position: Position::new(alloc, &scoped.file),
+        }
+    }
+
+    /// Judges the next piece. A fault is that of the first line at fault, where a byte of this piece
+    /// ends it, makes it too long or stands behind the last line. Once a piece was refused, each
+    /// later call is.
+    pub fn feed(&mut self, piece: &[u8]) -> Result<(), CertFault>
+        requires { IsSound self.old }
+        ensures answer { (text : Bytes ℕ) → StandsFor self.old text → Fed text piece.now self.new result }
+        ensures exact { (text : Bytes ℕ) → StandsFor self.old text → IsExactFeed self.old.scoped.now.file (text ++ piece.now) result }
+        ensures refused { IsErrOf result CertFault.Failed ↔ (self.old.failed ≡ true) }
+        ensures stays { self.new.failed ≡ is_err result }
+        ensures file { self.new.scoped.now ≡ self.old.scoped.now }
+        ensures sound { IsSound self.new }
+    {
+        if self.failed {
+            return Err(CertFault::Failed);
+        }
+        let answer = take_lines(
+            self.alloc,
+            &self.scoped.file,
+            &mut self.reader,
+            &mut self.position,
+            piece,
+        );
+        self.failed = answer.is_err();
+        answer
+    }
+
+    /// What the certificate proves, where its text ended where it had to.
+    pub fn finish(self) -> Result<Accepted, CertFault>
+        requires { IsSound self }
+        ensures answer { (text : Bytes ℕ) → StandsFor self.entry text → Finished self.entry.scoped.now.file text result }
+        ensures exact { (text : Bytes ℕ) → StandsFor self.entry text → IsExactEnd self.entry.scoped.now.file text result }
+        ensures refused { IsErrOf result CertFault.Failed ↔ (self.entry.failed ≡ true) }
+        ensures safe { IfOk result (λ accepted. AllSafe self.entry.scoped.now.file accepted.patterns) }
+        ensures unsolved { IfOk result (λ accepted. AllUnsolved self.entry.scoped.now.file accepted.patterns) }
+    {
+        if self.failed {
+            return Err(CertFault::Failed);
+        }
+        let Checker {
+            reader,
+            position,
+            ..
+        } = self;
+        reader.finish()?;
+        Ok(Accepted {
+            patterns: List::from_vec(position.proved),
+        })
+    }
+}

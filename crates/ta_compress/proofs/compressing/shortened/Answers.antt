@@ -1,0 +1,34 @@
+use Rattle.std.proofs.Common.{sym, subst, List}
+use Rattle.ta_automaton.specs.declared.file.File.{File}
+use Rattle.ta_replay.specs.declared.run.RunLine.{RunLine}
+use Rattle.ta_compress.specs.Faults.{Admitted}
+use Rattle.ta_compress.specs.Pieces.{CompressOf, CutOf}
+use Rattle.ta_compress.proofs.Finishing.{same_tale, short_shows, is_short, short_fits}
+use Rattle.ta_compress.proofs.compressing.shortened.Goals as goal
+
+-- what is answered is the compressed run
+exactly : (c : goal.In_ok-short) → CompressOf c.args.scoped.now.file c.args.run.now c.in_ok-short.short
+exactly c = record {
+  pattern = c.in_ok-short.ensures.pattern;
+  parameters = c.in_ok-short.ensures.parameters;
+  counts = c.in_ok-short.ensures.counts;
+  lines = subst (λ (ls : List RunLine). CutOf c.args.scoped.now.file.automaton c.args.run.now ls) (sym c.in_ok-short.ensures.lines) c.in_ok-lines.ensures.cut;
+}
+
+admitted : (c : goal.In_ok-short) → Admitted c.args.scoped.now.file c.args.run.now
+admitted c = subst (λ (f : File). Admitted f c.args.run.now) c.file.ensures c.in_ok-admit.ensures.admitted
+
+pub returns-clause-exact : goal.returns-clause-exact
+returns-clause-exact c = exactly c
+
+pub returns-clause-fits : goal.returns-clause-fits
+returns-clause-fits c = short_fits c.args.scoped.now.file c.args.run.now c.in_ok-short.short c.args.scoped.now.in_scope c.requires (admitted c) (exactly c)
+
+pub returns-clause-shows : goal.returns-clause-shows
+returns-clause-shows c = short_shows c.args.scoped.now.file c.args.run.now c.in_ok-short.short c.args.scoped.now.in_scope c.requires (admitted c) (exactly c)
+
+pub returns-clause-same : goal.returns-clause-same
+returns-clause-same c = same_tale c.args.scoped.now.file c.args.run.now c.in_ok-short.short c.args.scoped.now.in_scope c.requires (admitted c) (exactly c)
+
+pub returns-clause-short : goal.returns-clause-short
+returns-clause-short c = is_short c.args.scoped.now.file c.args.run.now c.in_ok-short.short c.args.scoped.now.in_scope c.requires (admitted c) (exactly c)

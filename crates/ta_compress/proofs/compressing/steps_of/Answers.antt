@@ -1,0 +1,38 @@
+use Rattle.std.proofs.Common.{◌≡◌, ◌<◌, ◌-◌, ◌^◌, ◌∙◌, ap, sym, take, min, pos, get_or, arith, ℕ}
+use Rattle.std.proofs.lemmas.Bool.Decides.{nat_tests}
+use Rattle.std.proofs.lemmas.Int.{ints}
+use Rattle.std.proofs.lemmas.List.{take_all}
+use Rattle.std.proofs.lemmas.Option.{slice_get-get_or}
+use mir.Syntax.{w128}
+use mir.Val.{to_z}
+use Rattle.ta_replay.specs.declared.run.RunLine.TheVariants.{Step}
+use Rattle.ta_replay.specs.Shows.{factor_of, factors_sum}
+use Rattle.ta_replay.proofs.Lines.{factors_sum-next, capped}
+use Rattle.ta_compress.proofs.compressing.steps_of.Goals as goal
+
+pub loop-line-preserved : goal.loop-line-preserved
+loop-line-preserved c =
+    let lines = c.args.lines.now in
+    let i = c.loop-line.line-index in
+    let line = get_or lines i (Step 0 (pos 0)) in
+    let next = factors_sum-next lines i line (slice_get-get_or lines i (Step 0 (pos 0)) c.loop-line-test.true) in
+    let sum = capped (2 ^ 128 - 1) (factors_sum (take i lines)) (factor_of line) c.loop-line.steps c.steps_on.result c.saturating_add-steps.result c.loop-line.invariant (c.steps_on.ensures ∙ small (factor_of line) (c.steps_on.ensures) c.steps_on.type_inv) c.saturating_add-steps.ensures in
+    sum ∙ ap (λ n. min n (2 ^ 128 - 1)) (sym next)
+  where
+    small : (f : ℕ) {r : ℕ} → r ≡ f → r < 2 ^ 128 → f ≡ min f (2 ^ 128 - 1)
+    small f same below = grind (arith, nat_tests)
+
+least : (r s f : ℕ) → r ≡ min s (2 ^ 127 - 1) → s ≡ min f (2 ^ 128 - 1) → r ≡ min f (2 ^ 127 - 1)
+least r s f a b = grind (arith, nat_tests)
+
+below : (r f : ℕ) → r ≡ min f (2 ^ 127 - 1) → r < 2 ^ 127
+below r f a = grind (arith, nat_tests)
+
+pub returns : goal.returns
+returns c =
+    let lines = c.args.lines.now in
+    let all = ap factors_sum (take_all c.loop-line.line-index lines c.loop-line-test.false) in
+    let r = least c.min.result c.loop-line.steps (factors_sum (take c.loop-line.line-index lines)) c.min.ensures c.loop-line.invariant in
+    let small = below c.min.result (factors_sum (take c.loop-line.line-index lines)) r in
+    let whole : to_z w128 c.min.result ≡ pos c.min.result = omega (arith, ints) in
+    whole ∙ ap pos (r ∙ ap (λ n. min n (2 ^ 127 - 1)) all)

@@ -1,0 +1,5 @@
+pub mod Units
+pub mod Pieces
+pub mod Tales
+pub mod Faults
+pub mod Inside

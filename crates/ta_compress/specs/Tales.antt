@@ -1,0 +1,37 @@
+-- What a run tells: which events it marks, in order, and at which configurations (this project's profile)
+use Rattle.std.specs.Prelude.{ℕ, ◌≡◌, List, [], ◌∷◌, length, replicate, unsigned_abs, slice_get, Some}
+use Rattle.ta_automaton.specs.declared.automaton.Automaton.{Automaton}
+use Rattle.ta_automaton.specs.declared.pattern.Pattern.{Pattern}
+use Rattle.ta_automaton.specs.declared.file.File.{File}
+use Rattle.ta_automaton.specs.Runs.{Config, Initial, Steps, At}
+use Rattle.ta_pattern.specs.Empty.{KeepsEmpty}
+use Rattle.ta_replay.specs.declared.run.Run.{Run}
+use Rattle.ta_replay.specs.declared.run.RunLine.{RunLine}
+use Rattle.ta_replay.specs.declared.run.RunLine.TheVariants.{Step, Mark}
+use Rattle.ta_replay.specs.Shows.{BeginsWith}
+
+-- unit steps of these rules lead from one configuration to another, and the pattern's `empty` is kept all along
+pub record Leads (a : Automaton) (p : Pattern) (c : Config) (rules : List ℕ) (d : Config) : Type 0 where
+  pub later : List Config
+  pub steps : Steps a c rules later
+  pub ends : At c later (length rules) d
+  pub kept : (k : ℕ) (e : Config) → At c later k e → KeepsEmpty p.empty e
+
+-- from a configuration on, the steps of lines are legal, and their marks are these events at these configurations
+abbrev pub Tells : Automaton → Pattern → Config → List RunLine → List (ℕ × Config) → Type 0
+Tells a p c [] tale = tale ≡ []
+Tells a p c (Step r factor ∷ lines) tale = (d : Config) × Leads a p c (replicate (unsigned_abs factor) r) d × Tells a p d lines tale
+Tells a p c (Mark e ∷ lines) tale = (rest : List (ℕ × Config)) × (tale ≡ (e, c) ∷ rest) × Tells a p c lines rest
+
+-- two runs begin at the same configuration, and mark the same events in the same order at the same configurations
+pub record SameTale (file : File) (run other : Run) : Type 0 where
+  pub pattern : Pattern
+  pub named : slice_get file.patterns run.pattern ≡ Some pattern
+  pub same_pattern : other.pattern ≡ run.pattern
+  pub first : Config
+  pub initial : Initial file.automaton first
+  pub begins : BeginsWith file.automaton run first
+  pub other_begins : BeginsWith file.automaton other first
+  pub tale : List (ℕ × Config)
+  pub told : Tells file.automaton pattern first run.lines tale
+  pub other_told : Tells file.automaton pattern first other.lines tale

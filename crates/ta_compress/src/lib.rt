@@ -1,0 +1,9 @@
+//! Shortening runs.
+#![tactic(auto)]
+
+mod compressing;
+mod draft;
+mod fault;
+
+pub use compressing::compress;
+pub use fault::CompressFault;

@@ -1,0 +1,90 @@
+-- the system of a word with bounds, from that without
+use Rattle.std.proofs.Common.{◌≡◌, ◌≢◌, ℕ, zero, suc, ◌+◌, ◌<◌, ◌≤◌, ◌^◌, ℤ, pos, negsuc, ◌+ℤ◌, ◌-ℤ◌, List, [], ◌∷◌, ◌++◌, length, map, get_or, arith, sym, ap, ◌∙◌, refl, subst, append-nil, inl, inr}
+use Rattle.std.proofs.lemmas.Bool.{cases_lt}
+use Rattle.std.proofs.lemmas.Int.{ints}
+use Rattle.ta_linear.specs.Numbers.{InRange}
+use Rattle.ta_linear.specs.Terms.{IsNormal, IsTerm, coefficient}
+use Rattle.ta_linear.specs.Rows.{AllBelow}
+use Rattle.ta_linear.specs.declared.form.Form.{Form}
+use Rattle.ta_linear.specs.declared.row.Row.{Row}
+use Rattle.ta_linear.specs.declared.row.System.{System}
+use Rattle.ta_automaton.specs.declared.automaton.Automaton.{Automaton}
+use Rattle.ta_automaton.specs.declared.pattern.Pattern.{Pattern}
+use Rattle.ta_words.specs.declared.element.Element.{Element}
+use Rattle.ta_encode.specs.System.{LinearRow, Bound, Side, Low, High, only_at, side_row, bound_row, word_rows, system_rows}
+use Rattle.ta_encode.specs.Code.{RowOf, RowsOf, SystemOf}
+use Rattle.ta_encode.specs.Lines.{BoundWithin, BoundsWithin}
+use Rattle.ta_encode.proofs.Running.{at_variable, if_same, if_other}
+use Rattle.ta_encode.proofs.Adding.{AllBelow-append, RowsOf-append}
+
+-- the coefficient of an unknown alone
+only_here : (x : ℕ) (z : ℤ) → get_or (only_at x z) x (pos 0) ≡ z
+only_here zero z = refl
+only_here (suc x) z = only_here x z
+
+only_there : (x u : ℕ) (z : ℤ) → x ≢ u → get_or (only_at x z) u (pos 0) ≡ pos 0
+only_there zero zero z other = absurd (other refl)
+only_there zero (suc u) z other = refl
+only_there (suc x) zero z other = refl
+only_there (suc x) (suc u) z other = only_there x u z (λ same. other (ap suc same))
+
+same_or_not : (x u : ℕ) (z : ℤ) → coefficient ((x, z) ∷ []) u ≡ get_or (only_at x z) u (pos 0)
+same_or_not x u z =
+    let alone : (at_variable (x, z) u +ℤ pos 0) ≡ at_variable (x, z) u = omega (arith, ints) in
+    elim (cases_lt x u) [
+      | inl below ↦ alone ∙ if_other (x, z) u (λ same. absurd (omega arith)) ∙ sym (only_there x u z (λ same. absurd (omega arith)))
+      | inr from ↦ elim (cases_lt u x) [
+        | inl above ↦ alone ∙ if_other (x, z) u (λ same. absurd (omega arith)) ∙ sym (only_there x u z (λ same. absurd (omega arith)))
+        | inr to ↦
+            let same : x ≡ u = omega arith in
+            alone ∙ if_same (x, z) u same ∙ sym (ap (λ k. get_or (only_at x z) k (pos 0)) (sym same) ∙ only_here x z)
+      ]
+    ]
+
+-- a row of the code for a bound
+record BoundRow (n : ℕ) (b : Bound) : Type 0 where
+  row : Row
+  of : RowOf (bound_row b) row
+  below : IsNormal 0 n row.form.terms
+
+one_term : (n x : ℕ) (z : ℤ) → x < n → z ≢ pos 0 → InRange z → IsNormal 0 n ((x, z) ∷ [])
+one_term n x z below some fits = (omega arith, record { not_zero = some; in_range = fits }, omega arith)
+
+side_code : (n x : ℕ) (floor : ℤ) (side : Side) → n ≤ 2 ^ 32 → BoundWithin n (record { unknown = x; floor = floor; side = side }) → BoundRow n (record { unknown = x; floor = floor; side = side })
+side_code n x floor Low most within =
+    let low = within.least in
+    let high = within.most in
+    let below = within.exists in
+    let fits : InRange (negsuc 0) = omega (arith, ints) in
+    let some : negsuc 0 ≢ pos 0 = λ e. absurd (cc) in
+    let form : Form = record { constant = floor; terms = (x, negsuc 0) ∷ []; constant_fits = omega (arith, ints, low, high); normal = one_term (2 ^ 32) x (negsuc 0) (omega arith) some fits } in
+    record { row = record { form = form }; of = record { constant = refl; coefficients = λ u. same_or_not x u (negsuc 0) }; below = one_term n x (negsuc 0) below some fits }
+side_code n x floor High most within =
+    let low = within.least in
+    let high = within.most in
+    let below = within.exists in
+    let fits : InRange (pos 1) = omega (arith, ints) in
+    let some : pos 1 ≢ pos 0 = λ e. absurd (cc) in
+    let form : Form = record { constant = (pos 0 -ℤ floor) -ℤ pos 1; terms = (x, pos 1) ∷ []; constant_fits = omega (arith, ints, low, high); normal = one_term (2 ^ 32) x (pos 1) (omega arith) some fits } in
+    record { row = record { form = form }; of = record { constant = refl; coefficients = λ u. same_or_not x u (pos 1) }; below = one_term n x (pos 1) below some fits }
+
+-- rows of the code for bounds
+record BoundRows (n : ℕ) (bs : List Bound) : Type 0 where
+  rows : List Row
+  of : RowsOf (map bound_row bs) rows
+  below : AllBelow n rows
+
+bound_rows : (n : ℕ) (bs : List Bound) → n ≤ 2 ^ 32 → BoundsWithin n bs → BoundRows n bs
+bound_rows n [] most within = record { rows = []; of = tt; below = tt }
+bound_rows n (b ∷ bs) most within =
+    let first = side_code n b.unknown b.floor b.side most within.0 in
+    let rest = bound_rows n bs most within.1 in
+    record { rows = first.row ∷ rest.rows; of = (first.of, rest.of); below = (first.below, rest.below) }
+
+-- where a word has a system without bounds, it has one with them
+pub whole_system : (a : Automaton) (p : Pattern) (start : ℕ) (past : List Element) (bounds : List Bound) (z : System) → z.unknowns ≤ 2 ^ 32 → SystemOf a p start past [] z → BoundsWithin z.unknowns bounds → (s : System) × SystemOf a p start past bounds s
+whole_system a p start past bounds z most is within =
+    let more = bound_rows z.unknowns bounds most within in
+    let plain : RowsOf (word_rows a p start past) z.rows = subst (λ (ls : List LinearRow). RowsOf ls z.rows) (append-nil (word_rows a p start past)) is.rows in
+    let s : System = record { unknowns = z.unknowns; rows = z.rows ++ more.rows; within = AllBelow-append z.unknowns z.rows more.rows z.within more.below } in
+    (s, record { unknowns = is.unknowns; rows = RowsOf-append (word_rows a p start past) (map bound_row bounds) z.rows more.rows plain more.of })

@@ -1,0 +1,43 @@
+-- The rows of a system that a list of row numbers names, each number beside a multiplier
+use Rattle.std.specs.Prelude.{ℕ, ℤ, pos, ◌<◌, ◌≤◌, ◌≡◌, List, [], length, map, slice_index_or}
+use Rattle.ta_linear.specs.declared.row.System.{System}
+use Rattle.ta_automaton.specs.declared.automaton.Automaton.{Automaton}
+use Rattle.ta_automaton.specs.declared.pattern.Pattern.{Pattern}
+use Rattle.ta_words.specs.declared.element.Element.{Element}
+use Rattle.ta_encode.specs.System.{LinearRow}
+use Rattle.ta_encode.specs.Code.{RowsOf, SystemOf}
+use Rattle.ta_encode.specs.declared.named.Named.{Named}
+use Rattle.ta_encode.specs.declared.named.Named.TheVariants.{Rows, Absent}
+
+-- the system of some word without bounds
+abbrev pub IsOfWord : System → Type 0
+IsOfWord system = (a : Automaton) × (p : Pattern) × (start : ℕ) × (past : List Element) × SystemOf a p start past [] system
+
+-- the row of a number, which is to be there
+abbrev pub row_numbered : List LinearRow → ℕ → LinearRow
+row_numbered rows number = slice_index_or rows number (record { constant = pos 0; coefficients = [] })
+
+-- the rows that a list names, in its order
+abbrev pub rows_named : List LinearRow → List (ℕ × ℤ) → List LinearRow
+rows_named rows ts = map (λ t. row_numbered rows t.0) ts
+
+-- the row number at a place of a list
+abbrev pub number_at : List (ℕ × ℤ) → ℕ → ℕ
+number_at ts i = (slice_index_or ts i (0, pos 0)).0
+
+-- each row that a list names is there
+abbrev pub AreThere : ℕ → List (ℕ × ℤ) → Type 0
+AreThere count ts = (i : ℕ) → i < length ts → number_at ts i < count
+
+-- the first number of a list that no row has
+pub record FirstAbsent (count : ℕ) (ts : List (ℕ × ℤ)) (number : ℕ) : Type 0 where
+  pub at : ℕ
+  pub below : at < length ts
+  pub is : number_at ts at ≡ number
+  pub absent : count ≤ number
+  pub first : (j : ℕ) → j < at → number_at ts j < count
+
+-- these are the rows that a list names, over as many unknowns; or this is the first number that no row has
+abbrev pub Names : List LinearRow → ℕ → List (ℕ × ℤ) → Named → Type 0
+Names rows unknowns ts (Rows system) = (system.unknowns ≡ unknowns) × RowsOf (rows_named rows ts) system.rows × AreThere (length rows) ts
+Names rows unknowns ts (Absent number) = FirstAbsent (length rows) ts number

@@ -1,0 +1,88 @@
+-- A tree without faults of meaning means a file.
+use Rattle.std.proofs.Common.{◌≡◌, ℕ, ◌+◌, ◌≤◌, false, List, [], ◌∷◌, ◌++◌, map, length, refl, arith}
+use Rattle.std.proofs.lemmas.List.{length-map}
+use Rattle.ta_syntax.specs.PlainSums.{plain_sum}
+use Rattle.ta_syntax.specs.PlainTrees.{plain_location, plain_tree}
+use Rattle.ta_syntax.specs.declared.tree.Tree.{Tree}
+use Rattle.ta_syntax.specs.declared.fault.FileFault.TheVariants as fault
+use Rattle.ta_automaton.specs.Lists.{Distinct}
+use Rattle.ta_automaton.specs.declared.automaton.Automaton.{Automaton}
+use Rattle.ta_automaton.specs.declared.file.File.{File}
+use Rattle.ta_meaning.specs.Names.{Names, names_of, all_names}
+use Rattle.ta_meaning.specs.Guards.{no_guards}
+use Rattle.ta_meaning.specs.Linear.{linear_sum, is_large_linear}
+use Rattle.ta_meaning.specs.Meaning.{initial_from, MeansAutomaton, MeansTree}
+use Rattle.ta_meaning.specs.Faults.{where_, sum_faults, condition_faults, in_parameters, processes_faults, names_faults, rules_faults, patterns_faults, meaning_faults}
+use Rattle.ta_meaning.proofs.Answering.{not-where, none-else-left, none-else-right, none-append-left, none-append-right}
+use Rattle.ta_meaning.proofs.Declared.{names-distinct}
+use Rattle.ta_meaning.proofs.DeclaredTrees.{lengths}
+use Rattle.ta_meaning.proofs.Shapes.{automaton_shape}
+use Rattle.ta_meaning.proofs.Whole.{patterns_shape-of}
+use Rattle.ta_meaning.proofs.MadeForms.{sum_exists, condition_exists}
+use Rattle.ta_meaning.proofs.MadePatterns.{FineNames, patterns_exist}
+use Rattle.ta_meaning.proofs.MadeRules.{rules_exist}
+
+distinct_behind : {X : Type 0} (a b : List X) → Distinct (a ++ b) → Distinct b
+distinct_behind [] b d = d
+distinct_behind (x ∷ a) b d = distinct_behind a b d.1
+
+fine_names : (t : Tree) → names_faults (names_of t) t ≡ [] → FineNames (names_of t)
+fine_names t none =
+    let ns = names_of t in
+    let distinct = names-distinct t none in
+    record {
+      distinct = distinct;
+      locations_distinct = distinct_behind (ns.parameters ++ ns.shared) ns.locations distinct;
+      parameters = rw length-map t.few_parameters;
+      shared = rw length-map t.few_shared;
+      locations = rw (length-map, length-map) t.few_locations;
+      all = omega (arith, lengths t, t.few_parameters, t.few_shared, t.few_locations);
+    }
+
+pub file_exists : (t : Tree) → meaning_faults t ≡ [] → (file : File) × MeansTree (plain_tree t) file
+file_exists t none =
+    let ns = names_of t in
+    let names = names_faults ns t in
+    let sum = processes_faults ns t in
+    let holds = condition_faults (in_parameters ns) t.resilience in
+    let rules = rules_faults ns [] no_guards t.rules in
+    let patterns = patterns_faults ns [] t.patterns in
+    let no_names = none-append-left names (sum ++ (holds ++ (rules ++ patterns))) none in
+    let after_names = none-append-right names (sum ++ (holds ++ (rules ++ patterns))) none in
+    let no_sum = none-append-left sum (holds ++ (rules ++ patterns)) after_names in
+    let after_sum = none-append-right sum (holds ++ (rules ++ patterns)) after_names in
+    let after_holds = none-append-right holds (rules ++ patterns) after_sum in
+    let fine = fine_names t no_names in
+    let few : length ns.parameters ≤ 64 = omega (arith, fine.parameters) in
+    let large = where_ (is_large_linear (linear_sum ns.parameters (plain_sum t.processes))) (fault.TooLarge t.processes_at) in
+    let terms = sum_faults (in_parameters ns) t.processes in
+    let p = sum_exists (in_parameters ns) t.processes few (none-else-left terms large no_sum) (not-where (is_large_linear (linear_sum ns.parameters (plain_sum t.processes))) (fault.TooLarge t.processes_at) (none-else-right terms large no_sum)) in
+    let r = condition_exists (in_parameters ns) t.resilience few t.few_resilience (none-append-left holds (rules ++ patterns) after_sum) in
+    let rs = rules_exist ns fine t.rules (none-append-left rules patterns after_holds) in
+    let ps = patterns_exist ns fine t.patterns t.few_patterns (none-append-right rules patterns after_holds) in
+    let automaton : Automaton = record {
+      name = t.name.name;
+      parameters = ns.parameters;
+      shared = ns.shared;
+      locations = ns.locations;
+      initial = initial_from 0 (map plain_location t.locations);
+      processes = p.0;
+      resilience = r.0;
+      rise = rs.0;
+      fall = rs.1;
+      rules = rs.2;
+      shape = automaton_shape t p.0 r.0 rs.0 rs.1 rs.2 no_names p.1 r.1 rs.3;
+    } in
+    let means : MeansAutomaton (plain_tree t) automaton = record {
+      name = refl;
+      parameters = refl;
+      shared = refl;
+      locations = refl;
+      initial = refl;
+      processes = p.1.means;
+      resilience = r.1.means;
+      rise = rs.3.guards.rise_of;
+      fall = rs.3.guards.fall_of;
+      rules = rs.3.means;
+    } in
+    (record { automaton = automaton; patterns = ps.0; shape = patterns_shape-of t automaton ps.0 ps.0 means ps.1 refl }, record { automaton = means; patterns = ps.1.means })

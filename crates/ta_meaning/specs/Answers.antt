@@ -1,0 +1,27 @@
+-- That each text has an answer (this project's profile)
+use Rattle.std.specs.Prelude.{ℕ, ◌≤◌, ◌≡◌, List, [], length}
+use Rattle.ta_syntax.specs.AnswerLaws.{Either}
+use Rattle.ta_syntax.specs.PlainTrees.{plain_tree}
+use Rattle.ta_syntax.specs.declared.tree.Tree.{Tree}
+use Rattle.ta_syntax.specs.declared.fault.FileFault.{FileFault}
+use Rattle.ta_automaton.specs.declared.file.File.{File}
+use Rattle.ta_meaning.specs.Meaning.{MeansTree}
+use Rattle.ta_meaning.specs.Faults.{meaning_faults}
+use Rattle.ta_meaning.specs.FirstFault.{FirstFault}
+use Rattle.ta_meaning.specs.Reading.{Legal}
+
+-- a tree without faults of meaning means a file
+abbrev pub FilesExist : Type 0
+FilesExist = (t : Tree) → meaning_faults t ≡ [] → (file : File) × MeansTree (plain_tree t) file
+
+-- a text is a legal file
+abbrev pub HasFile : List ℕ → Type 0
+HasFile bytes = (file : File) × Legal bytes file
+
+-- a text has a first fault
+abbrev pub HasFault : List ℕ → Type 0
+HasFault bytes = (e : FileFault) × FirstFault bytes e
+
+-- a text of at most 1,048,576 bytes is a legal file, or has a first fault
+abbrev pub TextsHaveAnswers : Type 0
+TextsHaveAnswers = (bytes : List ℕ) → length bytes ≤ 1048576 → Either (HasFile bytes) (HasFault bytes)

@@ -1,0 +1,10 @@
+//! Laws that each text has an answer.
+#![tactic(auto)]
+
+ghost use Rattle.ta_meaning.specs.Answers.{FilesExist, TextsHaveAnswers};
+
+/// A tree without faults of meaning means a file, and each text of at most 1,048,576 bytes is a legal file or has a first fault.
+pub fn texts_have_answers()
+    ensures files { FilesExist }
+    ensures texts { TextsHaveAnswers }
+{}

@@ -1,0 +1,127 @@
+-- the text of the trees of safe patterns is a certificate that a judge accepts
+use Rattle.std.proofs.Common.{◌≡◌, ◌∙◌, ℕ, ◌+◌, ◌<◌, ◌≤◌, ◌^◌, suc, List, [], ◌∷◌, ◌++◌, length, map, Option, Some, None, slice_get, refl, sym, ap, subst, arith, codes, decimal, lit≤, lit<}
+use Rattle.std.specs.List.{AllByRecursion}
+use Rattle.std.proofs.lemmas.Option.{slice_get_within}
+use Rattle.ta_automaton.specs.declared.file.File.{File}
+use Rattle.ta_automaton.specs.declared.pattern.Pattern.{Pattern}
+use Rattle.ta_automaton.specs.Lists.{Distinct, Each}
+use Rattle.ta_automaton.specs.Runs.{LoopsPure}
+use Rattle.ta_cert.specs.Certificates.{AreWritable, cert_lines, cert_text, proof_lines, proof_of, proofs_of}
+use Rattle.ta_cert.specs.Laws.{AreShort}
+use Rattle.ta_cert.specs.Lines.{IsNode}
+use Rattle.ta_cert.specs.Streams.{line_limit}
+use Rattle.ta_cert.specs.Tree.{Tree, all_preorder}
+use Rattle.ta_cert.specs.declared.line.Line.{Line}
+use Rattle.ta_cert.specs.declared.line.Line.TheVariants as line
+use Rattle.ta_cert.specs.declared.line.Node.{Node}
+use Rattle.ta_cert.specs.declared.line.Proof.{Proof}
+use Rattle.ta_check.specs.Certificate.{Certificate, ProvesPattern, number_of}
+use Rattle.ta_cursor.specs.Range.{Judged}
+use Rattle.ta_encode.proofs.Preorders.{in_order}
+use Rattle.ta_report.specs.declared.verdict.Verdict.{Verdict}
+use Rattle.ta_walk.proofs.NodesShort.{row_short}
+use Rattle.ta_walk.proofs.ProofsMade.{refuted_safe}
+use Rattle.ta_walk.specs.Ends.{IsShort}
+use Rattle.ta_program.specs.Certified.{AreTrees, CertificateOf, SafeOne, safe_numbers, safe_ones, tree_size, with_safe}
+
+all_of : {X : Type 0} (P : X → Type 0) (xs : List X) → Each P xs → AllByRecursion P xs
+all_of P [] each = tt
+all_of P (x ∷ xs) each = (each.0, all_of P xs each.1)
+
+-- the numbers of those that are safe
+abbrev numbers : List SafeOne → List ℕ
+numbers ones = map (λ one. one.number) ones
+
+one_named : (file : File) (number : ℕ) (p : Pattern) (size : Option ℕ) (rest : List SafeOne) → slice_get file.patterns number ≡ Some p → Each (λ one. slice_get file.patterns one.number ≡ Some one.pattern) rest → Each (λ one. slice_get file.patterns one.number ≡ Some one.pattern) (with_safe number p size rest)
+one_named file number p None rest at named = named
+one_named file number p (Some nodes) rest at named = (at, named)
+
+ones_named : (file : File) (number : ℕ) (ps : List Pattern) (vs : List Verdict) → ((k : ℕ) (p : Pattern) → slice_get ps k ≡ Some p → slice_get file.patterns (number + k) ≡ Some p) → Each (λ one. slice_get file.patterns one.number ≡ Some one.pattern) (safe_ones number ps vs)
+ones_named file number [] vs at = tt
+ones_named file number (p ∷ ps) [] at = tt
+ones_named file number (p ∷ ps) (v ∷ vs) at =
+    let here : number + 0 ≡ number = omega arith in
+    one_named file number p (tree_size v) (safe_ones (number + 1) ps vs) (subst (λ (k : ℕ). slice_get file.patterns k ≡ Some p) here (at 0 p refl))
+    (ones_named file (number + 1) ps vs (λ k q given. let there : number + suc k ≡ (number + 1) + k = omega arith in subst (λ (n : ℕ). slice_get file.patterns n ≡ Some q) there (at (suc k) q given)))
+
+weaker : (low high : ℕ) (ks : List ℕ) → low ≤ high → Each (λ k. high ≤ k) ks → Each (λ k. low ≤ k) ks
+weaker low high [] less each = tt
+weaker low high (k ∷ ks) less each = (let first = each.0 in omega arith, weaker low high ks less each.1)
+
+one_low : (number : ℕ) (p : Pattern) (size : Option ℕ) (rest : List SafeOne) → Each (λ k. number + 1 ≤ k) (numbers rest) → Each (λ k. number ≤ k) (numbers (with_safe number p size rest))
+one_low number p None rest low = weaker number (number + 1) (numbers rest) (omega arith) low
+one_low number p (Some nodes) rest low = (omega arith, weaker number (number + 1) (numbers rest) (omega arith) low)
+
+ones_low : (number : ℕ) (ps : List Pattern) (vs : List Verdict) → Each (λ k. number ≤ k) (numbers (safe_ones number ps vs))
+ones_low number [] vs = tt
+ones_low number (p ∷ ps) [] = tt
+ones_low number (p ∷ ps) (v ∷ vs) = one_low number p (tree_size v) (safe_ones (number + 1) ps vs) (ones_low (number + 1) ps vs)
+
+apart : (number : ℕ) (ks : List ℕ) → Each (λ k. number + 1 ≤ k) ks → Each (λ k. number ≡ k → ⊥) ks
+apart number [] low = tt
+apart number (k ∷ ks) low = (λ same. let first = low.0 in omega arith, apart number ks low.1)
+
+one_distinct : (number : ℕ) (p : Pattern) (size : Option ℕ) (rest : List SafeOne) → Each (λ k. number + 1 ≤ k) (numbers rest) → Distinct (numbers rest) → Distinct (numbers (with_safe number p size rest))
+one_distinct number p None rest low distinct = distinct
+one_distinct number p (Some nodes) rest low distinct = (apart number (numbers rest) low, distinct)
+
+ones_distinct : (number : ℕ) (ps : List Pattern) (vs : List Verdict) → Distinct (numbers (safe_ones number ps vs))
+ones_distinct number [] vs = tt
+ones_distinct number (p ∷ ps) [] = tt
+ones_distinct number (p ∷ ps) (v ∷ vs) = one_distinct number p (tree_size v) (safe_ones (number + 1) ps vs) (ones_low (number + 1) ps vs) (ones_distinct (number + 1) ps vs)
+
+-- the line of a pattern is short, and so are those of nodes
+pattern_short : (k : ℕ) → k < 2 ^ 32 → length (codes "pattern " ++ decimal k) ≤ line_limit
+pattern_short k below = let digits = row_short k below in omega arith
+
+lines_short : (ns : List Node) (ls : List Line) → Each IsShort ns → AreShort ls → AreShort (map line.Tree ns ++ ls)
+lines_short [] ls short rest = rest
+lines_short (n ∷ ns) ls short rest = (short.0, lines_short ns ls short.1 rest)
+
+-- proofs of such patterns, whose nodes are these
+record Made (file : File) (ones : List SafeOne) (trees : List Proof) : Type 0 where
+  proofs : List (ℕ × List Tree)
+  are : proofs_of proofs ≡ trees
+  prove : Each (ProvesPattern file) proofs
+  named : map number_of proofs ≡ numbers ones
+  writable : AreWritable trees
+  short : AreShort (proof_lines trees)
+
+made : (file : File) (budget : ℕ) → LoopsPure file.automaton → budget ≤ 1000000000 → (ones : List SafeOne) (trees : List Proof) → Each (λ one. slice_get file.patterns one.number ≡ Some one.pattern) ones → AreTrees file budget ones trees → Made file ones trees
+made file budget loops within [] [] named are = record { proofs = []; are = refl; prove = tt; named = refl; writable = tt; short = (lit≤ tt, tt) }
+made file budget loops within [] (t ∷ ts) named are = absurd are
+made file budget loops within (one ∷ ones) [] named are = absurd are
+made file budget loops within (one ∷ ones) (t ∷ ts) named are =
+    let is = are.0 in
+    let proof = (refuted_safe file one.number one.pattern named.0 loops budget within t.nodes one.nodes is.is).0 in
+    let trees = (in_order Judged file.automaton one.pattern t.nodes).0 proof.refutes in
+    let rest = made file budget loops within ones ts named.1 are.1 in
+    let number : one.number ≡ t.pattern = sym is.numbered in
+    let nodes : all_preorder trees.0 ≡ t.nodes = trees.2 in
+    let same : proof_of one.number trees.0 ≡ t = (λ i. record { pattern = number i; nodes = nodes i }) in
+    let inside : one.number < length file.patterns = slice_get_within file.patterns one.number one.pattern named.0 in
+    let few = file.shape.limit in
+    let room : 16 < 2 ^ 32 = lit< tt in
+    let below : t.pattern < 2 ^ 32 = omega arith in
+    record {
+      proofs = (one.number, trees.0) ∷ rest.proofs;
+      are = ap (λ (p : Proof). p ∷ proofs_of rest.proofs) same ∙ ap (λ (ps : List Proof). t ∷ ps) rest.are;
+      prove = (record { pattern = one.pattern; named = named.0; proves = trees.1 }, rest.prove);
+      named = ap (λ (ks : List ℕ). one.number ∷ ks) rest.named;
+      writable = (record { pattern = below; nodes = all_of IsNode t.nodes proof.writable }, rest.writable);
+      short = (pattern_short t.pattern below, lines_short t.nodes (proof_lines ts) proof.short rest.short);
+    }
+
+pub certificate_accepted : (file : File) (budget : ℕ) → LoopsPure file.automaton → budget ≤ 1000000000 → (vs : List Verdict) (text : List ℕ) → CertificateOf file budget vs text → Certificate file text (safe_numbers file vs)
+certificate_accepted file budget loops within vs text c =
+    let ones = safe_ones 0 file.patterns vs in
+    let m = made file budget loops within ones c.trees (ones_named file 0 file.patterns vs (λ k p given. let here : k ≡ 0 + k = omega arith in subst (λ (n : ℕ). slice_get file.patterns n ≡ Some p) here given)) c.are in
+    record {
+      proofs = m.proofs;
+      written = c.written ∙ ap cert_text (sym m.are);
+      legal = subst AreWritable (sym m.are) m.writable;
+      short = subst (λ (ts : List Proof). AreShort (cert_lines ts)) (sym m.are) (lit≤ tt, m.short);
+      prove = m.prove;
+      named = sym m.named;
+      distinct = ones_distinct 0 file.patterns vs;
+    }

@@ -1,0 +1,130 @@
+-- a certificate as it is written
+use Rattle.std.proofs.Common.{◌≡◌, ◌∙◌, ℕ, ◌+◌, ◌<◌, true, false, List, [], ◌∷◌, ◌++◌, length, take, Option, Some, None, get_or, refl, sym, ap, subst, arith, append_assoc, append-nil}
+use Rattle.std.specs.Prelude.{is_some, OnOk, Result, Ok, Err}
+use Rattle.std.specs.declared.alloc.AllocError.{AllocError}
+use Rattle.std.proofs.lemmas.Bool.{false≢true}
+use Rattle.std.proofs.lemmas.List.{length-take-le, take_more}
+use Rattle.std.proofs.lemmas.Option.{get_or_from_slice_get}
+use Rattle.ta_automaton.specs.declared.file.File.{File}
+use Rattle.ta_automaton.specs.declared.pattern.Pattern.{Pattern}
+use Rattle.ta_cert.specs.Certificates.{nodes_text, proof_text, proofs_text}
+use Rattle.ta_cert.specs.Lines.{line_text, node_text}
+use Rattle.ta_cert.specs.declared.line.Line.TheVariants as line
+use Rattle.ta_cert.specs.declared.line.Node.{Node}
+use Rattle.ta_cert.specs.declared.line.Proof.{Proof}
+use Rattle.ta_encode.proofs.Switch.{some_at}
+use Rattle.ta_report.specs.declared.verdict.Verdict.{Verdict}
+use Rattle.ta_walk.specs.Ends.{TreeIs}
+use Rattle.ta_words.specs.Calls.{OfPattern}
+use Rattle.ta_program.specs.declared.draft.Draft.{Draft}
+use Rattle.ta_program.specs.declared.pieces.Pieces.{Pieces}
+use Rattle.ta_program.specs.Certified.{AreTrees, SafeOne, safe_ones, tree_size, with_safe}
+use Rattle.ta_program.specs.Inside.Drafts.{AddsTree, DraftKeeps, Drafted, HasProofs, HasText, HasTrees, ended_line, pieces_text}
+
+nodes_more : (ns : List Node) (n : Node) → nodes_text (ns ++ n ∷ []) ≡ nodes_text ns ++ ended_line (line.Tree n)
+nodes_more [] n = refl
+nodes_more (m ∷ ns) n = ap (λ (xs : List ℕ). node_text m ++ (10 ∷ xs)) (nodes_more ns n) ∙ sym (append_assoc (node_text m) (10 ∷ nodes_text ns) (ended_line (line.Tree n)))
+
+-- without nodes it is what it was
+pub keeps_none : (draft : Draft) → DraftKeeps draft draft []
+keeps_none draft = record { wanted = refl; text = λ begun h w. h w ∙ sym (append-nil begun) }
+
+-- one more node, where no lines are wanted
+pub keeps_unwanted : (first now : Draft) (ns : List Node) (n : Node) → now.wanted ≡ false → DraftKeeps first now ns → DraftKeeps first now (ns ++ n ∷ [])
+keeps_unwanted first now ns n not k = record { wanted = k.wanted; text = λ begun h w. absurd (false≢true (sym not ∙ w)) }
+
+-- and where they are
+pub keeps_line : (first now next : Draft) (ns : List Node) (n : Node) → next.wanted ≡ now.wanted → pieces_text next.lines ≡ pieces_text now.lines ++ ended_line (line.Tree n) → DraftKeeps first now ns → DraftKeeps first next (ns ++ n ∷ [])
+keeps_line first now next ns n same more k = record {
+  wanted = same ∙ k.wanted;
+  text = λ begun h w.
+      more ∙ ap (λ (xs : List ℕ). xs ++ ended_line (line.Tree n)) (k.text begun h (sym same ∙ w))
+      ∙ append_assoc begun (nodes_text ns) (ended_line (line.Tree n))
+      ∙ ap (λ (xs : List ℕ). begun ++ xs) (sym (nodes_more ns n));
+}
+
+-- what a write of its line answers
+pub keeps_written : (written : Result (Unit {0}) AllocError) (first now : Draft) (lines : Pieces) (ns : List Node) (n : Node) → OnOk written (pieces_text lines ≡ pieces_text now.lines ++ ended_line (line.Tree n)) → DraftKeeps first now ns → OnOk written (DraftKeeps first (record { wanted = now.wanted; lines = lines }) (ns ++ n ∷ []))
+keeps_written (Ok u) first now lines ns n more k = keeps_line first now (record { wanted = now.wanted; lines = lines }) ns n refl more k
+keeps_written (Err e) first now lines ns n more k = tt
+
+proofs_more : (ps qs : List Proof) → proofs_text (ps ++ qs) ≡ proofs_text ps ++ proofs_text qs
+proofs_more [] qs = refl
+proofs_more (p ∷ ps) qs = ap (λ (xs : List ℕ). proof_text p ++ xs) (proofs_more ps qs) ∙ sym (append_assoc (proof_text p) (proofs_text ps) (proofs_text qs))
+
+-- a verdict that doesn't say safe adds nothing
+adds_by_none : (file : File) (budget number : ℕ) (p : Pattern) (size : Option ℕ) (first : Draft) → is_some size ≡ false → (proofs : List Proof) → HasProofs first proofs → (more : List Proof) × AreTrees file budget (with_safe number p size []) more × HasProofs first (proofs ++ more)
+adds_by_none file budget number p None first is proofs has = ([], tt, subst (λ (ps : List Proof). HasProofs first ps) (sym (append-nil proofs)) has)
+adds_by_none file budget number p (Some nodes) first is proofs has = absurd (false≢true (sym is))
+
+pub adds_nothing : (file : File) (budget number : ℕ) (p : Pattern) (v : Verdict) (draft : Draft) → is_some (tree_size v) ≡ false → AddsTree file budget number p v draft draft
+adds_nothing file budget number p v draft is proofs has = adds_by_none file budget number p (tree_size v) draft is proofs has
+
+-- one that does adds the tree
+adds_by : (file : File) (budget number : ℕ) (p : Pattern) (size : Option ℕ) (first begun proof next : Draft) → is_some size ≡ true → ((nodes : ℕ) → size ≡ Some nodes → (tree : List Node) × TreeIs file.automaton p budget tree nodes × DraftKeeps begun proof tree) → HasText begun (ended_line (line.Pattern number)) → ((text more : List ℕ) → HasText first text → HasText proof more → HasText next (text ++ more)) → (proofs : List Proof) → HasProofs first proofs → (more : List Proof) × AreTrees file budget (with_safe number p size []) more × HasProofs next (proofs ++ more)
+adds_by file budget number p None first begun proof next is drafted begins added proofs has = absurd (false≢true is)
+adds_by file budget number p (Some nodes) first begun proof next is drafted begins added proofs has =
+    let d = drafted nodes refl in
+    let one : Proof = record { pattern = number; nodes = d.0 } in
+    let header = ended_line line.Header in
+    let text : HasText proof (ended_line (line.Pattern number) ++ nodes_text d.0) = d.2.text (ended_line (line.Pattern number)) begins in
+    let whole = added (header ++ proofs_text proofs) (ended_line (line.Pattern number) ++ nodes_text d.0) has text in
+    let same : ended_line (line.Pattern number) ++ nodes_text d.0 ≡ proofs_text (one ∷ []) = append_assoc (line_text (line.Pattern number)) (10 ∷ []) (nodes_text d.0) ∙ sym (append-nil (proof_text one)) in
+    let joined : (header ++ proofs_text proofs) ++ (ended_line (line.Pattern number) ++ nodes_text d.0) ≡ header ++ proofs_text (proofs ++ one ∷ []) =
+    append_assoc header (proofs_text proofs) (ended_line (line.Pattern number) ++ nodes_text d.0)
+    ∙ ap (λ (xs : List ℕ). header ++ (proofs_text proofs ++ xs)) same
+    ∙ ap (λ (xs : List ℕ). header ++ xs) (sym (proofs_more proofs (one ∷ []))) in
+    (one ∷ [], (record { numbered = refl; is = d.1 }, tt), subst (HasText next) joined whole)
+
+pub adds_tree : (file : File) (budget number : ℕ) (p : Pattern) (v : Verdict) (first begun proof next : Draft) → is_some (tree_size v) ≡ true → Drafted file budget number p v begun proof → HasText begun (ended_line (line.Pattern number)) → ((text more : List ℕ) → HasText first text → HasText proof more → HasText next (text ++ more)) → AddsTree file budget number p v first next
+adds_tree file budget number p v first begun proof next is drafted begins added proofs has = adds_by file budget number p (tree_size v) first begun proof next is drafted begins added proofs has
+
+wanted_by : (file : File) (budget : ℕ) (p : Pattern) (size : Option ℕ) (begun proof : Draft) → is_some size ≡ true → ((nodes : ℕ) → size ≡ Some nodes → (tree : List Node) × TreeIs file.automaton p budget tree nodes × DraftKeeps begun proof tree) → proof.wanted ≡ begun.wanted
+wanted_by file budget p None begun proof is drafted = absurd (false≢true is)
+wanted_by file budget p (Some nodes) begun proof is drafted = (drafted nodes refl).2.wanted
+
+-- lines are wanted of a tree where they were before
+pub wanted_same : (file : File) (budget number : ℕ) (v : Verdict) (begun proof : Draft) → number < length file.patterns → is_some (tree_size v) ≡ true → OfPattern file number (λ p. Drafted file budget number p v begun proof) → proof.wanted ≡ begun.wanted
+wanted_same file budget number v begun proof within is drafted =
+    let at = some_at file.patterns number within in
+    wanted_by file budget at.0 (tree_size v) begun proof is (drafted at.0 at.1)
+
+-- before any verdict
+pub trees_none : (file : File) (budget : ℕ) (vs : List Verdict) (draft : Draft) → HasProofs draft [] → HasTrees file budget (safe_ones 0 [] vs) draft
+trees_none file budget vs draft has = ([], tt, has)
+
+trees_append : (file : File) (budget : ℕ) (xs ys : List SafeOne) (ps qs : List Proof) → AreTrees file budget xs ps → AreTrees file budget ys qs → AreTrees file budget (xs ++ ys) (ps ++ qs)
+trees_append file budget [] ys [] qs h k = k
+trees_append file budget [] ys (p ∷ ps) qs h k = absurd h
+trees_append file budget (x ∷ xs) ys [] qs h k = absurd h
+trees_append file budget (x ∷ xs) ys (p ∷ ps) qs h k = (h.0, trees_append file budget xs ys ps qs h.1 k)
+
+with_append : (number : ℕ) (p : Pattern) (size : Option ℕ) (xs ys : List SafeOne) → with_safe number p size (xs ++ ys) ≡ with_safe number p size xs ++ ys
+with_append number p None xs ys = refl
+with_append number p (Some nodes) xs ys = refl
+
+ones_more : (number : ℕ) (ps : List Pattern) (vs : List Verdict) (p : Pattern) (v : Verdict) → length vs ≡ length ps → safe_ones number (ps ++ p ∷ []) (vs ++ v ∷ []) ≡ safe_ones number ps vs ++ with_safe (number + length ps) p (tree_size v) []
+ones_more number [] [] p v same = ap (λ (k : ℕ). with_safe k p (tree_size v) []) (omega arith)
+ones_more number [] (w ∷ vs) p v same = absurd (omega arith)
+ones_more number (q ∷ ps) [] p v same = absurd (omega arith)
+ones_more number (q ∷ ps) (w ∷ vs) p v same =
+    let there : (number + 1) + length ps ≡ number + length (q ∷ ps) = omega arith in
+    ap (with_safe number q (tree_size w)) (ones_more (number + 1) ps vs p v (omega arith) ∙ ap (λ (k : ℕ). safe_ones (number + 1) ps vs ++ with_safe k p (tree_size v) []) there)
+    ∙ with_append number q (tree_size w) (safe_ones (number + 1) ps vs) (with_safe (number + length (q ∷ ps)) p (tree_size v) [])
+
+-- one more verdict, whose tree is added
+pub trees_more : (file : File) (budget done : ℕ) (vs : List Verdict) (v : Verdict) (draft next : Draft) → done < length file.patterns → length vs ≡ done → HasTrees file budget (safe_ones 0 (take done file.patterns) vs) draft → OfPattern file done (λ p. AddsTree file budget done p v draft next) → HasTrees file budget (safe_ones 0 (take (done + 1) file.patterns) (vs ++ v ∷ [])) next
+trees_more file budget done vs v draft next within counted has adds =
+    let ps = file.patterns in
+    let at = some_at ps done within in
+    let p = at.0 in
+    let same : get_or ps done p ≡ p = get_or_from_slice_get ps done p p at.1 in
+    let more : take done ps ++ p ∷ [] ≡ take (done + 1) ps = sym (take_more ps done p within ∙ ap (λ (q : Pattern). take done ps ++ q ∷ []) same) in
+    let long : length (take done ps) ≡ done = length-take-le done ps (omega arith) in
+    let number : 0 + length (take done ps) ≡ done = omega arith in
+    let added = adds p at.1 has.0 has.2 in
+    let trees = trees_append file budget (safe_ones 0 (take done ps) vs) (with_safe done p (tree_size v) []) has.0 added.0 has.1 added.1 in
+    let ones : safe_ones 0 (take done ps) vs ++ with_safe done p (tree_size v) [] ≡ safe_ones 0 (take (done + 1) ps) (vs ++ v ∷ []) =
+    sym (ones_more 0 (take done ps) vs p v (counted ∙ sym long) ∙ ap (λ (k : ℕ). safe_ones 0 (take done ps) vs ++ with_safe k p (tree_size v) []) number)
+    ∙ ap (λ (qs : List Pattern). safe_ones 0 qs (vs ++ v ∷ [])) more in
+    (has.0 ++ added.0, subst (λ (xs : List SafeOne). AreTrees file budget xs (has.0 ++ added.0)) ones trees, added.2)

@@ -1,0 +1,132 @@
+-- What the report says of unsafe patterns
+use Rattle.std.proofs.Common.{◌≡◌, ◌+◌, ◌≤◌, ℕ, zero, suc, true, length, List, [], ◌∷◌, Some, slice_get, codes, refl, sym, ap, subst, ◌∙◌, arith}
+use Rattle.std.specs.List.{list_any}
+use Rattle.std.proofs.Math.Nat.{mul-le-mul_right}
+use Rattle.ta_automaton.specs.declared.file.File.{File}
+use Rattle.ta_automaton.specs.declared.pattern.Pattern.{Pattern}
+use Rattle.ta_automaton.specs.Runs as runs
+use Rattle.ta_replay.specs.declared.run.Run.{Run}
+use Rattle.ta_replay.specs.RunText.{run_text}
+use Rattle.ta_replay.specs.Shows.{unit_steps}
+use Rattle.ta_replay.specs.Fits.{Fits}
+use Rattle.ta_replay.specs.Shows.{Shows, ShowsPattern}
+use Rattle.ta_replay.proofs.Counting.{marks_are_events}
+use Rattle.ta_replay.proofs.Occurring.{shown_occurs}
+use Rattle.ta_replay.proofs.RunFacts.{pattern_within}
+use Rattle.ta_replay.proofs.TextsShort.{lines_counted, run_text_short}
+use Rattle.ta_report.specs.Printed.{HasLine, told_of}
+use Rattle.ta_report.specs.Report.{VerdictFits, report_text}
+use Rattle.ta_report.specs.declared.verdict.Verdict.{Verdict}
+use Rattle.ta_report.specs.declared.verdict.Verdict.TheVariants.{Safe, Unsafe, Spent, Overflow}
+use Rattle.ta_report.proofs.Printed.{each_at, printed_runs, printed_unsafe, runs_printed}
+use Rattle.ta_witness.specs.Witness.{IsShortRun}
+use Rattle.ta_program.specs.declared.limits.TheConstants.{RUN}
+use Rattle.ta_program.specs.Printed.{UnsafePrinted}
+use Rattle.ta_program.specs.Verify.{AreVerdicts, UnsafeHolds, VerdictHolds, VerdictsHold, is_unsafe}
+
+-- the verdict on the pattern of a number
+pub hold_at : (file : File) (budget number : ℕ) (ps : List Pattern) (vs : List Verdict) (k : ℕ) (p : Pattern) (v : Verdict) → VerdictsHold file budget number ps vs → slice_get ps k ≡ Some p → slice_get vs k ≡ Some v → VerdictHolds file budget (number + k) p v
+hold_at file budget number [] vs k p v h named given = absurd (cc)
+hold_at file budget number (q ∷ ps) [] k p v h named given = absurd h
+hold_at file budget number (q ∷ ps) (w ∷ vs) zero p v h named given =
+    let same : q ≡ p = cc in
+    let said : w ≡ v = cc in
+    let here : number ≡ number + 0 = omega arith in
+    subst (λ (n : ℕ). VerdictHolds file budget n p v) here (subst (VerdictHolds file budget number p) said (subst (λ (r : Pattern). VerdictHolds file budget number r w) same h.0))
+hold_at file budget number (q ∷ ps) (w ∷ vs) (suc k) p v h named given =
+    let there : (number + 1) + k ≡ number + suc k = omega arith in
+    subst (λ (n : ℕ). VerdictHolds file budget n p v) there (hold_at file budget (number + 1) ps vs k p v h.1 named given)
+
+-- a pattern occurs in a run
+pub record Occurrence (file : File) (p : Pattern) : Type 0 where
+  pub first : runs.Config
+  pub rules : List ℕ
+  pub occurs : runs.Occurs file.automaton p first rules
+
+-- the run of an unsafe pattern is an occurrence of it
+run_number : (file : File) (number : ℕ) (p : Pattern) (budget nodes : ℕ) (run : Run) → UnsafeHolds file number p budget nodes run → run.pattern ≡ number
+run_number file number p budget nodes run h = h.is.same_pattern ∙ h.node.holds.pattern
+
+pub unsafe_occurs : (file : File) (number : ℕ) (p : Pattern) (budget nodes : ℕ) (run : Run) → slice_get file.patterns number ≡ Some p → UnsafeHolds file number p budget nodes run → Occurrence file p
+unsafe_occurs file number p budget nodes run at h =
+    let named : Some h.shows.pattern ≡ Some p = sym h.shows.named ∙ ap (slice_get file.patterns) (run_number file number p budget nodes run h) ∙ at in
+    let same : h.shows.pattern ≡ p = cc in
+    let first = h.shows.shows.first in
+    let rules = unit_steps run.lines in
+    record { first = first; rules = rules; occurs = subst (λ (q : Pattern). runs.Occurs file.automaton q first rules) same (shown_occurs file run h.shows) }
+
+-- where some verdict says unsafe, some pattern occurs in a run
+pub record SomeOccurs (file : File) (number : ℕ) (ps : List Pattern) : Type 0 where
+  pub place : ℕ
+  pub pattern : Pattern
+  pub at : slice_get ps place ≡ Some pattern
+  pub occurs : slice_get file.patterns (number + place) ≡ Some pattern → Occurrence file pattern
+
+some_later : (file : File) (number : ℕ) (p : Pattern) (ps : List Pattern) → SomeOccurs file (number + 1) ps → SomeOccurs file number (p ∷ ps)
+some_later file number p ps some = record {
+  place = suc some.place;
+  pattern = some.pattern;
+  at = some.at;
+  occurs = λ named. let there : (number + 1) + some.place ≡ number + suc some.place = omega arith in some.occurs (ap (slice_get file.patterns) there ∙ named);
+}
+
+pub some_occurs : (file : File) (budget number : ℕ) (ps : List Pattern) (vs : List Verdict) → list_any is_unsafe vs ≡ true → VerdictsHold file budget number ps vs → SomeOccurs file number ps
+some_occurs file budget number [] [] some h = absurd (cc)
+some_occurs file budget number [] (v ∷ vs) some h = absurd h
+some_occurs file budget number (p ∷ ps) [] some h = absurd h
+some_occurs file budget number (p ∷ ps) (Safe nodes leaves ∷ vs) some h = some_later file number p ps (some_occurs file budget (number + 1) ps vs some h.1)
+some_occurs file budget number (p ∷ ps) (Unsafe nodes run ∷ vs) some h = record {
+  place = 0;
+  pattern = p;
+  at = refl;
+  occurs = λ named. let here : number ≡ number + 0 = omega arith in unsafe_occurs file number p budget nodes run (ap (slice_get file.patterns) here ∙ named) h.0;
+}
+some_occurs file budget number (p ∷ ps) (Spent nodes ∷ vs) some h = some_later file number p ps (some_occurs file budget (number + 1) ps vs some h.1)
+some_occurs file budget number (p ∷ ps) (Overflow node kind ∷ vs) some h = some_later file number p ps (some_occurs file budget (number + 1) ps vs some h.1)
+
+-- the text of a short run is within the limit of RUN
+few_lines : (file : File) (run : Run) (fits : Fits file run) → Shows file run → IsShortRun file run → length run.lines ≤ 8000
+few_lines file run fits shows short =
+    let a = file.automaton in
+    let p = fits.pattern in
+    let both : Some shows.pattern ≡ Some p = sym shows.named ∙ fits.named in
+    let same : shows.pattern ≡ p = cc in
+    let marks = marks_are_events a p run fits.lines (subst (λ (q : Pattern). ShowsPattern a q run) same shows.shows) in
+    let limits = a.shape.limits in
+    let rises = limits.rise_limit in
+    let falls = limits.fall_limit in
+    let rules = limits.rules_limit in
+    let events = (pattern_within file run.pattern p fits.named).events_limit in
+    let turns : length a.rise + length a.fall + length p.events ≤ 30 = omega arith in
+    let most = mul-le-mul_right (length a.rules + 1) turns in
+    omega (arith, lines_counted run.lines, short p fits.named, most, marks)
+
+run_within : (file : File) (run : Run) → Fits file run → Shows file run → IsShortRun file run → length (run_text file run) ≤ RUN.bytes
+run_within file run fits shows short = let text = run_text_short file run fits (few_lines file run fits shows short) in omega (arith, text)
+
+-- a pattern whose line says unsafe, and what stands behind the line
+pub unsafe_printed : (file : File) (budget : ℕ) (vs : List Verdict) → AreVerdicts file budget vs → (k : ℕ) (p : Pattern) → slice_get file.patterns k ≡ Some p → HasLine (told_of p.name (codes "unsafe, ")) (report_text file vs) → UnsafePrinted file k p (report_text file vs)
+unsafe_printed file budget vs are k p named line =
+    let said = printed_unsafe file vs k p named are.fit line in
+    let nodes = said.0 in
+    let run = said.1 in
+    let here : 0 + k ≡ k = omega arith in
+    let h : UnsafeHolds file k p budget nodes run = subst (λ (n : ℕ). UnsafeHolds file n p budget nodes run) here (hold_at file budget 0 file.patterns vs k p (Unsafe nodes run) are.hold named said.2) in
+    let fit : VerdictFits file (Unsafe nodes run) = each_at (VerdictFits file) vs k (Unsafe nodes run) are.fit said.2 in
+    let occurs = unsafe_occurs file k p budget nodes run named h in
+    record {
+      first = occurs.first;
+      rules = occurs.rules;
+      occurs = occurs.occurs;
+      bytes = run_text file run;
+      stands = runs_printed file vs k p named are.fit nodes run said.2;
+      only = λ other part.
+          let found = printed_runs file vs k p named are.fit other part in
+          let verdicts : Some (Unsafe found.0 found.1) ≡ Some (Unsafe nodes run) = sym found.2 ∙ said.2 in
+          let same : found.1 ≡ run = cc in
+          found.3 ∙ ap (run_text file) same;
+      run = run;
+      of = run_number file k p budget nodes run h;
+      shows = record { text = record { fits = fit.1; text = refl }; shows = h.shows; stays = h.stays };
+      within = run_within file run fit.1 h.shows h.short;
+    }

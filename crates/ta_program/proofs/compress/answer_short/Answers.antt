@@ -1,0 +1,27 @@
+use Rattle.std.proofs.Common.{◌≡◌, ◌∙◌, ◌≤◌, ℕ, List, [], Option, Ok, arith, refl}
+use Rattle.ta_automaton.specs.declared.file.File.{File}
+use Rattle.ta_replay.specs.declared.run.Run.{Run}
+use Rattle.ta_replay.specs.RunText.{run_text}
+use Rattle.ta_shelf.specs.Put.{Told}
+use Rattle.ta_shell.specs.declared.answer.Answer.{Answer}
+use Rattle.ta_shell.specs.Commands.{Says}
+use Rattle.ta_shell.specs.Stages.{Writes, replies}
+use Rattle.ta_program.specs.Compress.{SaysShort, ShortOf}
+use Rattle.ta_program.proofs.compress.answer_short.Goals as goal
+
+short_says : (file : File) (run short : Run) (files : Option Told) (answer : Answer) (text : List ℕ) → ShortOf file run short → Writes 0 text answer → text ≡ run_text file short → Says (replies [] (SaysShort file run)) files (Ok answer) []
+short_says file run short files answer text is writes same =
+    let zero = writes.numbered in
+    let low : answer.number ≤ 2 = omega arith in
+    record {
+      opened = refl;
+      judges = record {
+        low = low;
+        holds = record { short = short; is = is; writes = record { numbered = zero; written = writes.written ∙ same; no_put = writes.no_put } };
+        within = rw writes.no_put tt;
+      };
+    }
+
+pub returns-in-Ok-clause-says : goal.returns-in-Ok-clause-says
+returns-in-Ok-clause-says c files =
+    short_says c.args.file.now c.args.runs.now.run c.args.runs.now.short files c.writing.result c.from_string-text.result c.requires c.writing.ensures (c.from_string-text.ensures ∙ c.into_string.ensures ∙ c.in-Ok.ensures)

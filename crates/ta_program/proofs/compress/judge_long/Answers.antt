@@ -1,0 +1,13 @@
+use Rattle.std.proofs.Common.{[], refl}
+use Rattle.ta_shell.specs.Stages.{replies}
+use Rattle.ta_shell.proofs.Read.{grew_none, grew_then, replies_monotone}
+use Rattle.ta_program.specs.declared.compress.Shortened.{Shortened}
+use Rattle.ta_program.specs.Compress.{SaysShort, long_kind}
+use Rattle.ta_program.proofs.compress.judge_long.Goals as goal
+
+pub returns-in-Ok-clause-says : goal.returns-in-Ok-clause-says
+returns-in-Ok-clause-says g c =
+    let file = c.args.scoped.now.file in
+    let says = c.answer_short.ensures.says (g.S.Shelf.files c.args.shelf.now) in
+    grew_then (long_kind file) c.args.name.now [] (λ run. replies [] (SaysShort file run)) (λ run. replies_monotone [] (SaysShort file run)) (λ (s : Shortened). s.run) _ c.in-Ok.runs c.answer_short.result _ _ _ (λ v. refl)
+    c.in-Ok.ensures.stage (grew_none _ _ c.answer_short.result _ says)

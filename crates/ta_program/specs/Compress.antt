@@ -1,0 +1,94 @@
+-- The command `compress` (this project's profile)
+use Rattle.std.specs.Prelude.{ℕ, ◌≡◌, ◌≢◌, ◌⊎◌, List, [], ◌++◌, codes, decimal, unsigned_abs, Option}
+use Rattle.ta_automaton.specs.declared.file.File.{File}
+use Rattle.ta_compress.specs.declared.fault.CompressFault.{CompressFault}
+use Rattle.ta_compress.specs.declared.fault.CompressFault.TheVariants as fault
+use Rattle.ta_compress.specs.Faults.{Compressible, CompressFaultOf, IsShortRun}
+use Rattle.ta_compress.specs.Pieces.{CompressOf}
+use Rattle.ta_compress.specs.Tales.{SameTale}
+use Rattle.ta_replay.specs.declared.fault.RunFault.{RunFault}
+use Rattle.ta_replay.specs.declared.fault.RunFault.TheVariants as runs
+use Rattle.ta_replay.specs.declared.run.Run.{Run}
+use Rattle.ta_replay.specs.Fits.{Fits}
+use Rattle.ta_replay.specs.RunText.{IsRunText, run_text}
+use Rattle.ta_replay.specs.Shows.{Shows}
+use Rattle.ta_replay.specs.TextFaults.{TextFault}
+use Rattle.ta_report.specs.Faults.{run_fault_text}
+use Rattle.ta_shelf.specs.Sink.{with_text}
+use Rattle.ta_shell.specs.declared.answer.Answer.{Answer}
+use Rattle.ta_shell.specs.Commands.{Meaning}
+use Rattle.ta_shell.specs.Sights.{View}
+use Rattle.ta_shell.specs.Stages.{IsOf, Kind, Writes, after, replies}
+use Rattle.ta_program.specs.declared.limits.TheConstants.{RUN}
+use Rattle.ta_program.specs.Kinds.{IsFile, file_kind}
+
+-- the bytes are the text of a run that can be compressed
+pub record Compresses (file : File) (bytes : List ℕ) (run : Run) : Type 0 where
+  pub text : IsRunText file run bytes
+  pub able : Compressible file run
+
+-- the fault of a text as a run
+abbrev pub of_run : RunFault → CompressFault
+of_run runs.Memory = fault.Memory
+of_run other = fault.Replay other
+
+-- the first fault of the bytes as the text of a run
+pub record IsTextFault (file : File) (bytes : List ℕ) (found : CompressFault) : Type 0 where
+  pub first : RunFault
+  pub is : found ≡ of_run first
+  pub text : TextFault file bytes first
+
+-- the bytes are the text of a run that is refused so
+pub record IsRefused (file : File) (bytes : List ℕ) (found : CompressFault) : Type 0 where
+  pub run : Run
+  pub text : IsRunText file run bytes
+  pub first : CompressFaultOf file run found
+
+-- the first fault of a text as a run of a file, of its replay, or of what it takes to compress it
+pub record CompressFaultIn (file : File) (bytes : List ℕ) (found : CompressFault) : Type 0 where
+  pub no_memory : found ≢ fault.Memory
+  pub first : IsTextFault file bytes found ⊎ IsRefused file bytes found
+  pub compresses_nothing : (run : Run) → ¬ Compresses file bytes run
+
+-- what is wrong in a run that is to be compressed
+abbrev pub compress_fault_text : CompressFault → List ℕ
+compress_fault_text (fault.Replay found) = run_fault_text found
+compress_fault_text (fault.TooManySteps steps) = codes "N13 " ++ (decimal (unsigned_abs steps) ++ codes " unit steps")
+compress_fault_text fault.Memory = codes "out of memory"
+
+-- RUN, for a file
+abbrev pub long_kind : File → Kind Run CompressFault
+long_kind file = record { limit = RUN; means = Compresses file; at_fault = CompressFaultIn file; words = compress_fault_text }
+
+-- the compressed run: it fits the file and shows its pattern, begins at the same configuration and marks the same events in the
+-- same order at the same configurations, and is short
+pub record ShortOf (file : File) (run short : Run) : Type 0 where
+  pub exact : CompressOf file run short
+  pub fits : Fits file short
+  pub shows : Shows file short
+  pub same : SameTale file run short
+  pub is_short : IsShortRun file short
+
+-- the text is that of the compressed run
+pub record SaysShort (file : File) (run : Run) (answer : Answer) : Type 0 where
+  pub short : Run
+  pub is : ShortOf file run short
+  pub writes : Writes 0 (run_text file short) answer
+
+-- RUN of a file is read, and the text of the compressed run is written
+abbrev pub short_meaning : File → List ℕ → Meaning
+short_meaning file name = after (long_kind file) name [] (λ run. replies [] (SaysShort file run))
+
+-- FILE is read, and then RUN
+abbrev pub compress_meaning : List ℕ → List ℕ → Meaning
+compress_meaning file_name run_name = after file_kind file_name [] (λ file. short_meaning file run_name)
+
+-- FILE is legal, RUN is the text of a run that can be compressed, and the output gained the text of the compressed run
+pub record CompressHolds (view : View) (file_name run_name : List ℕ) (written written' : Option (List ℕ)) : Type 0 where
+  pub file : File
+  pub is_file : IsFile view file_name file
+  pub run : Run
+  pub is_run : IsOf (long_kind file) view run_name run
+  pub short : Run
+  pub is_short : ShortOf file run short
+  pub wrote : written' ≡ with_text written (run_text file short)

@@ -1,0 +1,49 @@
+-- What a certificate is while it is written
+use Rattle.std.specs.Prelude.{ℕ, ◌≡◌, true, List, [], ◌∷◌, ◌++◌, string_bytes, Some}
+use Rattle.ta_automaton.specs.declared.file.File.{File}
+use Rattle.ta_automaton.specs.declared.pattern.Pattern.{Pattern}
+use Rattle.ta_cert.specs.Certificates.{nodes_text, proofs_text}
+use Rattle.ta_cert.specs.Lines.{line_text}
+use Rattle.ta_cert.specs.declared.line.Line.{Line}
+use Rattle.ta_cert.specs.declared.line.Line.TheVariants as line
+use Rattle.ta_cert.specs.declared.line.Node.{Node}
+use Rattle.ta_cert.specs.declared.line.Proof.{Proof}
+use Rattle.ta_report.specs.declared.verdict.Verdict.{Verdict}
+use Rattle.ta_shell.specs.Puts.{texts_joined}
+use Rattle.ta_walk.specs.Ends.{TreeIs}
+use Rattle.ta_program.specs.declared.pieces.Pieces.{Pieces}
+use Rattle.ta_program.specs.declared.draft.Draft.{Draft}
+use Rattle.ta_program.specs.Certified.{AreTrees, SafeOne, tree_size, with_safe}
+
+-- the pieces, and the one that is still open
+abbrev pub pieces_text : Pieces → List ℕ
+pieces_text pieces = texts_joined pieces.whole.items ++ string_bytes pieces.open
+
+-- where lines are wanted, the draft has these
+abbrev pub HasText : Draft → List ℕ → Type 0
+HasText draft text = draft.wanted ≡ true → pieces_text draft.lines ≡ text
+
+-- the second draft is the first and the lines of these nodes
+pub record DraftKeeps (first now : Draft) (nodes : List Node) : Type 0 where
+  pub wanted : now.wanted ≡ first.wanted
+  pub text : (begun : List ℕ) → HasText first begun → HasText now (begun ++ nodes_text nodes)
+
+-- the text of a line, with its line feed
+abbrev pub ended_line : Line → List ℕ
+ended_line l = line_text l ++ (10 ∷ [])
+
+-- a draft of a certificate with these proofs, before its end
+abbrev pub HasProofs : Draft → List Proof → Type 0
+HasProofs draft proofs = HasText draft (ended_line line.Header ++ proofs_text proofs)
+
+-- the draft has the lines of the pattern's tree where a verdict says that it is safe
+abbrev pub Drafted : File → ℕ → ℕ → Pattern → Verdict → Draft → Draft → Type 0
+Drafted file budget number p verdict first now = (nodes : ℕ) → tree_size verdict ≡ Some nodes → (tree : List Node) × TreeIs file.automaton p budget tree nodes × DraftKeeps first now tree
+
+-- the draft has the trees of these, and no other proofs
+abbrev pub HasTrees : File → ℕ → List SafeOne → Draft → Type 0
+HasTrees file budget ones draft = (proofs : List Proof) × AreTrees file budget ones proofs × HasProofs draft proofs
+
+-- the tree of a pattern was added where a verdict says that it is safe
+abbrev pub AddsTree : File → ℕ → ℕ → Pattern → Verdict → Draft → Draft → Type 0
+AddsTree file budget number p verdict first now = (proofs : List Proof) → HasProofs first proofs → (more : List Proof) × AreTrees file budget (with_safe number p (tree_size verdict) []) more × HasProofs now (proofs ++ more)

@@ -1,0 +1,82 @@
+-- A text is that of a run, or has a first fault at a line.
+use Rattle.std.proofs.Common.{◌≡◌, ◌≢◌, ◌⊎◌, ℕ, zero, suc, ◌+◌, ◌<◌, List, [], ◌∷◌, ◌++◌, length, inl, inr, ⊎_elim, refl, sym, ap, subst, ◌∙◌, append_assoc, append-nil, length-append, arith}
+use Rattle.std.proofs.lemmas.Bool.{cases_eq}
+use Rattle.ta_automaton.specs.declared.file.File.{File}
+use Rattle.ta_replay.specs.declared.run.Run.{Run}
+use Rattle.ta_replay.specs.declared.fault.RunFault.TheVariants as fault
+use Rattle.ta_replay.specs.Fits.{Fits}
+use Rattle.ta_replay.specs.RunText.{run_lines, lines_text}
+use Rattle.ta_replay.specs.TextFaults.{Avoids, FormAt, GoesOn, IsTrailing, IsUnfinished, IsMisformed}
+use Rattle.ta_replay.specs.Answers.{HasRun, HasTextFault}
+
+-- the bytes before the first line feed, and what stands behind it
+record Cut (bytes : List ℕ) : Type 0 where
+  line : List ℕ
+  no_feed : Avoids 10 line
+  behind : List ℕ
+  split : bytes ≡ line ++ (10 ∷ behind)
+
+cut : (bytes : List ℕ) → Avoids 10 bytes ⊎ Cut bytes
+cut [] = inl tt
+cut (b ∷ bytes) = by (cases_eq b 10) (cut bytes)
+  where
+    by : (b ≡ 10) ⊎ (b ≢ 10) → Avoids 10 bytes ⊎ Cut bytes → Avoids 10 (b ∷ bytes) ⊎ Cut (b ∷ bytes)
+    by (inl e) c = inr (record { line = []; no_feed = tt; behind = bytes; split = ap (λ (x : ℕ). x ∷ bytes) e })
+    by (inr ne) (inl none) = inl (ne, none)
+    by (inr ne) (inr c) = inr (record { line = b ∷ c.line; no_feed = (ne, c.no_feed); behind = c.behind; split = ap (λ (x : List ℕ). b ∷ x) c.split })
+
+lines_push : (ls : List (List ℕ)) (line behind : List ℕ) → lines_text ls ++ (line ++ (10 ∷ behind)) ≡ lines_text (ls ++ line ∷ []) ++ behind
+lines_push [] line behind = sym (append_assoc line (10 ∷ []) behind)
+lines_push (l ∷ ls) line behind = append_assoc l (10 ∷ lines_text ls) (line ++ (10 ∷ behind)) ∙ ap (λ (x : List ℕ). l ++ (10 ∷ x)) (lines_push ls line behind) ∙ sym (append_assoc l (10 ∷ lines_text (ls ++ line ∷ [])) behind)
+
+module _ (file : File) (bytes : List ℕ) (no_run : ¬ HasRun file bytes) (no_fault : ¬ HasTextFault file bytes) where
+  malformed : (ls : List (List ℕ)) (rest : List ℕ) → bytes ≡ lines_text ls ++ rest → IsTrailing file ls rest ⊎ (IsUnfinished file ls rest ⊎ IsMisformed file ls rest) → ⊥
+  malformed ls rest text why = no_fault (fault.Line (length ls + 1), (λ e. cc), record { ls = ls; rest = rest; text = text; fault = why; place = refl })
+
+  -- the lines are a whole run
+  whole : (run : Run) (ls : List (List ℕ)) (behind : List ℕ) → Fits file run → run_lines file run ≡ ls → bytes ≡ lines_text ls ++ behind → ⊥
+  whole run ls [] fits same text = no_run (run, record { fits = fits; text = text ∙ append-nil (lines_text ls) ∙ ap lines_text (sym same) })
+  whole run ls (b ∷ behind) fits same text = malformed ls (b ∷ behind) text (inl (record { whole = record { run = run; fits = fits; lines = same }; some = λ e. cc }))
+
+  -- a run goes on with one more line, which is its last or not
+  named : (ls : List (List ℕ)) (behind : List ℕ) (run : Run) (later : List (List ℕ)) → Fits file run → run_lines file run ≡ ls ++ later → bytes ≡ lines_text ls ++ behind → (GoesOn file ls → ⊥) → ⊥
+  named ls behind run [] fits lines text go_on = whole run ls behind fits (lines ∙ append-nil ls) text
+  named ls behind run (next ∷ later) fits lines text go_on = go_on (inr (record { run = run; next = next; later = later; fits = fits; lines = lines }))
+
+  -- behind lines that a run begins with, with fewer than n bytes left
+  going : (n : ℕ) (ls : List (List ℕ)) (left : List ℕ) → length left < n → bytes ≡ lines_text ls ++ left → GoesOn file ls → ⊥
+  going zero ls left few text begun = absurd (omega arith)
+  going (suc n) ls left few text begun =
+      ⊎_elim
+      (λ (none : Avoids 10 left). malformed ls left text (inr (inl (record { begun = begun; no_feed = none }))))
+      (λ (c : Cut left).
+      let here : bytes ≡ lines_text ls ++ (c.line ++ (10 ∷ c.behind)) = text ∙ ap (λ (x : List ℕ). lines_text ls ++ x) c.split in
+      let after : bytes ≡ lines_text (ls ++ c.line ∷ []) ++ c.behind = here ∙ lines_push ls c.line c.behind in
+      let shorter : length c.behind < n = omega (arith, ap length c.split, length-append c.line (10 ∷ c.behind)) in
+      malformed ls left text (inr (inr (record {
+        line = c.line;
+        behind = c.behind;
+        begun = begun;
+        next = c.split;
+        no_feed = c.no_feed;
+        other = λ form.
+            no_fault (
+              fault.Name (length ls + 1),
+              (λ e. cc),
+              record {
+                ls = ls;
+                line = c.line;
+                behind = c.behind;
+                text = here;
+                begun = begun;
+                form = form;
+                unnamed = λ run later fits lines.
+                    named (ls ++ c.line ∷ []) c.behind run later fits (lines ∙ sym (append_assoc ls (c.line ∷ []) later)) after (λ on. going n (ls ++ c.line ∷ []) c.behind shorter after on);
+                place = refl;
+              },
+            );
+      }))))
+      (cut left)
+
+  pub text_answers : ⊥
+  text_answers = going (suc (length bytes)) [] bytes (omega arith) refl (inl refl)

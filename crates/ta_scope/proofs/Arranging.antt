@@ -1,0 +1,125 @@
+-- arranged steps are of existing rules, each at most once, and no rule fires more often than its count
+use Rattle.std.proofs.Common.{◌≡◌, ◌≢◌, ◌⊎◌, inl, inr, ℕ, zero, suc, ◌+◌, ◌<◌, ◌≤◌, ℤ, pos, ◌≤ℤ◌, List, [], ◌∷◌, ◌++◌, map, length, Bool, true, false, cond, arith, sym, ap, ◌∙◌, refl, subst, slice_get, Some}
+use Rattle.std.specs.Prelude.{filter}
+use Rattle.std.proofs.lemmas.Int.{ints}
+use Rattle.std.proofs.lemmas.Bool.{cases_Bool}
+use Rattle.std.proofs.lemmas.Bool.Decides.{eqb_tells}
+use Rattle.std.proofs.lemmas.List.{map-append}
+use Rattle.std.proofs.lemmas.Option.{slice_get_within}
+use Rattle.ta_automaton.specs.declared.rule.Rule.{Rule}
+use Rattle.ta_automaton.specs.declared.automaton.Automaton.{Automaton}
+use Rattle.ta_automaton.specs.Lists.{Each}
+use Rattle.ta_automaton.specs.Masks.{In, numbers_from}
+use Rattle.ta_automaton.specs.Sums.{times_in}
+use Rattle.ta_automaton.proofs.Fired.{filter_true, filter_false}
+use Rattle.ta_automaton.proofs.Rearranged.{in_cases}
+use Rattle.ta_automaton.proofs.Thresholds.{from_within}
+use Rattle.ta_scope.specs.Arranged.{count_at, is_step_from, steps_along}
+use Rattle.ta_scope.specs.Legal.{ArrangedStepsAreWithin, StepsWithin}
+use Rattle.ta_scope.specs.Inside.Listed.{steps_from}
+use Rattle.ta_scope.proofs.Circulations.{Rest, rest_same, rest_all, numbers_once}
+use Rattle.ta_scope.proofs.Listing.{StepFrom, step_from}
+
+-- the rule of a step
+abbrev rule_of : (ℕ × ℤ) → ℕ
+rule_of step = step.0
+
+times-append : (r : ℕ) (xs ys : List ℕ) → times_in r (xs ++ ys) ≡ times_in r xs + times_in r ys
+unfolding times_in
+times-append r [] ys = omega arith
+times-append r (x ∷ xs) ys = omega (arith, times-append r xs ys)
+
+none_or : (r : ℕ) (xs : List ℕ) → (times_in r xs ≡ 0) ⊎ In r xs
+unfolding times_in
+none_or r [] = inl refl
+none_or r (x ∷ xs) = elim (eqb_tells x r) [
+  | inl e ↦ inr (inl (sym e.1))
+  | inr ne ↦ elim (none_or r xs) [ inl h ↦ inl (rw ne.0 (omega (arith, h))) | inr h ↦ inr (inr h) ]
+]
+
+-- the rules of a list that pass a test, with their counts
+in_listed : (t : ℕ → Bool) (count : ℕ → ℤ) (ns : List ℕ) (r : ℕ) → In r (map rule_of (map {B = ℕ × ℤ} (λ q. (q, count q)) (filter t ns))) → t r ≡ true
+in_listed t count [] r i = absurd i
+in_listed t count (n ∷ ns) r i = elim (cases_Bool (t n)) [
+  | inl e ↦ elim (subst (λ (xs : List ℕ). In r (map rule_of (map {B = ℕ × ℤ} (λ q. (q, count q)) xs))) (filter_true t n ns e) i) [
+    | inl s ↦ ap t s ∙ e
+    | inr j ↦ in_listed t count ns r j
+  ]
+  | inr e ↦ in_listed t count ns r (subst (λ (xs : List ℕ). In r (map rule_of (map {B = ℕ × ℤ} (λ q. (q, count q)) xs))) (filter_false t n ns e) i)
+]
+
+fewer_listed : (t : ℕ → Bool) (count : ℕ → ℤ) (ns : List ℕ) (r : ℕ) → times_in r (map rule_of (map {B = ℕ × ℤ} (λ q. (q, count q)) (filter t ns))) ≤ times_in r ns
+unfolding times_in
+fewer_listed t count [] r = omega arith
+fewer_listed t count (n ∷ ns) r = elim (cases_Bool (t n)) [
+  | inl e ↦ rw (filter_true t n ns e) (omega (arith, fewer_listed t count ns r))
+  | inr e ↦ rw (filter_false t n ns e) (omega (arith, fewer_listed t count ns r))
+]
+
+each_listed : (P : (ℕ × ℤ) → Type 0) (t : ℕ → Bool) (count : ℕ → ℤ) (ns : List ℕ) → ((n : ℕ) → t n ≡ true → P (n, count n)) → Each P (map {B = ℕ × ℤ} (λ q. (q, count q)) (filter t ns))
+each_listed P t count [] h = tt
+each_listed P t count (n ∷ ns) h = elim (cases_Bool (t n)) [
+  | inl e ↦ subst (λ (xs : List ℕ). Each P (map {B = ℕ × ℤ} (λ q. (q, count q)) xs)) (sym (filter_true t n ns e)) (h n e, each_listed P t count ns h)
+  | inr e ↦ subst (λ (xs : List ℕ). Each P (map {B = ℕ × ℤ} (λ q. (q, count q)) xs)) (sym (filter_false t n ns e)) (each_listed P t count ns h)
+]
+
+each_append : {X : Type 0} (P : X → Type 0) (xs ys : List X) → Each P xs → Each P ys → Each P (xs ++ ys)
+each_append P [] ys h g = g
+each_append P (x ∷ xs) ys h g = (h.0, each_append P xs ys h.1 g)
+
+-- what holds of each rule that leaves a location with a count above 0 holds of each step along an order
+each_along : (P : (ℕ × ℤ) → Type 0) (a : Automaton) (counts : List ℤ) (ls : List ℕ) → ((l r : ℕ) → StepFrom a counts l r → P (r, count_at counts r)) → Each P (steps_along a counts ls)
+each_along P a counts [] h = tt
+each_along P a counts (l ∷ ls) h =
+    each_append P (steps_from a counts l (length a.rules)) (steps_along a counts ls)
+    (each_listed P (is_step_from a counts l) (count_at counts) (numbers_from 0 (length a.rules)) (λ n e. h l n (step_from a counts l n e)))
+    (each_along P a counts ls h)
+
+same_rule : (x y : Rule) → Some x ≡ Some y → x ≡ y
+same_rule x y e = cc
+
+-- a rule is among the steps from its source alone
+from_source : (a : Automaton) (counts : List ℤ) (r : ℕ) (rule : Rule) → slice_get a.rules r ≡ Some rule → (l : ℕ) → times_in r (map rule_of (steps_from a counts l (length a.rules))) ≤ times_in rule.from (l ∷ [])
+unfolding times_in
+from_source a counts r rule named l =
+    let t = is_step_from a counts l in
+    let ns = numbers_from 0 (length a.rules) in
+    let most = fewer_listed t (count_at counts) ns r in
+    let once = numbers_once r 0 (length a.rules) (omega arith) (let b = slice_get_within a.rules r rule named in omega arith) in
+    elim (none_or r (map rule_of (steps_from a counts l (length a.rules)))) [
+      | inl none ↦ omega (arith, none)
+      | inr i ↦ (
+          let s = step_from a counts l r (in_listed t (count_at counts) ns r i) in
+          let from : rule.from ≡ l = ap (λ (x : Rule). x.from) (same_rule rule s.rule (sym named ∙ s.named)) ∙ s.from in
+          elim (eqb_tells l rule.from) [ inl e ↦ rw e.0 (omega (arith, most, once)) | inr ne ↦ absurd (ne.1 (sym from)) ])
+    ]
+
+along_once : (a : Automaton) (counts : List ℤ) (r : ℕ) (rule : Rule) → slice_get a.rules r ≡ Some rule → (ls : List ℕ) → times_in r (map rule_of (steps_along a counts ls)) ≤ times_in rule.from ls
+unfolding times_in
+along_once a counts r rule named [] = omega arith
+along_once a counts r rule named (l ∷ ls) =
+    let here = from_source a counts r rule named l in
+    let both = ap (times_in r) (map-append rule_of (steps_from a counts l (length a.rules)) (steps_along a counts ls)) ∙ times-append r (map rule_of (steps_from a counts l (length a.rules))) (map rule_of (steps_along a counts ls)) in
+    omega (arith, here, both, along_once a counts r rule named ls)
+
+-- a rule among the steps
+in_steps : (a : Automaton) (counts : List ℤ) (r : ℕ) (steps : List (ℕ × ℤ)) → Each (λ (step : ℕ × ℤ). (rule : Rule) × (slice_get a.rules step.0 ≡ Some rule)) steps → In r (map rule_of steps) → (rule : Rule) × (slice_get a.rules r ≡ Some rule)
+in_steps a counts r [] h i = absurd i
+in_steps a counts r (step ∷ steps) h (inl e) = (h.0.0, ap (slice_get a.rules) e ∙ h.0.1)
+in_steps a counts r (step ∷ steps) h (inr i) = in_steps a counts r steps h.1 i
+
+pub arranged_within : ArrangedStepsAreWithin
+arranged_within a scope counts natural steps s =
+    let rest : Rest a counts s.rest = rest_all a scope counts counts s.later s.rest (rest_same a counts natural) s.taken_out in
+    let rules = each_along (λ (step : ℕ × ℤ). (rule : Rule) × (slice_get a.rules step.0 ≡ Some rule)) a s.rest s.order (λ l r f. (f.rule, f.named)) in
+    let along : StepsWithin a counts (steps_along a s.rest s.order) = record {
+      exist = each_along (λ (step : ℕ × ℤ). step.0 < length a.rules) a s.rest s.order (λ l r f. slice_get_within a.rules r f.rule f.named);
+      once = λ r. elim (none_or r (map rule_of (steps_along a s.rest s.order))) [
+        | inl none ↦ omega (arith, none)
+        | inr i ↦ (
+            let w = in_steps a s.rest r (steps_along a s.rest s.order) rules i in
+            omega (arith, along_once a s.rest r w.0 w.1 s.order, s.ordered.each_once (w.0).from (from_within a r w.0 w.1)))
+      ];
+      factors = each_along (λ (step : ℕ × ℤ). (pos 1 ≤ℤ step.1) × (step.1 ≤ℤ count_at counts step.0)) a s.rest s.order (λ l r f. (f.above, rest.less r));
+    } in
+    subst (StepsWithin a counts) (sym s.listed) along

@@ -1,0 +1,9 @@
+//! The law that each automaton has an answer.
+#![tactic(auto)]
+
+ghost use Rattle.ta_scope.specs.Answers.{ScopesHaveAnswers};
+
+/// An automaton is in scope, or has a first rule at fault.
+pub fn scopes_have_answers()
+    ensures { ScopesHaveAnswers }
+{}

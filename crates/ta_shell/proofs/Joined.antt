@@ -1,0 +1,11 @@
+-- texts, one behind the other
+use Rattle.std.proofs.Common.{◌≡◌, ◌∙◌, ℕ, List, [], ◌∷◌, ◌++◌, refl, sym, ap, append_assoc, append-nil}
+use Rattle.ta_shell.specs.Puts.{texts_joined}
+
+pub joined_append : (ts us : List (List ℕ)) → texts_joined (ts ++ us) ≡ texts_joined ts ++ texts_joined us
+joined_append [] us = refl
+joined_append (t ∷ ts) us = ap (λ (xs : List ℕ). t ++ xs) (joined_append ts us) ∙ sym (append_assoc t (texts_joined ts) (texts_joined us))
+
+-- one more text
+pub joined_more : (ts : List (List ℕ)) (t : List ℕ) → texts_joined (ts ++ t ∷ []) ≡ texts_joined ts ++ t
+joined_more ts t = joined_append ts (t ∷ []) ∙ ap (λ (xs : List ℕ). texts_joined ts ++ xs) (append-nil t)

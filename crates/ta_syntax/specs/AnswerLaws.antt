@@ -1,0 +1,49 @@
+-- That each text has an answer (this project's profile)
+use Rattle.std.specs.Prelude.{ℕ, ◌≤◌, ◌≡◌, ◌≢◌, ◌⊎◌, ◌↔◌, List, length}
+use Rattle.ta_syntax.specs.Tokens.{AreTokens, IsRefused}
+use Rattle.ta_syntax.specs.Grammar.{PlainTree, IsTree, FileText, file_kinds}
+use Rattle.ta_syntax.specs.Limits.{Counts, at_start, Within, IsTreeWithin}
+use Rattle.ta_syntax.specs.Faults.{kinds, Stopped, FirstFault}
+use Rattle.ta_syntax.specs.TreeOf.{IsTextOf, IsTreeOf}
+use Rattle.ta_syntax.specs.PlainTrees.{plain_tree}
+use Rattle.ta_syntax.specs.declared.tokens.Kind.{Kind}
+use Rattle.ta_syntax.specs.declared.placed.Token.{Token}
+use Rattle.ta_syntax.specs.declared.fault.FileFault.{FileFault}
+use Rattle.ta_syntax.specs.declared.fault.FileFault.TheVariants as fault
+use Rattle.ta_syntax.specs.declared.tree.Tree.{Tree}
+
+-- one of the two holds: they don't both fail. It is said so where no test tells which of them it is.
+abbrev pub Either : Type 0 → Type 0 → Type 0
+Either A B = ¬ A → ¬ B → ⊥
+
+-- each text has tokens, or a first refused byte
+abbrev pub TextsHaveTokens : Type 0
+TextsHaveTokens = (bytes : List ℕ) → ((ts : List Token) × AreTokens bytes ts) ⊎ ((refused : ℕ) × IsRefused bytes refused)
+
+-- tokens leave the grammar or its limits at a first token
+abbrev pub Stops : (List Kind → Type 0) → Counts → ℕ → List Token → Type 0
+Stops L c end ts = (e : FileFault) × (e ≢ fault.Memory) × Stopped L c end ts e
+
+-- tokens are those of a file and go past no limit, or they leave the grammar or its limits at a first token
+abbrev pub TokensHaveAnswers : Type 0
+TokensHaveAnswers = (end : ℕ) (ts : List Token) → Either (FileText (kinds ts) × Within at_start (kinds ts)) (Stops FileText at_start end ts)
+
+-- the scan over the tokens of a tree of the grammar finds nothing past a limit exactly where the tree's lists and parentheses are within them
+abbrev pub LimitsAgree : Type 0
+LimitsAgree = (t : PlainTree) → IsTree t → (Within at_start (file_kinds t) → IsTreeWithin t) × (IsTreeWithin t → Within at_start (file_kinds t))
+
+-- a text of the grammar within the limits has a tree
+abbrev pub TreesExist : Type 0
+TreesExist = (bytes : List ℕ) (t : PlainTree) → length bytes ≤ 1048576 → IsTextOf bytes t → IsTreeWithin t → (tree : Tree) × IsTreeOf bytes tree × (plain_tree tree ≡ t)
+
+-- a text has a tree
+abbrev pub HasTree : List ℕ → Type 0
+HasTree bytes = (tree : Tree) × IsTreeOf bytes tree
+
+-- a text has a first fault, as far as tokens and grammar go
+abbrev pub HasTextFault : List ℕ → Type 0
+HasTextFault bytes = (e : FileFault) × (e ≢ fault.Memory) × FirstFault bytes e
+
+-- a text of at most 1,048,576 bytes has a tree, or a first fault of its tokens or its grammar
+abbrev pub TextsHaveTrees : Type 0
+TextsHaveTrees = (bytes : List ℕ) → length bytes ≤ 1048576 → Either (HasTree bytes) (HasTextFault bytes)

@@ -1,0 +1,9 @@
+use Rattle.std.proofs.Common.{map, take}
+use Rattle.ta_encode.specs.declared.meaning.Meaning.TheVariants.{Start}
+use Rattle.ta_witness.specs.Values.{unknown_value}
+use Rattle.ta_witness.specs.Inside.Making.{AreValues}
+use Rattle.ta_witness.proofs.known.starts_of.Given as goal
+
+-- the start counts of the earlier locations
+abbrev pub invariant-loop-location : goal.invariant-loop-location
+invariant-loop-location l = AreValues (map (λ k. unknown_value l.meanings l.values (Start k)) (take l.location-index l.locations)) l.numbers.items

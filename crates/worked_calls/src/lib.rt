@@ -1,0 +1,16 @@
+//! Calls of the lowest crates, with numbers and files at their edges, against values that were worked
+//! out apart. It has tests alone; what can be written as a table stands in `worked_rows`.
+#![tactic(auto)]
+
+#[cfg(test)]
+mod cert;
+#[cfg(test)]
+mod farkas;
+#[cfg(test)]
+mod linear;
+#[cfg(test)]
+mod report;
+#[cfg(test)]
+mod shelf;
+#[cfg(test)]
+mod simplex;

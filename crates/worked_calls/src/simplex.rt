@@ -1,0 +1,17 @@
+//! The system without unknowns and rows.
+
+use std::test::Fail;
+use ta_dense::DenseDictionary;
+use ta_linear::{List, System};
+use ta_simplex::{End, solve};
+
+#[test]
+fn ends(rt: HostRuntime) -> Result<(), Fail> {
+    let system = System {
+        unknowns: 0,
+        rows: List::from_vec(Vec::new(rt.alloc())),
+    };
+    let end = solve::<DenseDictionary>(rt.alloc(), &system);
+    assert!(rt; matches!(end, Ok(End::Vertex(values)) if values.as_slice().is_empty()));
+    Ok(())
+}

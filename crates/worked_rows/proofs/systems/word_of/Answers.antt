@@ -1,0 +1,7 @@
+use Rattle.std.proofs.Common.{refl}
+use Rattle.std.proofs.lemmas.List.{reverse-append}
+use Rattle.worked_rows.proofs.systems.word_of.Goals as goal
+
+pub loop-element-preserved : goal.loop-element-preserved
+loop-element-preserved c =
+    λ p named. rw (c.if-not-push.ensures.word, reverse-append) ((c.if-not-push.ensures.child p named).0 refl, c.loop-element.invariant p named)

@@ -1,0 +1,64 @@
+//! Rows of certificates.
+#![tactic(auto)]
+
+ghost use Rattle.std.specs.Prelude.{◌<◌};
+
+use std::alloc::{AllocError, Global};
+use ta_cert::CertFault;
+use ta_check::{Accepted, Checker, check};
+use ta_scope::ScopedFile;
+
+/// The patterns that a certificate proves, or its first fault. It comes whole, and in pieces of
+/// several sizes, whose answers have to be the same.
+pub fn judgement(alloc: Global, scoped: &ScopedFile, text: &str) -> Result<String, AllocError> {
+    let bytes = text.as_bytes();
+    let whole = answer_text(alloc, check(alloc, scoped, bytes))?;
+    for size in [1, 2, 3, 7] {
+        let other = answer_text(alloc, by_pieces(alloc, scoped, bytes, size))?;
+        if other.as_str() != whole.as_str() {
+            return format!(in alloc; "{}\nbut by {size}: {}", whole.as_str(), other.as_str());
+        }
+    }
+    Ok(whole)
+}
+
+/// The faults of a text, of nothing behind it, and of its end.
+pub fn refusals(alloc: Global, scoped: &ScopedFile, text: &str) -> Result<String, AllocError> {
+    let mut checker = Checker::new(alloc, scoped);
+    let first = checker.feed(text.as_bytes()).err();
+    let second = checker.feed(b"").err();
+    let end = checker.finish().err();
+    format!(in alloc; "{first:?} {second:?} {end:?}")
+}
+
+/// What is answered to a text that comes in pieces of so many bytes.
+fn by_pieces(
+    alloc: Global,
+    scoped: &ScopedFile,
+    text: &[u8],
+    size: usize,
+) -> Result<Accepted, CertFault>
+    requires { 0 < size }
+{
+    let mut checker = Checker::new(alloc, scoped);
+    let mut rest = text;
+    'pieces: while !rest.is_empty() {
+        let (piece, behind) = rest.split_at(size.min(rest.len()));
+        checker.feed(piece)?;
+        rest = behind;
+    }
+    checker.finish()
+}
+
+fn answer_text(alloc: Global, answer: Result<Accepted, CertFault>) -> Result<String, AllocError> {
+    match answer {
+        Ok(accepted) => {
+            let mut text = String::from_str(alloc, "proved")?;
+            for number in accepted.patterns.as_slice() {
+                write!(text, " {number}")?;
+            }
+            Ok(text)
+        }
+        Err(fault) => format!(in alloc; "{fault:?}"),
+    }
+}

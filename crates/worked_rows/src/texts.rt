@@ -1,0 +1,41 @@
+//! Rows of texts: what they mean, and their first faults.
+#![tactic(auto)]
+
+use crate::describing::description;
+use crate::files::Files;
+use std::alloc::{AllocError, Global};
+use ta_meaning::read_file;
+use ta_scope::ScopedFile;
+use ta_syntax::FileFault;
+
+/// How many bytes a file has at most.
+const LIMIT: usize = 1_048_576;
+
+/// The file of a name, where its text is legal.
+pub fn scoped(alloc: Global, files: &Files, name: &str) -> Option<ScopedFile> {
+    file_of(alloc, files.text(name)).ok()
+}
+
+fn file_of(alloc: Global, text: &str) -> Result<ScopedFile, FileFault> {
+    let bytes = text.as_bytes();
+    if bytes.len() > LIMIT {
+        return Err(FileFault::Memory);
+    }
+    read_file(alloc, bytes)
+}
+
+/// The first fault of a text, or `legal`.
+pub fn fault(alloc: Global, text: &str) -> Result<String, AllocError> {
+    match file_of(alloc, text) {
+        Ok(_) => String::from_str(alloc, "legal"),
+        Err(fault) => format!(in alloc; "{fault:?}"),
+    }
+}
+
+/// What the file of a name means.
+pub fn meaning(alloc: Global, files: &Files, name: &str) -> Result<String, AllocError> {
+    match scoped(alloc, files, name) {
+        Some(scoped) => description(alloc, scoped.file()),
+        None => String::from_str(alloc, "no such file"),
+    }
+}

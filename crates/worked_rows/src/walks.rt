@@ -1,0 +1,60 @@
+//! Rows of walks.
+#![tactic(auto)]
+
+use std::alloc::{AllocError, Global};
+use ta_cert::{Proof, write_cert};
+use ta_dense::{DenseDictionary, NarrowDictionary};
+use ta_scope::ScopedFile;
+use ta_walk::{PlaceKind, WalkEnd, walk};
+
+/// How many nodes a walk visits at most.
+const MOST: u64 = 1_000_000_000;
+
+/// How the walk of pattern 0 ends, and the certificate of a refutation.
+pub fn end(
+    alloc: Global,
+    scoped: &ScopedFile,
+    nodes: u64,
+    narrow: bool,
+) -> Result<String, AllocError> {
+    if scoped.file().patterns.as_slice().is_empty() || nodes == 0 || nodes > MOST {
+        return String::from_str(alloc, "no such walk");
+    }
+    let end = if narrow {
+        walk::<NarrowDictionary>(alloc, scoped, 0, nodes)?
+    } else {
+        walk::<DenseDictionary>(alloc, scoped, 0, nodes)?
+    };
+    describe(alloc, end)
+}
+
+fn describe(alloc: Global, end: WalkEnd) -> Result<String, AllocError> {
+    match end {
+        WalkEnd::Refuted { count, nodes } => {
+            let proofs = [Proof { pattern: 0, nodes }];
+            let text = write_cert(alloc, proofs.as_slice())?;
+            format!(in alloc; "refuted {count}\n{}", text.as_str())
+        }
+        WalkEnd::Found { count, .. } => format!(in alloc; "found {count}"),
+        WalkEnd::Spent { count } => format!(in alloc; "spent {count}"),
+        WalkEnd::Overflow { node, kind } => match kind {
+            PlaceKind::Pivot(pivot) => format!(in alloc; "overflow {node} pivot {pivot}"),
+            PlaceKind::Leaf => format!(in alloc; "overflow {node} leaf"),
+            PlaceKind::Run => format!(in alloc; "overflow {node} run"),
+        },
+    }
+}
+
+/// The values of the solution that the walk of pattern 0 finds.
+pub fn solution(alloc: Global, scoped: &ScopedFile) -> Result<String, AllocError> {
+    let mut text = String::from_str(alloc, "values")?;
+    if scoped.file().patterns.as_slice().is_empty() {
+        return Ok(text);
+    }
+    if let WalkEnd::Found { solution, .. } = walk::<NarrowDictionary>(alloc, scoped, 0, MOST)? {
+        for value in solution.values.as_slice() {
+            write!(text, " {value}")?;
+        }
+    }
+    Ok(text)
+}

@@ -1,7 +1,0 @@
-use Rattle.std.proofs.Common.{refl}
-use Rattle.std.proofs.lemmas.List.{reverse-append}
-use Rattle.worked_systems.proofs.systems.word_of.Goals as goal
-
-pub loop-element-preserved : goal.loop-element-preserved
-loop-element-preserved c =
-    λ p named. rw (c.if-not-push.ensures.word, reverse-append) ((c.if-not-push.ensures.child p named).0 refl, c.loop-element.invariant p named)
