@@ -12,6 +12,6 @@ fn ends(rt: HostRuntime) -> Result<(), Fail> {
         rows: List::from_vec(Vec::new(rt.alloc())),
     };
     let end = solve::<DenseDictionary>(rt.alloc(), &system);
-    assert!(rt; matches!(end, Ok(End::Vertex(values)) if values.as_slice().is_empty()));
+    assert!(rt; matches!(&end, Ok(End::Vertex(values)) if values.as_slice().is_empty()));
     Ok(())
 }
