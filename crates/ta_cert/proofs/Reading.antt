@@ -2,8 +2,8 @@
 use Rattle.std.proofs.Common.{ℕ, ◌+◌, ◌≡◌, List, [], ◌∷◌, ◌++◌, length, Result, Ok, Err, refl, sym, ap, subst, ◌∙◌, append_assoc, append-nil, arith, MatchResult}
 use Rattle.std.proofs.lemmas.Bool.{false≢true}
 use Rattle.ta_cert.specs.Lines.{has_end}
-use Rattle.ta_cert.specs.Streams.{IsRefused, IsComplete, line_number, numbered, StandsAt, StandsFor, Fed, Finished}
-use Rattle.ta_cert.specs.Laws.{WasRead}
+use Rattle.ta_cert.specs.Streams.{Reads, Completes, IsRefused, IsComplete, line_number, numbered, StandsAt, StandsFor, Fed, Finished}
+use Rattle.ta_cert.specs.Laws.{WasRead, AreGiven, joined, OneReadingByPieces}
 use Rattle.ta_cert.specs.declared.line.Line.{Line}
 use Rattle.ta_cert.specs.declared.fault.CertFault.{CertFault}
 use Rattle.ta_cert.specs.declared.fault.CertFault.TheVariants as fault
@@ -88,3 +88,28 @@ read_complete text ls (Err (fault.Line n)) c w = absurd (reads_malformed text ls
 read_complete text ls (Err (fault.Trailing n)) c w = absurd (reads_trailing text ls [] n c.reads w)
 read_complete text ls (Err fault.Memory) c w = refl
 read_complete text ls (Err _) c w = absurd w
+
+-- ---- a whole text in pieces
+
+nothing_read : Reads [] [] []
+nothing_read = record { whole = refl; legal = tt; unbroken = tt; short = omega arith; ended = λ e. refl }
+
+given_behind : (text : List ℕ) (before : List Line) (rest : List ℕ) (pieces : List (List ℕ)) (lines : List (ℕ × Line)) (ls : List Line) (end : List ℕ) → Reads text before rest → AreGiven text pieces lines → Reads (text ++ joined pieces) ls end → numbered 0 before ++ lines ≡ numbered 0 ls
+given_behind text before rest [] lines ls end was given whole =
+    let same = (reads_unique text before ls rest end was (subst (λ t. Reads t ls end) (append-nil text) whole)).0 in
+    ap (λ xs. numbered 0 before ++ xs) given ∙ append-nil (numbered 0 before) ∙ ap (numbered 0) same
+given_behind text before rest (piece ∷ pieces) lines ls end was given whole =
+    let now = given.0 in
+    let later = given.1 in
+    let completes = given.2 in
+    let same = (reads_unique text completes.before before completes.old_rest rest completes.was was).0 in
+    let numbers : now ≡ numbered (0 + length before) completes.new = completes.numbers ∙ ap (λ ms. numbered (length ms) completes.new) same ∙ ap (λ k. numbered k completes.new) (from_zero (length before)) in
+    let more : numbered 0 before ++ now ≡ numbered 0 (completes.before ++ completes.new) = ap (λ xs. numbered 0 before ++ xs) numbers ∙ sym (numbered-append 0 before completes.new) ∙ ap (λ ms. numbered 0 (ms ++ completes.new)) (sym same) in
+    ap (λ xs. numbered 0 before ++ xs) given.4 ∙ sym (append_assoc (numbered 0 before) now later) ∙ ap (λ xs. xs ++ later) more
+    ∙ given_behind (text ++ piece) (completes.before ++ completes.new) completes.rest pieces later ls end completes.reads given.3 (subst (λ t. Reads t ls end) (sym (append_assoc text piece (joined pieces))) whole)
+  where
+    from_zero : (n : ℕ) → n ≡ 0 + n
+    from_zero n = omega arith
+
+pub one_reading_by_pieces : OneReadingByPieces
+one_reading_by_pieces pieces ls lines complete given = given_behind [] [] [] pieces lines ls [] nothing_read given complete.reads

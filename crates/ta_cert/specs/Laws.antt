@@ -1,8 +1,8 @@
 -- What texts and lines determine of each other.
-use Rattle.std.specs.Prelude.{ℕ, ◌≤◌, ◌≡◌, ◌⊎◌, List, length, Result, Ok, Err, IsOk, IsErrOf}
+use Rattle.std.specs.Prelude.{ℕ, ◌≤◌, ◌≡◌, ◌⊎◌, List, [], ◌∷◌, ◌++◌, length, Result, Ok, Err, IsOk, IsErrOf}
 use Rattle.std.specs.List.{AllByRecursion}
 use Rattle.ta_cert.specs.Lines.{line_text}
-use Rattle.ta_cert.specs.Streams.{line_limit, Reads, IsMalformed, IsTrailing, IsTruncated, IsComplete, IsRefused, numbered}
+use Rattle.ta_cert.specs.Streams.{line_limit, Reads, IsMalformed, IsTrailing, IsTruncated, IsComplete, IsRefused, Completes, numbered}
 use Rattle.ta_cert.specs.Certificates.{AreWritable, cert_text}
 use Rattle.ta_cert.specs.declared.line.Line.{Line}
 use Rattle.ta_cert.specs.declared.line.Proof.{Proof}
@@ -27,6 +27,21 @@ pub record IsExactEnd (text : List ℕ) (answer : Result (Unit {0}) CertFault) :
 -- one reading of a text: its lines and what stands behind them are determined
 abbrev pub OneReading : Type 0
 OneReading = (text : List ℕ) (ls ms : List Line) (r s : List ℕ) → Reads text ls r → Reads text ms s → (ls ≡ ms) × (r ≡ s)
+
+-- what is given behind a text to pieces one after another, none of which is refused: the lines that each of them completes
+abbrev pub AreGiven : List ℕ → List (List ℕ) → List (ℕ × Line) → Type 0
+AreGiven text [] lines = lines ≡ []
+AreGiven text (piece ∷ pieces) lines =
+    (now later : List (ℕ × Line)) × Completes text piece now × AreGiven (text ++ piece) pieces later × (lines ≡ now ++ later)
+
+-- pieces as one text
+abbrev pub joined : List (List ℕ) → List ℕ
+joined [] = []
+joined (piece ∷ pieces) = piece ++ joined pieces
+
+-- however a whole text is cut into pieces, they give its lines
+abbrev pub OneReadingByPieces : Type 0
+OneReadingByPieces = (pieces : List (List ℕ)) (ls : List Line) (lines : List (ℕ × Line)) → IsComplete (joined pieces) ls → AreGiven [] pieces lines → lines ≡ numbered 0 ls
 
 -- no line is longer than a reader takes
 abbrev pub AreShort : List Line → Type 0

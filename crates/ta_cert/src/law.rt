@@ -3,7 +3,7 @@
 
 ghost use Rattle.std.specs.Prelude.{◌≡◌, ◌<◌, ◌++◌, OnOk, MatchResult};
 ghost use Rattle.ta_cert.specs.Certificates.{AreWritable, cert_lines};
-ghost use Rattle.ta_cert.specs.Laws.{OneReading, OneCertificate, AreShort, WasRead};
+ghost use Rattle.ta_cert.specs.Laws.{OneReading, OneReadingByPieces, OneCertificate, AreShort, WasRead};
 ghost use Rattle.ta_cert.specs.Streams.{numbered};
 
 use crate::fault::CertFault;
@@ -13,13 +13,16 @@ use crate::reader::Reader;
 use crate::write::write_cert;
 use std::alloc::Global;
 
-/// A text is that of at most one list of lines, and of at most one list of proofs.
+/// A text is that of at most one list of lines, and of at most one list of proofs; and however a whole
+/// text is cut into pieces, they give its lines.
 pub fn texts_determine()
     ensures lines { OneReading }
     ensures proofs { OneCertificate }
+    ensures pieces { OneReadingByPieces }
 {}
 
-/// The lines of a certificate that is written and then read in pieces of this many bytes.
+/// The lines of a certificate that is written and then read in pieces of this many bytes: the same
+/// whatever the size, as `texts_determine` says of all pieces.
 pub fn read_again(
     alloc: Global,
     proofs: &[Proof],

@@ -18,11 +18,11 @@ use Rattle.ta_cert.specs.Streams.{AreLater, IsComplete}
 use Rattle.ta_cert.specs.Certificates.{AreWritable, cert_lines, proof_lines, proofs_of}
 use Rattle.ta_cert.specs.Laws.{AreShort}
 use Rattle.ta_cert.proofs.CertLines.{cert_complete}
-use Rattle.ta_encode.specs.Refutes.{LeafOfRows}
-use Rattle.ta_encode.specs.InPreorder.{Pending, all_starts, parts, RefutedInOrder}
+use Rattle.ta_encode.specs.Refutes.{IsLeaf}
+use Rattle.ta_encode.specs.InPreorder.{Pending, all_starts, parts, pattern_search, RefutedInOrder}
 use Rattle.ta_encode.proofs.Preorders.{in_order, weaker_proof}
 use Rattle.ta_encode.proofs.Theorems.{no_solution, safety}
-use Rattle.ta_cursor.specs.Range.{Judged}
+use Rattle.ta_cursor.specs.Range.{IsJudged}
 use Rattle.ta_check.specs.Certificate.{ProvesPattern, number_of, Certificate, CertificatesShow, AllSafe, AllUnsolved}
 use Rattle.ta_check.specs.Lines.{Standing, standing, at_first, AtWord, Begins, Stands, Ends, LeadThrough, MayFollow}
 
@@ -34,7 +34,7 @@ each_safe file (q ∷ qs) loops prove =
       record {
         pattern = one.pattern;
         named = one.named;
-        safe = safety file q.0 one.pattern one.named loops q.1 (weaker_proof Judged LeafOfRows (λ rows ts judged. judged.leaf) file.automaton one.pattern q.1 one.proves);
+        safe = safety file q.0 one.pattern one.named loops q.1 (weaker_proof (IsJudged (pattern_search file.automaton one.pattern)) (IsLeaf (pattern_search file.automaton one.pattern)) (λ w ts judged. judged.leaf) (pattern_search file.automaton one.pattern) q.1 one.proves);
       },
       each_safe file qs loops prove.1,
     )
@@ -48,7 +48,7 @@ each_unsolved : (file : File) (proofs : List (ℕ × List Tree)) → Each (Prove
 each_unsolved file [] prove = tt
 each_unsolved file (q ∷ qs) prove =
     let one = prove.0 in
-    let proof = weaker_proof Judged LeafOfRows (λ rows ts judged. judged.leaf) file.automaton one.pattern q.1 one.proves in
+    let proof = weaker_proof (IsJudged (pattern_search file.automaton one.pattern)) (IsLeaf (pattern_search file.automaton one.pattern)) (λ w ts judged. judged.leaf) (pattern_search file.automaton one.pattern) q.1 one.proves in
     (record { pattern = one.pattern; named = one.named; none = λ start below word values. no_solution file.automaton one.pattern q.1 proof start below word values }, each_unsolved file qs prove.1)
 
 -- no word of a certificate's patterns has a solution
@@ -64,7 +64,7 @@ record Behind (file : File) (s : Standing) (ls : List Line) (after : Standing) :
   pub nodes : List Node
   pub proofs : List (ℕ × List Tree)
   pub lines : ls ≡ map line.Tree nodes ++ proof_lines (proofs_of proofs)
-  pub refute : (number : ℕ) (older : List ℕ) (p : Pattern) → s.begun ≡ number ∷ older → slice_get file.patterns number ≡ Some p → RefutedInOrder Judged file.automaton p s.pending nodes
+  pub refute : (number : ℕ) (older : List ℕ) (p : Pattern) → s.begun ≡ number ∷ older → slice_get file.patterns number ≡ Some p → RefutedInOrder (pattern_search file.automaton p) (IsJudged (pattern_search file.automaton p)) s.pending nodes
   pub none : s.pending ≡ [] → nodes ≡ []
   pub forms : AllByRecursion IsNode nodes
   pub writable : AreWritable (proofs_of proofs)
@@ -106,17 +106,17 @@ same_pattern file k number ks older p q e f g =
 -- one more node
 behind_node : (file : File) (s : Standing) (node : Node) (between : Standing) (ls : List Line) (after : Standing) → IsNode node → Stands file s node between → Behind file between ls after → Behind file s (line.Tree node ∷ ls) after
 behind_node file s node between ls after form stands b =
-    let rest : Behind file (standing s.begun (parts file.automaton stands.pattern stands.word node ++ stands.words)) ls after = subst (λ (t : Standing). Behind file t ls after) stands.leads b in
+    let rest : Behind file (standing s.begun (parts (pattern_search file.automaton stands.pattern) stands.word node ++ stands.words)) ls after = subst (λ (t : Standing). Behind file t ls after) stands.leads b in
     let first = stands.at in
-    let refuted : RefutedInOrder Judged file.automaton stands.pattern (stands.word ∷ stands.words) (node ∷ rest.nodes) = (stands.may, rest.refute first.number first.older stands.pattern first.begun first.named) in
+    let refuted : RefutedInOrder (pattern_search file.automaton stands.pattern) (IsJudged (pattern_search file.automaton stands.pattern)) (stands.word ∷ stands.words) (node ∷ rest.nodes) = (stands.may, rest.refute first.number first.older stands.pattern first.begun first.named) in
     record {
       nodes = node ∷ rest.nodes;
       proofs = rest.proofs;
       lines = ap (λ (xs : List Line). line.Tree node ∷ xs) rest.lines;
       refute = λ number older p begun named.
-          subst (λ (q : Pattern). RefutedInOrder Judged file.automaton q s.pending (node ∷ rest.nodes))
+          subst (λ (q : Pattern). RefutedInOrder (pattern_search file.automaton q) (IsJudged (pattern_search file.automaton q)) s.pending (node ∷ rest.nodes))
           (same_pattern file first.number number first.older older stands.pattern p (sym first.begun ∙ begun) first.named named)
-          (subst (λ (ws : List Pending). RefutedInOrder Judged file.automaton stands.pattern ws (node ∷ rest.nodes)) (sym first.pending) refuted);
+          (subst (λ (ws : List Pending). RefutedInOrder (pattern_search file.automaton stands.pattern) (IsJudged (pattern_search file.automaton stands.pattern)) ws (node ∷ rest.nodes)) (sym first.pending) refuted);
       none = λ e. let left = first.pending in absurd (cc);
       forms = (form, rest.forms);
       writable = rest.writable;
@@ -145,7 +145,7 @@ behind_pattern : (file : File) (s : Standing) (number : ℕ) (between : Standing
 behind_pattern file s number between ls after form begins b =
     let rest : Behind file (standing (number ∷ s.begun) (all_starts file.automaton)) ls after = subst (λ (t : Standing). Behind file t ls after) begins.leads b in
     let found = item_at file.patterns number begins.exists in
-    let trees = (in_order Judged file.automaton found.0 rest.nodes).0 (rest.refute number s.begun found.0 refl found.1) in
+    let trees = (in_order IsJudged (pattern_search file.automaton found.0) rest.nodes).0 (rest.refute number s.begun found.0 refl found.1) in
     record {
       nodes = [];
       proofs = (number, trees.0) ∷ rest.proofs;
@@ -208,11 +208,11 @@ certificate_of file text (line.Header ∷ ls) s complete lead =
     certificate_behind file text ls s later (complete.reads.whole ∙ append-nil (lines_text (line.Header ∷ ls))) (behind file at_first ls s later complete.ended through)
 
 -- nodes that refute what is pending lead through it
-lead_nodes : (file : File) (p : Pattern) (number : ℕ) (older : List ℕ) (ws : List Pending) (ns : List Node) (ls : List Line) → slice_get file.patterns number ≡ Some p → RefutedInOrder Judged file.automaton p ws ns → ((after : Standing) × LeadThrough file (standing (number ∷ older) []) ls after) → (after : Standing) × LeadThrough file (standing (number ∷ older) ws) (map line.Tree ns ++ ls) after
+lead_nodes : (file : File) (p : Pattern) (number : ℕ) (older : List ℕ) (ws : List Pending) (ns : List Node) (ls : List Line) → slice_get file.patterns number ≡ Some p → RefutedInOrder (pattern_search file.automaton p) (IsJudged (pattern_search file.automaton p)) ws ns → ((after : Standing) × LeadThrough file (standing (number ∷ older) []) ls after) → (after : Standing) × LeadThrough file (standing (number ∷ older) ws) (map line.Tree ns ++ ls) after
 lead_nodes file p number older ws [] ls named refuted lead = (lead.0, subst (λ (vs : List Pending). LeadThrough file (standing (number ∷ older) vs) ls lead.0) (sym refuted) lead.1)
 lead_nodes file p number older [] (n ∷ ns) ls named refuted lead = absurd refuted
 lead_nodes file p number older (w ∷ ws) (n ∷ ns) ls named refuted lead =
-    let next = parts file.automaton p w n ++ ws in
+    let next = parts (pattern_search file.automaton p) w n ++ ws in
     let rest = lead_nodes file p number older next ns ls named refuted.1 lead in
     let first : AtWord file (standing (number ∷ older) (w ∷ ws)) p w ws = record { number = number; older = older; begun = refl; named = named; pending = refl } in
     let stands : Stands file (standing (number ∷ older) (w ∷ ws)) n (standing (number ∷ older) next) = record { pattern = p; word = w; words = ws; at = first; may = refuted.0; leads = refl } in
@@ -231,7 +231,7 @@ lead_proofs file [] begun prove distinct new =
 lead_proofs file (q ∷ qs) begun prove distinct new =
     let one = prove.0 in
     let starts = all_starts file.automaton in
-    let refuted = (in_order Judged file.automaton one.pattern (all_preorder q.1)).1 (q.1, one.proves, refl) in
+    let refuted = (in_order IsJudged (pattern_search file.automaton one.pattern) (all_preorder q.1)).1 (q.1, one.proves, refl) in
     let rest = lead_proofs file qs (q.0 ∷ begun) prove.1 distinct.1 (still_new q.0 begun (map number_of qs) distinct.0 new.1) in
     let through = lead_nodes file one.pattern q.0 begun starts (all_preorder q.1) (proof_lines (proofs_of qs)) one.named refuted rest in
     let begins : Begins file (standing begun []) q.0 (standing (q.0 ∷ begun) starts) = record { done = refl; exists = slice_get_within file.patterns q.0 one.pattern one.named; new = new.0; leads = refl } in

@@ -10,12 +10,11 @@ use Rattle.ta_cert.specs.declared.line.Node.TheVariants as node
 use Rattle.ta_cert.specs.declared.fault.CertFault.{CertFault}
 use Rattle.ta_cert.specs.declared.fault.CertFault.TheVariants as fault
 use Rattle.ta_words.specs.Words.{is_complete}
-use Rattle.ta_encode.specs.System.{system_rows}
-use Rattle.ta_encode.specs.InPreorder.{Pending, parts, MayStand}
+use Rattle.ta_encode.specs.InPreorder.{Pending, parts, pattern_search, MayStand}
 use Rattle.ta_encode.proofs.CodeRows.{leaf_back}
 use Rattle.ta_farkas.specs.declared.LeafFault.{LeafFault}
 use Rattle.ta_farkas.proofs.Judging.{no_fault}
-use Rattle.ta_cursor.specs.Range.{Judged}
+use Rattle.ta_cursor.specs.Range.{IsJudged}
 use Rattle.ta_check.specs.Lines.{Standing, standing, AtWord, Stands, Leads, LeadThrough}
 use Rattle.ta_check.specs.Faults.{IsMisplaced, FirstLeafFault, LeafFails, IsAtFault}
 use Rattle.ta_cursor.proofs.Ranges.{check_stays}
@@ -39,9 +38,9 @@ stands_once : (file : File) (s : Standing) (n : Node) (x y : Standing) → Stand
 stands_once file s n x y a b =
     let same = word_once file s a.pattern b.pattern a.word b.word a.words b.words a.at b.at in
     a.leads
-    ∙ ap (λ p. standing s.begun (parts file.automaton p a.word n ++ a.words)) same.pattern
-    ∙ ap (λ w. standing s.begun (parts file.automaton b.pattern w n ++ a.words)) same.word
-    ∙ ap (λ ws. standing s.begun (parts file.automaton b.pattern b.word n ++ ws)) same.words
+    ∙ ap (λ p. standing s.begun (parts (pattern_search file.automaton p) a.word n ++ a.words)) same.pattern
+    ∙ ap (λ w. standing s.begun (parts (pattern_search file.automaton b.pattern) w n ++ a.words)) same.word
+    ∙ ap (λ ws. standing s.begun (parts (pattern_search file.automaton b.pattern) b.word n ++ ws)) same.words
     ∙ sym b.leads
 
 -- a line leads to one standing
@@ -66,10 +65,10 @@ through_parts file s (l ∷ ls) ms after (next, first, rest) =
     (parts.0, (next, first, parts.1), parts.2)
 
 -- a node that stands does so at the first word that is left
-may_stand : (file : File) (s : Standing) (n : Node) (after : Standing) (p : Pattern) (w : Pending) (ws : List Pending) → AtWord file s p w ws → Stands file s n after → MayStand Judged file.automaton p w n
+may_stand : (file : File) (s : Standing) (n : Node) (after : Standing) (p : Pattern) (w : Pending) (ws : List Pending) → AtWord file s p w ws → Stands file s n after → MayStand (pattern_search file.automaton p) (IsJudged (pattern_search file.automaton p)) w n
 may_stand file s n after p w ws at stands =
     let same = word_once file s stands.pattern p stands.word w stands.words ws stands.at at in
-    subst (λ v. MayStand Judged file.automaton p v n) same.word (subst (λ q. MayStand Judged file.automaton q stands.word n) same.pattern stands.may)
+    subst (λ v. MayStand (pattern_search file.automaton p) (IsJudged (pattern_search file.automaton p)) v n) same.word (subst (λ q. MayStand (pattern_search file.automaton q) (IsJudged (pattern_search file.automaton q)) stands.word n) same.pattern stands.may)
 
 -- a line that leads on is not misplaced
 in_place : (file : File) (s : Standing) (l : Line) (after : Standing) → IsMisplaced s l → Leads file s l after → ⊥
@@ -85,10 +84,10 @@ leaf_holds file s l f after fails leads =
     let p = fails.at.pattern in
     let w = fails.at.word in
     let wrong : FirstLeafFault file.automaton p w ts f = fails.at.holds in
-    let judged : Judged (system_rows file.automaton p w.start w.past w.bounds) ts = may_stand file s (node.Leaf ts) after p w fails.at.words fails.at.at (subst (λ m. Leads file s m after) fails.is leads) in
+    let judged : IsJudged (pattern_search file.automaton p) w ts = may_stand file s (node.Leaf ts) after p w fails.at.words fails.at.at (subst (λ m. Leads file s m after) fails.is leads) in
     no_fault wrong.system ts f wrong.first (
-      leaf_back file.automaton p w.start w.past w.bounds wrong.system ts wrong.is judged.leaf,
-      check_stays file.automaton p w.start w.past w.bounds wrong.system ts wrong.is judged.in_range,
+      leaf_back (pattern_search file.automaton p) w wrong.system ts wrong.is judged.leaf,
+      check_stays (pattern_search file.automaton p) w wrong.system ts wrong.is judged.in_range,
     )
 
 -- a line that leads on is not at fault

@@ -7,19 +7,18 @@ use Rattle.std.proofs.lemmas.Option.{slice_get_cases}
 use Rattle.ta_automaton.specs.Masks.{In}
 use Rattle.ta_automaton.specs.declared.file.File.{File}
 use Rattle.ta_automaton.specs.declared.pattern.Pattern.{Pattern}
-use Rattle.ta_encode.specs.InPreorder.{all_starts}
+use Rattle.ta_encode.specs.InPreorder.{all_starts, pattern_search}
 use Rattle.ta_encode.specs.Marks.{IsEncoding}
-use Rattle.ta_cursor.specs.Cursors.{IsFirst}
+use Rattle.ta_cursor.specs.InTrees.{AllWithin}
 use Rattle.ta_check.specs.declared.position.Position.{Position}
 use Rattle.ta_check.specs.Lines.{Standing, standing, Begins}
 use Rattle.ta_check.specs.Positions.{Between, IsAt}
-use Rattle.ta_cursor.proofs.Beginning.{begins_within}
 
 -- a position that has just begun the proof of a pattern
 pub record Began (file : File) (old : Position) (k : ℕ) (new : Position) : Type 0 where
   pub proved : new.proved.items ≡ old.proved.items ++ k ∷ []
   pub current : new.current ≡ Some k
-  pub first : IsFirst new.cursor
+  pub first : (p : Pattern) → slice_get file.patterns k ≡ Some p → AllWithin (pattern_search file.automaton p) new.place (all_starts file.automaton)
   pub kept : (p : Pattern) → IsEncoding file.automaton p new.encoding
 
 pattern_exists : (file : File) (k : ℕ) → k < length file.patterns → (p : Pattern) × (slice_get file.patterns k ≡ Some p)
@@ -36,7 +35,8 @@ began_at file old new at k exists begun began =
         older = at.begun;
         begun = refl;
         pattern = found.0;
-        within = begins_within file new.cursor k found.0 found.1 began.first;
+        named = found.1;
+        within = began.first found.0 found.1;
         kept = began.kept found.0;
       });
     }

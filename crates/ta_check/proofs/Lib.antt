@@ -1,3 +1,5 @@
+-- lemmas for the crates above
+pub mod Lasting
 mod Following
 mod Accepting
 mod Stopping

@@ -20,7 +20,9 @@ use Rattle.ta_encode.proofs.Whole.{whole_system}
 use Rattle.ta_words.proofs.Counts.{legal_length}
 use Rattle.ta_words.proofs.Lists.{events_named}
 use Rattle.ta_cursor.specs.declared.cursor.Cursor.{Cursor}
-use Rattle.ta_cursor.specs.Cursors.{Within}
+use Rattle.ta_cursor.specs.Cursors.{IsWord, here}
+use Rattle.ta_cursor.proofs.PatternWords.{comes_legal}
+use Rattle.ta_encode.specs.PatternSearch.{pattern_search}
 use Rattle.ta_farkas.specs.Columns.{part_in, column_sum, ColumnStays, CheckStays}
 use Rattle.ta_farkas.specs.Faults.{row_at, FirstMissing, FineBefore, IsFirstFault}
 use Rattle.ta_farkas.specs.declared.LeafFault.{LeafFault}
@@ -211,7 +213,7 @@ picked_check s z ts p stays = λ column most. picked_stays s z ts column p (stay
 pub judged_picked : (a : Automaton) (p : Pattern) (w : Pending) (s z : System) (ts : List (ℕ × ℤ)) → SystemOf a p w.start w.past w.bounds s → ArePairs 0 ts → z.unknowns ≡ s.unknowns → RowsOf (rows_named (system_rows a p w.start w.past w.bounds) ts) z.rows → AreThere (length (system_rows a p w.start w.past w.bounds)) ts → LeafOf z (renumbered 0 ts) → CheckStays z (renumbered 0 ts) → Judged (system_rows a p w.start w.past w.bounds) ts
 judged_picked a p w s z ts is are unknowns named there leaf stays =
     let q = picked (system_rows a p w.start w.past w.bounds) s z ts is.rows unknowns named there in
-    judged a p w.start w.past w.bounds s ts is (picked_leaf s z ts are q leaf) (picked_check s z ts q stays)
+    judged (pattern_search a p) w s ts is (picked_leaf s z ts are q leaf) (picked_check s z ts q stays)
 
 pub fault_picked : (a : Automaton) (p : Pattern) (w : Pending) (s z : System) (ts : List (ℕ × ℤ)) (f : LeafFault) → SystemOf a p w.start w.past w.bounds s → z.unknowns ≡ s.unknowns → RowsOf (rows_named (system_rows a p w.start w.past w.bounds) ts) z.rows → AreThere (length (system_rows a p w.start w.past w.bounds)) ts → IsFirstFault z (renumbered 0 ts) f → FirstLeafFault a p w ts f
 fault_picked a p w s z ts f is unknowns named there first = record {
@@ -237,11 +239,11 @@ fault_absent a p w s ts row is first =
     }
 
 -- the cursor's word has a system with its bounds
-pub whole_here : (file : File) (s : Cursor) (number : ℕ) (p : Pattern) (pending : List Pending) (z : System) → Within file s number p pending → SystemOf file.automaton p s.start_mask (reverse s.word) [] z → (w : System) × SystemOf file.automaton p s.start_mask (reverse s.word) s.bounds.items w
-whole_here file s number p pending z within is =
+pub whole_here : (file : File) (s : Cursor) (number : ℕ) (p : Pattern) (z : System) → slice_get file.patterns number ≡ Some p → IsWord (pattern_search file.automaton p) (here s) → SystemOf file.automaton p s.start_mask (reverse s.word) [] z → (w : System) × SystemOf file.automaton p s.start_mask (reverse s.word) s.bounds.items w
+whole_here file s number p z named word is =
     let a = file.automaton in
     let past = reverse s.word in
-    let short : length past ≤ 30 = legal_length a p s.start_mask past (events_named file number p within.inside.named).limit within.inside.legal in
+    let short : length past ≤ 30 = legal_length a p s.start_mask past (events_named file number p named).limit (comes_legal a p s.start_mask past word.comes).legal in
     let few = meanings_few a p s.start_mask past in
     let count = is.unknowns in
-    whole_system a p s.start_mask past s.bounds.items z (omega arith) is (subst (λ n. BoundsWithin n s.bounds.items) (sym is.unknowns) within.bounds)
+    whole_system a p s.start_mask past s.bounds.items z (omega arith) is (subst (λ n. BoundsWithin n s.bounds.items) (sym is.unknowns) word.bounds)

@@ -9,14 +9,15 @@ use Rattle.ta_cert.specs.Laws.{AreShort}
 use Rattle.ta_cert.specs.Certificates.{AreWritable, CertText, cert_lines, proofs_of}
 use Rattle.ta_words.specs.declared.element.Element.{Element}
 use Rattle.ta_encode.specs.Laws.{SolvedWord}
+use Rattle.ta_encode.specs.PatternSearch.{pattern_search}
 use Rattle.ta_encode.specs.Refutes.{ProofBy}
-use Rattle.ta_cursor.specs.Range.{Judged}
+use Rattle.ta_cursor.specs.Range.{IsJudged}
 
 -- trees that prove the file's pattern of a number, no leaf check of which leaves the range
 pub record ProvesPattern (file : File) (numbered : ℕ × List Tree) : Type 0 where
   pub pattern : Pattern
   pub named : slice_get file.patterns numbered.0 ≡ Some pattern
-  pub proves : ProofBy Judged file.automaton pattern numbered.1
+  pub proves : ProofBy (pattern_search file.automaton pattern) (IsJudged (pattern_search file.automaton pattern)) numbered.1
 
 abbrev pub number_of : (ℕ × List Tree) → ℕ
 number_of numbered = numbered.0

@@ -101,3 +101,7 @@ IsFirstFault file text f = LineAtFault file text f ⊎ TextAtFault file text f
 abbrev pub IsLasting : File → List ℕ → CertFault → Type 0
 IsLasting file text (fault.Truncated n) = ⊥
 IsLasting file text f = IsFirstFault file text f
+
+-- it is the first fault of each longer text
+abbrev pub LastingFaultsLast : Type 0
+LastingFaultsLast = (file : File) (text more : List ℕ) (f : CertFault) → IsLasting file text f → IsFirstFault file (text ++ more) f

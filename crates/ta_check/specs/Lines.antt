@@ -6,8 +6,8 @@ use Rattle.ta_automaton.specs.Masks.{In}
 use Rattle.ta_cert.specs.declared.line.Line.{Line}
 use Rattle.ta_cert.specs.declared.line.Line.TheVariants as line
 use Rattle.ta_cert.specs.declared.line.Node.{Node}
-use Rattle.ta_encode.specs.InPreorder.{Pending, all_starts, parts, MayStand}
-use Rattle.ta_cursor.specs.Range.{Judged}
+use Rattle.ta_encode.specs.InPreorder.{Pending, all_starts, parts, pattern_search, MayStand}
+use Rattle.ta_cursor.specs.Range.{IsJudged}
 
 -- where a certificate stands behind some of its lines: the patterns whose proofs began, the newest first, and the words
 -- that are still to be refuted for the newest
@@ -43,8 +43,8 @@ pub record Stands (file : File) (s : Standing) (node : Node) (after : Standing) 
   pub word : Pending
   pub words : List Pending
   pub at : AtWord file s pattern word words
-  pub may : MayStand Judged file.automaton pattern word node
-  pub leads : after ≡ standing s.begun (parts file.automaton pattern word node ++ words)
+  pub may : MayStand (pattern_search file.automaton pattern) (IsJudged (pattern_search file.automaton pattern)) word node
+  pub leads : after ≡ standing s.begun (parts (pattern_search file.automaton pattern) word node ++ words)
 
 -- the certificate ends: no word is left
 pub record Ends (s after : Standing) : Type 0 where

@@ -1,24 +1,22 @@
 -- What the fields of a position stand for
-use Rattle.std.specs.Prelude.{ℕ, ◌≡◌, ◌⊎◌, List, [], ◌∷◌, reverse, ℤ, Some, None, Result, Ok, Err}
+use Rattle.std.specs.Prelude.{ℕ, ◌≡◌, ◌⊎◌, List, [], ◌∷◌, reverse, slice_get, ℤ, Some, None, Result, Ok, Err}
 use Rattle.ta_automaton.specs.declared.file.File.{File}
 use Rattle.ta_automaton.specs.declared.pattern.Pattern.{Pattern}
 use Rattle.ta_cert.specs.declared.line.Line.{Line}
 use Rattle.ta_cert.specs.declared.fault.CertFault.{CertFault}
 use Rattle.ta_cert.specs.declared.fault.CertFault.TheVariants as fault
-use Rattle.ta_encode.specs.System.{system_rows}
-use Rattle.ta_encode.specs.InPreorder.{Pending}
+use Rattle.ta_encode.specs.InPreorder.{Pending, pattern_search}
 use Rattle.ta_encode.specs.Marks.{IsEncoding}
-use Rattle.ta_cursor.specs.Cursors.{IsFirst, Within}
+use Rattle.ta_cursor.specs.InTrees.{AllWithin}
 use Rattle.ta_farkas.specs.declared.LeafFault.TheVariants as leaf
 use Rattle.ta_check.specs.declared.position.Position.{Position}
 use Rattle.ta_check.specs.Lines.{Standing, Leads}
-use Rattle.ta_cursor.specs.Range.{Judged}
+use Rattle.ta_cursor.specs.Range.{IsJudged}
 use Rattle.ta_check.specs.Faults.{IsAtFault, FirstLeafFault}
 
 -- behind a proof, or before any
 pub record Between (s : Position) (pending : List Pending) : Type 0 where
   pub current : s.current ≡ None
-  pub first : IsFirst s.cursor
   pub left : pending ≡ []
 
 -- before a node of the newest proof
@@ -28,7 +26,8 @@ pub record InNewest (file : File) (s : Position) (at : Standing) : Type 0 where
   pub older : List ℕ
   pub begun : at.begun ≡ number ∷ older
   pub pattern : Pattern
-  pub within : Within file s.cursor number pattern at.pending
+  pub named : slice_get file.patterns number ≡ Some pattern
+  pub within : AllWithin (pattern_search file.automaton pattern) s.place at.pending
   pub kept : IsEncoding file.automaton pattern s.encoding
 
 -- the position's fields are those of a standing
@@ -48,7 +47,7 @@ Taken file at number l new (Err f) = IsAtFault file at number l f
 
 -- what the judge of a leaf answers at a word; want of memory is free
 abbrev pub LeafTaken : File → Pattern → Pending → ℕ → List (ℕ × ℤ) → Result (Unit {0}) CertFault → Type 0
-LeafTaken file p w number ts (Ok _) = Judged (system_rows file.automaton p w.start w.past w.bounds) ts
+LeafTaken file p w number ts (Ok _) = IsJudged (pattern_search file.automaton p) w ts
 LeafTaken file p w number ts (Err fault.Memory) = Unit {0}
 LeafTaken file p w number ts (Err (fault.Row n row)) = (n ≡ number) × FirstLeafFault file.automaton p w ts (leaf.RowNumber row)
 LeafTaken file p w number ts (Err (fault.Overflow n column)) = (n ≡ number) × FirstLeafFault file.automaton p w ts (leaf.Overflow column)

@@ -1,7 +1,7 @@
 //! Judging a certificate line by line.
 #![tactic(auto)]
 
-ghost use Rattle.std.specs.Prelude.{◌≡◌, ◌↔◌, IsTrue, Some, reverse};
+ghost use Rattle.std.specs.Prelude.{◌≡◌, ◌↔◌, IsTrue, Some, reverse, ◌≢◌, IfErr};
 ghost use Rattle.ta_automaton.specs.Masks.{In};
 ghost use Rattle.ta_cert.specs.Lines.{ArePairs, IsLine, IsNode, IsSplit};
 ghost use Rattle.ta_cert.specs.declared.line.Line.TheVariants.{End, Pattern, Tree};
@@ -14,8 +14,8 @@ use crate::position::Position;
 use std::alloc::Global;
 use ta_automaton::File;
 use ta_cert::{CertFault, Line, Node};
-use ta_encode::{Encoding, unknown_count};
-use ta_words::is_complete;
+use ta_cursor::{PatternTree, Place, Tree};
+use ta_encode::Encoding;
 
 impl Position {
     /// Takes the line of a number, where it may follow the lines before it.
@@ -59,9 +59,15 @@ impl Position {
             return Err(CertFault::RepeatedPattern(number));
         }
         self.proved.push(pattern)?;
-        self.current = Some(pattern);
-        self.encoding = Encoding::new(alloc);
-        Ok(())
+        match Place::first(alloc, &PatternTree::new(file, pattern)) {
+            None => Ok(()),
+            Some(place) => {
+                self.current = Some(pattern);
+                self.place = place;
+                self.encoding = Encoding::new(alloc);
+                Ok(())
+            }
+        }
     }
 
     /// Whether the proof of a pattern began.
@@ -73,7 +79,8 @@ impl Position {
 
     /// Takes the last line.
     fn end(&self, file: &File, number: u64) -> Result<(), CertFault>
-        ensures { (at : Standing) → IsAt file.now self.now at → Taken file.now at number End self.now result }
+        ensures taken { (at : Standing) → IsAt file.now self.now at → Taken file.now at number End self.now result }
+        ensures no_memory { IfErr result (λ fault. fault ≢ CertFault.Memory) }
     {
         let _file = file;
         if self.current.is_some() {
@@ -99,7 +106,7 @@ impl Position {
             return Err(CertFault::Line(number));
         };
         match node {
-            Node::Extend => self.take_extend(file, number, pattern),
+            Node::Extend => self.take_extend(alloc, file, number, pattern),
             Node::Split { unknown, floor } => {
                 self.take_split(file, number, pattern, *unknown, *floor)
             }
@@ -110,15 +117,23 @@ impl Position {
     }
 
     /// Takes an Extend in the proof of a pattern.
-    fn take_extend(&mut self, file: &File, number: u64, pattern: u32) -> Result<(), CertFault>
+    fn take_extend(
+        &mut self,
+        alloc: Global,
+        file: &File,
+        number: u64,
+        pattern: u32,
+    ) -> Result<(), CertFault>
         requires somewhere { IsSomewhere file.now self.old }
         requires current { self.old.current ≡ Some pattern }
         ensures { (at : Standing) → IsAt file.now self.old at → Taken file.now at number (Tree Extend) self.new result }
     {
-        if is_complete(file, pattern, self.cursor.word()) {
+        let tree = PatternTree::new(file, pattern);
+        let start_mask = self.place.cursor().start_mask();
+        if tree.is_complete(start_mask, self.place.cursor().word()) {
             return Err(CertFault::ExtendComplete(number));
         }
-        if !self.cursor.extend(file, pattern)? {
+        if !self.place.extend(alloc, &tree)? {
             self.current = None;
         }
         Ok(())
@@ -138,11 +153,12 @@ impl Position {
         requires form { IsSplit unknown floor }
         ensures { (at : Standing) → IsAt file.now self.old at → Taken file.now at number (Tree (Split unknown floor)) self.new result }
     {
-        let start_mask = self.cursor.start_mask();
-        if unknown >= unknown_count(file, pattern, start_mask, self.cursor.word()) {
+        let tree = PatternTree::new(file, pattern);
+        let start_mask = self.place.cursor().start_mask();
+        if unknown >= tree.unknown_count(start_mask, self.place.cursor().word()) {
             return Err(CertFault::SplitVariable(number));
         }
-        self.cursor.split(file, pattern, unknown, floor)?;
+        self.place.split(&tree, unknown, floor)?;
         Ok(())
     }
 
@@ -164,12 +180,13 @@ impl Position {
             alloc,
             file,
             pattern,
-            &self.cursor,
+            self.place.cursor(),
             &mut self.encoding,
             number,
             multipliers,
         )?;
-        if !self.cursor.leave(file, pattern)? {
+        let tree = PatternTree::new(file, pattern);
+        if !self.place.leave(alloc, &tree)? {
             self.current = None;
         }
         Ok(())

@@ -1,9 +1,15 @@
-//! What certificates show. The function does nothing: its contract states the law.
+//! Laws of certificates. The functions do nothing: their contracts state the laws.
 #![tactic(auto)]
 
 ghost use Rattle.ta_check.specs.Certificate.{CertificatesShow};
+ghost use Rattle.ta_check.specs.Faults.{LastingFaultsLast};
 
 /// The patterns of a certificate are safe, and none of their words has a solution.
 pub fn certificates_show()
     ensures { CertificatesShow }
+{}
+
+/// A lasting fault of a text is the first fault of each longer one.
+pub fn lasting_faults_last()
+    ensures { LastingFaultsLast }
 {}

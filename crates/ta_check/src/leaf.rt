@@ -5,10 +5,10 @@ ghost use Rattle.std.specs.Prelude.{ℕ, ℤ, ◌≡◌, ◌<◌, ◌≤◌, ◌
 ghost use Rattle.ta_automaton.specs.declared.file.File.{File as FileValue};
 ghost use Rattle.ta_automaton.specs.declared.pattern.Pattern.{Pattern};
 ghost use Rattle.ta_cert.specs.Lines.{ArePairs};
-ghost use Rattle.ta_encode.specs.InPreorder.{Pending};
+ghost use Rattle.ta_encode.specs.InPreorder.{Pending, pattern_search};
 ghost use Rattle.ta_encode.specs.Marks.{IsEncoding};
 ghost use Rattle.ta_words.specs.Calls.{OfPattern};
-ghost use Rattle.ta_cursor.specs.Cursors.{IsWithin, Within, here};
+ghost use Rattle.ta_cursor.specs.Cursors.{IsWord, here};
 ghost use Rattle.ta_check.specs.Faults.{FirstLeafFault};
 ghost use Rattle.ta_check.specs.Inside.Leaves.{WithoutBounds, renumbered};
 ghost use Rattle.ta_check.specs.Positions.{LeafTaken};
@@ -33,11 +33,12 @@ pub(crate) fn judge_leaf(
     number: u64,
     multipliers: &[(u32, i128)],
 ) -> Result<(), CertFault>
-    requires within { IsWithin file.now cursor.now pattern }
+    requires exists { pattern < length file.now.patterns }
+    requires word { OfPattern file.now pattern (λ p. IsWord (pattern_search file.now.automaton p) (here cursor.now)) }
     requires kept { OfPattern file.now pattern (λ p. IsEncoding file.now.automaton p encoding.old) }
     requires pairs { ArePairs 0 multipliers.now }
     ensures kept { OnOk result (OfPattern file.now pattern (λ p. IsEncoding file.now.automaton p encoding.new)) }
-    ensures taken { (p : Pattern) (pending : List Pending) → Within file.now cursor.now pattern p pending → LeafTaken file.now p (here cursor.now) number multipliers.now result }
+    ensures taken { OfPattern file.now pattern (λ p. LeafTaken file.now p (here cursor.now) number multipliers.now result) }
 {
     grow(alloc, file, pattern, cursor, encoding)?;
     let system = &encoding.system;
@@ -61,7 +62,8 @@ fn grow(
     cursor: &Cursor,
     encoding: &mut Encoding,
 ) -> Result<(), AllocError>
-    requires within { IsWithin file.now cursor.now pattern }
+    requires exists { pattern < length file.now.patterns }
+    requires word { OfPattern file.now pattern (λ p. IsWord (pattern_search file.now.automaton p) (here cursor.now)) }
     requires kept { OfPattern file.now pattern (λ p. IsEncoding file.now.automaton p encoding.old) }
     ensures kept { OnOk result (OfPattern file.now pattern (λ p. IsEncoding file.now.automaton p encoding.new)) }
     ensures system { OnOk result (OfPattern file.now pattern (λ p. WithoutBounds file.now.automaton p (here cursor.now) encoding.new.system)) }

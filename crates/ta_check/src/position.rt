@@ -6,7 +6,7 @@ ghost use Rattle.ta_check.specs.Positions.{IsAt};
 
 use std::alloc::Global;
 use ta_automaton::File;
-use ta_cursor::Cursor;
+use ta_cursor::Place;
 use ta_encode::Encoding;
 
 /// Where a certificate is being read.
@@ -16,8 +16,8 @@ pub(crate) struct Position {
     pub proved: Vec<u32>,
     /// The pattern whose proof is being read.
     pub current: Option<u32>,
-    /// The node whose line comes next. Between two proofs it is the first node.
-    pub cursor: Cursor,
+    /// The node whose line comes next. Between two proofs it is any.
+    pub place: Place,
     /// The rows of the word of the last leaf of the proof that is being read, so that those of the
     /// next are written on from them. No answer depends on them.
     pub encoding: Encoding,
@@ -32,7 +32,7 @@ impl Position {
         Position {
             proved: Vec::new(alloc),
             current: None,
-            cursor: Cursor::new(alloc),
+            place: Place::new(alloc),
             encoding: Encoding::new(alloc),
         }
     }

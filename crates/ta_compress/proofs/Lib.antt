@@ -14,3 +14,4 @@ mod Lasts
 mod Masks
 mod Counted
 mod Excluding
+mod AlwaysStarts

@@ -1,7 +1,7 @@
 //! Shortening a run.
 #![tactic(auto)]
 
-ghost use Rattle.std.specs.Prelude.{ℕ, pos, ◌≡◌, ◌≤◌, ◌<◌, ◌+◌, ◌^◌, ◌-◌, min, IfOk, IfErr, OnOk};
+ghost use Rattle.std.specs.Prelude.{ℕ, pos, ◌≡◌, ◌≤◌, ◌<◌, ◌+◌, ◌^◌, ◌-◌, min, IfOk, IfErr, OnOk, IsOk};
 ghost use Rattle.ta_replay.specs.Fits.{Fits};
 ghost use Rattle.ta_replay.specs.Shows.{Shows, factor_of, factors_sum};
 ghost use Rattle.ta_replay.specs.declared.run.RunLine.TheVariants.{Mark};
@@ -52,7 +52,7 @@ fn shortened(alloc: Global, scoped: &ScopedFile, run: &Run) -> Result<Run, Compr
     ensures short { IfOk result (IsShortRun scoped.now.file) }
     ensures fault { IfErr result (CompressFaultOf scoped.now.file run.now) }
 {
-    admit(alloc, scoped.file(), run)?;
+    admit(scoped.file(), run)?;
     let lines = shorten(alloc, scoped, run)?;
     let short = with_lines(alloc, run, lines)?;
     Ok(short)
@@ -76,14 +76,13 @@ fn with_lines(alloc: Global, run: &Run, lines: Vec<RunLine>) -> Result<Run, Allo
 }
 
 /// Whether the run is replayed and has at most 1,000,000 unit steps.
-fn admit(alloc: Global, file: &File, run: &Run) -> Result<(), CompressFault>
+fn admit(file: &File, run: &Run) -> Result<(), CompressFault>
     requires { Fits file.now run.now }
     ensures admitted { OnOk result (Admitted file.now run.now) }
     ensures fault { IfErr result (CompressFaultOf file.now run.now) }
 {
-    match replay(alloc, file, run) {
+    match replay(file, run) {
         Ok(_) => few_steps(run.lines.as_slice()),
-        Err(RunFault::Memory) => Err(CompressFault::Memory),
         Err(fault) => Err(CompressFault::Replay(fault)),
     }
 }
@@ -125,7 +124,7 @@ fn begin(alloc: Global, file: &File, run: &Run) -> Result<Draft, CompressFault>
     ensures begun { IfOk result (Begun file.now.automaton run.now) }
     ensures fault { IfErr result (CompressFaultOf file.now run.now) }
 {
-    let config = first_config(alloc, file, run)?;
+    let config = first_config(file, run)?;
     let Ok(guards) = guards_at(&file.automaton, &config) else {
         return Err(CompressFault::Replay(RunFault::Overflow(1)));
     };
@@ -139,15 +138,15 @@ fn begin(alloc: Global, file: &File, run: &Run) -> Result<Draft, CompressFault>
 }
 
 /// The first configuration.
-fn first_config(alloc: Global, file: &File, run: &Run) -> Result<Config, CompressFault>
+fn first_config(file: &File, run: &Run) -> Result<Config, CompressFault>
     requires fits { Fits file.now run.now }
     requires admitted { Admitted file.now run.now }
     ensures starts { IfOk result (λ config. StartsAt file.now.automaton run.now.parameters run.now.counts config.values.items) }
     ensures is_of { IfOk result (IsOf file.now.automaton) }
-    ensures fault { IfErr result (λ fault. fault ≡ Memory) }
+    ensures always { IsOk result }
 {
     let parameters = run.parameters.as_slice();
-    match Config::start(alloc, &file.automaton, parameters, run.counts.as_slice()) {
+    match Config::start(&file.automaton, parameters, run.counts.as_slice()) {
         Ok(config) => Ok(config),
         Err(_) => Err(CompressFault::Memory),
     }

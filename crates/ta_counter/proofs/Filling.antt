@@ -11,6 +11,7 @@ use Rattle.ta_automaton.specs.Places.{location_place}
 use Rattle.ta_counter.specs.Values.{Value}
 use Rattle.ta_counter.specs.Configs.{places_of}
 use Rattle.ta_counter.specs.Starts.{StartsAt}
+use Rattle.ta_counter.specs.Inside.Filling.{Filling}
 use Rattle.ta_counter.proofs.Starting.{rises_within}
 
 pub each_set : {X : Type 0} (P : X → Type 0) (xs : List X) (i : ℕ) (x : X) → Each P xs → P x → Each P (set xs i x)
@@ -35,15 +36,6 @@ rises_apart low high (x ∷ ls) h (suc i) zero l k b at there =
     let a = w.0 in
     omega arith
 rises_apart low high (x ∷ ls) h (suc i) (suc j) l k b at there = rises_apart (x + 1) high ls h.2 i j l k (omega arith) at there
-
--- the first i counts stand at their places
-pub record Filling (a : Automaton) (parameters counts values : List ℤ) (i : ℕ) : Type 0 where
-  pub natural : Each Value values
-  pub places : length values ≡ places_of a
-  pub parameters_first : take (length a.parameters) values ≡ parameters
-  pub shared_zero : (x : ℕ) → x < length a.shared → point_of values (length a.parameters + x) ≡ pos 0
-  pub counts_there : (j l : ℕ) → j < i → slice_get a.initial j ≡ Some l → point_of values (location_place a l) ≡ point_of counts j
-  pub others_empty : (l : ℕ) → ((j : ℕ) → j < i → slice_get a.initial j ≡ Some l → ⊥) → point_of values (location_place a l) ≡ pos 0
 
 zeros_past : (xs : List ℤ) (n i : ℕ) → length xs ≤ i → get_or (xs ++ replicate n (pos 0)) i (pos 0) ≡ pos 0
 zeros_past xs n i b =

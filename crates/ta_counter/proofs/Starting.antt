@@ -20,7 +20,7 @@ use Rattle.ta_counter.specs.Values.{Value}
 use Rattle.ta_counter.specs.Configs.{places_of, naturals, counters_of, model_of, sum_of, AreOf}
 use Rattle.ta_counter.specs.Starts.{StartsAt, MayStart, StartChecked, NoStart}
 use Rattle.ta_counter.specs.declared.fault.StartFault.{StartFault}
-use Rattle.ta_counter.specs.declared.fault.StartFault.TheVariants.{Resilience, Processes, OutOfRange, Memory}
+use Rattle.ta_counter.specs.declared.fault.StartFault.TheVariants.{Resilience, Processes, OutOfRange}
 use Rattle.ta_counter.proofs.Rows.{holds_from, fails_from}
 use Rattle.ta_counter.proofs.Models.{naturals_at, model_at, model_whole, whole_fits, sum_naturals, each_drop, each_from, each_point}
 
@@ -183,4 +183,3 @@ no_start a parameters counts Processes many same n m other = λ values s initial
     let points = parameter_points a parameters counts values n s in
     other.differ (sym (ap (λ (f : ℕ → ℤ). value_of f a.processes) points) ∙ sym initial.processes ∙ sum)
 no_start a parameters counts OutOfRange many same n m h = tt
-no_start a parameters counts Memory many same n m h = tt

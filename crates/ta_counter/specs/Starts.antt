@@ -8,7 +8,7 @@ use Rattle.ta_automaton.specs.Runs.{Initial}
 use Rattle.ta_automaton.specs.Places.{location_place}
 use Rattle.ta_counter.specs.declared.config.Config.{Config}
 use Rattle.ta_counter.specs.declared.fault.StartFault.{StartFault}
-use Rattle.ta_counter.specs.declared.fault.StartFault.TheVariants.{Resilience, Processes, OutOfRange, Memory}
+use Rattle.ta_counter.specs.declared.fault.StartFault.TheVariants.{Resilience, Processes, OutOfRange}
 use Rattle.ta_counter.specs.Configs.{places_of, sum_of, model_of}
 use Rattle.ta_counter.specs.Checks.{RowFails, RowLeaves, ConditionPasses, ConditionStopsAt}
 
@@ -49,12 +49,10 @@ abbrev pub StartFails : Automaton → List ℤ → List ℤ → StartFault → T
 StartFails a parameters counts (Resilience k) = ConditionStopsAt (point_of parameters) (RowFails (point_of parameters)) a.resilience k
 StartFails a parameters counts Processes = OtherSum a parameters counts
 StartFails a parameters counts OutOfRange = StartLeaves a parameters counts
-StartFails a parameters counts Memory = Unit {0}
 
--- what the checks answer, which take no memory
+-- what the checks answer
 abbrev pub StartChecked : Automaton → List ℤ → List ℤ → Result Unit StartFault → Type 0
 StartChecked a parameters counts (Ok done) = MayStart a parameters counts
-StartChecked a parameters counts (Err Memory) = ⊥
 StartChecked a parameters counts (Err fault) = StartFails a parameters counts fault
 
 -- the configuration where no check fails, else the first check that fails
@@ -67,4 +65,3 @@ abbrev pub NoStart : Automaton → List ℤ → List ℤ → StartFault → Type
 NoStart a parameters counts (Resilience k) = (values : List ℤ) → StartsAt a parameters counts values → ¬ Initial a (model_of a values)
 NoStart a parameters counts Processes = (values : List ℤ) → StartsAt a parameters counts values → ¬ Initial a (model_of a values)
 NoStart a parameters counts OutOfRange = Unit {0}
-NoStart a parameters counts Memory = Unit {0}

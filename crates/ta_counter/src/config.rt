@@ -4,10 +4,16 @@
 ghost use Rattle.ta_automaton.specs.Lists.{Each, Each-prop};
 ghost use Rattle.ta_counter.specs.Values.{Value, Value-prop};
 
+use arrayvec::ArrayVec;
+
+/// A value for each place: an automaton has at most 16 parameters, 16 shared variables and 32
+/// locations.
+pub(crate) type Places = ArrayVec<i128, 64>;
+
 /// The values of the places: parameters, then shared variables, then counters of the locations.
 #[derive(Drop)]
 pub struct Config {
-    pub(crate) values: Vec<i128>,
+    pub(crate) values: Places,
     pub ghost natural: { Each Value values.items } by { Each-prop Value Value-prop values.items },
 }
 

@@ -2,19 +2,17 @@
 #![tactic(auto)]
 
 ghost use Rattle.std.specs.Prelude.{◌≡◌};
-ghost use Rattle.ta_counter.specs.declared.fault.StartFault.TheVariants.{Memory, OutOfRange};
-
-use std::alloc::AllocError;
+ghost use Rattle.ta_counter.specs.declared.fault.StartFault.TheVariants.{OutOfRange};
 
 /// Why there is no configuration to start with. `Resilience` has the number of the first comparison
 /// of the resilience condition that is false; `Processes` says that the start counts don't add up to
-/// the number of processes; `OutOfRange`, that a number of the checks leaves the range.
+/// the number of processes; `OutOfRange`, that a number of the checks leaves the range. A configuration
+/// takes no memory.
 #[derive(Clone, Copy, Debug, Drop, PartialEq, Eq)]
 pub enum StartFault {
     Resilience(u32),
     Processes,
     OutOfRange,
-    Memory,
 }
 
 /// Why a step isn't taken. `Count` says that too few processes are at the rule's source; `OutOfRange`
@@ -25,14 +23,6 @@ pub enum StepFault {
     Count,
     OutOfRange(u32),
     Guard(u32),
-}
-
-impl From<AllocError> for StartFault {
-    ghost from_gives = { λ _ e. e ≡ Memory };
-
-    fn from(_e: AllocError) -> StartFault {
-        StartFault::Memory
-    }
 }
 
 impl From<ta_linear::OutOfRange> for StartFault {

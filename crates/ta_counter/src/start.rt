@@ -1,18 +1,19 @@
 //! Where a configuration starts.
 #![tactic(auto)]
 
-ghost use Rattle.std.specs.Prelude.{◌≡◌, ◌+◌, ◌≤◌, length, take, IfOk, IfErr, OkIff};
+ghost use Rattle.std.specs.Prelude.{ℤ, pos, ◌≡◌, ◌≤◌, ◌++◌, List, length, replicate, take, IfOk, IfErr, OkIff};
 ghost use Rattle.ta_linear.specs.Numbers.{InRange};
 ghost use Rattle.ta_automaton.specs.Lists.{Each};
 ghost use Rattle.ta_automaton.specs.Runs.{Initial};
 ghost use Rattle.ta_counter.specs.Values.{Value};
 ghost use Rattle.ta_counter.specs.Configs.{config_of, IsOf, sum_of, places_of};
+ghost use Rattle.ta_counter.specs.Inside.Filling.{Filling};
 ghost use Rattle.ta_counter.specs.Starts.{StartAnswer, StartChecked, StartsAt, NoStart};
 
 use crate::condition::first_false;
-use crate::config::Config;
+use crate::config::{Config, Places};
 use crate::fault::StartFault;
-use std::alloc::{AllocError, Global};
+use crate::updates::copy_of;
 use ta_automaton::Automaton;
 use ta_linear::{OutOfRange, plus};
 
@@ -20,7 +21,6 @@ impl Config {
     /// The configuration with these parameters, these counts at the initial locations in order, and
     /// 0 elsewhere.
     pub fn start(
-        alloc: Global,
         automaton: &Automaton,
         parameters: &[i128],
         counts: &[i128],
@@ -34,9 +34,10 @@ impl Config {
         ensures is_of { IfOk result (λ config. IsOf automaton.now config) }
         ensures no_start { IfErr result (λ fault. NoStart automaton.now parameters.now counts.now fault) }
     {
-        let values = start_values(alloc, automaton, parameters, counts)?;
         check_start(automaton, parameters, counts)?;
-        Ok(Config { values })
+        Ok(Config {
+            values: start_values(automaton, parameters, counts),
+        })
     }
 }
 
@@ -77,24 +78,40 @@ fn sum(counts: &[i128]) -> Result<i128, OutOfRange>
 }
 
 /// The parameters, zeros, and the counts at the initial locations.
-fn start_values(
-    alloc: Global,
-    automaton: &Automaton,
-    parameters: &[i128],
-    counts: &[i128],
-) -> Result<Vec<i128>, AllocError>
+fn start_values(automaton: &Automaton, parameters: &[i128], counts: &[i128]) -> Places
     requires parameters { length parameters.now ≡ length automaton.now.parameters }
     requires parameters_natural { Each Value parameters.now }
     requires counts { length counts.now ≡ length automaton.now.initial }
     requires counts_natural { Each Value counts.now }
-    ensures places { IfOk result (λ values. StartsAt automaton.now parameters.now counts.now values.items) }
-    ensures natural { IfOk result (λ values. Each Value values.items) }
+    ensures { Filling automaton.now parameters.now counts.now result.items (length automaton.now.initial) }
 {
-    let mut values = parameters.to_vec(alloc)?;
+    let more = automaton.shared.as_slice().len() + automaton.locations.as_slice().len();
+    let mut values = with_zeros(parameters, more);
+    fill_counts(automaton, counts, values.as_mut_slice());
+    values
+}
+
+/// Values, and so many zeros behind them.
+fn with_zeros(values: &[i128], more: usize) -> Places
+    requires more { more ≤ 48 }
+    requires few { length values.now ≤ 16 }
+    ensures { result.items ≡ values.now ++ take more (replicate 48 (pos 0)) }
+{
+    let mut all = copy_of(values);
+    let zeros = [0; 48];
+    let _extended = all.try_extend_from_slice(&zeros[..more]);
+    all
+}
+
+/// Writes the counts at the initial locations.
+fn fill_counts(automaton: &Automaton, counts: &[i128], values: &mut [i128])
+    requires counts { length counts.now ≡ length automaton.now.initial }
+    requires counts_natural { Each Value counts.now }
+    requires places { length values.old ≡ places_of automaton.now }
+    ensures { (parameters : List ℤ) → Filling automaton.now parameters counts.now values.old 0 → Filling automaton.now parameters counts.now values.new (length automaton.now.initial) }
+{
     let first = automaton.parameters.as_slice().len() + automaton.shared.as_slice().len();
-    values.resize(first + automaton.locations.as_slice().len(), 0)?;
     for (number, location) in automaton.initial.as_slice().iter().enumerate() {
         values[first + *location as usize] = counts[number];
     }
-    Ok(values)
 }

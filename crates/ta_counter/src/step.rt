@@ -42,7 +42,7 @@ impl Config {
     {
         let rule = &automaton.rules.as_slice()[rule as usize];
         let after = values_after(automaton, rule, factor, self.values.as_slice())?;
-        self.values.copy_from_slice(after.as_slice());
+        self.values = after;
         Ok(())
     }
 }

@@ -12,15 +12,12 @@ ghost use Rattle.ta_counter.specs.Configs.{AreOf, counters_of, places_of, sum_of
 ghost use Rattle.ta_counter.specs.Steps.{AllGrow, Enough, StepFails, Taken, LeavesAt, shifted};
 ghost use Rattle.ta_counter.specs.declared.fault.StepFault.TheVariants.{OutOfRange};
 
+use crate::config::Places;
 use crate::fault::StepFault;
 use crate::guards::check_guards;
 use arrayvec::ArrayVec;
 use ta_automaton::{Automaton, Rule};
 use ta_linear::plus_product;
-
-/// A value for each place: an automaton has at most 16 parameters, 16 shared variables and 32
-/// locations.
-pub(crate) type Places = ArrayVec<i128, 64>;
 
 /// The values after `factor` firings in a row, or the first check that fails.
 pub(crate) fn values_after(
@@ -51,7 +48,7 @@ pub(crate) fn values_after(
 }
 
 /// A copy of at most 64 values.
-fn copy_of(values: &[i128]) -> Places
+pub(crate) fn copy_of(values: &[i128]) -> Places
     requires { length values.now ≤ 64 }
     ensures { result.items ≡ values.now }
 {

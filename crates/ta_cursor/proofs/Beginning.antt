@@ -1,12 +1,31 @@
--- at the first node all start sets are left
-use Rattle.std.proofs.Common.{ℕ, ◌^◌, ◌<◌, length, drop, sym, ap, subst}
-use Rattle.std.proofs.lemmas.Nat.{pow_pos}
-use Rattle.ta_encode.specs.InPreorder.{all_starts}
-use Rattle.ta_cursor.specs.Cursors.{BeginsWithin, Within}
-use Rattle.ta_cursor.proofs.FramesParts.{emptied_within}
+-- at a word with which a search begins, that word is left
+use Rattle.std.proofs.Common.{◌≡◌, inl, ℕ, List, [], ◌∷◌, ◌++◌, length, reverse, slice_get, Some, sym, ap, refl, subst}
+use Rattle.ta_words.specs.declared.element.Element.{Element}
+use Rattle.ta_encode.specs.Search.{Pending, Search, BeginsWith, Comes}
+use Rattle.ta_cursor.specs.declared.cursor.Cursor.{Cursor}
+use Rattle.ta_cursor.specs.declared.cursor.Frame.{Frame}
+use Rattle.ta_cursor.specs.Cursors.{here, word_at, all_behind, FramesFit, IsFirst, IsWord, Within, BeginsWithin}
+use Rattle.ta_cursor.proofs.FramesParts.{in_at}
+
+pub comes_first : (s : Search) (start : ℕ) (past : List Element) → BeginsWith s start past → Comes s start past
+comes_first s start [] b = b
+comes_first s start (e ∷ past) b = inl b
+
+-- where no node is open, no word comes behind
+at_word : (s : Search) (c : Cursor) (w : Pending) → IsFirst c w → IsWord s w → Within s c (w ∷ [])
+at_word s c w is word =
+    let none : [] ≡ reverse c.frames.items = sym (ap reverse is.frames) in
+    record {
+      words = [];
+      inside = record {
+        frames = subst (FramesFit s c (here c) (length c.word) (length c.bounds.items)) none tt;
+        left = ap (all_behind s c) none;
+      };
+      word = subst (IsWord s) (sym is.here) word;
+      left = ap (λ (v : Pending). v ∷ []) (sym is.here);
+    }
 
 pub begins_within : BeginsWithin
-begins_within file s number pattern named is =
-    let a = file.automaton in
-    let below : s.start_mask < 2 ^ length a.fall = subst (λ (k : ℕ). k < 2 ^ length a.fall) (sym is.start) (pow_pos (length a.fall)) in
-    subst (Within file s number pattern) (ap (λ (k : ℕ). drop k (all_starts a)) is.start) (emptied_within file s number pattern named (record { word = is.word; bounds = is.bounds; frames = is.frames }) below)
+begins_within s c number start elements at is =
+    let w = word_at start elements [] in
+    at_word s c w is (record { comes = comes_first s start (reverse elements) (w, in_at s.roots number w at, refl, refl); bounds = tt })

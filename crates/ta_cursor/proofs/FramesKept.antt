@@ -1,19 +1,13 @@
 -- what open nodes leave depends on the beginnings of the word and of the bounds alone
-use Rattle.std.proofs.Common.{◌≡◌, ℕ, zero, suc, ◌+◌, ◌^◌, ◌<◌, ◌≤◌, List, [], ◌∷◌, ◌++◌, length, take, drop, reverse, slice_get, Some, None, arith, sym, ap, ◌∙◌, refl, subst, length-append}
+use Rattle.std.proofs.Common.{◌≡◌, ℕ, zero, suc, ◌+◌, ◌≤◌, List, [], ◌∷◌, ◌++◌, length, take, drop, reverse, slice_get, Some, None, arith, sym, ap, ◌∙◌, refl, subst, length-append}
 use Rattle.std.proofs.Math.Seq.{take-length}
 use Rattle.std.proofs.lemmas.List.{take-append-le, length-take-le, reverse-append}
-use Rattle.ta_automaton.specs.declared.automaton.Automaton.{Automaton}
-use Rattle.ta_automaton.specs.declared.file.File.{File}
-use Rattle.ta_automaton.specs.declared.pattern.Pattern.{Pattern}
 use Rattle.ta_words.specs.declared.element.Element.{Element}
-use Rattle.ta_words.specs.Words.{Legal}
-use Rattle.ta_encode.specs.Unknowns.{meanings}
 use Rattle.ta_encode.specs.declared.meaning.Bound.{Bound}
-use Rattle.ta_encode.specs.InPreorder.{Pending, all_starts, parts}
-use Rattle.ta_encode.proofs.InOrder.{prefix_is_legal}
+use Rattle.ta_encode.specs.Search.{Pending, Search, parts}
 use Rattle.ta_cursor.specs.declared.cursor.Frame.{Frame}
 use Rattle.ta_cursor.specs.declared.cursor.Cursor.{Cursor}
-use Rattle.ta_cursor.specs.Cursors.{here, word_of, node_of, behind, all_behind, BoundsFit, SplitFits, FrameFits, FramesFit, Inside, Within}
+use Rattle.ta_cursor.specs.Cursors.{here, word_of, node_of, behind, all_behind, IsWord, SplitFits, FrameFits, FramesFit, Inside, Within}
 
 take_less : {X : Type 0} (m n : ℕ) (xs : List X) → m ≤ n → take m (take n xs) ≡ take m xs
 take_less zero n xs le = refl
@@ -33,45 +27,45 @@ none_dropped (y ∷ ys) zero e = cc
 none_dropped (y ∷ ys) (suc k) e = none_dropped ys k e
 
 -- cursors under the same start set, with this many elements and bounds alike
-pub record BeginAlike (s t : Cursor) (n m : ℕ) : Type 0 where
-  pub start : t.start_mask ≡ s.start_mask
-  pub word : take n t.word ≡ take n s.word
-  pub bounds : take m t.bounds.items ≡ take m s.bounds.items
+pub record BeginAlike (c d : Cursor) (n m : ℕ) : Type 0 where
+  pub start : d.start_mask ≡ c.start_mask
+  pub word : take n d.word ≡ take n c.word
+  pub bounds : take m d.bounds.items ≡ take m c.bounds.items
 
 fewer_alike : {X : Type 0} (m n : ℕ) (xs ys : List X) → m ≤ n → take n xs ≡ take n ys → take m xs ≡ take m ys
 fewer_alike m n xs ys le e = sym (take_less m n xs le) ∙ ap (take m) e ∙ take_less m n ys le
 
-alike_before : (s t : Cursor) (n m k l : ℕ) → BeginAlike s t n m → k ≤ n → l ≤ m → BeginAlike s t k l
-alike_before s t n m k l h le less = record {
+alike_before : (c d : Cursor) (n m k l : ℕ) → BeginAlike c d n m → k ≤ n → l ≤ m → BeginAlike c d k l
+alike_before c d n m k l h le less = record {
   start = h.start;
-  word = fewer_alike k n t.word s.word le h.word;
-  bounds = fewer_alike l m t.bounds.items s.bounds.items less h.bounds;
+  word = fewer_alike k n d.word c.word le h.word;
+  bounds = fewer_alike l m d.bounds.items c.bounds.items less h.bounds;
 }
 
 same_pending : (a b : ℕ) (past before : List Element) (xs ys : List Bound) → a ≡ b → past ≡ before → xs ≡ ys → ◌≡◌ {A = Pending} (record { start = a; past = past; bounds = xs }) (record { start = b; past = before; bounds = ys })
 same_pending a b past before xs ys e f g = cc
 
-word_kept : (s t : Cursor) (f : Frame) → BeginAlike s t f.length f.bounds → word_of t f ≡ word_of s f
-word_kept s t f h = same_pending t.start_mask s.start_mask (reverse (take f.length t.word)) (reverse (take f.length s.word)) (take f.bounds t.bounds.items) (take f.bounds s.bounds.items) h.start (ap reverse h.word) h.bounds
+word_kept : (c d : Cursor) (f : Frame) → BeginAlike c d f.length f.bounds → word_of d f ≡ word_of c f
+word_kept c d f h = same_pending d.start_mask c.start_mask (reverse (take f.length d.word)) (reverse (take f.length c.word)) (take f.bounds d.bounds.items) (take f.bounds c.bounds.items) h.start (ap reverse h.word) h.bounds
 
-pub frames_kept : (a : Automaton) (p : Pattern) (s t : Cursor) (w : Pending) (n m : ℕ) (fs : List Frame) → BeginAlike s t n m → FramesFit a p s w n m fs → FramesFit a p t w n m fs
-frames_kept a p s t w n m [] h fit = fit
-frames_kept a p s t w n m (f ∷ fs) h fit =
-    let alike = alike_before s t n m f.length f.bounds h fit.0 fit.1 in
-    let same = sym (word_kept s t f alike) in (
+pub frames_kept : (s : Search) (c d : Cursor) (w : Pending) (n m : ℕ) (fs : List Frame) → BeginAlike c d n m → FramesFit s c w n m fs → FramesFit s d w n m fs
+frames_kept s c d w n m [] h fit = fit
+frames_kept s c d w n m (f ∷ fs) h fit =
+    let alike = alike_before c d n m f.length f.bounds h fit.0 fit.1 in
+    let same = sym (word_kept c d f alike) in (
       fit.0,
       fit.1,
-      subst (λ (v : Pending). FrameFits a p v f) same fit.2,
-      subst (λ (v : Pending). slice_get (parts a p v (node_of f.split)) f.next ≡ Some w) same fit.3,
-      subst (λ (v : Pending). FramesFit a p t v f.length f.bounds fs) same (frames_kept a p s t (word_of s f) f.length f.bounds fs alike fit.4),
+      subst (λ (v : Pending). FrameFits s v f) same fit.2,
+      subst (λ (v : Pending). slice_get (parts s v (node_of f.split)) f.next ≡ Some w) same fit.3,
+      subst (λ (v : Pending). FramesFit s d v f.length f.bounds fs) same (frames_kept s c d (word_of c f) f.length f.bounds fs alike fit.4),
     )
 
-pub left_kept : (a : Automaton) (p : Pattern) (s t : Cursor) (w : Pending) (n m : ℕ) (fs : List Frame) → BeginAlike s t n m → FramesFit a p s w n m fs → all_behind a p t fs ≡ all_behind a p s fs
-left_kept a p s t w n m [] h fit = ap (λ (k : ℕ). drop (k + 1) (all_starts a)) h.start
-left_kept a p s t w n m (f ∷ fs) h fit =
-    let alike = alike_before s t n m f.length f.bounds h fit.0 fit.1 in
-    ap (λ (w : Pending). drop (f.next + 1) (parts a p w (node_of f.split)) ++ all_behind a p t fs) (word_kept s t f alike)
-    ∙ ap (λ (ws : List Pending). behind a p s f ++ ws) (left_kept a p s t (word_of s f) f.length f.bounds fs alike fit.4)
+pub left_kept : (s : Search) (c d : Cursor) (w : Pending) (n m : ℕ) (fs : List Frame) → BeginAlike c d n m → FramesFit s c w n m fs → all_behind s d fs ≡ all_behind s c fs
+left_kept s c d w n m [] h fit = refl
+left_kept s c d w n m (f ∷ fs) h fit =
+    let alike = alike_before c d n m f.length f.bounds h fit.0 fit.1 in
+    ap (λ (w : Pending). drop (f.next + 1) (parts s w (node_of f.split)) ++ all_behind s d fs) (word_kept c d f alike)
+    ∙ ap (λ (ws : List Pending). behind s c f ++ ws) (left_kept s c d (word_of c f) f.length f.bounds fs alike fit.4)
 
 -- a cursor at which a node was opened, and whose word and bounds are the node's and more
 pub record Opened (old new : Cursor) (f : Frame) : Type 0 where
@@ -106,42 +100,37 @@ opened_word old new f o =
     ∙ same_pending old.start_mask old.start_mask (reverse (take f.length old.word)) (reverse old.word) (take f.bounds old.bounds.items) old.bounds.items refl (ap reverse (all_taken f.length old.word o.elements)) (all_taken f.bounds old.bounds.items o.marks)
 
 -- behind an open node comes the part of it that the cursor is at, and then the parts behind that
-pub opened_on : (file : File) (old new : Cursor) (number : ℕ) (p : Pattern) (w : Pending) (words : List Pending) (f : Frame)
-    → Within file old number p (w ∷ words) → Opened old new f
-    → SplitFits (length (meanings file.automaton p old.start_mask (reverse old.word))) f.split
-    → Legal file.automaton p new.start_mask (reverse new.word)
-    → BoundsFit file.automaton p (here new)
-    → slice_get (parts file.automaton p w (node_of f.split)) f.next ≡ Some (here new)
-    → Within file new number p (drop f.next (parts file.automaton p w (node_of f.split)) ++ words)
-opened_on file old new number p w words f within o split legal fits part =
-    let a = file.automaton in
+pub opened_on : (s : Search) (old new : Cursor) (w : Pending) (words : List Pending) (f : Frame)
+    → Within s old (w ∷ words) → Opened old new f
+    → SplitFits (s.unknowns old.start_mask (reverse old.word)) f.split
+    → IsWord s (here new)
+    → slice_get (parts s w (node_of f.split)) f.next ≡ Some (here new)
+    → Within s new (drop f.next (parts s w (node_of f.split)) ++ words)
+opened_on s old new w words f within o split word part =
     let fs = reverse old.frames.items in
     let alike = alike_opened old new f o in
     let at : w ≡ here old = (let e = within.left in cc) in
     let same : words ≡ within.words = (let e = within.left in cc) in
     let is = opened_word old new f o in
     let all : reverse new.frames.items ≡ f ∷ fs = ap reverse o.frames ∙ reverse-append old.frames.items (f ∷ []) in
-    let outer : FramesFit a p old (here old) f.length f.bounds fs = subst (λ (n : ℕ). FramesFit a p old (here old) n f.bounds fs) (sym o.elements) (subst (λ (m : ℕ). FramesFit a p old (here old) (length old.word) m fs) (sym o.marks) within.inside.frames) in
-    let chain = subst (λ (v : Pending). slice_get (parts a p v (node_of f.split)) f.next ≡ Some (here new)) (at ∙ sym is) part in
-    let around = subst (λ (v : Pending). FramesFit a p new v f.length f.bounds fs) (sym is) (frames_kept a p old new (here old) f.length f.bounds fs alike outer) in
-    let whole : FrameFits a p (here old) f = record { bounds = within.bounds; split = split } in
-    let fit : FramesFit a p new (here new) (length new.word) (length new.bounds.items) (f ∷ fs) =
-    (longer_by f.length old.word new.word o.more_word o.elements o.word, longer_by f.bounds old.bounds.items new.bounds.items o.more_bounds o.marks o.bounds, subst (λ (v : Pending). FrameFits a p v f) (sym is) whole, chain, around) in
-    let rest = drop (f.next + 1) (parts a p w (node_of f.split)) ++ words in
-    let left : rest ≡ all_behind a p new (f ∷ fs) =
-    ap (λ (v : Pending). drop (f.next + 1) (parts a p v (node_of f.split)) ++ words) (at ∙ sym is)
-    ∙ ap (λ (ws : List Pending). behind a p new f ++ ws) (same ∙ within.inside.left ∙ sym (left_kept a p old new (here old) f.length f.bounds fs alike outer)) in
-    let dropped = ap (λ (ws : List Pending). ws ++ words) (next_dropped (parts a p w (node_of f.split)) f.next (here new) part) in
-    subst (Within file new number p) (sym dropped) (record {
+    let outer : FramesFit s old (here old) f.length f.bounds fs = subst (λ (n : ℕ). FramesFit s old (here old) n f.bounds fs) (sym o.elements) (subst (λ (m : ℕ). FramesFit s old (here old) (length old.word) m fs) (sym o.marks) within.inside.frames) in
+    let chain = subst (λ (v : Pending). slice_get (parts s v (node_of f.split)) f.next ≡ Some (here new)) (at ∙ sym is) part in
+    let around = subst (λ (v : Pending). FramesFit s new v f.length f.bounds fs) (sym is) (frames_kept s old new (here old) f.length f.bounds fs alike outer) in
+    let whole : FrameFits s (here old) f = record { word = within.word; split = split } in
+    let fit : FramesFit s new (here new) (length new.word) (length new.bounds.items) (f ∷ fs) =
+    (longer_by f.length old.word new.word o.more_word o.elements o.word, longer_by f.bounds old.bounds.items new.bounds.items o.more_bounds o.marks o.bounds, subst (λ (v : Pending). FrameFits s v f) (sym is) whole, chain, around) in
+    let rest = drop (f.next + 1) (parts s w (node_of f.split)) ++ words in
+    let left : rest ≡ all_behind s new (f ∷ fs) =
+    ap (λ (v : Pending). drop (f.next + 1) (parts s v (node_of f.split)) ++ words) (at ∙ sym is)
+    ∙ ap (λ (ws : List Pending). behind s new f ++ ws) (same ∙ within.inside.left ∙ sym (left_kept s old new (here old) f.length f.bounds fs alike outer)) in
+    let dropped = ap (λ (ws : List Pending). ws ++ words) (next_dropped (parts s w (node_of f.split)) f.next (here new) part) in
+    subst (Within s new) (sym dropped) (record {
       words = rest;
       inside = record {
-        named = within.inside.named;
-        start = subst (λ (k : ℕ). k < 2 ^ length a.fall) (sym o.start) within.inside.start;
-        legal = legal;
-        frames = subst (FramesFit a p new (here new) (length new.word) (length new.bounds.items)) (sym all) fit;
-        left = left ∙ ap (all_behind a p new) (sym all);
+        frames = subst (FramesFit s new (here new) (length new.word) (length new.bounds.items)) (sym all) fit;
+        left = left ∙ ap (all_behind s new) (sym all);
       };
-      bounds = fits;
+      word = word;
       left = refl;
     })
 
@@ -152,15 +141,15 @@ pub record Popped (old new : Cursor) (f : Frame) : Type 0 where
   pub word : new.word ≡ take f.length old.word
   pub bounds : new.bounds.items ≡ take f.bounds old.bounds.items
 
-popped_frames : (file : File) (old new : Cursor) (number : ℕ) (p : Pattern) (words : List Pending) (f : Frame) → Inside file old number p words → Popped old new f → FramesFit file.automaton p old (here old) (length old.word) (length old.bounds.items) (f ∷ reverse new.frames.items)
-popped_frames file old new number p words f inside o = subst (FramesFit file.automaton p old (here old) (length old.word) (length old.bounds.items)) (ap reverse o.frames ∙ reverse-append new.frames.items (f ∷ [])) inside.frames
+popped_frames : (s : Search) (old new : Cursor) (words : List Pending) (f : Frame) → Inside s old words → Popped old new f → FramesFit s old (here old) (length old.word) (length old.bounds.items) (f ∷ reverse new.frames.items)
+popped_frames s old new words f inside o = subst (FramesFit s old (here old) (length old.word) (length old.bounds.items)) (ap reverse o.frames ∙ reverse-append new.frames.items (f ∷ [])) inside.frames
 
 -- the words behind the child of an open node are those of the node, and then those of the nodes around it
-pub record Reopened (file : File) (new : Cursor) (number : ℕ) (p : Pattern) (words : List Pending) (f : Frame) : Type 0 where
+pub record Reopened (s : Search) (new : Cursor) (words : List Pending) (f : Frame) : Type 0 where
   pub rest : List Pending
-  pub left : words ≡ drop (f.next + 1) (parts file.automaton p (here new) (node_of f.split)) ++ rest
-  pub within : Within file new number p (here new ∷ rest)
-  pub split : SplitFits (length (meanings file.automaton p new.start_mask (reverse new.word))) f.split
+  pub left : words ≡ drop (f.next + 1) (parts s (here new) (node_of f.split)) ++ rest
+  pub within : Within s new (here new ∷ rest)
+  pub split : SplitFits (s.unknowns new.start_mask (reverse new.word)) f.split
 
 popped_word : (old new : Cursor) (f : Frame) → Popped old new f → here new ≡ word_of old f
 popped_word old new f o = same_pending new.start_mask old.start_mask (reverse new.word) (reverse (take f.length old.word)) new.bounds.items (take f.bounds old.bounds.items) o.start (ap reverse o.word) o.bounds
@@ -172,41 +161,37 @@ alike_popped old new f o = record {
   bounds = ap (take f.bounds) o.bounds ∙ take_less f.bounds f.bounds old.bounds.items (omega arith);
 }
 
-pub reopened : (file : File) (old new : Cursor) (number : ℕ) (p : Pattern) (words : List Pending) (f : Frame) → Inside file old number p words → Popped old new f → Reopened file new number p words f
-reopened file old new number p words f inside o =
-    let a = file.automaton in
+pub reopened : (s : Search) (old new : Cursor) (words : List Pending) (f : Frame) → Inside s old words → Popped old new f → Reopened s new words f
+reopened s old new words f inside o =
     let fs = reverse new.frames.items in
-    let fit = popped_frames file old new number p words f inside o in
+    let fit = popped_frames s old new words f inside o in
     let alike = alike_popped old new f o in
     let is = popped_word old new f o in
-    let whole : FrameFits a p (here new) f = subst (λ (v : Pending). FrameFits a p v f) (sym is) fit.2 in
+    let whole : FrameFits s (here new) f = subst (λ (v : Pending). FrameFits s v f) (sym is) fit.2 in
     let elements : length new.word ≡ f.length = ap length o.word ∙ length-take-le f.length old.word fit.0 in
     let marks : length new.bounds.items ≡ f.bounds = ap length o.bounds ∙ length-take-le f.bounds old.bounds.items fit.1 in
-    let outer = subst (λ (v : Pending). FramesFit a p new v f.length f.bounds fs) (sym is) (frames_kept a p old new (word_of old f) f.length f.bounds fs alike fit.4) in
+    let outer = subst (λ (v : Pending). FramesFit s new v f.length f.bounds fs) (sym is) (frames_kept s old new (word_of old f) f.length f.bounds fs alike fit.4) in
     let all : reverse old.frames.items ≡ f ∷ fs = ap reverse o.frames ∙ reverse-append new.frames.items (f ∷ []) in
     record {
-      rest = all_behind a p new fs;
+      rest = all_behind s new fs;
       left =
-          inside.left ∙ ap (all_behind a p old) all
-          ∙ ap (λ (v : Pending). drop (f.next + 1) (parts a p v (node_of f.split)) ++ all_behind a p old fs) (sym is)
-          ∙ ap (λ (ws : List Pending). drop (f.next + 1) (parts a p (here new) (node_of f.split)) ++ ws) (sym (left_kept a p old new (word_of old f) f.length f.bounds fs alike fit.4));
+          inside.left ∙ ap (all_behind s old) all
+          ∙ ap (λ (v : Pending). drop (f.next + 1) (parts s v (node_of f.split)) ++ all_behind s old fs) (sym is)
+          ∙ ap (λ (ws : List Pending). drop (f.next + 1) (parts s (here new) (node_of f.split)) ++ ws) (sym (left_kept s old new (word_of old f) f.length f.bounds fs alike fit.4));
       within = record {
-        words = all_behind a p new fs;
+        words = all_behind s new fs;
         inside = record {
-          named = inside.named;
-          start = subst (λ (k : ℕ). k < 2 ^ length a.fall) (sym o.start) inside.start;
-          legal = subst (λ (k : ℕ). Legal a p k (reverse new.word)) (sym o.start) (subst (λ (xs : List Element). Legal a p old.start_mask (reverse xs)) (sym o.word) (prefix_is_legal a p old.start_mask old.word inside.legal f.length));
-          frames = subst (λ (n : ℕ). FramesFit a p new (here new) n (length new.bounds.items) fs) (sym elements) (subst (λ (m : ℕ). FramesFit a p new (here new) f.length m fs) (sym marks) outer);
+          frames = subst (λ (n : ℕ). FramesFit s new (here new) n (length new.bounds.items) fs) (sym elements) (subst (λ (m : ℕ). FramesFit s new (here new) f.length m fs) (sym marks) outer);
           left = refl;
         };
-        bounds = whole.bounds;
+        word = whole.word;
         left = refl;
       };
       split = whole.split;
     }
 
 -- an open node stands within the word
-pub frame_within : (file : File) (s : Cursor) (number : ℕ) (p : Pattern) (words : List Pending) (fs : List Frame) (f : Frame) → Inside file s number p words → s.frames.items ≡ fs ++ f ∷ [] → f.length ≤ length s.word
-frame_within file s number p words fs f inside e =
-    let fit = subst (FramesFit file.automaton p s (here s) (length s.word) (length s.bounds.items)) (ap reverse e ∙ reverse-append fs (f ∷ [])) inside.frames in
+pub frame_within : (s : Search) (c : Cursor) (words : List Pending) (fs : List Frame) (f : Frame) → Inside s c words → c.frames.items ≡ fs ++ f ∷ [] → f.length ≤ length c.word
+frame_within s c words fs f inside e =
+    let fit = subst (FramesFit s c (here c) (length c.word) (length c.bounds.items)) (ap reverse e ∙ reverse-append fs (f ∷ [])) inside.frames in
     fit.0

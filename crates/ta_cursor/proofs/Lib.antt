@@ -1,6 +1,9 @@
 -- lemmas for the crates above
 pub mod Beginning
 pub mod Ranges
+pub mod PatternWords
+pub mod RowCounts
 mod FramesKept
 mod FramesParts
 mod FramesLeft
+pub mod TreesLeft

@@ -1,2 +1,4 @@
 pub mod Cursors
 pub mod Range
+pub mod TreeCalls
+pub mod InTrees

@@ -2,6 +2,7 @@
 use Rattle.std.specs.Prelude.{ℕ, ℤ, pos, List, slice_get}
 use Rattle.ta_linear.specs.Sums.{StaysInRange}
 use Rattle.ta_encode.specs.System.{LinearRow}
+use Rattle.ta_encode.specs.Search.{Pending, Search, rows_of}
 use Rattle.ta_encode.specs.Refutes.{coefficient_in, constant_in, LeafOfRows}
 
 -- the products of the multipliers with the rows' coefficients of each unknown, and with the rows' constants, and the
@@ -14,3 +15,7 @@ pub record LeafStays (rows : List LinearRow) (ts : List (ℕ × ℤ)) : Type 0 w
 pub record Judged (rows : List LinearRow) (ts : List (ℕ × ℤ)) : Type 0 where
   pub leaf : LeafOfRows rows ts
   pub in_range : LeafStays rows ts
+
+-- so it is over the rows of a word
+abbrev pub IsJudged : Search → Pending → List (ℕ × ℤ) → Type 0
+IsJudged s w ts = Judged (rows_of s w) ts

@@ -1,9 +1,10 @@
 //! Cursors.
 #![tactic(auto)]
 
-ghost use Rattle.std.specs.Prelude.{◌≡◌};
-ghost use Rattle.ta_cursor.specs.Cursors.{IsFirst};
+ghost use Rattle.std.specs.Prelude.{◌≡◌, []};
+ghost use Rattle.ta_cursor.specs.Cursors.{IsFirst, word_at};
 
+use crate::root::Root;
 use std::alloc::Global;
 use ta_encode::Bound;
 use ta_words::Word;
@@ -21,8 +22,8 @@ pub struct Frame {
     pub next: u32,
 }
 
-/// Where a pattern's trees, one for each start set, are being read or made, each tree's nodes in
-/// preorder. The start set, the word and the bounds are those of the node that comes next.
+/// Where the tree of a word is being read or made, its nodes in preorder. The start set, the word
+/// and the bounds are those of the node that comes next.
 #[derive(Drop)]
 pub struct Cursor {
     pub(crate) start_mask: u8,
@@ -33,14 +34,14 @@ pub struct Cursor {
 }
 
 impl Cursor {
-    /// The cursor at the first node: the empty word of the empty start set, without bounds. It
-    /// takes no memory.
-    pub fn new(alloc: Global) -> Cursor
-        ensures { IsFirst result }
+    /// The cursor at the first node of the tree of a word. It takes no memory.
+    pub fn new(alloc: Global, root: Root) -> Cursor
+        ensures { IsFirst result (word_at root.start_mask root.word []) }
     {
+        let Root { start_mask, word } = root;
         Cursor {
-            start_mask: 0,
-            word: Word::new(),
+            start_mask,
+            word,
             bounds: Vec::new(alloc),
             frames: Vec::new(alloc),
         }

@@ -3,7 +3,7 @@
 
 ghost use Rattle.ta_cursor.specs.Cursors.{BeginsWithin};
 
-/// At the first node all start sets are left.
+/// At a word with which a search begins, that word is left.
 pub fn begins_within()
     ensures { BeginsWithin }
 {}

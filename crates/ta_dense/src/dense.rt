@@ -9,7 +9,9 @@ ghost use Rattle.ta_dense.specs.Fault.{IsOverflow};
 ghost use Rattle.ta_dense.specs.Rows.{row_view};
 
 use crate::dictionary::{Dictionary, ExtendFault, PivotFault};
-use crate::extending::{carry_rows, new_slack_rows, padded_row, raised_columns, widened_rows};
+use crate::extending::{
+    carry_rows, first_columns, new_slack_rows, padded_row, raised_columns, widened_rows,
+};
 use crate::kept::DensePivot;
 use crate::rows::{DenseRow, pivot_rows};
 use std::alloc::{AllocError, Global};
@@ -79,21 +81,6 @@ impl DenseDictionary {
     {
         DenseDictionary { non_basic, rows }
     }
-
-    pub(crate) fn row_list(&self) -> &[DenseRow]
-        ensures view { views result.now ≡ self.now.rows }
-        ensures proper { AreProper (length self.now.non_basic) result.now }
-        ensures few { length result.now < 2 ^ 32 }
-    {
-        &self.rows
-    }
-
-    pub(crate) fn non_basic_list(&self) -> &[u32]
-        ensures value { result.now ≡ self.now.non_basic }
-        ensures few { length result.now < 2 ^ 32 }
-    {
-        &self.non_basic
-    }
 }
 
 impl Dictionary for DenseDictionary {
@@ -104,10 +91,7 @@ impl Dictionary for DenseDictionary {
     ghost pivot_of = { λ k. k };
 
     fn from_system(alloc: Global, system: &System) -> Result<Self, AllocError> {
-        let mut non_basic = Vec::new(alloc);
-        for unknown in 0..system.unknowns {
-            non_basic.push(unknown)?;
-        }
+        let non_basic = first_columns(alloc, system.unknowns)?;
         let rows = new_slack_rows(alloc, system, 0)?;
         Ok(DenseDictionary { non_basic, rows })
     }

@@ -28,9 +28,9 @@ pub(crate) fn new_slack_rows(
     ensures proper { IfOk result (λ v. AreProper system.now.unknowns v.items) }
     ensures long { IfOk result (λ v. length v.items + first ≡ length system.now.rows) }
 {
-    let mut rows = Vec::new(alloc);
-    let mut slack = system.unknowns + first;
     let (_, list) = system.rows.as_slice().split_at(first as usize);
+    let mut rows = Vec::with_capacity(alloc, list.len())?;
+    let mut slack = system.unknowns + first;
     for row in list {
         rows.push(slack_row(alloc, row, system.unknowns, slack)?)?;
         slack += 1;
@@ -79,6 +79,17 @@ pub(crate) fn raised_variable(variable: u32, unknowns: u32, new: u32) -> u32
     }
 }
 
+// The unknowns, up to a number, as the non-basic variables.
+pub(crate) fn first_columns(alloc: Global, unknowns: u32) -> Result<Vec<u32>, AllocError>
+    ensures { IfOk result (λ v. v.items ≡ range_with_len 0 unknowns) }
+{
+    let mut columns = Vec::with_capacity(alloc, unknowns as usize)?;
+    for unknown in 0..unknowns {
+        columns.push(unknown)?;
+    }
+    Ok(columns)
+}
+
 // The non-basic variables where there are more unknowns, and then these.
 pub(crate) fn raised_columns(
     alloc: Global,
@@ -107,7 +118,7 @@ fn raised_old(
     requires { (j : ℕ) → j < length non_basic.now → slice_index non_basic.now j + new < 2 ^ 32 }
     ensures { IfOk result (λ v. v.items ≡ map (raised unknowns new) non_basic.now) }
 {
-    let mut columns = Vec::new(alloc);
+    let mut columns = Vec::with_capacity(alloc, non_basic.len() + new as usize)?;
     for variable in non_basic {
         columns.push(raised_variable(*variable, unknowns, new))?;
     }

@@ -11,6 +11,7 @@ mod narrow;
 mod narrow_cells;
 mod narrow_extending;
 mod narrow_rows;
+mod narrow_slack;
 mod rows;
 mod small;
 mod small_pivot;

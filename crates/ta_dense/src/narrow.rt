@@ -134,10 +134,9 @@ impl Dictionary for NarrowDictionary {
     ghost pivot_of = { pivot_in_either };
 
     fn from_system(alloc: Global, system: &System) -> Result<Self, AllocError> {
-        let dense = DenseDictionary::from_system(alloc, system)?;
-        let form = match SmallDictionary::from_dense(alloc, &dense)? {
+        let form = match SmallDictionary::from_system(alloc, system)? {
             Some(small) => Form::Narrow(small),
-            None => Form::Wide(dense),
+            None => Form::Wide(DenseDictionary::from_system(alloc, system)?),
         };
         Ok(NarrowDictionary { form })
     }

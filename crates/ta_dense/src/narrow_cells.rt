@@ -1,9 +1,22 @@
 //! Lists of cells of 64 bits.
 
-ghost use Rattle.std.specs.Prelude.{◌≡◌, ◌<◌, ◌≤◌, ◌^◌, pos, ◌<ℤ◌, unsigned_abs, int_div, neg_ℤ, length, map};
+ghost use Rattle.std.specs.Prelude.{◌≡◌, ◌<◌, ◌≤◌, ◌^◌, pos, ◌<ℤ◌, unsigned_abs, int_div, neg_ℤ, length, map, IfSome};
 ghost use Rattle.std.specs.Int.{IsGcd};
+ghost use Rattle.ta_linear.specs.Gcd.{gcd_of};
 ghost use Rattle.ta_dense.specs.Tableau.{combine, gcd_with};
 ghost use Rattle.ta_dense.specs.Bounds.{AllCombineIn64, AreBounded, AreSmall};
+
+// The number in 64 bits, where its absolute value is below 2^63.
+pub(crate) fn narrowed(number: i128) -> Option<i64>
+    ensures value { IfSome result (λ z. z ≡ number) }
+    ensures small { IfSome result (λ z. unsigned_abs z < 2 ^ 63) }
+{
+    if number.unsigned_abs() < 1 << 63 {
+        Some(number as i64)
+    } else {
+        None
+    }
+}
 
 // `p` times the first list minus `q` times the second, place by place.
 #[inline(always)]
@@ -63,6 +76,17 @@ pub(crate) fn gcd_narrow(a: u64, b: u64) -> u64
     x
 }
 
+// The greatest common divisor of a divisor and a cell; most cells are 0, and few are less than it.
+fn gcd_with_cell(divisor: u64, cell: i64) -> u64
+    ensures { result ≡ gcd_of divisor (unsigned_abs cell) }
+{
+    if cell == 0 {
+        divisor
+    } else {
+        gcd_narrow(cell.unsigned_abs(), divisor)
+    }
+}
+
 // The greatest common divisor of a natural number and cells.
 pub(crate) fn gcd_of_narrow(start: u64, cells: &[i64]) -> u64
     ensures { result ≡ gcd_with start cells.now }
@@ -72,9 +96,17 @@ pub(crate) fn gcd_of_narrow(start: u64, cells: &[i64]) -> u64
         if divisor == 1 {
             return 1;
         }
-        divisor = gcd_narrow(divisor, cell.unsigned_abs());
+        divisor = gcd_with_cell(divisor, *cell);
     }
     divisor
+}
+
+// The quotient; many cells are 0, and a division takes long.
+fn quotient(cell: i64, divisor: i64) -> i64
+    requires { pos 0 <ℤ divisor }
+    ensures { result ≡ int_div cell divisor }
+{
+    if cell == 0 { 0 } else { cell / divisor }
 }
 
 // Divides each cell.
@@ -83,7 +115,7 @@ pub(crate) fn divide_narrow(cells: &mut [i64], divisor: i64)
     ensures { cells.new ≡ map (λ z. int_div z divisor) cells.old }
 {
     for cell in cells.iter_mut() {
-        *cell = *cell / divisor;
+        *cell = quotient(*cell, divisor);
     }
 }
 

@@ -5,7 +5,7 @@ ghost use Rattle.ta_dense.specs.Tableau.{basic_of, cell_of, non_basic_of, pivote
 ghost use Rattle.ta_dense.specs.Merge.{IsProper, AllMergeInRange};
 ghost use Rattle.ta_dense.specs.Entering.{Enters, NoneEnters};
 ghost use Rattle.ta_dense.specs.Leaving.{Leaves, NoneLeaves};
-ghost use Rattle.ta_dense.specs.Slack.{variables};
+ghost use Rattle.ta_dense.specs.Slack.{slack_tableau, variables};
 ghost use Rattle.ta_dense.specs.Kept.{AreKept, StayInRange, pivot_in};
 ghost use Rattle.ta_dense.specs.Extending.{MayBegin, extended, new_rows};
 ghost use Rattle.ta_dense.specs.Inside.Padded.{padded};
@@ -16,10 +16,10 @@ ghost use Rattle.ta_dense.specs.Narrow.{narrow_view, narrow_views, IsNarrow, Are
 
 use crate::dense::DenseDictionary;
 use crate::dictionary::Dictionary;
-use crate::extending::{new_slack_rows, raised_columns};
-use crate::narrow_cells::greatest_of;
+use crate::extending::{first_columns, raised_columns};
 use crate::narrow_extending::{carry_narrow_rows, widened_narrow_rows};
 use crate::narrow_rows::{NarrowRow, pivot_narrow_rows};
+use crate::narrow_slack::narrow_slack_rows;
 use crate::rows::DenseRow;
 use crate::small_pivot::{NarrowPivot, SmallPivot};
 use std::alloc::{AllocError, Global};
@@ -45,59 +45,6 @@ impl Model for SmallDictionary {
     ghost invariant = { IsSoundSmall };
 }
 
-// The number in 64 bits, where its absolute value is below 2^63.
-fn narrowed(number: i128) -> Option<i64>
-    ensures value { IfSome result (λ z. z ≡ number) }
-    ensures small { IfSome result (λ z. unsigned_abs z < 2 ^ 63) }
-{
-    if number.unsigned_abs() < 1 << 63 {
-        Some(number as i64)
-    } else {
-        None
-    }
-}
-
-// The cells in 64 bits, where all of them fit.
-fn narrowed_cells(alloc: Global, cells: &[i128]) -> Result<Option<Vec<i64>>, AllocError>
-    ensures value { IfOk result (λ o. IfSome o (λ v. v.items ≡ cells.now)) }
-    ensures small { IfOk result (λ o. IfSome o (λ v. AreSmall v.items)) }
-{
-    let mut narrow = Vec::with_capacity(alloc, cells.len())?;
-    for cell in cells {
-        let Some(number) = narrowed(*cell) else {
-            return Ok(None);
-        };
-        narrow.push(number)?;
-    }
-    Ok(Some(narrow))
-}
-
-// The row in 64 bits, where its numbers fit.
-pub(crate) fn narrowed_row(alloc: Global, row: &DenseRow) -> Result<Option<NarrowRow>, AllocError>
-    requires { IsProper (length row.now.cells.items) (row_view row.now) }
-    ensures value { IfOk result (λ o. IfSome o (λ r. narrow_view r ≡ row_view row.now)) }
-    ensures narrow { IfOk result (λ o. IfSome o (λ r. IsNarrow (length row.now.cells.items) r)) }
-{
-    let Some(denominator) = narrowed(row.denominator) else {
-        return Ok(None);
-    };
-    let Some(constant) = narrowed(row.constant) else {
-        return Ok(None);
-    };
-    let Some(cells) = narrowed_cells(alloc, &row.cells)? else {
-        return Ok(None);
-    };
-    let first = denominator.unsigned_abs().max(constant.unsigned_abs());
-    let bound = greatest_of(first, &cells);
-    Ok(Some(NarrowRow {
-        basic: row.basic,
-        denominator,
-        constant,
-        cells,
-        bound,
-    }))
-}
-
 // The cells in 128 bits.
 fn widened_cells(alloc: Global, cells: &[i64]) -> Result<Vec<i128>, AllocError>
     ensures { IfOk result (λ v. v.items ≡ cells.now) }
@@ -119,26 +66,6 @@ pub(crate) fn widened_row(alloc: Global, row: &NarrowRow) -> Result<DenseRow, Al
         constant: row.constant as i128,
         cells: widened_cells(alloc, &row.cells)?,
     })
-}
-
-// The rows in 64 bits, where their numbers fit.
-fn narrowed_rows(
-    alloc: Global,
-    list: &[DenseRow],
-    _columns: u32,
-) -> Result<Option<Vec<NarrowRow>>, AllocError>
-    requires { AreProper _columns list.now }
-    ensures value { IfOk result (λ o. IfSome o (λ v. narrow_views v.items ≡ views list.now)) }
-    ensures narrow { IfOk result (λ o. IfSome o (λ v. AreNarrow _columns v.items)) }
-{
-    let mut rows = Vec::with_capacity(alloc, list.len())?;
-    for row in list {
-        let Some(narrow) = narrowed_row(alloc, row)? else {
-            return Ok(None);
-        };
-        rows.push(narrow)?;
-    }
-    Ok(Some(rows))
 }
 
 // The cells with zeros up to a number of columns.
@@ -174,17 +101,18 @@ pub(crate) fn padded_narrow(
 }
 
 impl SmallDictionary {
-    /// The dictionary in 64 bits, where its numbers fit.
-    pub(crate) fn from_dense(
+    /// The dictionary in which every slack is basic, where its numbers fit 64 bits.
+    pub(crate) fn from_system(
         alloc: Global,
-        dense: &DenseDictionary,
+        system: &System,
     ) -> Result<Option<SmallDictionary>, AllocError>
-        ensures { IfOk result (λ o. IfSome o (λ d. d ≡ dense.now)) }
+        requires { variables system.now < 2 ^ 32 }
+        ensures { IfOk result (λ o. IfSome o (λ d. d ≡ slack_tableau system.now)) }
     {
-        let Some(rows) = narrowed_rows(alloc, dense.row_list(), dense.columns())? else {
+        let Some(rows) = narrow_slack_rows(alloc, system, 0)? else {
             return Ok(None);
         };
-        let non_basic = Vec::from_slice(alloc, dense.non_basic_list())?;
+        let non_basic = first_columns(alloc, system.unknowns)?;
         Ok(Some(SmallDictionary { non_basic, rows }))
     }
 
@@ -321,8 +249,7 @@ impl SmallDictionary {
     {
         let first = self.rows();
         let columns = self.columns();
-        let dense = new_slack_rows(alloc, longer, first)?;
-        let Some(mut carried) = narrowed_rows(alloc, &dense, longer.unknowns)? else {
+        let Some(mut carried) = narrow_slack_rows(alloc, longer, first)? else {
             return Ok(None);
         };
         if !carry_narrow_rows(alloc, &mut carried, longer.unknowns, kept)? {

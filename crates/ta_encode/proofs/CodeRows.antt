@@ -11,10 +11,11 @@ use Rattle.ta_linear.specs.declared.row.System.{System}
 use Rattle.ta_linear.proofs.RangeSum.{range_sum-same, terms_value-sum}
 use Rattle.ta_automaton.specs.declared.automaton.Automaton.{Automaton}
 use Rattle.ta_automaton.specs.declared.pattern.Pattern.{Pattern}
-use Rattle.ta_words.specs.declared.element.Element.{Element}
-use Rattle.ta_encode.specs.System.{LinearRow, Bound, bound_row, word_rows, system_rows, row_value, AllHold, SolvesWord}
-use Rattle.ta_encode.specs.Refutes.{coefficient_in, constant_in, LeafOfRows}
-use Rattle.ta_encode.specs.Code.{RowOf, RowsOf, SystemOf}
+use Rattle.ta_encode.specs.System.{LinearRow, bound_row, word_rows, row_value, AllHold, SolvesWord}
+use Rattle.ta_encode.specs.Search.{Pending, Search, SolvesAt, rows_of}
+use Rattle.ta_encode.specs.PatternSearch.{pattern_search}
+use Rattle.ta_encode.specs.Refutes.{coefficient_in, constant_in, IsLeaf}
+use Rattle.ta_encode.specs.Code.{RowOf, RowsOf, SystemAt}
 use Rattle.ta_encode.proofs.Moments.{AllHold-append, AllHold-left}
 use Rattle.ta_encode.proofs.RowSums.{value_at, combine-range}
 
@@ -45,9 +46,9 @@ weighted_same f g rs ls [] h = refl
 weighted_same f g rs ls (t ∷ ts) h = omega (arith, ints, ap (λ z. t.1 *ℤ z) (h t.0), weighted_same f g rs ls ts h)
 
 -- a leaf of the code's system is one of the word's rows
-pub leaf_of : (a : Automaton) (p : Pattern) (start : ℕ) (past : List Element) (bounds : List Bound) (system : System) (ts : List (ℕ × ℤ)) → SystemOf a p start past bounds system → LeafOf system ts → LeafOfRows (system_rows a p start past bounds) ts
-leaf_of a p start past bounds system ts is leaf =
-    let ls = system_rows a p start past bounds in
+pub leaf_of : (s : Search) (w : Pending) (system : System) (ts : List (ℕ × ℤ)) → SystemAt s w system → LeafOf system ts → IsLeaf s w ts
+leaf_of s w system ts is leaf =
+    let ls = rows_of s w in
     record {
       multipliers = subst (λ (n : ℕ). AreMultipliers 0 n ts) (rows_count ls system.rows is.rows) leaf.multipliers;
       none_positive = λ u. subst (λ (z : ℤ). z ≤ℤ pos 0) (weighted_same (code_coefficient u) (coefficient_in u) system.rows ls ts (λ k. coefficient_same u ls system.rows k is.rows)) (leaf.none_positive u);
@@ -55,9 +56,9 @@ leaf_of a p start past bounds system ts is leaf =
     }
 
 -- a leaf of the word's rows is one of the code's system
-pub leaf_back : (a : Automaton) (p : Pattern) (start : ℕ) (past : List Element) (bounds : List Bound) (system : System) (ts : List (ℕ × ℤ)) → SystemOf a p start past bounds system → LeafOfRows (system_rows a p start past bounds) ts → LeafOf system ts
-leaf_back a p start past bounds system ts is leaf =
-    let ls = system_rows a p start past bounds in
+pub leaf_back : (s : Search) (w : Pending) (system : System) (ts : List (ℕ × ℤ)) → SystemAt s w system → IsLeaf s w ts → LeafOf system ts
+leaf_back s w system ts is leaf =
+    let ls = rows_of s w in
     record {
       multipliers = subst (λ (n : ℕ). AreMultipliers 0 n ts) (sym (rows_count ls system.rows is.rows)) leaf.multipliers;
       none_positive = λ u. subst (λ (z : ℤ). z ≤ℤ pos 0) (sym (weighted_same (code_coefficient u) (coefficient_in u) system.rows ls ts (λ k. coefficient_same u ls system.rows k is.rows))) (leaf.none_positive u);
@@ -89,22 +90,22 @@ rows_back vs n [] (r ∷ rs) e b is h k d c = absurd is
 rows_back vs n (l ∷ ls) [] e b is h k d c = absurd is
 
 -- a solution of the code's system is one of the word
-pub solution_of : (a : Automaton) (p : Pattern) (start : ℕ) (past : List Element) (bounds : List Bound) (system : System) (vs : List ℕ) → SystemOf a p start past bounds system → Solves system vs → SolvesWord a p start past bounds vs
-solution_of a p start past bounds system vs is s = record {
-  count = s.count ∙ is.unknowns;
-  rows_hold = rows_hold vs system.unknowns (system_rows a p start past bounds) system.rows (sym s.count) system.within is.rows s.rows_hold;
+pub solution_of : (s : Search) (w : Pending) (system : System) (vs : List ℕ) → SystemAt s w system → Solves system vs → SolvesAt s w vs
+solution_of s w system vs is solves = record {
+  count = solves.count ∙ is.unknowns;
+  rows_hold = rows_hold vs system.unknowns (rows_of s w) system.rows (sym solves.count) system.within is.rows solves.rows_hold;
 }
 
 -- a solution of the word is one of the code's system
-pub solution_back : (a : Automaton) (p : Pattern) (start : ℕ) (past : List Element) (bounds : List Bound) (system : System) (vs : List ℕ) → SystemOf a p start past bounds system → SolvesWord a p start past bounds vs → Solves system vs
-solution_back a p start past bounds system vs is s = record {
-  count = s.count ∙ sym is.unknowns;
-  rows_hold = rows_back vs system.unknowns (system_rows a p start past bounds) system.rows (sym (s.count ∙ sym is.unknowns)) system.within is.rows s.rows_hold;
+pub solution_back : (s : Search) (w : Pending) (system : System) (vs : List ℕ) → SystemAt s w system → SolvesAt s w vs → Solves system vs
+solution_back s w system vs is solves = record {
+  count = solves.count ∙ sym is.unknowns;
+  rows_hold = rows_back vs system.unknowns (rows_of s w) system.rows (sym (solves.count ∙ sym is.unknowns)) system.within is.rows solves.rows_hold;
 }
 
 -- a solution with bounds is one without
-pub unbounded : (a : Automaton) (p : Pattern) (start : ℕ) (past : List Element) (bounds : List Bound) (vs : List ℕ) → SolvesWord a p start past bounds vs → SolvesWord a p start past [] vs
-unbounded a p start past bounds vs s = record {
+pub unbounded : (a : Automaton) (p : Pattern) (w : Pending) (vs : List ℕ) → SolvesAt (pattern_search a p) w vs → SolvesWord a p w.start w.past [] vs
+unbounded a p w vs s = record {
   count = s.count;
-  rows_hold = AllHold-append vs (word_rows a p start past) [] (AllHold-left vs (word_rows a p start past) (map bound_row bounds) s.rows_hold) tt;
+  rows_hold = AllHold-append vs (word_rows a p w.start w.past) [] (AllHold-left vs (word_rows a p w.start w.past) (map bound_row w.bounds) s.rows_hold) tt;
 }

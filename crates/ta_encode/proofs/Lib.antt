@@ -20,7 +20,7 @@ mod Smallness
 mod Masked
 mod Blocks
 mod Combine
-mod Moments
+pub mod Moments
 mod State
 mod Start
 mod RowSums
@@ -33,3 +33,4 @@ mod Begin
 mod Starts
 mod Realize
 mod Naming
+pub mod Samples

@@ -169,7 +169,7 @@ start_moment a p c fits start empty =
           ];
     }
 
-processes_value : (a : Automaton) (p : Pattern) (c : Config) → Fits a c → Initial a c → StartsEmpty p c → (more : List ℕ) → row_value ((parameter_values a c ++ start_counts a p c) ++ more) (processes_row a (start_meanings a p)) ≡ pos 0
+pub processes_value : (a : Automaton) (p : Pattern) (c : Config) → Fits a c → Initial a c → StartsEmpty p c → (more : List ℕ) → row_value ((parameter_values a c ++ start_counts a p c) ++ more) (processes_row a (start_meanings a p)) ≡ pos 0
 unfolding start_meanings
 processes_value a p c fits start empty more =
     let m = start_moment a p c fits start empty in

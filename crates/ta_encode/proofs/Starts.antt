@@ -67,7 +67,7 @@ parts a p vs i =
     let cut = ap (λ n. combine (map g (map Start locs)) (drop n vs)) many in
     omega (arith, ints, split, cut, through g Parameter nums vs, through g Start locs (drop (length a.parameters) vs))
 
-parameter_picks : (a : Automaton) (p : Pattern) (vs : List ℕ) → length a.parameters ≤ length vs → (first_of a p vs).parameters ≡ take (length a.parameters) vs
+pub parameter_picks : (a : Automaton) (p : Pattern) (vs : List ℕ) → length a.parameters ≤ length vs → (first_of a p vs).parameters ≡ take (length a.parameters) vs
 parameter_picks a p vs b =
     let n = length a.parameters in
     let nums = numbers_from 0 n in

@@ -31,7 +31,7 @@ map_same : (f g : ℕ → ℕ) (xs : List ℕ) → ((x : ℕ) → f x ≡ g x) �
 map_same f g [] h = refl
 map_same f g (x ∷ xs) h = let first = h x in let rest = map_same f g xs h in cc
 
-each_index : (xs : List ℕ) → map (λ j. get_or xs j 0) (numbers_from 0 (length xs)) ≡ xs
+pub each_index : (xs : List ℕ) → map (λ j. get_or xs j 0) (numbers_from 0 (length xs)) ≡ xs
 each_index [] = refl
 each_index (x ∷ xs) =
     ap (λ (ys : List ℕ). x ∷ ys) (shift (λ j. get_or (x ∷ xs) j 0) 0 (length xs) ∙ map_same (λ j. get_or (x ∷ xs) (j + 1) 0) (λ j. get_or xs j 0) (numbers_from 0 (length xs)) (λ j. grind arith) ∙ each_index xs)

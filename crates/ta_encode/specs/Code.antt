@@ -1,13 +1,14 @@
 -- A system of the code is the system of a word
-use Rattle.std.specs.Prelude.{ℕ, pos, ◌≡◌, List, [], ◌∷◌, length, slice_index_or}
+use Rattle.std.specs.Prelude.{ℕ, pos, ◌≡◌, List, [], ◌∷◌, slice_index_or}
 use Rattle.ta_linear.specs.Terms.{coefficient}
 use Rattle.ta_linear.specs.declared.row.Row.{Row}
 use Rattle.ta_linear.specs.declared.row.System.{System}
 use Rattle.ta_automaton.specs.declared.automaton.Automaton.{Automaton}
 use Rattle.ta_automaton.specs.declared.pattern.Pattern.{Pattern}
 use Rattle.ta_words.specs.declared.element.Element.{Element}
-use Rattle.ta_encode.specs.Unknowns.{meanings}
-use Rattle.ta_encode.specs.System.{LinearRow, Bound, system_rows}
+use Rattle.ta_encode.specs.System.{LinearRow, Bound}
+use Rattle.ta_encode.specs.Search.{Pending, Search, rows_of}
+use Rattle.ta_encode.specs.PatternSearch.{pattern_search}
 
 -- the same constant, and the same coefficient of each unknown
 pub record RowOf (linear : LinearRow) (row : Row) : Type 0 where
@@ -21,7 +22,11 @@ RowsOf (l ∷ ls) (r ∷ rs) = RowOf l r × RowsOf ls rs
 RowsOf [] (r ∷ rs) = ⊥
 RowsOf (l ∷ ls) [] = ⊥
 
--- the unknowns and the rows of a word with bounds
-pub record SystemOf (a : Automaton) (p : Pattern) (start : ℕ) (past : List Element) (bounds : List Bound) (system : System) : Type 0 where
-  pub unknowns : system.unknowns ≡ length (meanings a p start past)
-  pub rows : RowsOf (system_rows a p start past bounds) system.rows
+-- the unknowns and the rows of a word of a search
+pub record SystemAt (s : Search) (w : Pending) (system : System) : Type 0 where
+  pub unknowns : system.unknowns ≡ s.unknowns w.start w.past
+  pub rows : RowsOf (rows_of s w) system.rows
+
+-- those of a pattern's word with bounds
+abbrev pub SystemOf : Automaton → Pattern → ℕ → List Element → List Bound → System → Type 0
+SystemOf a p start past bounds system = SystemAt (pattern_search a p) (record { start = start; past = past; bounds = bounds }) system

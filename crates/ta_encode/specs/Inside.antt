@@ -1,3 +1,4 @@
 pub mod Draft
 pub mod Firings
 pub mod Lines
+pub mod Rules

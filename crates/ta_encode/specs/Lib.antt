@@ -1,5 +1,7 @@
 pub mod Unknowns
 pub mod System
+pub mod Search
+pub mod PatternSearch
 pub mod Refutes
 pub mod Laws
 pub mod Code
@@ -7,4 +9,5 @@ pub mod Lines
 pub mod Marks
 pub mod Named
 pub mod InPreorder
+pub mod Sample
 pub mod Inside

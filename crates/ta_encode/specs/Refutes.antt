@@ -1,14 +1,13 @@
--- Which trees refute a word, and which are a proof of a pattern (Farkas' lemma and integer branching over the words of
--- this project's profile)
-use Rattle.std.specs.Prelude.{ℕ, ℤ, pos, ◌+◌, ◌<◌, ◌≡◌, ◌^◌, false, List, [], ◌∷◌, ◌++◌, length, slice_index_or, Option, Some, None}
+-- Which trees refute a word, and which are a proof (Farkas' lemma and integer branching over the words of this project's profile)
+use Rattle.std.specs.Prelude.{ℕ, ℤ, pos, ◌<◌, ◌≡◌, false, List, [], ◌∷◌, map, slice_index_or, Option, Some, None}
 use Rattle.ta_linear.specs.Leaf.{Leaf as FarkasLeaf}
 use Rattle.ta_automaton.specs.declared.automaton.Automaton.{Automaton}
 use Rattle.ta_automaton.specs.declared.pattern.Pattern.{Pattern}
 use Rattle.ta_cert.specs.Tree.{Tree, Forest, Leaf, Extend, Split, Done, More}
-use Rattle.ta_words.specs.declared.element.Element.{Element}
-use Rattle.ta_words.specs.Words.{children, is_complete}
-use Rattle.ta_encode.specs.Unknowns.{meanings}
-use Rattle.ta_encode.specs.System.{LinearRow, Bound, Side, Low, High, system_rows}
+use Rattle.ta_encode.specs.System.{LinearRow, Low, High}
+use Rattle.ta_encode.specs.Search.{Pending, Search, bounded, longer, rows_of}
+pub use Rattle.ta_encode.specs.Search.{LeafTest, bound_at}
+use Rattle.ta_encode.specs.PatternSearch.{pattern_search}
 
 -- a row's coefficient of an unknown, and its constant; 0 where there is no row
 abbrev pub coefficient_in : ℕ → Option LinearRow → ℤ
@@ -23,41 +22,38 @@ constant_in (Some row) = row.constant
 abbrev pub LeafOfRows : List LinearRow → List (ℕ × ℤ) → Type 0
 LeafOfRows rows ts = FarkasLeaf coefficient_in constant_in rows ts
 
--- one side of a split
-abbrev pub bound_at : ℕ → ℤ → Side → Bound
-bound_at unknown floor side = record { unknown = unknown; floor = floor; side = side }
-
--- what is asked of the rows of a leaf's word and of the leaf's multipliers
-abbrev pub LeafTest : Type 1
-LeafTest = List LinearRow → List (ℕ × ℤ) → Type 0
+-- multipliers of a word's rows are such a leaf
+abbrev pub IsLeaf : Search → Pending → List (ℕ × ℤ) → Type 0
+IsLeaf s w ts = LeafOfRows (rows_of s w) ts
 
 unfoldable mutual
-  -- a leaf that meets the test over the rows of the word's system; or a tree for each child of a word that isn't complete; or a tree for each side of an unknown of the system
-  pub RefutesBy : LeafTest → Automaton → Pattern → ℕ → List Element → List Bound → Tree → Type 0
-  RefutesBy test a p start past bounds (Leaf ts) = test (system_rows a p start past bounds) ts
-  RefutesBy test a p start past bounds (Extend trees) = (is_complete p past ≡ false) × RefuteEach test a p start past bounds (children a p start past) trees
-  RefutesBy test a p start past bounds (Split unknown floor low high) =
-      (unknown < length (meanings a p start past))
-      × RefutesBy test a p start past (bounds ++ bound_at unknown floor Low ∷ []) low
-      × RefutesBy test a p start past (bounds ++ bound_at unknown floor High ∷ []) high
+  -- a leaf that meets the test; or a tree for each word that is longer than one that isn't complete; or a tree for each side of an unknown of the word's system
+  pub RefutesBy : Search → LeafTest → Pending → Tree → Type 0
+  RefutesBy s test w (Leaf ts) = test w ts
+  RefutesBy s test w (Extend trees) = (s.complete w.start w.past ≡ false) × RefuteEach s test (map (longer w) (s.following w.start w.past)) trees
+  RefutesBy s test w (Split unknown floor low high) =
+      (unknown < s.unknowns w.start w.past)
+      × RefutesBy s test (bounded w (bound_at unknown floor Low)) low
+      × RefutesBy s test (bounded w (bound_at unknown floor High)) high
 
-  -- one tree for each element, in order, each of which refutes the word that is longer by the element
-  pub RefuteEach : LeafTest → Automaton → Pattern → ℕ → List Element → List Bound → List Element → Forest → Type 0
-  RefuteEach test a p start past bounds [] Done = Unit {0}
-  RefuteEach test a p start past bounds (e ∷ es) Done = ⊥
-  RefuteEach test a p start past bounds [] (More tree trees) = ⊥
-  RefuteEach test a p start past bounds (e ∷ es) (More tree trees) = RefutesBy test a p start (e ∷ past) bounds tree × RefuteEach test a p start past bounds es trees
+  -- one tree for each word, in order, each of which refutes its word
+  pub RefuteEach : Search → LeafTest → List Pending → Forest → Type 0
+  RefuteEach s test [] Done = Unit {0}
+  RefuteEach s test (w ∷ ws) Done = ⊥
+  RefuteEach s test [] (More tree trees) = ⊥
+  RefuteEach s test (w ∷ ws) (More tree trees) = RefutesBy s test w tree × RefuteEach s test ws trees
 
--- one tree for each start set from one on by rising mask, each of which refutes the empty word without bounds
-abbrev pub RefutesFrom : LeafTest → Automaton → Pattern → ℕ → List Tree → Type 0
-RefutesFrom test a p start [] = Unit {0}
-RefutesFrom test a p start (tree ∷ trees) = RefutesBy test a p start [] [] tree × RefutesFrom test a p (start + 1) trees
+-- the same of a list of trees
+abbrev pub RefuteAll : Search → LeafTest → List Pending → List Tree → Type 0
+RefuteAll s test [] [] = Unit {0}
+RefuteAll s test (w ∷ ws) [] = ⊥
+RefuteAll s test [] (tree ∷ trees) = ⊥
+RefuteAll s test (w ∷ ws) (tree ∷ trees) = RefutesBy s test w tree × RefuteAll s test ws trees
 
--- a proof of a pattern whose leaves meet a test: one tree for each set of fall guards that may be false at the start
-pub record ProofBy (test : LeafTest) (a : Automaton) (p : Pattern) (trees : List Tree) : Type 0 where
-  pub count : length trees ≡ 2 ^ length a.fall
-  pub each : RefutesFrom test a p 0 trees
+-- a proof whose leaves meet a test: one tree for each word with which the search begins
+abbrev pub ProofBy : Search → LeafTest → List Tree → Type 0
+ProofBy s test trees = RefuteAll s test s.roots trees
 
--- a proof of a pattern
+-- a proof of a pattern: one tree for each set of fall guards that may be false at the start
 abbrev pub ProofOf : Automaton → Pattern → List Tree → Type 0
-ProofOf a p trees = ProofBy LeafOfRows a p trees
+ProofOf a p trees = ProofBy (pattern_search a p) (IsLeaf (pattern_search a p)) trees

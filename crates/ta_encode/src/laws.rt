@@ -3,7 +3,7 @@
 #![tactic(auto)]
 
 ghost use Rattle.ta_encode.specs.InPreorder.{ProofsAreDetermined, ProofsReadInOrder};
-ghost use Rattle.ta_encode.specs.Refutes.{LeafOfRows};
+ghost use Rattle.ta_encode.specs.Refutes.{IsLeaf};
 ghost use Rattle.ta_encode.specs.Laws.{ProofsLeaveNoSolution, ProofsShowSafety, RunsReorder, SolutionsBecomeRuns, StepsOfSolutionsRun};
 
 /// Every run in which a pattern occurs is described by a word whose system it solves.
@@ -30,6 +30,6 @@ pub fn solutions_become_runs()
 
 /// A proof may be judged node by node, and a list of nodes is that of at most one proof.
 pub fn proofs_read_in_order()
-    ensures in_order { ProofsReadInOrder LeafOfRows }
+    ensures in_order { ProofsReadInOrder IsLeaf }
     ensures determined { ProofsAreDetermined }
 {}

@@ -12,6 +12,7 @@ mod meaning;
 mod named;
 mod place;
 mod rows;
+mod sample;
 mod unknowns;
 
 pub use count::unknown_count;
@@ -23,3 +24,4 @@ pub use laws::{
 };
 pub use meaning::{Bound, Meaning, Side};
 pub use named::{Named, named_rows};
+pub use sample::{encode_sample, samples_are_real};

@@ -6,6 +6,7 @@ ghost use Rattle.ta_linear.specs.Numbers.{InRange};
 ghost use Rattle.ta_linear.specs.Terms.{IsNormal};
 ghost use Rattle.ta_linear.specs.Values.{terms_value};
 ghost use Rattle.ta_encode.specs.Code.{RowOf};
+ghost use Rattle.ta_encode.specs.Inside.Rules.{AreOfRules};
 ghost use Rattle.ta_encode.specs.Lines.{SmallTerms, line_coefficient, line_row, turned};
 ghost use Rattle.ta_encode.specs.System.{start_coefficient};
 ghost use Rattle.ta_encode.specs.Unknowns.{place_coefficient};
@@ -15,6 +16,9 @@ use crate::place::place_coefficient;
 use std::alloc::{AllocError, Global};
 use ta_automaton::Automaton;
 use ta_linear::{Form, List, Row};
+
+/// For how many terms a row has room at first: few rows have more.
+const ROOM: usize = 64;
 
 /// Whether coefficients are written as they are, or their opposites.
 #[derive(Clone, Copy)]
@@ -40,9 +44,10 @@ pub(crate) fn line(
     ensures row { IfOk result (RowOf (line_row automaton.now meanings.now terms.now less_starts sense constant)) }
     ensures below { IfOk result (λ row. IsNormal 0 (length meanings.now) row.form.terms) }
 {
-    let mut written = Vec::new(alloc);
+    let of_rules = coefficients_of_rules(alloc, automaton, terms, less_starts, sense)?;
+    let mut written = Vec::with_capacity(alloc, meanings.len().min(ROOM))?;
     for (unknown, meaning) in meanings.iter().enumerate() {
-        let coefficient = line_coefficient(automaton, *meaning, terms, less_starts, sense);
+        let coefficient = coefficient_of(automaton, *meaning, terms, less_starts, sense, &of_rules);
         if coefficient != 0 {
             written.push((unknown as u32, coefficient))?;
         }
@@ -53,6 +58,57 @@ pub(crate) fn line(
             terms: List::from_vec(written),
         },
     })
+}
+
+/// The coefficient of the firings of each rule, which is the same before each element.
+fn coefficients_of_rules(
+    alloc: Global,
+    automaton: &Automaton,
+    terms: &[(u32, i128)],
+    less_starts: bool,
+    sense: Sense,
+) -> Result<Vec<i128>, AllocError>
+    requires { SmallTerms terms.now }
+    ensures { IfOk result (λ v. AreOfRules automaton.now terms.now less_starts sense v.items) }
+{
+    let rules = automaton.rules.as_slice().len();
+    let mut coefficients = Vec::with_capacity(alloc, rules)?;
+    for rule in 0..rules {
+        let meaning = Meaning::Count {
+            element: 0,
+            rule: rule as u32,
+        };
+        let coefficient = line_coefficient(automaton, meaning, terms, less_starts, sense);
+        coefficients.push(coefficient)?;
+    }
+    Ok(coefficients)
+}
+
+/// The coefficient of an unknown, from those of the rules' firings.
+fn coefficient_of(
+    automaton: &Automaton,
+    meaning: Meaning,
+    terms: &[(u32, i128)],
+    less_starts: bool,
+    sense: Sense,
+    of_rules: &[i128],
+) -> i128
+    requires small { SmallTerms terms.now }
+    requires rules { AreOfRules automaton.now terms.now less_starts sense of_rules.now }
+    ensures value { result ≡ line_coefficient automaton.now terms.now less_starts sense meaning }
+    ensures fits { InRange result }
+{
+    match meaning {
+        Meaning::Count { element: _, rule } | Meaning::Single { element: _, rule } => {
+            match of_rules.get(rule as usize) {
+                Some(coefficient) => *coefficient,
+                None => line_coefficient(automaton, meaning, terms, less_starts, sense),
+            }
+        }
+        Meaning::Parameter(_) | Meaning::Start(_) => {
+            line_coefficient(automaton, meaning, terms, less_starts, sense)
+        }
+    }
 }
 
 fn line_coefficient(

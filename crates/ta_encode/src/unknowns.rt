@@ -24,7 +24,7 @@ pub(crate) fn start_meanings(
     Ok(meanings)
 }
 
-fn push_parameters(count: usize, meanings: &mut Vec<Meaning>) -> Result<(), AllocError>
+pub(crate) fn push_parameters(count: usize, meanings: &mut Vec<Meaning>) -> Result<(), AllocError>
     requires { count ≤ 16 }
     ensures { OnOk result (meanings.new.items ≡ meanings.old.items ++ map Parameter (numbers_from 0 count)) }
 {
@@ -34,7 +34,7 @@ fn push_parameters(count: usize, meanings: &mut Vec<Meaning>) -> Result<(), Allo
     Ok(())
 }
 
-fn push_starts(
+pub(crate) fn push_starts(
     automaton: &Automaton,
     empty: u32,
     meanings: &mut Vec<Meaning>,

@@ -2,7 +2,7 @@
 use Rattle.std.proofs.Common.{◌≡◌, Bool, true, false, List, [], ◌∷◌, ◌++◌, Result, Ok, Err, inl, inr, refl, sym, ap, subst, ◌∙◌}
 use Rattle.ta_syntax.specs.declared.fault.FileFault.{FileFault}
 use Rattle.ta_syntax.specs.declared.fault.FileFault.TheVariants as fault
-use Rattle.ta_meaning.specs.Faults.{where_, else_, FirstOrMemory, Answers}
+use Rattle.ta_meaning.specs.Faults.{where_, else_, First, FirstOrMemory, Judges, Answers}
 
 -- ---- where there are none
 
@@ -55,38 +55,60 @@ none-append-right (f ∷ a) b e = cc
 pub memory-first : (faults : List FileFault) (e : FileFault) → e ≡ fault.Memory → FirstOrMemory faults e
 memory-first faults e m = inl m
 
-pub where-first : (test : Bool) (f : FileFault) → test ≡ true → FirstOrMemory (where_ test f) f
-where-first true f e = inr ([], refl)
-where-first false f e = cc
+pub where-leads : (test : Bool) (f : FileFault) → test ≡ true → First (where_ test f) f
+where-leads true f e = ([], refl)
+where-leads false f e = cc
 
 -- a fault of the left part is the first of the whole
-pub else-left-first : (a b : List FileFault) (e : FileFault) → FirstOrMemory a e → FirstOrMemory (else_ a b) e
-else-left-first a b e (inl m) = inl m
-else-left-first [] b e (inr w) = let h = w.1 in cc
-else-left-first (f ∷ a) b e (inr w) = inr w
+pub else-left-leads : (a b : List FileFault) (e : FileFault) → First a e → First (else_ a b) e
+else-left-leads [] b e w = let h = w.1 in cc
+else-left-leads (f ∷ a) b e w = w
 
-pub append-left-first : (a b : List FileFault) (e : FileFault) → FirstOrMemory a e → FirstOrMemory (a ++ b) e
-append-left-first a b e (inl m) = inl m
-append-left-first a b e (inr w) = inr (w.0 ++ b, ap (λ (fs : List FileFault). fs ++ b) w.1)
+pub append-left-leads : (a b : List FileFault) (e : FileFault) → First a e → First (a ++ b) e
+append-left-leads a b e w = (w.0 ++ b, ap (λ (fs : List FileFault). fs ++ b) w.1)
 
 -- where the left part has none, the first of the right part is the first of the whole
+pub else-right-leads : (a b : List FileFault) (e : FileFault) → a ≡ [] → First b e → First (else_ a b) e
+else-right-leads a b e none h = subst (λ (fs : List FileFault). First fs e) (sym (else-left-none a b none)) h
+
+-- the same where memory may be wanted
+
+first-through : (a b : List FileFault) (e : FileFault) → (First a e → First b e) → FirstOrMemory a e → FirstOrMemory b e
+first-through a b e through (inl m) = inl m
+first-through a b e through (inr w) = inr (through w)
+
+pub where-first : (test : Bool) (f : FileFault) → test ≡ true → FirstOrMemory (where_ test f) f
+where-first test f e = inr (where-leads test f e)
+
+pub else-left-first : (a b : List FileFault) (e : FileFault) → FirstOrMemory a e → FirstOrMemory (else_ a b) e
+else-left-first a b e h = first-through a (else_ a b) e (else-left-leads a b e) h
+
+pub append-left-first : (a b : List FileFault) (e : FileFault) → FirstOrMemory a e → FirstOrMemory (a ++ b) e
+append-left-first a b e h = first-through a (a ++ b) e (append-left-leads a b e) h
+
 pub else-right-first : (a b : List FileFault) (e : FileFault) → a ≡ [] → FirstOrMemory b e → FirstOrMemory (else_ a b) e
-else-right-first a b e none h = subst (λ (fs : List FileFault). FirstOrMemory fs e) (sym (else-left-none a b none)) h
+else-right-first a b e none h = first-through b (else_ a b) e (else-right-leads a b e none) h
 
 pub append-right-first : (a b : List FileFault) (e : FileFault) → a ≡ [] → FirstOrMemory b e → FirstOrMemory (a ++ b) e
 append-right-first a b e none h = subst (λ (fs : List FileFault). FirstOrMemory fs e) (sym (append-left-none a b none)) h
 
 -- ---- answers
 
+-- what takes no memory answers as what may want some
+pub judges-answer : {X : Type 0} (faults : List FileFault) (IsRight : X → Type 0) (r : Result X FileFault) → Judges faults IsRight r → Answers faults IsRight r
+judges-answer faults IsRight (Ok x) h = h
+judges-answer faults IsRight (Err e) h = inr h
+
+-- an answer to some faults is one to the same faults written otherwise, and what is right in one sense is right in another
+pub judges-along : {X : Type 0} (a b : List FileFault) (P Q : X → Type 0) (r : Result X FileFault) → a ≡ b → ((x : X) → P x → Q x) → Judges a P r → Judges b Q r
+judges-along a b P Q (Ok x) e f h = (sym e ∙ h.0, f x h.1)
+judges-along a b P Q (Err d) e f h = (h.0, sym e ∙ h.1)
+
 -- an answer to some faults is one to the same faults written otherwise
 pub answers-along : {X : Type 0} (a b : List FileFault) (IsRight : X → Type 0) (r : Result X FileFault) → a ≡ b → Answers a IsRight r → Answers b IsRight r
 answers-along a b IsRight r e h = subst (λ (fs : List FileFault). Answers fs IsRight r) e h
 
--- what is right in one sense is right in another
-pub answers-with : {X : Type 0} (faults : List FileFault) (P Q : X → Type 0) (r : Result X FileFault) → ((x : X) → P x → Q x) → Answers faults P r → Answers faults Q r
-answers-with faults P Q (Ok x) f h = (h.0, f x h.1)
-answers-with faults P Q (Err e) f h = h
-
+-- what is right in one sense is right in another where there are no faults
 pub answers-knowing : {X : Type 0} (faults : List FileFault) (P Q : X → Type 0) (r : Result X FileFault) → ((x : X) → faults ≡ [] → P x → Q x) → Answers faults P r → Answers faults Q r
 answers-knowing faults P Q (Ok x) f h = (h.0, f x h.0 h.1)
 answers-knowing faults P Q (Err e) f h = h

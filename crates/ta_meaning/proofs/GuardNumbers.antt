@@ -14,7 +14,7 @@ use Rattle.ta_automaton.specs.declared.condition.Comparison.{Comparison}
 use Rattle.ta_automaton.proofs.Thresholds.{each_at}
 use Rattle.ta_meaning.specs.Names.{Names, guard_names}
 use Rattle.ta_meaning.specs.Linear.{Linear, comparison_rows, differences_by, any_number}
-use Rattle.ta_meaning.specs.Guards.{Guards, is_negative, is_positive, falls, has_row, with_row, shared_part, is_no_threshold, is_one_more}
+use Rattle.ta_meaning.specs.Guards.{Guards, is_negative, is_positive, falls, has_row, with_row, shared_part, is_no_threshold, is_one_more, is_past_limit}
 use Rattle.ta_meaning.specs.Faults.{FirstOrMemory, where_, else_, in_guards, comparison_faults, guard_faults}
 use Rattle.ta_meaning.specs.Inside.Resolved.{ResolvedComparison}
 use Rattle.ta_meaning.specs.Inside.Numbering.{any_shared, is_no_guard, Has, RowAnswers, linear_of, guards_so_far, GuardsKept, GuardNumbered}
@@ -159,8 +159,15 @@ not_threshold ns before c rows none resolved is =
     else-right-first (comparison_faults (in_guards ns) c) (later_faults parameters (guards_so_far ns before) c.at linears) (fault.NotThreshold c.at) none
     (else-left-first (where_ (is_no_threshold parameters linears) (fault.NotThreshold c.at)) (where_ (is_one_more parameters (guards_so_far ns before) linears) (fault.TooMany c.at)) (fault.NotThreshold c.at) (where-first (is_no_threshold parameters linears) (fault.NotThreshold c.at) test))
 
+-- a threshold guard is one more where its row is past the limit
+threshold_alone : (parameters : ℕ) (g : Guards) (r : Linear) → is_no_threshold parameters (r ∷ []) ≡ false → is_one_more parameters g (r ∷ []) ≡ is_past_limit parameters g r
+threshold_alone parameters g r threshold = ap (λ (b : Bool). not b && is_past_limit parameters g r) threshold
+
+pub not_past : (parameters : ℕ) (g : Guards) (r : Linear) → is_no_threshold parameters (r ∷ []) ≡ false → is_one_more parameters g (r ∷ []) ≡ false → is_past_limit parameters g r ≡ false
+not_past parameters g r threshold no_more = sym (threshold_alone parameters g r threshold) ∙ no_more
+
 -- the faults of a threshold guard are that it is one more
-one_more_alone : (ns : Names) (before : GuardList) (c : TreeComparison) (row : Row) (more : Bool) → OneRow ns c row → is_no_threshold (length ns.parameters) (linear_of (size ns) row ∷ []) ≡ false → is_one_more (length ns.parameters) (guards_so_far ns before) (linear_of (size ns) row ∷ []) ≡ more
+one_more_alone : (ns : Names) (before : GuardList) (c : TreeComparison) (row : Row) (more : Bool) → OneRow ns c row → is_no_threshold (length ns.parameters) (linear_of (size ns) row ∷ []) ≡ false → is_past_limit (length ns.parameters) (guards_so_far ns before) (linear_of (size ns) row) ≡ more
     → guard_faults (length ns.parameters) (in_guards ns) (guards_so_far ns before) c ≡ where_ more (fault.TooMany c.at)
 one_more_alone ns before c row more one threshold is =
     let parameters = length ns.parameters in
@@ -169,7 +176,7 @@ one_more_alone ns before c row more one threshold is =
     else-left-none (comparison_faults (in_guards ns) c) (later_faults parameters g c.at (comparison_rows (guard_names ns) (plain_comparison c))) one.none
     ∙ ap (later_faults parameters g c.at) (one_row_is ns c row one)
     ∙ else-left-none (where_ (is_no_threshold parameters (l ∷ [])) (fault.NotThreshold c.at)) (where_ (is_one_more parameters g (l ∷ [])) (fault.TooMany c.at)) (where-false (is_no_threshold parameters (l ∷ [])) (fault.NotThreshold c.at) threshold)
-    ∙ ap (λ b. where_ b (fault.TooMany c.at)) is
+    ∙ ap (λ b. where_ b (fault.TooMany c.at)) (threshold_alone parameters g l threshold ∙ is)
 
 first_along : (faults : List FileFault) (test : Bool) (at : ℕ) (e : FileFault) → faults ≡ where_ test (fault.TooMany at) → (e ≡ fault.Memory) ⊎ ((e ≡ fault.TooMany at) × (test ≡ true)) → FirstOrMemory faults e
 first_along faults test at e is (inl m) = inl m

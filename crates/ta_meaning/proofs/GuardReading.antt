@@ -12,7 +12,7 @@ use Rattle.ta_automaton.proofs.Thresholds.{each_at}
 use Rattle.ta_meaning.specs.Names.{Names, guard_names}
 use Rattle.ta_meaning.specs.Linear.{Linear, comparison_rows, UsesNames}
 use Rattle.ta_meaning.specs.Guards.{Guards, falls, with_row, with_guard, with_guards, rows_of, NamesGuards}
-use Rattle.ta_meaning.specs.Faults.{FirstOrMemory, in_guards, guard_faults, guards_faults}
+use Rattle.ta_meaning.specs.Faults.{FirstOrMemory, in_guards, guard_faults, guards_faults, guards_then}
 use Rattle.ta_meaning.specs.Inside.Numbering.{guards_so_far, GuardsKept, GuardNumbered, GuardsNumbered, AmongGuards, WithNumber, NumberFits, linear_of}
 use Rattle.ta_meaning.specs.declared.guards.GuardList.{GuardList}
 use Rattle.ta_meaning.specs.declared.guards.GuardMasks.{GuardMasks}
@@ -20,7 +20,7 @@ use Rattle.ta_meaning.specs.declared.guards.GuardNumber.{GuardNumber}
 use Rattle.ta_meaning.specs.declared.guards.GuardNumber.TheVariants as number
 use Rattle.ta_meaning.proofs.ListItems.{each_push, each_with}
 use Rattle.ta_meaning.proofs.Answering.{append-left-none, append-left-first}
-use Rattle.ta_meaning.proofs.GuardSteps.{Extends, with_row_cases, guard_falls, guard_rises, extends_guard, guards_append, rows_append, rows_one, among_extends, among_number, mask_kind, mask_other, no_rows}
+use Rattle.ta_meaning.proofs.GuardSteps.{Extends, with_row_cases, guard_falls, guard_rises, extends_guard, guards_append, rows_append, rows_one, among_extends, among_number, mask_kind, mask_other, no_rows, guards_counted}
 
 -- a guard's number fits its mask
 pub number_fits : (ns : Names) (before after : GuardList) (c : PlainComparison) (n : GuardNumber) → GuardNumbered ns before c after n → NumberFits n
@@ -119,7 +119,8 @@ reading_more ns first before after all left c masks more n reading none h bits =
       split = reading.split ∙ sym (append_assoc reading.done (plain_comparison c ∷ []) (map plain_comparison left));
       numbered = numbered_more ns first before after reading.done (plain_comparison c) masks more n reading.numbered h bits;
       faults = reading.faults
-          ∙ append-left-none (guard_faults parameters (in_guards ns) g c) (guards_faults parameters (in_guards ns) (with_guards parameters g (comparison_rows (guard_names ns) (plain_comparison c))) left) none
+          ∙ append-left-none (guard_faults parameters (in_guards ns) g c) (guards_faults parameters (in_guards ns) (guards_then parameters (in_guards ns) g c) left) none
+          ∙ ap (λ (z : Guards). guards_faults parameters (in_guards ns) z left) (guards_counted parameters (in_guards ns) g c none)
           ∙ ap (λ (rows : List Linear). guards_faults parameters (in_guards ns) (with_guards parameters g rows) left) h.one_row
           ∙ ap (λ (z : Guards). guards_faults parameters (in_guards ns) z left) (sym h.guards);
     }

@@ -10,7 +10,7 @@ use Rattle.ta_automaton.specs.Lists.{Distinct}
 use Rattle.ta_automaton.proofs.Trails.{get_left}
 use Rattle.ta_meaning.specs.Linear.{Linear, comparison_rows}
 use Rattle.ta_meaning.specs.Guards.{Guards, falls, has_row, with_row, with_guard, with_guards, rows_of, NamesGuards}
-use Rattle.ta_meaning.specs.Faults.{Scope, guards_with}
+use Rattle.ta_meaning.specs.Faults.{Scope, guards_with, guard_faults, guards_faults, guards_then, counted}
 use Rattle.ta_meaning.specs.Inside.Numbering.{IsNumber, AmongGuards, WithBit}
 use Rattle.ta_meaning.specs.declared.guards.GuardNumber.{GuardNumber}
 use Rattle.ta_meaning.specs.declared.guards.GuardNumber.TheVariants as number
@@ -18,6 +18,8 @@ use Rattle.ta_meaning.proofs.DistinctItems.{distinct_at}
 use Rattle.ta_meaning.proofs.ListItems.{get_push}
 use Rattle.ta_meaning.proofs.GuardMasks.{mask_below, none_set}
 use Rattle.ta_meaning.proofs.GuardRows.{has_at, at_has, has_left, has_push, has_last}
+use Rattle.ta_syntax.specs.declared.fault.FileFault.{FileFault}
+use Rattle.ta_meaning.proofs.Answering.{none-append-left, none-append-right}
 
 -- ---- guards after guards
 
@@ -83,11 +85,22 @@ rows_append names (c ∷ cs) ds =
 pub rows_one : (names : List (List ℕ)) (c : PlainComparison) → rows_of names (c ∷ []) ≡ comparison_rows names c
 rows_one names c = append-nil (comparison_rows names c)
 
--- the guards of comparisons are those of their rows
-pub guards_with_rows : (parameters : ℕ) (s : Scope) (g : Guards) (cs : List TreeComparison) → guards_with parameters s g cs ≡ with_guards parameters g (rows_of s.allowed (map plain_comparison cs))
-guards_with_rows parameters s g [] = refl
-guards_with_rows parameters s g (c ∷ cs) =
-    guards_with_rows parameters s (with_guards parameters g (comparison_rows s.allowed (plain_comparison c))) cs
+counted-fine : (faults : List FileFault) (before after : Guards) → faults ≡ [] → counted faults before after ≡ after
+counted-fine [] before after e = refl
+counted-fine (f ∷ fs) before after e = cc
+
+-- a guard without a fault counts
+pub guards_counted : (parameters : ℕ) (s : Scope) (g : Guards) (c : TreeComparison) → guard_faults parameters s g c ≡ [] → guards_then parameters s g c ≡ with_guards parameters g (comparison_rows s.allowed (plain_comparison c))
+guards_counted parameters s g c none = counted-fine (guard_faults parameters s g c) g (with_guards parameters g (comparison_rows s.allowed (plain_comparison c))) none
+
+-- the guards of comparisons without faults are those of their rows
+pub guards_with_rows : (parameters : ℕ) (s : Scope) (g : Guards) (cs : List TreeComparison) → guards_faults parameters s g cs ≡ [] → guards_with parameters s g cs ≡ with_guards parameters g (rows_of s.allowed (map plain_comparison cs))
+guards_with_rows parameters s g [] none = refl
+guards_with_rows parameters s g (c ∷ cs) none =
+    let here = none-append-left (guard_faults parameters s g c) (guards_faults parameters s (guards_then parameters s g c) cs) none in
+    let later = none-append-right (guard_faults parameters s g c) (guards_faults parameters s (guards_then parameters s g c) cs) none in
+    guards_with_rows parameters s (guards_then parameters s g c) cs later
+    ∙ ap (λ (z : Guards). with_guards parameters z (rows_of s.allowed (map plain_comparison cs))) (guards_counted parameters s g c here)
     ∙ sym (guards_append parameters g (comparison_rows s.allowed (plain_comparison c)) (rows_of s.allowed (map plain_comparison cs)))
 
 -- ---- rows among the guards

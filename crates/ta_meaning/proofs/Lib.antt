@@ -50,6 +50,7 @@ mod InOrder
 mod SumsInOrder
 mod TreesInOrder
 mod TextInOrder
+mod TableFaults
 mod MadeForms
 mod MadePatterns
 mod MadeRules

@@ -12,14 +12,14 @@ use Rattle.ta_syntax.specs.declared.fault.FileFault.TheVariants as fault
 use Rattle.ta_automaton.specs.Lists.{Each, Distinct}
 use Rattle.ta_meaning.specs.Names.{all_names}
 use Rattle.ta_meaning.specs.Sums.{has_name}
-use Rattle.ta_meaning.specs.Faults.{FirstOrMemory, where_, used_faults}
+use Rattle.ta_meaning.specs.Faults.{First, where_, used_faults}
 use Rattle.ta_meaning.specs.Inside.Resolved.{kinds_of}
 use Rattle.ta_meaning.specs.Inside.Updating.{names_at, variable_faults, IsNewVariable}
 use Rattle.ta_meaning.specs.declared.places.Places.{Places}
 use Rattle.ta_meaning.proofs.ListedNames.{has_name-at, has_name-where}
 use Rattle.ta_meaning.proofs.DistinctItems.{distinct_take, distinct_drop, distinct_at}
 use Rattle.ta_meaning.proofs.ListItems.{get_drop, get_take}
-use Rattle.ta_meaning.proofs.Answering.{where-false, where-first, else-none, else-left-first, else-right-first}
+use Rattle.ta_meaning.proofs.Answering.{where-false, where-leads, else-none, else-left-leads, else-right-leads}
 use Rattle.ta_meaning.proofs.PlaceNames.{all_names_are, locations_count}
 
 -- ---- names among names
@@ -63,20 +63,19 @@ no_first places seen n e known t h =
     let none = shared_used places n (has_name-at (kinds_of places).shared n.name w.0 w.2) in
     cc
 
-pub variable_first : (places : Places) (seen : List ℕ) (n : Spelled) (e : FileFault) → Each (λ x. x < length (kinds_of places).shared) seen → FirstOrMemory (used_faults (all_names (kinds_of places)) (kinds_of places).shared n) e → FirstOrMemory (variable_faults (kinds_of places) (names_at (kinds_of places).shared seen) n) e
-variable_first places seen n e known (inl m) = inl m
-variable_first places seen n e known (inr h) =
+pub variable_first : (places : Places) (seen : List ℕ) (n : Spelled) (e : FileFault) → Each (λ x. x < length (kinds_of places).shared) seen → First (used_faults (all_names (kinds_of places)) (kinds_of places).shared n) e → First (variable_faults (kinds_of places) (names_at (kinds_of places).shared seen) n) e
+variable_first places seen n e known h =
     let ns = kinds_of places in
     let before = names_at ns.shared seen in
     let none : has_name before n.name ≡ false = false_from_ne_true (has_name before n.name) (λ t. no_first places seen n e known t h.1) in
-    else-right-first (where_ (has_name before n.name) (fault.Duplicate n.at)) (used_faults (all_names ns) ns.shared n) e (where-false (has_name before n.name) (fault.Duplicate n.at) none) (inr h)
+    else-right-leads (where_ (has_name before n.name) (fault.Duplicate n.at)) (used_faults (all_names ns) ns.shared n) e (where-false (has_name before n.name) (fault.Duplicate n.at) none) h
 
-pub variable_again : (places : Places) (seen : List ℕ) (n : Spelled) (x : ℕ) → Contains seen x → slice_get (kinds_of places).shared x ≡ Some n.name → FirstOrMemory (variable_faults (kinds_of places) (names_at (kinds_of places).shared seen) n) (fault.Duplicate n.at)
+pub variable_again : (places : Places) (seen : List ℕ) (n : Spelled) (x : ℕ) → Contains seen x → slice_get (kinds_of places).shared x ≡ Some n.name → First (variable_faults (kinds_of places) (names_at (kinds_of places).shared seen) n) (fault.Duplicate n.at)
 variable_again places seen n x c e =
     let ns = kinds_of places in
     let before = names_at ns.shared seen in
-    else-left-first (where_ (has_name before n.name) (fault.Duplicate n.at)) (used_faults (all_names ns) ns.shared n) (fault.Duplicate n.at)
-    (where-first (has_name before n.name) (fault.Duplicate n.at) (number_seen ns.shared seen x n.name c e))
+    else-left-leads (where_ (has_name before n.name) (fault.Duplicate n.at)) (used_faults (all_names ns) ns.shared n) (fault.Duplicate n.at)
+    (where-leads (has_name before n.name) (fault.Duplicate n.at) (number_seen ns.shared seen x n.name c e))
 
 pub variable_new : (places : Places) (seen : List ℕ) (n : Spelled) (x : ℕ) → Each (λ y. y < length (kinds_of places).shared) seen → (Contains seen x → ⊥) → used_faults (all_names (kinds_of places)) (kinds_of places).shared n ≡ [] → slice_get (kinds_of places).shared x ≡ Some n.name
     → (variable_faults (kinds_of places) (names_at (kinds_of places).shared seen) n ≡ []) × IsNewVariable (kinds_of places).shared seen n.name x

@@ -19,11 +19,11 @@ use Rattle.ta_automaton.proofs.Thresholds.{each_at}
 use Rattle.ta_scope.proofs.Reaching.{set_at, at_set}
 use Rattle.ta_meaning.specs.Sums.{has_name}
 use Rattle.ta_meaning.specs.Inside.Listed.{between, ListedMask}
-use Rattle.ta_meaning.specs.Faults.{where_, else_, FirstOrMemory, used_faults, listed_faults}
+use Rattle.ta_meaning.specs.Faults.{where_, else_, First, used_faults, listed_faults}
 use Rattle.ta_meaning.proofs.GuardMasks.{none_set}
 use Rattle.ta_meaning.proofs.DistinctItems.{distinct_take, distinct_drop, distinct_at}
 use Rattle.ta_meaning.proofs.ListItems.{contains_at, each_append}
-use Rattle.ta_meaning.proofs.Answering.{where-false, append-left-none, append-left-first, else-left-first, else-right-first, else-none, where-first}
+use Rattle.ta_meaning.proofs.Answering.{where-false, append-left-none, append-left-leads, else-left-leads, else-right-leads, else-none, where-leads}
 use Rattle.ta_meaning.proofs.UsedNames.{rightly_used}
 
 -- ---- names among names
@@ -133,18 +133,17 @@ module _ (declared allowed : List (List ℕ)) (all : List Spelled) (n : Spelled)
       let none = rightly_used declared allowed n ((has_name-Decides declared n.name).1 (sub n.name known)) ((has_name-Decides allowed n.name).1 known) in
       absurd (cc))
 
-  first_used : (e : FileFault) → ((m : List ℕ) → Contains allowed m → Contains declared m) → FirstOrMemory (used_faults declared allowed n) e → FirstOrMemory (else_ (where_ (has_name to.before n.name) (fault.Duplicate n.at)) (used_faults declared allowed n)) e
-  first_used e sub (inl m) = inl m
-  first_used e sub (inr w) = else-right-first _ _ e (where-false (has_name to.before n.name) (fault.Duplicate n.at) (not_listed e w.0 sub w.1)) (inr w)
+  first_used : (e : FileFault) → ((m : List ℕ) → Contains allowed m → Contains declared m) → First (used_faults declared allowed n) e → First (else_ (where_ (has_name to.before n.name) (fault.Duplicate n.at)) (used_faults declared allowed n)) e
+  first_used e sub w = else-right-leads _ _ e (where-false (has_name to.before n.name) (fault.Duplicate n.at) (not_listed e w.0 sub w.1)) w
 
-  pub listing_stops : (e : FileFault) → ((m : List ℕ) → Contains allowed m → Contains declared m) → FirstOrMemory (used_faults declared allowed n) e → FirstOrMemory (listed_faults declared allowed [] all) e
-  listing_stops e sub first = rw to.faults (append-left-first _ _ e (first_used e sub first))
+  pub listing_stops : (e : FileFault) → ((m : List ℕ) → Contains allowed m → Contains declared m) → First (used_faults declared allowed n) e → First (listed_faults declared allowed [] all) e
+  listing_stops e sub first = rw to.faults (append-left-leads _ _ e (first_used e sub first))
 
-  pub listing_repeats : (i : ℕ) → slice_get allowed i ≡ Some n.name → IsBitSet mask i → FirstOrMemory (listed_faults declared allowed [] all) (fault.Duplicate n.at)
+  pub listing_repeats : (i : ℕ) → slice_get allowed i ≡ Some n.name → IsBitSet mask i → First (listed_faults declared allowed [] all) (fault.Duplicate n.at)
   listing_repeats i named b =
       let w = (to.mask_is.bits.bits i).0 b in
       let again : Contains to.before n.name = subst (Contains to.before) (same_Some w.0 n.name (sym w.1 ∙ named)) w.2 in
-      rw to.faults (append-left-first _ _ _ (else-left-first _ _ _ (where-first (has_name to.before n.name) (fault.Duplicate n.at) ((has_name-Decides to.before n.name).1 again))))
+      rw to.faults (append-left-leads _ _ _ (else-left-leads _ _ _ (where-leads (has_name to.before n.name) (fault.Duplicate n.at) ((has_name-Decides to.before n.name).1 again))))
 
   pub listing_goes_on : (i : ℕ) → Distinct allowed → length allowed ≤ 32 → used_faults declared allowed n ≡ [] → slice_get allowed i ≡ Some n.name → (IsBitSet mask i → ⊥) → ListedTo declared allowed all rest (bit_or mask (1 * 2 ^ i % 4294967296))
   listing_goes_on i distinct few none named new =

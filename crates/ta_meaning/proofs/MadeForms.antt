@@ -28,7 +28,8 @@ use Rattle.ta_meaning.proofs.NormalTerms.{coefficient-first, coefficient-other}
 use Rattle.ta_meaning.proofs.LargeNumbers.{small_tells, same_large, same_large_rows, form_over, rows_over}
 use Rattle.ta_meaning.proofs.ComparedForms.{each_length}
 use Rattle.ta_meaning.proofs.UsedNames.{used_is_allowed}
-use Rattle.ta_meaning.proofs.SeenSums.{SeenTerms, SeenTerm, SeenFactor, seen_none, seen_more, seen_number, seen_times, seen_alone, seen_blank, seen_named, seen_nested, seen_sum, plain_of_terms, plain_of_term, plain_of_factor, judged_of_terms, judged_of_term, judged_of_factor, every_sum_seen}
+use Rattle.ta_meaning.specs.Seen.{SeenTerms, SeenTerm, SeenFactor, seen_none, seen_more, seen_number, seen_times, seen_alone, seen_blank, seen_named, seen_nested, seen_sum, plain_of_terms, plain_of_term, plain_of_factor}
+use Rattle.ta_meaning.proofs.SeenSums.{judged_of_terms, judged_of_term, judged_of_factor, every_sum_seen}
 
 -- ---- normal terms with given coefficients
 

@@ -18,9 +18,9 @@ use Rattle.ta_automaton.specs.declared.condition.Comparison.{Comparison}
 use Rattle.ta_automaton.specs.declared.rule.Rule.{Rule}
 use Rattle.ta_meaning.specs.Names.{Names, all_names, guard_names}
 use Rattle.ta_meaning.specs.Sums.{has_name, number_of}
-use Rattle.ta_meaning.specs.Guards.{no_guards, with_guards, is_negative, is_positive, falls, has_row, is_no_threshold, is_one_more}
+use Rattle.ta_meaning.specs.Guards.{no_guards, with_guards, is_negative, is_positive, falls, has_row, is_no_threshold, is_one_more, is_past_limit}
 use Rattle.ta_meaning.specs.Linear.{Linear, comparison_rows}
-use Rattle.ta_meaning.specs.Faults.{where_, else_, in_guards, comparison_faults, guard_faults, guards_faults, guards_with, declared_faults, used_faults, digits_faults, updates_faults, rule_faults, rules_faults}
+use Rattle.ta_meaning.specs.Faults.{where_, else_, in_guards, comparison_faults, guard_faults, guards_faults, guards_with, declared_faults, used_faults, digits_faults, updates_faults, rule_faults, rules_faults, guards_then}
 use Rattle.ta_meaning.specs.Inside.Numbering.{any_shared, is_no_guard, SameAt, Has, RowAnswers, linear_of, guards_so_far, GuardsKept, GuardNumbered, GuardsNumbered, NumberFits, WithNumber}
 use Rattle.ta_meaning.specs.Inside.Updating.{names_at, variable_faults, UpdatesRead}
 use Rattle.ta_meaning.specs.Inside.RuleReading.{RuleRead}
@@ -36,7 +36,7 @@ use Rattle.ta_meaning.proofs.ListedPlaces.{number_seen}
 use Rattle.ta_meaning.proofs.UpdateReading.{UpdatesReading, updates_begin, updates_more, updates_end}
 use Rattle.ta_meaning.proofs.GuardMasks.{with_bit}
 use Rattle.ta_meaning.proofs.GuardSigns.{falls_same, no_threshold_same}
-use Rattle.ta_meaning.proofs.GuardNumbers.{size, has_linear, linear_has, OneRow, one_row_over, comparison_rows_are, rise_normal, fall_normal, rise_numbered, fall_numbered}
+use Rattle.ta_meaning.proofs.GuardNumbers.{size, has_linear, linear_has, OneRow, one_row_over, comparison_rows_are, rise_normal, fall_normal, rise_numbered, fall_numbered, not_past}
 use Rattle.ta_meaning.proofs.GuardReading.{GuardsReading, number_fits, reading_begins, reading_more, reading_ends}
 use Rattle.ta_meaning.proofs.RuleSteps.{rule_read}
 use Rattle.ta_meaning.proofs.RuleSequence.{RulesReading, rules_begin, rules_more, rules_end}
@@ -144,7 +144,7 @@ module _ (ns : Names) (before : GuardList) (kept : GuardsKept ns before) (c : Tr
       (after, number.Fall p.n, (fall_numbered ns before after c row p.n kept one drops never p.answers refl).1)
 
   -- by the sign of a shared variable
-  made_guard : (any_shared is_negative parameters row.form.terms && any_shared is_positive parameters row.form.terms) ≡ false → is_one_more parameters (guards_so_far ns before) (linear ∷ []) ≡ false → MadeGuard ns before c
+  made_guard : (any_shared is_negative parameters row.form.terms && any_shared is_positive parameters row.form.terms) ≡ false → is_past_limit parameters (guards_so_far ns before) linear ≡ false → MadeGuard ns before c
   made_guard threshold no_more =
       let same = falls_same parameters (size ns) row normal in
       ⊎_elim
@@ -177,7 +177,7 @@ module _ (ns : Names) (fine : FineNames ns) where
       let r = only_row parameters k.0.rows no_guard in
       let one : OneRow ns c r.0 = record { none = clean; rows = k.0; resolved = k.1; only = r.1 } in
       let linears : ls ≡ linear_of (size ns) r.0 ∷ [] = rows_are ∙ ap (map (linear_of (size ns))) r.1 in
-      made_guard ns before kept c r.0 one r.2 (ap (is_one_more parameters g) (sym linears) ∙ is_no_more)
+      made_guard ns before kept c r.0 one r.2 (not_past parameters g (linear_of (size ns) r.0) (ap (is_no_threshold parameters) (sym linears) ∙ is_threshold) (ap (is_one_more parameters g) (sym linears) ∙ is_no_more))
 
   -- masks with one more guard
   number_exists : (masks : GuardMasks) (n : GuardNumber) → NumberFits n → (more : GuardMasks) × WithNumber masks n more
@@ -189,7 +189,7 @@ module _ (ns : Names) (fine : FineNames ns) where
   guards_from first now all (c ∷ left) masks none r =
       let parameters = length ns.parameters in
       let g = guards_so_far ns now in
-      let here = none-append-left (guard_faults parameters (in_guards ns) g c) (guards_faults parameters (in_guards ns) (with_guards parameters g (comparison_rows (guard_names ns) (plain_comparison c))) left) (sym r.faults ∙ none) in
+      let here = none-append-left (guard_faults parameters (in_guards ns) g c) (guards_faults parameters (in_guards ns) (guards_then parameters (in_guards ns) g c) left) (sym r.faults ∙ none) in
       let made = guard_exists now c r.numbered.kept here in
       let masked = number_exists masks made.1 (number_fits ns now made.0 (plain_comparison c) made.1 made.2) in
       guards_from first made.0 all left masked.0 none (reading_more ns first now made.0 all left c masks masked.0 made.1 r here made.2 masked.1)

@@ -11,7 +11,8 @@ use Rattle.ta_syntax.specs.declared.names.Spelled.{Spelled}
 use Rattle.ta_syntax.specs.declared.sums.TreeSum.{TreeSum}
 use Rattle.ta_meaning.specs.Faults.{Scope, judged_sum}
 use Rattle.ta_meaning.proofs.StartedParts.{factor-starts}
-use Rattle.ta_meaning.proofs.SeenSums.{SeenTerms, SeenTerm, SeenFactor, seen_none, seen_more, seen_number, seen_times, seen_alone, seen_blank, seen_named, seen_nested, seen_sum, plain_of_terms, plain_of_term, plain_of_factor, offsets_of_sum, offsets_of_more, offsets_of_term, offsets_of_factor, judged_of_terms, every_sum_seen}
+use Rattle.ta_meaning.specs.Seen.{SeenTerms, SeenTerm, SeenFactor, seen_none, seen_more, seen_number, seen_times, seen_alone, seen_blank, seen_named, seen_nested, seen_sum, plain_of_terms, plain_of_term, plain_of_factor}
+use Rattle.ta_meaning.proofs.SeenSums.{offsets_of_sum, offsets_of_more, offsets_of_term, offsets_of_factor, judged_of_terms, every_sum_seen}
 use Rattle.ta_meaning.proofs.SameOffsets.{Agree, same-first, same-second, agree-both, at_first-agree}
 
 -- ---- names and numbers

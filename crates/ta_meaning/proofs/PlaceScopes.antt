@@ -6,7 +6,7 @@ use Rattle.ta_syntax.specs.declared.names.Spelled.{Spelled}
 use Rattle.ta_syntax.specs.declared.tree.TreeComparison.{TreeComparison}
 use Rattle.ta_syntax.specs.declared.fault.FileFault.{FileFault}
 use Rattle.ta_automaton.specs.declared.condition.Condition.{Condition}
-use Rattle.ta_meaning.specs.Faults.{Scope, Answers, condition_faults, listed_faults}
+use Rattle.ta_meaning.specs.Faults.{Scope, Answers, condition_faults, listed_faults, Judges}
 use Rattle.ta_meaning.specs.Inside.Listed.{between, ListedMask}
 use Rattle.ta_meaning.specs.Inside.Resolved.{first_places, ResolvedCondition}
 
@@ -21,9 +21,9 @@ over_all names all n cs r is count h =
     subst (λ w. Over all w) whole (subst (λ z. Over z (take n names)) (sym is) h)
 
 -- listed names among some of the names that are declared
-pub listed_along : (declared all some allowed : List (List ℕ)) (listed : List Spelled) (r : Result ℕ FileFault) → declared ≡ all → some ≡ allowed → Answers (listed_faults declared some [] listed) (λ mask. ListedMask some (map plain_name listed) mask) r → Answers (listed_faults all allowed [] listed) (λ mask. ListedMask allowed (map plain_name listed) mask) r
+pub listed_along : (declared all some allowed : List (List ℕ)) (listed : List Spelled) (r : Result ℕ FileFault) → declared ≡ all → some ≡ allowed → Judges (listed_faults declared some [] listed) (λ mask. ListedMask some (map plain_name listed) mask) r → Judges (listed_faults all allowed [] listed) (λ mask. ListedMask allowed (map plain_name listed) mask) r
 listed_along declared all some allowed listed r e f h =
-    let Over : List (List ℕ) → List (List ℕ) → Type 0 = λ z w. Answers (listed_faults z w [] listed) (λ mask. ListedMask w (map plain_name listed) mask) r in
+    let Over : List (List ℕ) → List (List ℕ) → Type 0 = λ z w. Judges (listed_faults z w [] listed) (λ mask. ListedMask w (map plain_name listed) mask) r in
     subst (λ w. Over all w) f (subst (λ z. Over z some) e h)
 
 -- the names from a number on

@@ -12,11 +12,11 @@ use Rattle.ta_automaton.specs.Forms.{RiseRow, FallRow}
 use Rattle.ta_automaton.specs.Shape.{RuleWithin, name_of}
 use Rattle.ta_automaton.specs.declared.rule.Rule.{Rule}
 use Rattle.ta_automaton.proofs.Thresholds.{each_at}
-use Rattle.ta_meaning.specs.Names.{Names, guard_names}
+use Rattle.ta_meaning.specs.Names.{Names, guard_names, all_names}
 use Rattle.ta_meaning.specs.Linear.{Linear, Pairwise, RowOf}
 use Rattle.ta_meaning.specs.Guards.{Guards, no_guards, falls, has_row, with_guards, rows_of, guards_after, NamesGuards}
 use Rattle.ta_meaning.specs.Meaning.{MeansRule, guards_of}
-use Rattle.ta_meaning.specs.Faults.{FirstOrMemory, in_guards, declared_faults, guards_with, rule_faults, rules_faults}
+use Rattle.ta_meaning.specs.Faults.{FirstOrMemory, in_guards, declared_faults, guards_with, rule_faults, rules_faults, used_faults, guards_faults, updates_faults}
 use Rattle.ta_meaning.specs.Inside.Resolved.{ResolvedGuards, ResolvedRules}
 use Rattle.ta_meaning.specs.Inside.Numbering.{linear_of, guards_so_far, GuardsKept, AmongGuards}
 use Rattle.ta_meaning.specs.Inside.RuleReading.{RuleSoFar, RuleRead}
@@ -25,7 +25,7 @@ use Rattle.ta_meaning.proofs.Declared.{declared-new}
 use Rattle.ta_meaning.proofs.PairwiseItems.{pairwise_with, pairwise_push, pairwise_each}
 use Rattle.ta_meaning.proofs.DistinctItems.{distinct_push, distinct_unmap}
 use Rattle.ta_meaning.proofs.ListItems.{each_with}
-use Rattle.ta_meaning.proofs.Answering.{append-left-none, append-left-first, none-append-left}
+use Rattle.ta_meaning.proofs.Answering.{append-left-none, append-left-first, none-append-left, none-append-right}
 use Rattle.ta_meaning.proofs.NormalTerms.{linear_row}
 use Rattle.ta_meaning.proofs.GuardRows.{at_has}
 use Rattle.ta_meaning.proofs.GuardNumbers.{Normal, guards_same, rise_normal, fall_normal}
@@ -135,6 +135,16 @@ rules_begin ns all names guards rules n r f e =
       distinct = subst (λ (ms : List (List ℕ)). Distinct ms) (sym n) tt;
     }
 
+-- the guards of a rule without faults have none
+guards_fine : (ns : Names) (names : List (List ℕ)) (g : Guards) (r : TreeRule) → rule_faults ns names g r ≡ [] → guards_faults (length ns.parameters) (in_guards ns) g r.guards ≡ []
+guards_fine ns names g r none =
+    let name = declared_faults names r.name in
+    let from = used_faults (all_names ns) ns.locations r.from in
+    let to = used_faults (all_names ns) ns.locations r.to in
+    let when = guards_faults (length ns.parameters) (in_guards ns) g r.guards in
+    let do_ = updates_faults ns [] r.updates in
+    none-append-left when do_ (none-append-right to (when ++ do_) (none-append-right from (to ++ (when ++ do_)) (none-append-right name (from ++ (to ++ (when ++ do_))) none)))
+
 pub rules_more : (ns : Names) (all left : List TreeRule) (r : TreeRule) (names names_after : List (List ℕ)) (before after : GuardList) (rules : List Rule) (rule : Rule) → RulesReading ns all (r ∷ left) names before rules
     → rule_faults ns names (guards_so_far ns before) r ≡ [] → RuleRead ns names before r names_after after rule → RulesReading ns all left names_after after (rules ++ rule ∷ [])
 rules_more ns all left r names names_after before after rules rule reading none read =
@@ -147,7 +157,7 @@ rules_more ns all left r names names_after before after rules rule reading none 
     record {
       faults = reading.faults
           ∙ append-left-none (rule_faults ns names g r) (rules_faults ns (names ++ r.name.name ∷ []) (guards_with parameters (in_guards ns) g r.guards) left) none
-          ∙ ap (λ (z : Guards). rules_faults ns (names ++ r.name.name ∷ []) z left) (guards_with_rows parameters (in_guards ns) g r.guards ∙ sym read.guards)
+          ∙ ap (λ (z : Guards). rules_faults ns (names ++ r.name.name ∷ []) z left) (guards_with_rows parameters (in_guards ns) g r.guards (guards_fine ns names g r none) ∙ sym read.guards)
           ∙ ap (λ (ms : List (List ℕ)). rules_faults ns ms k left) (sym read.declared);
       kept = read.kept;
       done = reading.done ++ plain_rule r ∷ [];

@@ -18,7 +18,7 @@ use Rattle.ta_syntax.specs.declared.fault.FileFault.TheVariants as fault
 use Rattle.ta_meaning.specs.Names.{Names, guard_names, all_names, names_of, plain_names}
 use Rattle.ta_meaning.specs.Linear.{Pairwise, comparison_rows, any_large, is_large_linear, linear_sum}
 use Rattle.ta_meaning.specs.Guards.{Guards, no_guards, with_guards, is_no_threshold, is_one_more}
-use Rattle.ta_meaning.specs.Faults.{Scope, Judged, where_, else_, is_long, declared_faults, declarations_faults, used_faults, listed_faults, sum_faults, comparison_faults, condition_faults, guard_faults, guards_faults, guards_with, in_parameters, in_guards, in_conditions, updates_faults, rule_faults, rules_faults, event_faults, events_faults, pattern_faults, patterns_faults, location_spelled, any_initial, processes_faults, names_faults, meaning_faults}
+use Rattle.ta_meaning.specs.Faults.{Scope, Judged, where_, else_, is_long, declared_faults, declarations_faults, used_faults, listed_faults, sum_faults, comparison_faults, condition_faults, guard_faults, guards_faults, guards_with, in_parameters, in_guards, in_conditions, updates_faults, rule_faults, rules_faults, event_faults, events_faults, pattern_faults, patterns_faults, location_spelled, any_initial, processes_faults, names_faults, meaning_faults, counted, guards_then}
 use Rattle.ta_meaning.proofs.RuleSteps.{when_faults}
 use Rattle.ta_meaning.proofs.OneSum.{SameSum, same_sum-plain, same_sum-judged}
 use Rattle.ta_meaning.proofs.OnePart.{SameComparison, same_comparison-plain, SameRule, SameEvent, SamePattern, SameParts}
@@ -60,25 +60,30 @@ guard-faults p sc g a b h =
     ∙ ap (λ (z : PlainComparison). guard-by p sc g (comparison_faults sc b) z a.at) (same_comparison-plain a b h)
     ∙ ap (λ (z : ℕ). guard-by p sc g (comparison_faults sc b) (plain_comparison b) z) h.at
 
-abbrev guards-then : ℕ → Scope → Guards → PlainComparison → Guards
-guards-then p sc g c = with_guards p g (comparison_rows sc.allowed c)
+abbrev then-by : ℕ → Scope → Guards → List FileFault → PlainComparison → Guards
+then-by p sc g faults c = counted faults g (with_guards p g (comparison_rows sc.allowed c))
+
+guards-then : (p : ℕ) (sc : Scope) (g : Guards) (a b : TreeComparison) → SameComparison a b → guards_then p sc g a ≡ guards_then p sc g b
+guards-then p sc g a b h =
+    ap (λ (z : List FileFault). then-by p sc g z (plain_comparison a)) (guard-faults p sc g a b h)
+    ∙ ap (λ (z : PlainComparison). then-by p sc g (guard_faults p sc g b) z) (same_comparison-plain a b h)
 
 guards-faults : (p : ℕ) (sc : Scope) (g : Guards) (cs ds : List TreeComparison) → Pairwise SameComparison cs ds → guards_faults p sc g cs ≡ guards_faults p sc g ds
 guards-faults p sc g [] [] h = refl
 guards-faults p sc g [] (d ∷ ds) h = absurd h
 guards-faults p sc g (c ∷ cs) [] h = absurd h
 guards-faults p sc g (c ∷ cs) (d ∷ ds) h =
-    ap (λ (z : List FileFault). z ++ guards_faults p sc (guards-then p sc g (plain_comparison c)) cs) (guard-faults p sc g c d h.0)
-    ∙ ap (λ (z : List FileFault). guard_faults p sc g d ++ z) (guards-faults p sc (guards-then p sc g (plain_comparison c)) cs ds h.1)
-    ∙ ap (λ (z : PlainComparison). guard_faults p sc g d ++ guards_faults p sc (guards-then p sc g z) ds) (same_comparison-plain c d h.0)
+    ap (λ (z : List FileFault). z ++ guards_faults p sc (guards_then p sc g c) cs) (guard-faults p sc g c d h.0)
+    ∙ ap (λ (z : List FileFault). guard_faults p sc g d ++ z) (guards-faults p sc (guards_then p sc g c) cs ds h.1)
+    ∙ ap (λ (z : Guards). guard_faults p sc g d ++ guards_faults p sc z ds) (guards-then p sc g c d h.0)
 
 guards-with : (p : ℕ) (sc : Scope) (g : Guards) (cs ds : List TreeComparison) → Pairwise SameComparison cs ds → guards_with p sc g cs ≡ guards_with p sc g ds
 guards-with p sc g [] [] h = refl
 guards-with p sc g [] (d ∷ ds) h = absurd h
 guards-with p sc g (c ∷ cs) [] h = absurd h
 guards-with p sc g (c ∷ cs) (d ∷ ds) h =
-    guards-with p sc (guards-then p sc g (plain_comparison c)) cs ds h.1
-    ∙ ap (λ (z : PlainComparison). guards_with p sc (guards-then p sc g z) ds) (same_comparison-plain c d h.0)
+    guards-with p sc (guards_then p sc g c) cs ds h.1
+    ∙ ap (λ (z : Guards). guards_with p sc z ds) (guards-then p sc g c d h.0)
 
 -- ---- rules
 

@@ -1,4 +1,4 @@
--- Sums as plain data with their offsets: all that a sum of the program says, but for where its lists lie in memory.
+-- What is read off a sum as plain data is what the program's sum says.
 use Rattle.std.proofs.Common.{◌≡◌, ℕ, List, [], ◌∷◌, ◌++◌, Option, Some, None, map, refl, sym, ap, subst, ◌∙◌}
 use Rattle.ta_syntax.specs.Grammar.{Terms, Term, Factor, done, term, number, times, alone, blank, named, nested}
 use Rattle.ta_syntax.specs.PlainSums.{plain_sum, plain_term, plain_factor, plain_terms, factor_layer, sum_layer, term_layer}
@@ -13,47 +13,8 @@ use Rattle.ta_syntax.specs.declared.sums.TreeFactor.TheOpen.{TreeFactor-F, TreeS
 use Rattle.ta_syntax.specs.declared.sums.TreeFactor.TheViews.{roll-TreeFactor, roll-TreeSum, roll-TreeTerm}
 use Rattle.ta_syntax.specs.declared.sums.TreeFactor.TheFolds.{fold-TreeSum, fold-TreeTerm, fold-TreeFactor, fold-roll-TreeSum, fold-roll-TreeTerm, fold-roll-TreeFactor, map-TreeFactor, map-TreeTerm, ind-TreeSum}
 use Rattle.ta_syntax.proofs.SumSteps.{pairs, stated_sum_roll, plain_sum_roll}
+use Rattle.ta_meaning.specs.Seen.{SeenTerms, SeenTerm, SeenFactor, seen_none, seen_more, seen_number, seen_times, seen_alone, seen_blank, seen_named, seen_nested, seen_list, factor_seen, sum_seen, term_seen, seen_sum, plain_of_terms, plain_of_term, plain_of_factor}
 use Rattle.ta_meaning.specs.Faults.{Scope, Judged, judged_terms, factor_judged, sum_judged, term_judged, judged_sum}
-
-mutual
-  pub data SeenTerms : Type 0 where
-    seen_none : SeenTerms
-    seen_more : Sign → SeenTerm → SeenTerms → SeenTerms
-
-  pub data SeenTerm : Type 0 where
-    seen_number : ℕ → Digits → SeenTerm
-    seen_times : ℕ → Digits → SeenFactor → SeenTerm
-    seen_alone : ℕ → SeenFactor → SeenTerm
-    seen_blank : ℕ → SeenTerm
-
-  pub data SeenFactor : Type 0 where
-    seen_named : Spelled → SeenFactor
-    seen_nested : SeenTerms → SeenFactor
-
--- ---- a sum of the program as seen
-
-abbrev seen_list : List (Sign × SeenTerm) → SeenTerms
-seen_list [] = seen_none
-seen_list (t ∷ ts) = seen_more t.0 t.1 (seen_list ts)
-
-abbrev seen_parts : ℕ → Option Digits → Option SeenFactor → SeenTerm
-seen_parts at (Some d) None = seen_number at d
-seen_parts at (Some d) (Some f) = seen_times at d f
-seen_parts at None (Some f) = seen_alone at f
-seen_parts at None None = seen_blank at
-
-abbrev factor_seen : TreeFactor-F SeenFactor SeenTerms SeenTerm → SeenFactor
-factor_seen (Named n) = seen_named n
-factor_seen (Nested s) = seen_nested s
-
-abbrev sum_seen : TreeSum-F SeenFactor SeenTerms SeenTerm → SeenTerms
-sum_seen s = seen_list s.terms.items
-
-abbrev term_seen : TreeTerm-F SeenFactor SeenTerms SeenTerm → SeenTerm
-term_seen t = seen_parts t.at t.factor t.body
-
-abbrev pub seen_sum : TreeSum → SeenTerms
-seen_sum = fold-TreeSum SeenFactor SeenTerms SeenTerm factor_seen sum_seen term_seen
 
 abbrev pub seen_term : TreeTerm → SeenTerm
 seen_term = fold-TreeTerm SeenFactor SeenTerms SeenTerm factor_seen sum_seen term_seen
@@ -65,22 +26,7 @@ abbrev seen_terms : List (Sign × TreeTerm) → SeenTerms
 seen_terms [] = seen_none
 seen_terms (t ∷ ts) = seen_more t.0 (seen_term t.1) (seen_terms ts)
 
--- ---- what is read off it: the sum without offsets, the offsets, the faults
-
-abbrev mutual
-  pub plain_of_terms : SeenTerms → Terms
-  plain_of_terms seen_none = done
-  plain_of_terms (seen_more s t ts) = term s (plain_of_term t) (plain_of_terms ts)
-
-  pub plain_of_term : SeenTerm → Term
-  plain_of_term (seen_number at d) = number d.text
-  plain_of_term (seen_times at d f) = times d.text (plain_of_factor f)
-  plain_of_term (seen_alone at f) = alone (plain_of_factor f)
-  plain_of_term (seen_blank at) = blank
-
-  pub plain_of_factor : SeenFactor → Factor
-  plain_of_factor (seen_named n) = named n.name
-  plain_of_factor (seen_nested ts) = nested (plain_of_terms ts)
+-- ---- what is read off it: the offsets, the faults
 
 abbrev mutual
   pub offsets_of_sum : SeenTerms → List Offsets

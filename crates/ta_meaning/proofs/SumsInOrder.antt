@@ -16,7 +16,8 @@ use Rattle.ta_meaning.specs.Sums.{number_of, has_name}
 use Rattle.ta_meaning.specs.Linear.{linear_sum, comparison_rows, is_large_linear, any_large}
 use Rattle.ta_meaning.specs.Faults.{Scope, Judged, where_, else_, is_long, declared_faults, used_faults, digits_faults, sum_faults, linear_term, comparison_faults, condition_faults}
 use Rattle.ta_meaning.proofs.StartedParts.{factor-starts, sum-starts, Starts, starts-append}
-use Rattle.ta_meaning.proofs.SeenSums.{SeenTerms, SeenTerm, SeenFactor, seen_none, seen_more, seen_number, seen_times, seen_alone, seen_blank, seen_named, seen_nested, plain_of_terms, plain_of_term, plain_of_factor, offsets_of_sum, offsets_of_more, offsets_of_term, offsets_of_factor, judged_of_terms, judged_of_term, judged_of_factor, seen_sum, SeenSum, every_sum_seen}
+use Rattle.ta_meaning.specs.Seen.{SeenTerms, SeenTerm, SeenFactor, seen_none, seen_more, seen_number, seen_times, seen_alone, seen_blank, seen_named, seen_nested, plain_of_terms, plain_of_term, plain_of_factor, seen_sum}
+use Rattle.ta_meaning.proofs.SeenSums.{offsets_of_sum, offsets_of_more, offsets_of_term, offsets_of_factor, judged_of_terms, judged_of_term, judged_of_factor, SeenSum, every_sum_seen}
 use Rattle.ta_meaning.proofs.InOrder.{InOrder, IsInside, inside-name, inside-at_first, no_faults, one, either, together, after_token, before_tokens, with_first, Items}
 
 -- ---- names and numbers

@@ -19,7 +19,7 @@ use Rattle.ta_meaning.specs.Sums.{has_name}
 use Rattle.ta_meaning.specs.Linear.{Linear, comparison_rows}
 use Rattle.ta_meaning.specs.Names.{Names, guard_names, all_names, names_of}
 use Rattle.ta_meaning.specs.Guards.{Guards, no_guards, with_guards, is_no_threshold, is_one_more}
-use Rattle.ta_meaning.specs.Faults.{Scope, where_, else_, is_long, declared_faults, declarations_faults, used_faults, listed_faults, digits_faults, comparison_faults, condition_faults, guard_faults, guards_faults, guards_with, in_parameters, in_guards, in_conditions, updates_faults, rule_faults, rules_faults, event_faults, events_faults, pattern_faults, patterns_faults, location_spelled, any_initial, processes_faults, meaning_faults}
+use Rattle.ta_meaning.specs.Faults.{Scope, where_, else_, is_long, declared_faults, declarations_faults, used_faults, listed_faults, digits_faults, comparison_faults, condition_faults, guard_faults, guards_faults, guards_with, in_parameters, in_guards, in_conditions, updates_faults, rule_faults, rules_faults, event_faults, events_faults, pattern_faults, patterns_faults, location_spelled, any_initial, processes_faults, meaning_faults, guards_then}
 use Rattle.ta_meaning.proofs.InOrder.{InOrder, inside-name, one, either, along, together, after_token, before_tokens, Items, listed-in_order, led-in_order, ended-in_order, each-in_order}
 use Rattle.ta_meaning.proofs.SumsInOrder.{token, declared-in_order, used-in_order, once-in_order, digits-in_order, whole_sum-in_order, inside-comparison, comparison-in_order, condition-items}
 
@@ -65,7 +65,7 @@ guard-in_order parameters s g c =
 guards-items : (parameters : ℕ) (s : Scope) (g : Guards) (cs : List TreeComparison) → Items comparison_stated cs (guards_faults parameters s g cs)
 guards-items parameters s g [] = refl
 guards-items parameters s g (c ∷ cs) =
-    let after : Guards = with_guards parameters g (comparison_rows s.allowed (plain_comparison c)) in
+    let after : Guards = guards_then parameters s g c in
     (guard_faults parameters s g c, guards_faults parameters s after cs, refl, guard-in_order parameters s g c, guards-items parameters s after cs)
 
 abbrev updated_faults : Names → List (List ℕ) → TreeUpdate → List FileFault

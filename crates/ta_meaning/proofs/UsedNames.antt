@@ -5,18 +5,18 @@ use Rattle.std.proofs.lemmas.Bool.{not-false}
 use Rattle.ta_syntax.specs.declared.names.Spelled.{Spelled}
 use Rattle.ta_syntax.specs.declared.fault.FileFault.TheVariants as fault
 use Rattle.ta_meaning.specs.Sums.{has_name}
-use Rattle.ta_meaning.specs.Faults.{FirstOrMemory, where_, is_long, used_faults, declared_faults}
-use Rattle.ta_meaning.proofs.Answering.{where-first, where-false, not-where, else-left-first, else-right-first, else-none, none-else-right}
+use Rattle.ta_meaning.specs.Faults.{First, FirstOrMemory, where_, is_long, used_faults, declared_faults}
+use Rattle.ta_meaning.proofs.Answering.{where-leads, else-left-leads, else-right-leads, where-first, where-false, not-where, else-left-first, else-right-first, else-none, none-else-right}
 
-pub unknown : (names allowed : List (List ℕ)) (n : Spelled) → has_name names n.name ≡ false → FirstOrMemory (used_faults names allowed n) (fault.Unknown n.at)
+pub unknown : (names allowed : List (List ℕ)) (n : Spelled) → has_name names n.name ≡ false → First (used_faults names allowed n) (fault.Unknown n.at)
 unknown names allowed n none =
-    else-left-first (where_ (not (has_name names n.name)) (fault.Unknown n.at)) (where_ (not (has_name allowed n.name)) (fault.WrongKind n.at)) (fault.Unknown n.at) (where-first (not (has_name names n.name)) (fault.Unknown n.at) (ap not none))
+    else-left-leads (where_ (not (has_name names n.name)) (fault.Unknown n.at)) (where_ (not (has_name allowed n.name)) (fault.WrongKind n.at)) (fault.Unknown n.at) (where-leads (not (has_name names n.name)) (fault.Unknown n.at) (ap not none))
 
-pub wrong_kind : (names allowed : List (List ℕ)) (n : Spelled) → has_name names n.name ≡ true → has_name allowed n.name ≡ false → FirstOrMemory (used_faults names allowed n) (fault.WrongKind n.at)
+pub wrong_kind : (names allowed : List (List ℕ)) (n : Spelled) → has_name names n.name ≡ true → has_name allowed n.name ≡ false → First (used_faults names allowed n) (fault.WrongKind n.at)
 wrong_kind names allowed n there none =
-    else-right-first (where_ (not (has_name names n.name)) (fault.Unknown n.at)) (where_ (not (has_name allowed n.name)) (fault.WrongKind n.at)) (fault.WrongKind n.at)
+    else-right-leads (where_ (not (has_name names n.name)) (fault.Unknown n.at)) (where_ (not (has_name allowed n.name)) (fault.WrongKind n.at)) (fault.WrongKind n.at)
     (where-false (not (has_name names n.name)) (fault.Unknown n.at) (ap not there))
-    (where-first (not (has_name allowed n.name)) (fault.WrongKind n.at) (ap not none))
+    (where-leads (not (has_name allowed n.name)) (fault.WrongKind n.at) (ap not none))
 
 pub rightly_used : (names allowed : List (List ℕ)) (n : Spelled) → has_name names n.name ≡ true → has_name allowed n.name ≡ true → used_faults names allowed n ≡ []
 rightly_used names allowed n there may =

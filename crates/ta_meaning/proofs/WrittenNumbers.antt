@@ -9,8 +9,8 @@ use Rattle.ta_syntax.specs.Kinds.{IsDigits}
 use Rattle.ta_syntax.specs.declared.names.Digits.{Digits}
 use Rattle.ta_syntax.specs.declared.fault.FileFault.TheVariants as fault
 use Rattle.ta_meaning.specs.Sums.{number_of}
-use Rattle.ta_meaning.specs.Faults.{FirstOrMemory, digits_faults}
-use Rattle.ta_meaning.proofs.Answering.{where-first, where-false, not-where}
+use Rattle.ta_meaning.specs.Faults.{First, digits_faults}
+use Rattle.ta_meaning.proofs.Answering.{where-leads, where-false, not-where}
 
 digit_at : (ds : List ℕ) (i : ℕ) → AllByRecursion (λ c. IsTrue (is_ascii_digit c)) ds → i < length ds → is_ascii_digit (get_or ds i 0) ≡ true
 digit_at [] i all h = absurd (omega arith)
@@ -31,10 +31,10 @@ number_more ds i all h =
     omega (arith, digits_value_more 10 ds i h, value)
 
 -- a number whose first digits are above 1,000,000,000 is too large
-pub too_large_at : (d : Digits) (i : ℕ) → 1000000000 < number_of (take i d.text) → FirstOrMemory (digits_faults d) (fault.TooLarge d.at)
+pub too_large_at : (d : Digits) (i : ℕ) → 1000000000 < number_of (take i d.text) → First (digits_faults d) (fault.TooLarge d.at)
 too_large_at d i h =
     let whole = digits_value-take-le 10 d.text i (omega arith) in
-    where-first (ltb 1000000000 (number_of d.text)) (fault.TooLarge d.at) ((Decides-ltb 1000000000 (number_of d.text)).1 (omega (arith, whole)))
+    where-leads (ltb 1000000000 (number_of d.text)) (fault.TooLarge d.at) ((Decides-ltb 1000000000 (number_of d.text)).1 (omega (arith, whole)))
 
 pub small_number : (d : Digits) → number_of d.text ≤ 1000000000 → digits_faults d ≡ []
 small_number d h =

@@ -35,11 +35,20 @@ abbrev pub else_ : List FileFault → List FileFault → List FileFault
 else_ [] later = later
 else_ (f ∷ fs) later = f ∷ fs
 
+-- the first of the faults
+abbrev pub First : List FileFault → FileFault → Type 0
+First faults e = (rest : List FileFault) × (faults ≡ e ∷ rest)
+
 -- the first of the faults, or want of memory
 abbrev pub FirstOrMemory : List FileFault → FileFault → Type 0
-FirstOrMemory faults e = (e ≡ fault.Memory) ⊎ ((rest : List FileFault) × (faults ≡ e ∷ rest))
+FirstOrMemory faults e = (e ≡ fault.Memory) ⊎ First faults e
 
--- Ok, with a value that is right, exactly where there are no faults; else the first of them
+-- Ok, with a value that is right, exactly where there are no faults; else the first of them. So answers what takes no memory
+abbrev pub Judges : {X : Type 0} → List FileFault → (X → Type 0) → Result X FileFault → Type 0
+Judges faults IsRight (Ok x) = (faults ≡ []) × IsRight x
+Judges faults IsRight (Err e) = First faults e
+
+-- the same where memory may be wanted
 abbrev pub Answers : {X : Type 0} → List FileFault → (X → Type 0) → Result X FileFault → Type 0
 Answers faults IsRight (Ok x) = (faults ≡ []) × IsRight x
 Answers faults IsRight (Err e) = FirstOrMemory faults e
@@ -145,16 +154,25 @@ guard_faults parameters s g c =
     (else_ (where_ (is_no_threshold parameters (comparison_rows s.allowed (plain_comparison c))) (fault.NotThreshold c.at))
     (where_ (is_one_more parameters g (comparison_rows s.allowed (plain_comparison c))) (fault.TooMany c.at)))
 
+-- a guard that has a fault counts for no later one
+abbrev pub counted : List FileFault → Guards → Guards → Guards
+counted [] before after = after
+counted (f ∷ fs) before after = before
+
+-- the guards with one more
+abbrev pub guards_then : ℕ → Scope → Guards → TreeComparison → Guards
+guards_then parameters s g c =
+    counted (guard_faults parameters s g c) g (with_guards parameters g (comparison_rows s.allowed (plain_comparison c)))
+
 -- guards one after another
 abbrev pub guards_faults : ℕ → Scope → Guards → List TreeComparison → List FileFault
 guards_faults parameters s g [] = []
-guards_faults parameters s g (c ∷ cs) =
-    guard_faults parameters s g c ++ guards_faults parameters s (with_guards parameters g (comparison_rows s.allowed (plain_comparison c))) cs
+guards_faults parameters s g (c ∷ cs) = guard_faults parameters s g c ++ guards_faults parameters s (guards_then parameters s g c) cs
 
 -- the guards with those of a rule
 abbrev pub guards_with : ℕ → Scope → Guards → List TreeComparison → Guards
 guards_with parameters s g [] = g
-guards_with parameters s g (c ∷ cs) = guards_with parameters s (with_guards parameters g (comparison_rows s.allowed (plain_comparison c))) cs
+guards_with parameters s g (c ∷ cs) = guards_with parameters s (guards_then parameters s g c) cs
 
 -- ---- the file
 

@@ -76,13 +76,17 @@ is_no_threshold parameters [] = true
 is_no_threshold parameters (r ∷ []) = falls parameters r && any_number is_positive (shared_part parameters r)
 is_no_threshold parameters (r ∷ q ∷ rows) = true
 
--- a row more than 16 rise guards or 6 fall guards
-abbrev pub is_one_more : ℕ → Guards → List Linear → Bool
-is_one_more parameters g [] = false
-is_one_more parameters g (r ∷ rows) =
+-- a row that is none of the guards of its kind, where these are 16 rise guards or 6 fall guards already
+abbrev pub is_past_limit : ℕ → Guards → Linear → Bool
+is_past_limit parameters g r =
     if falls parameters r
     then not (has_row g.fall r) && not (ltb (length g.fall) 6)
     else not (has_row g.rise r) && not (ltb (length g.rise) 16)
+
+-- a threshold guard more than 16 rise guards or 6 fall guards
+abbrev pub is_one_more : ℕ → Guards → List Linear → Bool
+is_one_more parameters g [] = false
+is_one_more parameters g (r ∷ rows) = not (is_no_threshold parameters (r ∷ rows)) && is_past_limit parameters g r
 
 -- the mask names the guards that are among rows
 abbrev pub NamesGuards : List Linear → List Linear → ℕ → Type 0

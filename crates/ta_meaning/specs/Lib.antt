@@ -9,5 +9,7 @@ pub mod Reading
 pub mod SumParts
 pub mod Laws
 pub mod Offsets
+pub mod Seen
+pub mod Table
 pub mod Answers
 pub mod Inside

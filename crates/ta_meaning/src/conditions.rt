@@ -5,7 +5,7 @@ ghost use Rattle.std.specs.Prelude.{◌≡◌, ◌≤◌, ◌^◌, length, take,
 ghost use Rattle.ta_syntax.specs.PlainSums.{plain_sum};
 ghost use Rattle.ta_syntax.specs.PlainTrees.{plain_comparison};
 ghost use Rattle.ta_meaning.specs.Linear.{Pairwise, linear_sum, is_large_linear};
-ghost use Rattle.ta_meaning.specs.Faults.{Answers, else_, where_, sum_faults, comparison_faults, condition_faults};
+ghost use Rattle.ta_meaning.specs.Faults.{Judges, Answers, else_, where_, sum_faults, comparison_faults, condition_faults};
 ghost use Rattle.ta_meaning.specs.Inside.Resolved.{first_places, ResolvedForm, ResolvedComparison, ResolvedCondition};
 ghost use Rattle.ta_meaning.specs.SumParts.{Within};
 ghost use Rattle.ta_meaning.specs.Inside.SumParts.{any_large_row, form_differences, RowOfDifference};
@@ -61,7 +61,7 @@ fn normal_rows(
 
 /// Rows, or F6 at an offset where one of their numbers is too large.
 fn small_rows(rows: Vec<Row>, at: u32) -> Result<Vec<Row>, FileFault>
-    ensures { Answers (where_ (any_large_row rows.items) (FileFault.TooLarge at)) (λ small. small ≡ rows) result }
+    ensures { Judges (where_ (any_large_row rows.items) (FileFault.TooLarge at)) (λ small. small ≡ rows) result }
 {
     'rows: for row in &rows {
         if is_large_form(&row.form) {

@@ -5,7 +5,7 @@ ghost use Rattle.std.specs.Prelude.{◌≡◌, ◌++◌, map, not};
 ghost use Rattle.std.specs.List.{list_any};
 ghost use Rattle.ta_syntax.specs.PlainTrees.{plain_name};
 ghost use Rattle.ta_meaning.specs.Names.{all_names, names_of};
-ghost use Rattle.ta_meaning.specs.Faults.{Answers, where_, is_long, any_initial, location_spelled, declarations_faults, names_faults};
+ghost use Rattle.ta_meaning.specs.Faults.{Judges, Answers, where_, is_long, any_initial, location_spelled, declarations_faults, names_faults};
 ghost use Rattle.ta_meaning.specs.Inside.Resolved.{kinds_of};
 
 use crate::names::NameList;
@@ -40,7 +40,7 @@ fn declare_tree(alloc: Global, tree: &Tree) -> Result<NameList, FileFault>
 
 /// F6 where a name is too long.
 fn check_length(name: &Spelled) -> Result<(), FileFault>
-    ensures { Answers (where_ (is_long name.now) (FileFault.TooLarge name.now.at)) (λ _. Unit {0}) result }
+    ensures { Judges (where_ (is_long name.now) (FileFault.TooLarge name.now.at)) (λ _. Unit {0}) result }
 {
     if name.name.as_str().len() > 64 {
         return Err(FileFault::TooLarge(name.at));
@@ -50,7 +50,7 @@ fn check_length(name: &Spelled) -> Result<(), FileFault>
 
 /// F12 where no location is initial.
 fn check_initial(tree: &Tree) -> Result<(), FileFault>
-    ensures { Answers (where_ (not (any_initial tree.now.locations)) (FileFault.NoInitial tree.now.locations_at)) (λ _. Unit {0}) result }
+    ensures { Judges (where_ (not (any_initial tree.now.locations)) (FileFault.NoInitial tree.now.locations_at)) (λ _. Unit {0}) result }
 {
     if !has_initial(tree.locations.as_slice()) {
         return Err(FileFault::NoInitial(tree.locations_at));

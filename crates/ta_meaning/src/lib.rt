@@ -23,5 +23,5 @@ mod updates;
 pub use answers::texts_have_answers;
 pub use file::resolve;
 pub use laws::meanings_are_unique;
-pub use offset_law::faults_rise;
+pub use offset_law::{faults_are_of_the_table, faults_rise};
 pub use reader::read_file;

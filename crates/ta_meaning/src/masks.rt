@@ -4,7 +4,7 @@
 ghost use Rattle.std.specs.Prelude.{◌-◌, ◌<◌, ◌≤◌, ◌↔◌, [], length, map, IsTrue, IsBitSet};
 ghost use Rattle.ta_syntax.specs.PlainTrees.{plain_name};
 ghost use Rattle.ta_automaton.specs.Lists.{Distinct};
-ghost use Rattle.ta_meaning.specs.Faults.{Answers, listed_faults};
+ghost use Rattle.ta_meaning.specs.Faults.{Judges, listed_faults};
 ghost use Rattle.ta_meaning.specs.Inside.Listed.{between, ListedMask};
 
 use crate::names::NameList;
@@ -23,7 +23,7 @@ pub fn listed_mask(
     requires within { to ≤ length names.now }
     requires few { to - from ≤ 32 }
     requires distinct { Distinct names.now }
-    ensures { Answers (listed_faults names.now (between from to names.now) [] listed.now) (ListedMask (between from to names.now) (map plain_name listed.now)) result }
+    ensures { Judges (listed_faults names.now (between from to names.now) [] listed.now) (ListedMask (between from to names.now) (map plain_name listed.now)) result }
 {
     let mut mask: u32 = 0;
     for name in listed {

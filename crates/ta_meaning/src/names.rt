@@ -2,7 +2,7 @@
 #![tactic(auto)]
 
 ghost use Rattle.std.specs.Prelude.{◌≡◌, ◌+◌, ◌-◌, ◌≤◌, ◌++◌, [], ◌∷◌, length, take, drop, slice_get, Some, OnOk};
-ghost use Rattle.ta_meaning.specs.Faults.{Answers, declared_faults, used_faults};
+ghost use Rattle.ta_meaning.specs.Faults.{Judges, Answers, declared_faults, used_faults};
 
 use indexmap::IndexSet;
 use std::alloc::Global;
@@ -61,7 +61,7 @@ impl NameList {
     pub fn number_in(&self, from: u32, to: u32, name: &Spelled) -> Result<u32, FileFault>
         requires order { from ≤ to }
         requires within { to ≤ length self.now }
-        ensures { Answers (used_faults self.now (take (to - from) (drop from self.now)) name.now) (λ i. slice_get (take (to - from) (drop from self.now)) i ≡ Some name.now.name) result }
+        ensures { Judges (used_faults self.now (take (to - from) (drop from self.now)) name.now) (λ i. slice_get (take (to - from) (drop from self.now)) i ≡ Some name.now.name) result }
     {
         let Some(number) = self.names.get_index_of(name.name.as_str()) else {
             return Err(FileFault::Unknown(name.at));

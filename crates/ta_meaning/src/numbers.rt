@@ -3,7 +3,7 @@
 
 ghost use Rattle.std.specs.Prelude.{◌≡◌};
 ghost use Rattle.ta_meaning.specs.Sums.{number_of};
-ghost use Rattle.ta_meaning.specs.Faults.{Answers, digits_faults};
+ghost use Rattle.ta_meaning.specs.Faults.{Judges, digits_faults};
 
 use ta_syntax::{Digits, FileFault};
 
@@ -12,7 +12,7 @@ pub(crate) const LARGEST: u64 = 1_000_000_000;
 
 /// The number that digits write, zeros in front included.
 pub(crate) fn read_number(digits: &Digits) -> Result<u32, FileFault>
-    ensures { Answers (digits_faults digits.now) (λ n. n ≡ number_of digits.now.text) result }
+    ensures { Judges (digits_faults digits.now) (λ n. n ≡ number_of digits.now.text) result }
 {
     let mut number = 0u64;
     'digits: for digit in digits.text.as_str().as_bytes() {

@@ -2,6 +2,7 @@
 #![tactic(auto)]
 
 ghost use Rattle.ta_meaning.specs.Offsets.{FaultsRise, FirstIsLeast, FaultsStandAtTokens, FaultsAreOfMeaning};
+ghost use Rattle.ta_meaning.specs.Table.{FaultsAreOfTheTable};
 
 /// The faults of what a tree means stand at rising offsets, each at a token. So the first of them is the one with the smallest offset, and at most one stands at each offset.
 pub fn faults_rise()
@@ -9,4 +10,9 @@ pub fn faults_rise()
     ensures least { FirstIsLeast }
     ensures tokens { FaultsStandAtTokens }
     ensures kinds { FaultsAreOfMeaning }
+{}
+
+/// Each entry of the list of faults of what a tree means is a fault of the table: what its code says is wrong at its token.
+pub fn faults_are_of_the_table()
+    ensures { FaultsAreOfTheTable }
 {}

@@ -5,7 +5,7 @@ ghost use Rattle.std.specs.Prelude.{◌≡◌, ◌+◌, ◌<◌, ◌≤◌, [], 
 ghost use Rattle.ta_syntax.specs.PlainTrees.{plain_name, plain_comparison, plain_event, plain_pattern};
 ghost use Rattle.ta_automaton.specs.Lists.{Distinct};
 ghost use Rattle.ta_meaning.specs.Names.{all_names};
-ghost use Rattle.ta_meaning.specs.Faults.{Answers, in_conditions, condition_faults, listed_faults, event_faults, events_faults, pattern_faults, patterns_faults};
+ghost use Rattle.ta_meaning.specs.Faults.{Judges, Answers, in_conditions, condition_faults, listed_faults, event_faults, events_faults, pattern_faults, patterns_faults};
 ghost use Rattle.ta_meaning.specs.Inside.Resolved.{kinds_of, ResolvedCondition, ResolvedPatterns};
 ghost use Rattle.ta_meaning.specs.Inside.Listed.{ListedMask};
 ghost use Rattle.ta_meaning.specs.Inside.PatternParts.{ResolvedEvent, ResolvedEvents, ResolvedPattern};
@@ -103,7 +103,7 @@ fn resolve_event(
 fn after_mask(earlier: &NameList, listed: &[Spelled]) -> Result<u8, FileFault>
     requires few { length earlier.now < 8 }
     requires distinct { Distinct earlier.now }
-    ensures { Answers (listed_faults earlier.now earlier.now [] listed.now) (ListedMask earlier.now (map plain_name listed.now)) result }
+    ensures { Judges (listed_faults earlier.now earlier.now [] listed.now) (ListedMask earlier.now (map plain_name listed.now)) result }
 {
     let mask = listed_mask(earlier, 0, earlier.len() as u32, listed)?;
     Ok(mask as u8)
@@ -111,7 +111,7 @@ fn after_mask(earlier: &NameList, listed: &[Spelled]) -> Result<u8, FileFault>
 
 /// The mask of the locations that a pattern keeps empty.
 fn empty_mask(places: &Places, listed: &[Spelled]) -> Result<u32, FileFault>
-    ensures { Answers (listed_faults (all_names (kinds_of places.now)) (kinds_of places.now).locations [] listed.now) (ListedMask (kinds_of places.now).locations (map plain_name listed.now)) result }
+    ensures { Judges (listed_faults (all_names (kinds_of places.now)) (kinds_of places.now).locations [] listed.now) (ListedMask (kinds_of places.now).locations (map plain_name listed.now)) result }
 {
     let first = places.parameters + places.shared;
     listed_mask(&places.names, first, places.names.len() as u32, listed)

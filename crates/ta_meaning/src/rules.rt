@@ -4,7 +4,7 @@
 ghost use Rattle.std.specs.Prelude.{◌≡◌, ◌≤◌, [], length, map, slice_get, Some};
 ghost use Rattle.ta_syntax.specs.PlainTrees.{plain_rule};
 ghost use Rattle.ta_meaning.specs.Guards.{no_guards};
-ghost use Rattle.ta_meaning.specs.Faults.{Answers, used_faults, rule_faults, rules_faults};
+ghost use Rattle.ta_meaning.specs.Faults.{Judges, Answers, used_faults, rule_faults, rules_faults};
 ghost use Rattle.ta_meaning.specs.Names.{all_names};
 ghost use Rattle.ta_meaning.specs.Inside.Numbering.{guards_so_far, GuardsKept};
 ghost use Rattle.ta_meaning.specs.Inside.RuleReading.{RuleRead};
@@ -79,7 +79,7 @@ fn resolve_rule(
 
 /// The number of a location: F4 where its name isn't declared, F5 where it is no location's.
 fn location_in(places: &Places, name: &Spelled) -> Result<u32, FileFault>
-    ensures { Answers (used_faults (all_names (kinds_of places.now)) (kinds_of places.now).locations name.now) (λ location. slice_get (kinds_of places.now).locations location ≡ Some name.now.name) result }
+    ensures { Judges (used_faults (all_names (kinds_of places.now)) (kinds_of places.now).locations name.now) (λ location. slice_get (kinds_of places.now).locations location ≡ Some name.now.name) result }
 {
     let first = places.parameters + places.shared;
     let count = places.names.len() as u32;

@@ -6,7 +6,7 @@ ghost use Rattle.ta_syntax.specs.Grammar.{named};
 ghost use Rattle.ta_syntax.specs.PlainSums.{plain_sum, plain_term, plain_factor};
 ghost use Rattle.ta_meaning.specs.Sums.{sum_uses, term_uses, factor_uses};
 ghost use Rattle.ta_meaning.specs.Linear.{linear_sum};
-ghost use Rattle.ta_meaning.specs.Faults.{Answers, where_, used_faults, number_faults, linear_term, sum_faults};
+ghost use Rattle.ta_meaning.specs.Faults.{Judges, Answers, where_, used_faults, number_faults, linear_term, sum_faults};
 ghost use Rattle.ta_meaning.specs.Inside.Resolved.{first_places};
 ghost use Rattle.ta_meaning.specs.SumParts.{Within};
 ghost use Rattle.ta_meaning.specs.Inside.SumParts.{judged_term, judged_factor, linear_factor, number_or, PartOf, IsSignedSum, is_large_form};
@@ -40,7 +40,7 @@ fn name_form(
 
 /// The number of a term, or another where it has none.
 fn number_or(number: &Option<Digits>, other: u32) -> Result<u32, FileFault>
-    ensures { Answers (number_faults number.now) (λ n. n ≡ number_or other number.now) result }
+    ensures { Judges (number_faults number.now) (λ n. n ≡ number_or other number.now) result }
 {
     match number {
         None => Ok(other),
@@ -50,7 +50,7 @@ fn number_or(number: &Option<Digits>, other: u32) -> Result<u32, FileFault>
 
 /// A form, or F6 at an offset where one of its numbers is too large.
 pub(crate) fn small_form(form: Form, at: u32) -> Result<Form, FileFault>
-    ensures { Answers (where_ (is_large_form form) (FileFault.TooLarge at)) (λ f. f ≡ form) result }
+    ensures { Judges (where_ (is_large_form form) (FileFault.TooLarge at)) (λ f. f ≡ form) result }
 {
     if is_large_form(&form) {
         return Err(FileFault::TooLarge(at));

@@ -5,7 +5,7 @@ ghost use Rattle.std.specs.Prelude.{◌≡◌, ◌<◌, ◌≤◌, [], ◌∷◌
 ghost use Rattle.ta_syntax.specs.PlainTrees.{plain_update};
 ghost use Rattle.ta_automaton.specs.Lists.{Each};
 ghost use Rattle.ta_meaning.specs.Names.{all_names};
-ghost use Rattle.ta_meaning.specs.Faults.{Answers, else_, where_, used_faults, updates_faults};
+ghost use Rattle.ta_meaning.specs.Faults.{Judges, Answers, else_, where_, used_faults, updates_faults};
 ghost use Rattle.ta_meaning.specs.Inside.Resolved.{kinds_of};
 ghost use Rattle.ta_meaning.specs.Inside.Updating.{names_at, variable_faults, IsNewVariable, UpdatesRead, WithUpdate};
 
@@ -37,7 +37,7 @@ pub(crate) fn read_updates(
 /// isn't declared, F5 where it is no shared variable.
 fn variable_in(places: &Places, seen: &[u32], name: &Spelled) -> Result<u32, FileFault>
     requires { Each (λ x. x < length (kinds_of places.now).shared) seen.now }
-    ensures { Answers (variable_faults (kinds_of places.now) (names_at (kinds_of places.now).shared seen.now) name.now) (λ variable. IsNewVariable (kinds_of places.now).shared seen.now name.now.name variable) result }
+    ensures { Judges (variable_faults (kinds_of places.now) (names_at (kinds_of places.now).shared seen.now) name.now) (λ variable. IsNewVariable (kinds_of places.now).shared seen.now name.now.name variable) result }
 {
     let shared = places.parameters + places.shared;
     let variable = places.names.number_in(places.parameters, shared, name)?;

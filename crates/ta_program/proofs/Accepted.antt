@@ -23,14 +23,13 @@ use Rattle.ta_shell.specs.declared.answer.Answer.{Answer}
 use Rattle.ta_shell.specs.Stages.{IsOf}
 use Rattle.ta_program.specs.declared.limits.TheConstants.{CERTIFICATE}
 use Rattle.ta_program.specs.Certified.{SafeOne, safe_numbers, safe_ones, tree_size, with_safe}
+use Rattle.ta_program.specs.Check.{check_meaning}
 use Rattle.ta_program.specs.Kinds.{IsFile, certificate_kind, file_kind}
 use Rattle.ta_program.specs.Laws.{WrittenIsAccepted}
 use Rattle.ta_program.specs.Reporting.{HoldsText}
-use Rattle.ta_program.specs.Requests.{meaning_of}
 use Rattle.ta_program.specs.Verify.{VerdictHolds, VerdictsHold}
-use Rattle.ta_program.specs.Words.Asked.{Check}
-use Rattle.ta_program.proofs.Clauses.{certificate_written, same_file}
-use Rattle.ta_program.proofs.Meanings.{decided}
+use Rattle.ta_program.proofs.Clauses.{as_check, certificate_written, same_file}
+use Rattle.ta_program.proofs.Meanings.{check_decides}
 use Rattle.ta_program.proofs.WordsDiffer.{out_differs}
 
 -- a file of another name is as it was
@@ -75,27 +74,27 @@ module _ (name out : List ℕ) (told : Told) (file : File) (verdicts : List Verd
   is_certificate : IsOf (certificate_kind file) (in_files told) out (safe_numbers file verdicts)
   is_certificate = record { bytes = text; had = record { seen = held; within = within }; means = record { accepted = accepted; safe = safe } }
 
-  is_so : IsSo (meaning_of (Check name out)) (in_files told) 0
+  is_so : IsSo (check_meaning name out) (in_files told) 0
   is_so =
       let says = check_text file (safe_numbers file verdicts) in
       inl (record { number = 0; text = says; puts = [] }, refl, (file, is_file, (safe_numbers file verdicts, is_certificate, record { numbered = refl; written = refl; no_put = refl })))
 
   -- what it says, where it answers
-  says_just_these : (answer : Answer) → (meaning_of (Check name out)).answers (in_files told) answer → answer.text ≡ check_text file (safe_numbers file verdicts)
+  says_just_these : (answer : Answer) → (check_meaning name out).answers (in_files told) answer → answer.text ≡ check_text file (safe_numbers file verdicts)
   says_just_these answer (other, is, (numbers, proved, writes)) =
       let same : other ≡ file = same_file told name file other is is_file in
       let texts : proved.bytes ≡ text = (let e : Some proved.bytes ≡ Some text = sym proved.had.seen ∙ held in cc) in
       let moved : Certificate file text numbers = subst (λ (f : File). Certificate f text numbers) same (subst (λ (t : List ℕ). Certificate other t numbers) texts proved.means.accepted) in
       writes.written ∙ ap (λ (f : File). check_text f numbers) same ∙ ap (check_text file) (one_list file text numbers (safe_numbers file verdicts) moved accepted)
 
-  checks : (second : ℕ) (begun ended : State) → begun.shelf.files ≡ Some told → Performs (meaning_of (Check name out)) second begun ended → ((second ≡ 0) × (ended.out.written ≡ with_text begun.out.written (check_text file (safe_numbers file verdicts)))) ⊎ ((second ≡ 6) ⊎ (second ≡ 7))
+  checks : (second : ℕ) (begun ended : State) → begun.shelf.files ≡ Some told → Performs (check_meaning name out) second begun ended → ((second ≡ 0) × (ended.out.written ≡ with_text begun.out.written (check_text file (safe_numbers file verdicts)))) ⊎ ((second ≡ 6) ⊎ (second ≡ 7))
   checks second begun ended is h =
-      let m = meaning_of (Check name out) in
-      elim (h.exact (decided (Check name out)) told is 0 is_so) [
+      let m = check_meaning name out in
+      elim (h.exact (check_decides name out) told is 0 is_so) [
         | inl zero_is ↦
             let a = answered m (seen begun.shelf.files h.ends.read) second begun ended h.ends.end (omega (arith, zero_is)) in
             let seen_told = subst (λ (o : Option Told). m.answers (seen o h.ends.read) a.answer) is a.holds.holds in
-            inl (zero_is, a.written ∙ ap (with_text begun.out.written) (says_just_these a.answer ((decided (Check name out)).answers told h.ends.read a.answer seen_told)))
+            inl (zero_is, a.written ∙ ap (with_text begun.out.written) (says_just_these a.answer ((check_decides name out).answers told h.ends.read a.answer seen_told)))
         | inr other ↦ inr other
       ]
 
@@ -105,17 +104,20 @@ told_before out text None told h = absurd h
 told_before out text (Some first) told h = (first, refl, h)
 
 pub written_is_accepted : WrittenIsAccepted
-written_is_accepted words first before after h name out budget is low told after_told second begun ended begun_told h' =
-    let c = (certificate_written words first before after h name budget out is low).such in
+written_is_accepted words first before after h asked out is given low told after_told again checked second begun ended begun_told done =
+    let name = asked.file in
+    let budget = asked.nodes in
+    let c = (certificate_written words first before after h asked out is given low).such in
     let r = c.report in
     let files = told_before out c.text before.shelf.files told (subst (λ (o : Option Told). WhereTold (HoldsText out c.text) before.shelf.files o) after_told c.stands) in
-    let read = (certificate_written words first before after h name budget out is low).added in
+    let read = (certificate_written words first before after h asked out is given low).added in
     let is_first : IsFile (in_files files.0) name r.file = is_more file_kind (seen (Some files.0) read) (in_files files.0) (sub_told files.0 read) name r.file (subst (λ (o : Option Told). IsFile (seen o read) name r.file) files.1 r.is_file) in
-    let is_now = is_kept files.0 told name out c.text r.file (out_differs name out budget words is) files.2 is_first in
+    let is_now = is_kept files.0 told name out c.text r.file (out_differs words asked out is given) files.2 is_first in
     let safe = ones_safe r.file budget 0 r.file.patterns r.verdicts r.are.hold (λ k p given. let here : k ≡ 0 + k = omega arith in subst (λ (n : ℕ). slice_get r.file.patterns n ≡ Some p) here given) in
     record {
       file = r.file;
+      sample = r.sample;
       verdicts = r.verdicts;
       reported = r.wrote;
-      accepted = checks name out told r.file r.verdicts c.text is_now files.2.held c.within c.accepted safe second begun ended begun_told h';
+      accepted = checks name out told r.file r.verdicts c.text is_now files.2.held c.within c.accepted safe second begun ended begun_told (as_check again second begun ended done (record { file = name; other = out }) checked);
     }

@@ -16,12 +16,13 @@ use Rattle.ta_cert.specs.declared.line.Line.TheVariants as line
 use Rattle.ta_cert.specs.declared.line.Node.{Node}
 use Rattle.ta_cert.specs.declared.line.Proof.{Proof}
 use Rattle.ta_check.specs.Certificate.{Certificate, ProvesPattern, number_of}
-use Rattle.ta_cursor.specs.Range.{Judged}
+use Rattle.ta_cursor.specs.Range.{IsJudged}
 use Rattle.ta_encode.proofs.Preorders.{in_order}
 use Rattle.ta_report.specs.declared.verdict.Verdict.{Verdict}
 use Rattle.ta_walk.proofs.NodesShort.{row_short}
 use Rattle.ta_walk.proofs.ProofsMade.{refuted_safe}
 use Rattle.ta_walk.specs.Ends.{IsShort}
+use Rattle.ta_encode.specs.PatternSearch.{pattern_search}
 use Rattle.ta_program.specs.Certified.{AreTrees, CertificateOf, SafeOne, safe_numbers, safe_ones, tree_size, with_safe}
 
 all_of : {X : Type 0} (P : X → Type 0) (xs : List X) → Each P xs → AllByRecursion P xs
@@ -94,7 +95,7 @@ made file budget loops within (one ∷ ones) [] named are = absurd are
 made file budget loops within (one ∷ ones) (t ∷ ts) named are =
     let is = are.0 in
     let proof = (refuted_safe file one.number one.pattern named.0 loops budget within t.nodes one.nodes is.is).0 in
-    let trees = (in_order Judged file.automaton one.pattern t.nodes).0 proof.refutes in
+    let trees = (in_order IsJudged (pattern_search file.automaton one.pattern) t.nodes).0 proof.refutes in
     let rest = made file budget loops within ones ts named.1 are.1 in
     let number : one.number ≡ t.pattern = sym is.numbered in
     let nodes : all_preorder trees.0 ≡ t.nodes = trees.2 in

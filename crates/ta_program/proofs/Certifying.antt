@@ -8,7 +8,6 @@ use Rattle.ta_cert.specs.Certificates.{cert_text, proofs_text}
 use Rattle.ta_cert.specs.Lines.{line_text}
 use Rattle.ta_cert.specs.declared.line.Line.TheVariants as line
 use Rattle.ta_cert.specs.declared.line.Proof.{Proof}
-use Rattle.ta_report.specs.Report.{report_text}
 use Rattle.ta_report.specs.declared.verdict.Verdict.{Verdict}
 use Rattle.ta_shelf.specs.Put.{Told}
 use Rattle.ta_shell.specs.declared.answer.Answer.{Answer}
@@ -20,6 +19,7 @@ use Rattle.ta_shell.specs.Puts.{Within}
 use Rattle.ta_program.specs.Certified.{AreTrees, CertificateOf, safe_ones}
 use Rattle.ta_program.specs.Inside.Certifying.{Certifies}
 use Rattle.ta_program.specs.Inside.Drafts.{ended_line}
+use Rattle.ta_program.specs.Inside.Reported.{SampleReported}
 use Rattle.ta_program.specs.Reporting.{report_meaning}
 use Rattle.ta_program.specs.Verify.{AreVerdicts, verdicts_number}
 use Rattle.ta_program.proofs.CertificatesMade.{certificate_accepted}
@@ -39,11 +39,11 @@ puts_within out put puts only named =
     let among : Contains (out ∷ []) out = search rules in
     subst (Within (out ∷ [])) (sym only) (subst (Contains (out ∷ [])) (sym named) among, tt)
 
-module _ (file : File) (loops : LoopsPure file.automaton) (budget : ℕ) (within : budget ≤ 1000000000) (out : List ℕ) (vs : List Verdict) (are : AreVerdicts file budget vs) (proofs : List Proof) (trees : AreTrees file budget (safe_ones 0 file.patterns vs) proofs) (number : ℕ) (report : List ℕ) (numbered : number ≡ verdicts_number vs) (written : report ≡ report_text file vs) (files : Option Told) where
+module _ (file : File) (loops : LoopsPure file.automaton) (budget : ℕ) (within : budget ≤ 1000000000) (json : Bool) (out : List ℕ) (vs : List Verdict) (are : AreVerdicts file budget vs) (proofs : List Proof) (trees : AreTrees file budget (safe_ones 0 file.patterns vs) proofs) (number : ℕ) (report : List ℕ) (numbered : number ≡ verdicts_number vs) (reported : SampleReported json file budget vs report) (files : Option Told) where
   certificate_of : (text : List ℕ) → text ≡ cert_text proofs → CertificateOf file budget vs text
   certificate_of text is = record { trees = proofs; are = trees; written = is }
 
-  pub certified_says : (result : Result Answer Refusal) → Certifies number report out (cert_text proofs) result → Says (report_meaning file budget (Some out)) files result []
+  pub certified_says : (result : Result Answer Refusal) → Certifies number report out (cert_text proofs) result → Says (report_meaning file budget json (Some out)) files result []
   certified_says (Ok answer) c =
       let low : answer.number ≤ 2 = subst (λ (n : ℕ). n ≤ 2) (sym (c.numbered ∙ numbered)) (low_by (list_any _ vs) (list_any _ vs)) in
       record {
@@ -51,10 +51,12 @@ module _ (file : File) (loops : LoopsPure file.automaton) (budget : ℕ) (within
         judges = record {
           low = low;
           holds = record {
+            sample = reported.sample;
+            is_sample = reported.is_sample;
             verdicts = vs;
             are = are;
             numbered = c.numbered ∙ numbered;
-            written = c.written ∙ written;
+            written = c.written ∙ reported.written;
             puts = record {
               put = c.put;
               only = c.only;

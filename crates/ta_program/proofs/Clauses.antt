@@ -1,7 +1,8 @@
 -- from how a run ends to its clauses
-use Rattle.std.proofs.Common.{◌≡◌, ◌≢◌, ◌≤◌, ◌+◌, ◌||◌, ℕ, suc, nat_eq, Bool, true, false, List, [], ◌∷◌, Option, None, Some, slice_get, refl, sym, ap, subst, ◌∙◌, inl, inr, arith}
+use Rattle.std.proofs.Common.{◌≡◌, ◌≢◌, ◌≤◌, ◌+◌, ◌||◌, ℕ, suc, nat_eq, Bool, true, false, List, [], ◌∷◌, Option, None, Some, slice_get, refl, sym, ap, subst, ◌∙◌, inl, inr, arith, rules}
 use Rattle.std.specs.Prelude.{◌⊎◌, IsSome, codes, if◌then◌else◌}
 use Rattle.std.specs.List.{list_any}
+use Rattle.std.specs.Str.{bytes_eq}
 use Rattle.std.proofs.lemmas.Bool.{eqb-true}
 use Rattle.ta_automaton.specs.declared.file.File.{File}
 use Rattle.ta_automaton.specs.declared.pattern.Pattern.{Pattern}
@@ -9,9 +10,10 @@ use Rattle.ta_automaton.specs.Lists.{Each}
 use Rattle.ta_automaton.specs.Runs as runs
 use Rattle.ta_check.specs.Certificate.{PatternSafe}
 use Rattle.ta_meaning.proofs.OneTree.{one_legal}
-use Rattle.ta_report.proofs.Printed.{printed_proved, printed_safe}
+use Rattle.ta_report.proofs.Printed.{printed_proved}
+use Rattle.ta_report.proofs.Tellings.{told_safe}
 use Rattle.ta_report.specs.Check.{check_text}
-use Rattle.ta_report.specs.Report.{report_text}
+use Rattle.ta_report.specs.Telling.{report_of}
 use Rattle.ta_report.specs.declared.verdict.Verdict.{Verdict}
 use Rattle.ta_report.specs.declared.verdict.Verdict.TheVariants.{Safe, Unsafe, Spent, Overflow}
 use Rattle.ta_shelf.specs.Calls.{Grew}
@@ -20,27 +22,32 @@ use Rattle.ta_shelf.specs.Sink.{with_text}
 use Rattle.ta_shell.proofs.Clauses.{answered, hindered, kept_refused, never_five}
 use Rattle.ta_shell.proofs.Read.{no_hindrance}
 use Rattle.ta_shell.proofs.Views.{whole_one}
+use Rattle.ta_shell.specs.Commands.{Decides, Meaning}
 use Rattle.ta_shell.specs.Ends.{Answered, Performs, Quiet, ShelfState, SinkState, State}
 use Rattle.ta_shell.specs.Puts.{Holds, KeptBut, Stand, put_bytes}
 use Rattle.ta_shell.specs.Sights.{View, in_files, seen}
 use Rattle.ta_shell.specs.Stages.{Hinders}
 use Rattle.ta_shell.specs.declared.answer.Put.{Put}
 use Rattle.ta_syntax.specs.PlainTrees.{plain_tree}
+use Rattle.ta_program.specs.Asked.{Asked, Runs, ask}
+use Rattle.ta_program.specs.Asked.Asked.{Command, NoCommand}
+use Rattle.ta_program.specs.Bench.{BenchHolds, bench_meaning, bench_of, bench_status, bench_words}
 use Rattle.ta_program.specs.Certified.{LongCertificate, long_line, may_put}
-use Rattle.ta_program.specs.Check.{CheckHolds, proved_meaning}
+use Rattle.ta_program.specs.Check.{CheckHolds, check_meaning, check_of}
 use Rattle.ta_program.specs.Headline.{EachPatternSafe, EachPrintedSafe, HoldsFile, SomePatternOccurs, StatusTells}
 use Rattle.ta_program.specs.Kinds.{IsFile, file_kind}
-use Rattle.ta_program.specs.Printed.{EachPrintedUnsafe}
-use Rattle.ta_program.specs.Program.{CertificateWritten, CheckProves, Completes, ExactlySo, KeepsFiles, Opens, PrintedHolds, ReplayShows, RunShortens, Runs, Tellings, UsageExactly, VerifyReports, put_by}
-use Rattle.ta_program.specs.Compress.{CompressHolds, short_meaning}
-use Rattle.ta_program.specs.Replay.{ReplayHolds, shown_meaning}
-use Rattle.ta_program.specs.Requests.{file_of, meaning_of}
-use Rattle.ta_program.specs.Reporting.{CertificateStands, HoldsText, ReportHolds, Reports, report_meaning}
+use Rattle.ta_program.specs.Printed.{EachPrintedUnsafe, EachToldSafe}
+use Rattle.ta_program.specs.Program.{Benches, CertificateWritten, CheckProves, Completes, ExactlySo, KeepsFiles, Opens, PassesLegal, PrintedHolds, ReplayShows, RunShortens, Tellings, UsageExactly, VerifyReports, put_by}
+use Rattle.ta_program.specs.Compress.{CompressHolds, compress_meaning, compress_of}
+use Rattle.ta_program.specs.Replay.{ReplayHolds, replay_meaning, replay_of}
+use Rattle.ta_program.specs.Requests.{request_of}
+use Rattle.ta_program.specs.Reporting.{CertificateStands, HoldsText, ReportHolds, Reports, report_meaning, verify_meaning}
 use Rattle.ta_program.specs.Verify.{IsKnown, VerdictHolds, VerdictsHold, is_unsafe, is_unknown}
-use Rattle.ta_program.specs.Words.{Asked, request_of}
-use Rattle.ta_program.specs.Words.Asked.{Check, Compress, Replay, Verify}
+use Rattle.ta_program.specs.Values.{TwoNames, two_names}
+use Rattle.ta_program.specs.VerifyWords.{VerifyWords, verify_of, verify_words}
+use Rattle.ta_program.specs.Words.{behind_name}
 use Rattle.ta_program.proofs.UnsafePrinted.{hold_at, some_occurs, unsafe_printed}
-use Rattle.ta_program.proofs.Meanings.{decided, hinders_long, proved_monotone, report_monotone, short_monotone, shown_monotone}
+use Rattle.ta_program.proofs.Meanings.{hinders_long, report_monotone, verify_decides}
 
 -- one of two tests fails only where both fail
 neither : (a b : Bool) → (a || b) ≡ false → (a ≡ false) × (b ≡ false)
@@ -49,13 +56,12 @@ neither false b e = (refl, e)
 
 -- the number of a report is 0 only where nothing is unsafe and nothing unknown, 1 only where something is unsafe, and 2 only where
 -- something is unknown
-abbrev number_by : Bool → Bool → ℕ
+abbrev pub number_by : Bool → Bool → ℕ
 number_by found unknown = if found then 1 else (if unknown then 2 else 0)
 
-kinds_of_zero : (found unknown : Bool) → number_by found unknown ≡ 0 → (found ≡ false) × (unknown ≡ false)
-kinds_of_zero true unknown e = absurd (omega (arith, e))
-kinds_of_zero false true e = absurd (omega (arith, e))
-kinds_of_zero false false e = (refl, refl)
+-- what the number 0 has to say; that it does is an answer of `run`, so that a number which says less is refused at its clause
+abbrev pub ZeroSays : Type 0
+ZeroSays = (found unknown : Bool) → number_by found unknown ≡ 0 → (found ≡ false) × (unknown ≡ false)
 
 kind_of_one : (found unknown : Bool) → number_by found unknown ≡ 1 → found ≡ true
 kind_of_one true unknown e = refl
@@ -106,9 +112,15 @@ listed : (P : ℕ → Type 0) (x : ℕ) (xs : List ℕ) → Each P xs → list_a
 listed P x [] each among = absurd (cc)
 listed P x (y ∷ xs) each among = listed_in P x y (list_any (λ z. nat_eq z x) xs) (nat_eq y x) refl each.0 (listed P x xs each.1) among
 
--- the command that was asked for was done
-performed : (words : List (List ℕ)) (asked : Asked) (number : ℕ) (before after : State) → Runs (request_of words) number before after → request_of words ≡ Some asked → Performs (meaning_of asked) number before after
-performed words asked number before after h is = subst (λ (o : Option Asked). Runs o number before after) is h
+-- the command whose name the words begin with was done, if the table of commands has it under this name
+by_name : {W : Type 0} (name : List ℕ) (read : List (List ℕ) → Option W) (file : W → Option (List ℕ)) (says : W → Meaning) (number : ℕ) (before after : State) → ((rest : List (List ℕ)) → Runs (request_of (name ∷ rest)) number before after → Runs (ask file says (read rest)) number before after) → (named : Bool) (word : List ℕ) (rest : List (List ℕ)) → (named ≡ true → word ≡ name) → (asked : W) → (if named then read rest else None) ≡ Some asked → Runs (request_of (word ∷ rest)) number before after → Performs (says asked) number before after
+by_name name read file says number before after row true word rest same asked is h =
+    (subst (λ (o : Option _). Runs (ask file says o) number before after) is (row rest (subst (λ (w : List ℕ). Runs (request_of (w ∷ rest)) number before after) (same refl) h))).performs
+by_name name read file says number before after row false word rest same asked is h = absurd (cc)
+
+performed : {W : Type 0} (name : List ℕ) (read : List (List ℕ) → Option W) (file : W → Option (List ℕ)) (says : W → Meaning) (number : ℕ) (before after : State) → ((rest : List (List ℕ)) → Runs (request_of (name ∷ rest)) number before after → Runs (ask file says (read rest)) number before after) → (words : List (List ℕ)) (asked : W) → behind_name name read words ≡ Some asked → Runs (request_of words) number before after → Performs (says asked) number before after
+performed name read file says number before after row [] asked is h = absurd (cc)
+performed name read file says number before after row (word ∷ rest) asked is h = by_name name read file says number before after row (bytes_eq word name) word rest (λ named. search rules) asked is h
 
 holds_file : (view : View) (name : List ℕ) (file : File) → IsFile view name file → HoldsFile view name file
 holds_file view name file h =
@@ -132,29 +144,47 @@ holds_text put out named (Some b) (Some a) h = record {
 }
 
 module _ (words : List (List ℕ)) (number : ℕ) (before after : State) (h : Runs (request_of words) number before after) where
-  -- what an answer of a command says, of what is seen in the calls of the run and in the files
-  gives : (asked : Asked) → request_of words ≡ Some asked → number ≤ 2 → (Of : View → Type 0) → ((view : View) → Answered (meaning_of asked) view number before after → Of view) → Grew (λ read. Of (seen before.shelf.files read)) before.shelf.calls after.shelf.calls
-  gives asked is low Of from =
-      let ends = (performed words asked number before after h is).ends in
-      record { added = ends.read; grown = ends.grown; such = from (seen before.shelf.files ends.read) (answered (meaning_of asked) (seen before.shelf.files ends.read) number before after ends.end low) }
+  pub as_verify : (asked : VerifyWords) → verify_of words ≡ Some asked → Performs (verify_meaning asked.file asked.nodes asked.json asked.out) number before after
+  as_verify asked is = performed (codes "verify") verify_words (λ a. Some a.file) (λ a. verify_meaning a.file a.nodes a.json a.out) number before after (λ rest r. r) words asked is h
 
-  reported : (name : List ℕ) (budget : ℕ) (out : Option (List ℕ)) (view : View) → Answered (meaning_of (Verify name budget out)) view number before after → ReportHolds number view name budget before.out.written after.out.written
-  reported name budget out view a =
+  pub as_check : (asked : TwoNames) → check_of words ≡ Some asked → Performs (check_meaning asked.file asked.other) number before after
+  as_check asked is = performed (codes "check") two_names (λ a. Some a.file) (λ a. check_meaning a.file a.other) number before after (λ rest r. r) words asked is h
+
+  as_compress : (asked : TwoNames) → compress_of words ≡ Some asked → Performs (compress_meaning asked.file asked.other) number before after
+  as_compress asked is = performed (codes "compress") two_names (λ a. Some a.file) (λ a. compress_meaning a.file a.other) number before after (λ rest r. r) words asked is h
+
+  pub as_replay : (asked : TwoNames) → replay_of words ≡ Some asked → Performs (replay_meaning asked.file asked.other) number before after
+  as_replay asked is = performed (codes "replay") two_names (λ a. Some a.file) (λ a. replay_meaning a.file a.other) number before after (λ rest r. r) words asked is h
+
+  as_bench : (k : ℕ) → bench_of words ≡ Some k → Performs (bench_meaning k) number before after
+  as_bench k is = performed (codes "bench") bench_words (λ k. None) bench_meaning number before after (λ rest r. r) words k is h
+
+  -- what an answer of a command says, of what is seen in the calls of the run and in the files
+  gives : (m : Meaning) → Performs m number before after → number ≤ 2 → (Of : View → Type 0) → ((view : View) → Answered m view number before after → Of view) → Grew (λ read. Of (seen before.shelf.files read)) before.shelf.calls after.shelf.calls
+  gives m performs low Of from =
+      let ends = performs.ends in
+      record { added = ends.read; grown = ends.grown; such = from (seen before.shelf.files ends.read) (answered m (seen before.shelf.files ends.read) number before after ends.end low) }
+
+  gives_verify : (asked : VerifyWords) → verify_of words ≡ Some asked → number ≤ 2 → (Of : View → Type 0) → ((view : View) → Answered (verify_meaning asked.file asked.nodes asked.json asked.out) view number before after → Of view) → Grew (λ read. Of (seen before.shelf.files read)) before.shelf.calls after.shelf.calls
+  gives_verify asked is low Of from = gives (verify_meaning asked.file asked.nodes asked.json asked.out) (as_verify asked is) low Of from
+
+  reported : (name : List ℕ) (budget : ℕ) (json : Bool) (out : Option (List ℕ)) (view : View) → Answered (verify_meaning name budget json out) view number before after → ReportHolds number view name budget json before.out.written after.out.written
+  reported name budget json out view a =
       let file = a.holds.holds.0 in
       let reports = a.holds.holds.2 in
-      record { file = file; is_file = a.holds.holds.1; verdicts = reports.verdicts; are = reports.are; numbered = sym reports.numbered ∙ sym a.numbered; wrote = a.written ∙ ap (with_text before.out.written) reports.written }
+      record { file = file; is_file = a.holds.holds.1; sample = reports.sample; is_sample = reports.is_sample; verdicts = reports.verdicts; are = reports.are; numbered = sym reports.numbered ∙ sym a.numbered; wrote = a.written ∙ ap (with_text before.out.written) reports.written }
 
   pub verify_reports : VerifyReports number words before.shelf.files before.shelf.calls after.shelf.calls before.out.written after.out.written
-  verify_reports name budget out is low = gives (Verify name budget out) is low (λ view. ReportHolds number view name budget before.out.written after.out.written) (reported name budget out)
+  verify_reports asked is low = gives_verify asked is low (λ view. ReportHolds number view asked.file asked.nodes asked.json before.out.written after.out.written) (reported asked.file asked.nodes asked.json asked.out)
 
-  certified : (name : List ℕ) (budget : ℕ) (out : List ℕ) (view : View) → Answered (meaning_of (Verify name budget (Some out))) view number before after → CertificateStands number view name budget out before.shelf.files after.shelf.files before.out.written after.out.written
-  certified name budget out view a =
+  certified : (name : List ℕ) (budget : ℕ) (json : Bool) (out : List ℕ) (view : View) → Answered (verify_meaning name budget json (Some out)) view number before after → CertificateStands number view name budget json out before.shelf.files after.shelf.files before.out.written after.out.written
+  certified name budget json out view a =
       let file = a.holds.holds.0 in
       let reports = a.holds.holds.2 in
       let puts = reports.puts in
       let stand : Stand (puts.put ∷ []) before.shelf.files after.shelf.files = subst (λ (ps : List Put). Stand ps before.shelf.files after.shelf.files) puts.only a.stand in
       record {
-        report = record { file = file; is_file = a.holds.holds.1; verdicts = reports.verdicts; are = reports.are; numbered = sym reports.numbered ∙ sym a.numbered; wrote = a.written ∙ ap (with_text before.out.written) reports.written };
+        report = record { file = file; is_file = a.holds.holds.1; sample = reports.sample; is_sample = reports.is_sample; verdicts = reports.verdicts; are = reports.are; numbered = sym reports.numbered ∙ sym a.numbered; wrote = a.written ∙ ap (with_text before.out.written) reports.written };
         text = put_bytes puts.put;
         certificate = puts.certificate;
         within = puts.within;
@@ -163,40 +193,66 @@ module _ (words : List (List ℕ)) (number : ℕ) (before after : State) (h : Ru
       }
 
   pub certificate_written : CertificateWritten number words before.shelf.files after.shelf.files before.shelf.calls after.shelf.calls before.out.written after.out.written
-  certificate_written name budget out is low = gives (Verify name budget (Some out)) is low (λ view. CertificateStands number view name budget out before.shelf.files after.shelf.files before.out.written after.out.written) (certified name budget out)
+  certificate_written asked out is given low =
+      let name = asked.file in
+      let budget = asked.nodes in
+      let performs = subst (λ (o : Option (List ℕ)). Performs (verify_meaning name budget asked.json o) number before after) given (as_verify asked is) in
+      gives (verify_meaning name budget asked.json (Some out)) performs low (λ view. CertificateStands number view name budget asked.json out before.shelf.files after.shelf.files before.out.written after.out.written) (certified name budget asked.json out)
 
-  proved : (name certificate : List ℕ) (view : View) → Answered (meaning_of (Check name certificate)) view number before after → CheckHolds view name certificate before.out.written after.out.written
+  proved : (name certificate : List ℕ) (view : View) → Answered (check_meaning name certificate) view number before after → CheckHolds view name certificate before.out.written after.out.written
   proved name certificate view a =
       let rest = a.holds.holds.2 in
       record { file = a.holds.holds.0; is_file = a.holds.holds.1; numbers = rest.0; certificate = rest.1; wrote = a.written ∙ ap (with_text before.out.written) rest.2.written }
 
   pub check_proves : CheckProves number words before.shelf.files before.shelf.calls after.shelf.calls before.out.written after.out.written
-  check_proves name certificate is none = gives (Check name certificate) is (omega (arith, none)) (λ view. CheckHolds view name certificate before.out.written after.out.written) (proved name certificate)
+  check_proves asked is none = gives (check_meaning asked.file asked.other) (as_check asked is) (omega (arith, none)) (λ view. CheckHolds view asked.file asked.other before.out.written after.out.written) (proved asked.file asked.other)
 
-  shortened : (name run : List ℕ) (view : View) → Answered (meaning_of (Compress name run)) view number before after → CompressHolds view name run before.out.written after.out.written
+  shortened : (name run : List ℕ) (view : View) → Answered (compress_meaning name run) view number before after → CompressHolds view name run before.out.written after.out.written
   shortened name run view a =
       let rest = a.holds.holds.2 in
       record { file = a.holds.holds.0; is_file = a.holds.holds.1; run = rest.0; is_run = rest.1; short = rest.2.short; is_short = rest.2.is; wrote = a.written ∙ ap (with_text before.out.written) rest.2.writes.written }
 
   pub run_shortens : RunShortens number words before.shelf.files before.shelf.calls after.shelf.calls before.out.written after.out.written
-  run_shortens name run is none = gives (Compress name run) is (omega (arith, none)) (λ view. CompressHolds view name run before.out.written after.out.written) (shortened name run)
+  run_shortens asked is none = gives (compress_meaning asked.file asked.other) (as_compress asked is) (omega (arith, none)) (λ view. CompressHolds view asked.file asked.other before.out.written after.out.written) (shortened asked.file asked.other)
 
-  shown : (name run : List ℕ) (view : View) → Answered (meaning_of (Replay name run)) view number before after → ReplayHolds view name run before.out.written after.out.written
+  shown : (name run : List ℕ) (view : View) → Answered (replay_meaning name run) view number before after → ReplayHolds view name run before.out.written after.out.written
   shown name run view a =
       let rest = a.holds.holds.2 in
       record { file = a.holds.holds.0; is_file = a.holds.holds.1; run = rest.0; is_run = rest.1; pattern = rest.2.pattern; named = rest.2.named; wrote = a.written ∙ ap (with_text before.out.written) rest.2.writes.written }
 
   pub replay_shows : ReplayShows number words before.shelf.files before.shelf.calls after.shelf.calls before.out.written after.out.written
-  replay_shows name run is none = gives (Replay name run) is (omega (arith, none)) (λ view. ReplayHolds view name run before.out.written after.out.written) (shown name run)
+  replay_shows asked is none = gives (replay_meaning asked.file asked.other) (as_replay asked is) (omega (arith, none)) (λ view. ReplayHolds view asked.file asked.other before.out.written after.out.written) (shown asked.file asked.other)
 
-  printed_verify : (name : List ℕ) (budget : ℕ) (view : View) → ReportHolds number view name budget before.out.written after.out.written → EachPrintedSafe (codes "safe, ") view name before.out.written after.out.written
-  printed_verify name budget view r = record {
+  benched : (k : ℕ) → Performs (bench_meaning k) number before after → number ≤ 2 → BenchHolds number k before.out.written after.out.written
+  benched k performs low =
+      let a = answered (bench_meaning k) (seen before.shelf.files performs.ends.read) number before after performs.ends.end low in
+      let says = a.holds.holds in
+      record { pattern = says.pattern; verdict = says.verdict; is = says.is; numbered = sym says.writes.numbered ∙ sym a.numbered; wrote = a.written ∙ ap (with_text before.out.written) says.writes.written }
+
+  status_of : (v : Verdict) → bench_status v ≢ 1
+  status_of v one = by_test (is_unknown v) one
+    where
+      by_test : (b : Bool) → ◌≡◌ {A = ℕ} (if b then 2 else 0) 1 → ⊥
+      by_test true e = omega (arith, e)
+      by_test false e = omega (arith, e)
+
+  never : (k : ℕ) → Performs (bench_meaning k) number before after → 3 ≤ number → number ≤ 4 → ⊥
+  never k performs three four = (hindered (bench_meaning k) number before after performs.ends three four).1
+
+  pub benches : Benches number words before.out.written after.out.written
+  benches = record {
+    holds = λ k is low. benched k (as_bench k is) low;
+    others = λ k is. (λ one. let b = benched k (as_bench k is) (omega (arith, one)) in status_of b.verdict (b.numbered ∙ one), λ three. never k (as_bench k is) (omega (arith, three)) (omega (arith, three)), λ four. never k (as_bench k is) (omega (arith, four)) (omega (arith, four)));
+  }
+
+  printed_verify : (name : List ℕ) (budget : ℕ) (json : Bool) (view : View) → ReportHolds number view name budget json before.out.written after.out.written → EachToldSafe json view name before.out.written after.out.written
+  printed_verify name budget json view r = record {
     file = r.file;
     holds = holds_file view name r.file r.is_file;
-    text = report_text r.file r.verdicts;
+    text = report_of json r.file r.sample r.verdicts;
     gained = r.wrote;
     safe = λ k p named line.
-        let said = printed_safe r.file r.verdicts k p named r.are.fit line in
+        let said = told_safe r.file r.sample r.verdicts k p named r.is_sample.fits r.are.fit json line in
         (hold_at r.file budget 0 r.file.patterns r.verdicts k p (Safe said.0 said.1) r.are.hold named said.2).safe;
   }
 
@@ -213,25 +269,25 @@ module _ (words : List (List ℕ)) (number : ℕ) (before after : State) (h : Ru
         subst (runs.Safe r.file.automaton) is found.safe;
   }
 
-  printed_unsafes : (name : List ℕ) (budget : ℕ) (view : View) → ReportHolds number view name budget before.out.written after.out.written → EachPrintedUnsafe view name before.out.written after.out.written
-  printed_unsafes name budget view r = record {
+  printed_unsafes : (name : List ℕ) (budget : ℕ) (json : Bool) (view : View) → ReportHolds number view name budget json before.out.written after.out.written → EachPrintedUnsafe json view name before.out.written after.out.written
+  printed_unsafes name budget json view r = record {
     file = r.file;
     holds = holds_file view name r.file r.is_file;
-    text = report_text r.file r.verdicts;
+    text = report_of json r.file r.sample r.verdicts;
     gained = r.wrote;
-    unsafe_ = unsafe_printed r.file budget r.verdicts r.are;
+    unsafe_ = unsafe_printed json r.file budget r.sample r.is_sample r.verdicts r.are;
   }
 
   pub printed_holds : PrintedHolds number words before.shelf.files before.shelf.calls after.shelf.calls before.out.written after.out.written
   printed_holds = record {
-    safe = λ name budget out is low. gives (Verify name budget out) is low (λ view. EachPrintedSafe (codes "safe, ") view name before.out.written after.out.written) (λ view a. printed_verify name budget view (reported name budget out view a));
-    unsafe_ = λ name budget out is low. gives (Verify name budget out) is low (λ view. EachPrintedUnsafe view name before.out.written after.out.written) (λ view a. printed_unsafes name budget view (reported name budget out view a));
-    proved = λ name certificate is none. gives (Check name certificate) is (omega (arith, none)) (λ view. EachPrintedSafe (codes "proved") view name before.out.written after.out.written) (λ view a. printed_check name certificate view (proved name certificate view a));
+    safe = λ asked is low. gives_verify asked is low (λ view. EachToldSafe asked.json view asked.file before.out.written after.out.written) (λ view a. printed_verify asked.file asked.nodes asked.json view (reported asked.file asked.nodes asked.json asked.out view a));
+    unsafe_ = λ asked is low. gives_verify asked is low (λ view. EachPrintedUnsafe asked.json view asked.file before.out.written after.out.written) (λ view a. printed_unsafes asked.file asked.nodes asked.json view (reported asked.file asked.nodes asked.json asked.out view a));
+    proved = λ asked is none. gives (check_meaning asked.file asked.other) (as_check asked is) (omega (arith, none)) (λ view. EachPrintedSafe (codes "proved") view asked.file before.out.written after.out.written) (λ view a. printed_check asked.file asked.other view (proved asked.file asked.other view a));
   }
 
   -- some pattern of a file whose report has the number 1 occurs in a run
-  some_occurring : (name : List ℕ) (budget : ℕ) (view : View) → number ≡ 1 → ReportHolds number view name budget before.out.written after.out.written → SomePatternOccurs view name
-  some_occurring name budget view one r =
+  some_occurring : (name : List ℕ) (budget : ℕ) (json : Bool) (view : View) → number ≡ 1 → ReportHolds number view name budget json before.out.written after.out.written → SomePatternOccurs view name
+  some_occurring name budget json view one r =
       let some = some_occurs r.file budget 0 r.file.patterns r.verdicts (kind_of_one (list_any is_unsafe r.verdicts) (list_any is_unknown r.verdicts) (r.numbered ∙ one)) r.are.hold in
       let here : 0 + some.place ≡ some.place = omega arith in
       let occurrence = some.occurs (ap (slice_get r.file.patterns) here ∙ some.at) in
@@ -246,26 +302,24 @@ module _ (words : List (List ℕ)) (number : ℕ) (before after : State) (h : Ru
         occurs = occurrence.occurs;
       }
 
-  pub status_tells : StatusTells number words before.shelf.files before.shelf.calls after.shelf.calls before.out.written after.out.written
-  status_tells = record {
-    safe = λ name budget out is none. gives (Verify name budget out) is (omega (arith, none)) (λ view. EachPatternSafe view name) (λ view a.
-        let r = reported name budget out view a in
-        let kinds = kinds_of_zero (list_any is_unsafe r.verdicts) (list_any is_unknown r.verdicts) (r.numbered ∙ none) in
+  pub status_tells : ZeroSays → StatusTells number words before.shelf.files before.shelf.calls after.shelf.calls before.out.written after.out.written
+  status_tells zero_says = record {
+    safe = λ asked is none. gives_verify asked is (omega (arith, none)) (λ view. EachPatternSafe view asked.file) (λ view a.
+        let name = asked.file in
+        let budget = asked.nodes in
+        let r = reported name budget asked.json asked.out view a in
+        let kinds = zero_says (list_any is_unsafe r.verdicts) (list_any is_unknown r.verdicts) (r.numbered ∙ none) in
         record { file = r.file; holds = holds_file view name r.file r.is_file; safe = each_safe r.file budget 0 r.file.patterns r.verdicts kinds.0 kinds.1 r.are.hold });
-    occurs = λ name budget out is one. gives (Verify name budget out) is (omega (arith, one)) (λ view. SomePatternOccurs view name) (λ view a. some_occurring name budget view one (reported name budget out view a));
+    occurs = λ asked is one. gives_verify asked is (omega (arith, one)) (λ view. SomePatternOccurs view asked.file) (λ view a. some_occurring asked.file asked.nodes asked.json view one (reported asked.file asked.nodes asked.json asked.out view a));
     proved = printed_holds.proved;
   }
 
--- by whether something is asked for
-usage_of : (o : Option Asked) (number : ℕ) (before after : State) → Runs o number before after → (number ≡ 5 → o ≡ None) × (number ≢ 5 → o ≢ None)
-usage_of None number before after h = (λ five. refl, λ other none. other h.five)
-usage_of (Some asked) number before after h = (λ five. absurd (never_five (meaning_of asked) number before after h.ends five), λ other none. cc)
+pub usage_exactly : (asked : Asked) (number : ℕ) (before after : State) → Runs asked number before after → UsageExactly number asked
+usage_exactly NoCommand number before after h = record { no_command = λ five. tt; command = λ other none. other h.five }
+usage_exactly (Command file m) number before after h = record { no_command = λ five. absurd (never_five m number before after h.performs.ends five); command = λ other none. none }
 
-pub usage_exactly : (words : List (List ℕ)) (number : ℕ) (before after : State) → Runs (request_of words) number before after → UsageExactly number words
-usage_exactly words number before after h = let usage = usage_of (request_of words) number before after h in record { no_command = usage.0; command = usage.1 }
-
-pub quiet : (o : Option Asked) (number : ℕ) (before after : State) → Runs o number before after → Quiet number before after
-quiet None number before after h =
+pub quiet : (asked : Asked) (number : ℕ) (before after : State) → Runs asked number before after → Quiet number before after
+quiet NoCommand number before after h =
     let five = h.five in
     record {
       nothing_written = λ above other. ap (λ (s : SinkState). s.written) h.out;
@@ -273,108 +327,93 @@ quiet None number before after h =
       out_calm = λ other. (ap (λ (s : SinkState). s.faults) h.out, ap (λ (s : SinkState). s.stalls) h.out);
       failed = λ six. absurd (omega arith);
     }
-quiet (Some asked) number before after h = h.quiet
+quiet (Command file m) number before after h = h.performs.quiet
 
-pub tellings : (o : Option Asked) (number : ℕ) (before after : State) → Runs o number before after → Tellings o number before after
-tellings None number before after h = (h.five, h.told)
-tellings (Some asked) number before after h = h.telling
+pub tellings : (asked : Asked) (number : ℕ) (before after : State) → Runs asked number before after → Tellings asked number before after
+tellings NoCommand number before after h = (h.five, h.told)
+tellings (Command file m) number before after h = h.performs.telling
 
-pub exactly_so : (words : List (List ℕ)) (number : ℕ) (before after : State) → Runs (request_of words) number before after → ExactlySo number words before.shelf.files
-exactly_so words number before after h asked is = (performed words asked number before after h is).exact (decided asked)
+pub exactly_so : (asked : Asked) (number : ℕ) (before after : State) → Runs asked number before after → ExactlySo number asked before.shelf.files
+exactly_so NoCommand number before after h = tt
+exactly_so (Command file m) number before after h = h.performs.exact h.decides
 
-pub opens : (o : Option Asked) (number : ℕ) (before after : State) → Runs o number before after → Opens o before.shelf.calls after.shelf.calls
-opens None number before after h = ap (λ (s : ShelfState). s.calls) h.shelf
-opens (Some asked) number before after h = record { added = h.ends.read; grown = h.ends.grown; such = h.ends.opened }
+pub opens : (asked : Asked) (number : ℕ) (before after : State) → Runs asked number before after → Opens asked before.shelf.calls after.shelf.calls
+opens NoCommand number before after h = ap (λ (s : ShelfState). s.calls) h.shelf
+opens (Command file m) number before after h = let ends = h.performs.ends in record { added = ends.read; grown = ends.grown; such = ends.opened }
 
-kept_others : (o : Option Asked) (number : ℕ) (before after : State) → Runs o number before after → KeptBut (put_by o) before.shelf.files after.shelf.files
-kept_others None number before after h = ap (λ (s : ShelfState). s.files) h.shelf
-kept_others (Some asked) number before after h = h.kept
+kept_others : (asked : Asked) (number : ℕ) (before after : State) → Runs asked number before after → KeptBut (put_by asked) before.shelf.files after.shelf.files
+kept_others NoCommand number before after h = ap (λ (s : ShelfState). s.files) h.shelf
+kept_others (Command file m) number before after h = h.performs.kept
 
-kept_by_refusal : (o : Option Asked) (number : ℕ) (before after : State) → Runs o number before after → 3 ≤ number → number ≤ 5 → after.shelf.files ≡ before.shelf.files
-kept_by_refusal None number before after h three five = ap (λ (s : ShelfState). s.files) h.shelf
-kept_by_refusal (Some asked) number before after h three five = kept_refused (meaning_of asked) number before after h.ends three five
+kept_by_refusal : (asked : Asked) (number : ℕ) (before after : State) → Runs asked number before after → 3 ≤ number → number ≤ 5 → after.shelf.files ≡ before.shelf.files
+kept_by_refusal NoCommand number before after h three five = ap (λ (s : ShelfState). s.files) h.shelf
+kept_by_refusal (Command file m) number before after h three five = kept_refused m number before after h.performs.ends three five
 
 pub keeps_files : (words : List (List ℕ)) (number : ℕ) (before after : State) → Runs (request_of words) number before after → KeepsFiles number words before.shelf.files after.shelf.files
 keeps_files words number before after h = record { others = kept_others (request_of words) number before after h; refused = kept_by_refusal (request_of words) number before after h }
 
 -- a legal FILE is no hindrance of `verify`
-legal_file : (told : Told) (name : List ℕ) (budget : ℕ) (out : Option (List ℕ)) (file : File) (number : ℕ) (line : List ℕ) → IsFile (in_files told) name file → Hinders file_kind (in_files told) name number line → ⊥
-legal_file told name budget out file number line is own = no_hindrance file_kind name (may_put out) (λ f. report_meaning f budget out) (λ f. report_monotone f budget out) told (λ bytes f fault legal found. legal.no_fault fault found) file number line is own
+legal_file : (told : Told) (name : List ℕ) (budget : ℕ) (json : Bool) (out : Option (List ℕ)) (file : File) (number : ℕ) (line : List ℕ) → IsFile (in_files told) name file → Hinders file_kind (in_files told) name number line → ⊥
+legal_file told name budget json out file number line is own = no_hindrance file_kind name (may_put out) (λ f. report_meaning f budget json out) (λ f. report_monotone f budget json out) told (λ bytes f fault legal found. legal.no_fault fault found) file number line is own
 
--- where FILE is legal nothing hinders with 3
-no_three : (told : Told) (asked : Asked) (file : File) (line : List ℕ) → IsFile (in_files told) (file_of asked) file → ¬ (meaning_of asked).refuses (in_files told) 3 line
-no_three told (Check name certificate) file line is refuses =
-    elim refuses [
-      | inl own ↦ no_hindrance file_kind name [] (λ f. proved_meaning f certificate) (λ f. proved_monotone f certificate) told (λ bytes f fault legal found. legal.no_fault fault found) file 3 line is own
-      | inr rest ↦ elim rest.2 [ inl hinders ↦ let four = hinders.numbered in absurd (omega (arith, four)) | inr none ↦ none.2 ]
-    ]
-no_three told (Compress name run) file line is refuses =
-    elim refuses [
-      | inl own ↦ no_hindrance file_kind name [] (λ f. short_meaning f run) (λ f. short_monotone f run) told (λ bytes f fault legal found. legal.no_fault fault found) file 3 line is own
-      | inr rest ↦ elim rest.2 [ inl hinders ↦ let four = hinders.numbered in absurd (omega (arith, four)) | inr none ↦ none.2 ]
-    ]
-no_three told (Replay name run) file line is refuses =
-    elim refuses [
-      | inl own ↦ no_hindrance file_kind name [] (λ f. shown_meaning f run) (λ f. shown_monotone f run) told (λ bytes f fault legal found. legal.no_fault fault found) file 3 line is own
-      | inr rest ↦ elim rest.2 [ inl hinders ↦ let four = hinders.numbered in absurd (omega (arith, four)) | inr none ↦ none.2 ]
-    ]
-no_three told (Verify name budget out) file line is refuses =
-    elim refuses [
-      | inl own ↦ legal_file told name budget out file 3 line is own
-      | inr rest ↦ let four = (hinders_long rest.0 budget out 3 line rest.2).0 in absurd (omega (arith, four))
-    ]
+-- what hinders in told files, by what is seen in them and in the calls
+hinders_told : (m : Meaning) (told : Told) (number : ℕ) (before after : State) → before.shelf.files ≡ Some told → Performs m number before after → Decides m → 3 ≤ number → number ≤ 4 → (line : List ℕ) × m.refuses (in_files told) number line
+hinders_told m told number before after is h decides three four =
+    let hinders = hindered m number before after h.ends three four in
+    (hinders.0, decides.refuses told h.ends.read number hinders.0 (subst (λ (o : Option Told). m.refuses (seen o h.ends.read) number hinders.0) is hinders.1))
 
-passes : (told : Told) (asked : Asked) (file : File) (number : ℕ) (before after : State) → before.shelf.files ≡ Some told → Performs (meaning_of asked) number before after → IsFile (in_files told) (file_of asked) file → number ≢ 3
-passes told asked file number before after is h is_file three =
-    let m = meaning_of asked in
-    let hinders = hindered m number before after h.ends (omega (arith, three)) (omega (arith, three)) in
-    let seen_told = subst (λ (o : Option Told). m.refuses (seen o h.ends.read) number hinders.0) is hinders.1 in
-    let refuses = (decided asked).refuses told h.ends.read number hinders.0 seen_told in
-    no_three told asked file hinders.0 is_file (subst (λ (n : ℕ). m.refuses (in_files told) n hinders.0) three refuses)
+passes_legal : (asked : Asked) (number : ℕ) (before after : State) → Runs asked number before after → PassesLegal asked number before.shelf.files
+passes_legal NoCommand number before after h = tt
+passes_legal (Command file m) number before after h = λ told is legal. (
+  λ three.
+      let hinders = hinders_told m told number before after is h.performs h.decides (omega (arith, three)) (omega (arith, three)) in
+      h.passes told hinders.0 legal (subst (λ (n : ℕ). m.refuses (in_files told) n hinders.0) three hinders.1),
+  never_five m number before after h.performs.ends,
+)
 
 -- told files hold one file
 pub same_file : (told : Told) (name : List ℕ) (file other : File) → IsFile (in_files told) name other → IsFile (in_files told) name file → other ≡ file
 same_file told name file other h is = one_legal is.bytes other file (subst (λ (bytes : List ℕ). file_kind.means bytes other) (whole_one told name file_kind.limit.bytes h.bytes is.bytes h.had is.had) h.means) is.means
 
-known : (told : Told) (name : List ℕ) (budget : ℕ) (out : Option (List ℕ)) (file : File) (number : ℕ) (before after : State) → before.shelf.files ≡ Some told → Performs (meaning_of (Verify name budget out)) number before after → IsFile (in_files told) name file → IsKnown file budget → number ≢ 2
-known told name budget out file number before after is h is_file none two =
-    let m = meaning_of (Verify name budget out) in
+known : (told : Told) (name : List ℕ) (budget : ℕ) (json : Bool) (out : Option (List ℕ)) (file : File) (number : ℕ) (before after : State) → before.shelf.files ≡ Some told → Performs (verify_meaning name budget json out) number before after → IsFile (in_files told) name file → IsKnown file budget → number ≢ 2
+known told name budget json out file number before after is h is_file none two =
+    let m = verify_meaning name budget json out in
     let a = answered m (seen before.shelf.files h.ends.read) number before after h.ends.end (omega (arith, two)) in
     let seen_told = subst (λ (o : Option Told). m.answers (seen o h.ends.read) a.answer) is a.holds.holds in
-    let answers = (decided (Verify name budget out)).answers told h.ends.read a.answer seen_told in
+    let answers = (verify_decides name budget json out).answers told h.ends.read a.answer seen_told in
     let same : answers.0 ≡ file = same_file told name file answers.0 answers.1 is_file in
-    let r : Reports file budget out a.answer = subst (λ (f : File). Reports f budget out a.answer) same answers.2 in
+    let r : Reports file budget json out a.answer = subst (λ (f : File). Reports f budget json out a.answer) same answers.2 in
     let unknown = kinds_of_two (list_any is_unsafe r.verdicts) (list_any is_unknown r.verdicts) (sym r.numbered ∙ sym a.numbered ∙ two) in
     let nothing = some_unknown file budget 0 file.patterns r.verdicts r.are.hold (λ k p v named is_one holds. let here : 0 + k ≡ k = omega arith in none k p v named is_one (subst (λ (n : ℕ). VerdictHolds file budget n p v) here holds)) in
     let e : true ≡ false = sym unknown ∙ nothing in
     cc
 
 -- with 4 the certificate that is asked for is too long
-too_long : (told : Told) (name : List ℕ) (budget : ℕ) (out : Option (List ℕ)) (file : File) (number : ℕ) (before after : State) → before.shelf.files ≡ Some told → Performs (meaning_of (Verify name budget out)) number before after → IsFile (in_files told) name file → number ≡ 4 → IsSome out × LongCertificate file budget
-too_long told name budget out file number before after is h is_file four =
-    let m = meaning_of (Verify name budget out) in
-    let hinders = hindered m number before after h.ends (omega (arith, four)) (omega (arith, four)) in
-    let seen_told = subst (λ (o : Option Told). m.refuses (seen o h.ends.read) number hinders.0) is hinders.1 in
-    let refuses = (decided (Verify name budget out)).refuses told h.ends.read number hinders.0 seen_told in
-    elim refuses [
-      | inl own ↦ absurd (legal_file told name budget out file number hinders.0 is_file own)
+too_long : (told : Told) (name : List ℕ) (budget : ℕ) (json : Bool) (out : Option (List ℕ)) (file : File) (number : ℕ) (before after : State) → before.shelf.files ≡ Some told → Performs (verify_meaning name budget json out) number before after → IsFile (in_files told) name file → number ≡ 4 → IsSome out × LongCertificate file budget
+too_long told name budget json out file number before after is h is_file four =
+    let m = verify_meaning name budget json out in
+    let hinders = hinders_told m told number before after is h (verify_decides name budget json out) (omega (arith, four)) (omega (arith, four)) in
+    elim hinders.1 [
+      | inl own ↦ absurd (legal_file told name budget json out file number hinders.0 is_file own)
       | inr rest ↦
           let long = hinders_long rest.0 budget out number hinders.0 rest.2 in
           (long.1, subst (λ (f : File). LongCertificate f budget) (same_file told name file rest.0 rest.1 is_file) long.2)
     ]
 
 -- and where it is too long, the number is 4, 6 and 7 aside
-four_where_long : (told : Told) (name : List ℕ) (budget : ℕ) (out : List ℕ) (file : File) (number : ℕ) (before after : State) → before.shelf.files ≡ Some told → Performs (meaning_of (Verify name budget (Some out))) number before after → IsFile (in_files told) name file → LongCertificate file budget → (number ≡ 4) ⊎ ((number ≡ 6) ⊎ (number ≡ 7))
-four_where_long told name budget out file number before after is h is_file long =
-    h.exact (decided (Verify name budget (Some out))) told is 4 (inr (long_line out, inr (file, is_file, record { numbered = refl; said = refl; long = long })))
+four_where_long : (told : Told) (name : List ℕ) (budget : ℕ) (json : Bool) (out : List ℕ) (file : File) (number : ℕ) (before after : State) → before.shelf.files ≡ Some told → Performs (verify_meaning name budget json (Some out)) number before after → IsFile (in_files told) name file → LongCertificate file budget → (number ≡ 4) ⊎ ((number ≡ 6) ⊎ (number ≡ 7))
+four_where_long told name budget json out file number before after is h is_file long =
+    h.exact (verify_decides name budget json (Some out)) told is 4 (inr (long_line out, inr (file, is_file, record { numbered = refl; said = refl; long = long })))
+
+long_where : (told : Told) (name : List ℕ) (budget : ℕ) (json : Bool) (out : Option (List ℕ)) (file : File) (number : ℕ) (before after : State) → before.shelf.files ≡ Some told → Performs (verify_meaning name budget json out) number before after → IsSome out → IsFile (in_files told) name file → LongCertificate file budget → (number ≡ 4) ⊎ ((number ≡ 6) ⊎ (number ≡ 7))
+long_where told name budget json None file number before after is h some is_file long = absurd (cc)
+long_where told name budget json (Some out) file number before after is h some is_file long = four_where_long told name budget json out file number before after is h is_file long
 
 pub completes : (words : List (List ℕ)) (number : ℕ) (before after : State) → Runs (request_of words) number before after → Completes number words before after
 completes words number before after h = record {
-  passes = λ told asked file is asks is_file.
-      let p = performed words asked number before after h asks in
-      (passes told asked file number before after is p is_file, never_five (meaning_of asked) number before after p.ends);
+  passes = passes_legal (request_of words) number before after h;
   calm = λ shelf out six. elim ((quiet (request_of words) number before after h).failed six) [ inl faulted ↦ shelf faulted | inr failed ↦ out failed ];
-  known = λ told name budget out file is asks is_file none. known told name budget out file number before after is (performed words (Verify name budget out) number before after h asks) is_file none;
-  fits = λ told name budget out file is asks is_file four. too_long told name budget out file number before after is (performed words (Verify name budget out) number before after h asks) is_file four;
-  long = λ told name budget out file is asks is_file long. four_where_long told name budget out file number before after is (performed words (Verify name budget (Some out)) number before after h asks) is_file long;
+  known = λ told asked file is asks is_file none. known told asked.file asked.nodes asked.json asked.out file number before after is (as_verify words number before after h asked asks) is_file none;
+  fits = λ told asked file is asks is_file four. too_long told asked.file asked.nodes asked.json asked.out file number before after is (as_verify words number before after h asked asks) is_file four;
+  long = λ told asked file is asks some is_file long. long_where told asked.file asked.nodes asked.json asked.out file number before after is (as_verify words number before after h asked asks) some is_file long;
 }

@@ -19,6 +19,7 @@ use Rattle.ta_words.specs.Calls.{OfPattern}
 use Rattle.ta_program.specs.declared.draft.Draft.{Draft}
 use Rattle.ta_program.specs.declared.pieces.Pieces.{Pieces}
 use Rattle.ta_program.specs.Certified.{AreTrees, SafeOne, safe_ones, tree_size, with_safe}
+use Rattle.ta_encode.specs.PatternSearch.{pattern_search}
 use Rattle.ta_program.specs.Inside.Drafts.{AddsTree, DraftKeeps, Drafted, HasProofs, HasText, HasTrees, ended_line, pieces_text}
 
 nodes_more : (ns : List Node) (n : Node) → nodes_text (ns ++ n ∷ []) ≡ nodes_text ns ++ ended_line (line.Tree n)
@@ -61,7 +62,7 @@ pub adds_nothing : (file : File) (budget number : ℕ) (p : Pattern) (v : Verdic
 adds_nothing file budget number p v draft is proofs has = adds_by_none file budget number p (tree_size v) draft is proofs has
 
 -- one that does adds the tree
-adds_by : (file : File) (budget number : ℕ) (p : Pattern) (size : Option ℕ) (first begun proof next : Draft) → is_some size ≡ true → ((nodes : ℕ) → size ≡ Some nodes → (tree : List Node) × TreeIs file.automaton p budget tree nodes × DraftKeeps begun proof tree) → HasText begun (ended_line (line.Pattern number)) → ((text more : List ℕ) → HasText first text → HasText proof more → HasText next (text ++ more)) → (proofs : List Proof) → HasProofs first proofs → (more : List Proof) × AreTrees file budget (with_safe number p size []) more × HasProofs next (proofs ++ more)
+adds_by : (file : File) (budget number : ℕ) (p : Pattern) (size : Option ℕ) (first begun proof next : Draft) → is_some size ≡ true → ((nodes : ℕ) → size ≡ Some nodes → (tree : List Node) × TreeIs (pattern_search file.automaton p) budget tree nodes × DraftKeeps begun proof tree) → HasText begun (ended_line (line.Pattern number)) → ((text more : List ℕ) → HasText first text → HasText proof more → HasText next (text ++ more)) → (proofs : List Proof) → HasProofs first proofs → (more : List Proof) × AreTrees file budget (with_safe number p size []) more × HasProofs next (proofs ++ more)
 adds_by file budget number p None first begun proof next is drafted begins added proofs has = absurd (false≢true is)
 adds_by file budget number p (Some nodes) first begun proof next is drafted begins added proofs has =
     let d = drafted nodes refl in
@@ -79,7 +80,7 @@ adds_by file budget number p (Some nodes) first begun proof next is drafted begi
 pub adds_tree : (file : File) (budget number : ℕ) (p : Pattern) (v : Verdict) (first begun proof next : Draft) → is_some (tree_size v) ≡ true → Drafted file budget number p v begun proof → HasText begun (ended_line (line.Pattern number)) → ((text more : List ℕ) → HasText first text → HasText proof more → HasText next (text ++ more)) → AddsTree file budget number p v first next
 adds_tree file budget number p v first begun proof next is drafted begins added proofs has = adds_by file budget number p (tree_size v) first begun proof next is drafted begins added proofs has
 
-wanted_by : (file : File) (budget : ℕ) (p : Pattern) (size : Option ℕ) (begun proof : Draft) → is_some size ≡ true → ((nodes : ℕ) → size ≡ Some nodes → (tree : List Node) × TreeIs file.automaton p budget tree nodes × DraftKeeps begun proof tree) → proof.wanted ≡ begun.wanted
+wanted_by : (file : File) (budget : ℕ) (p : Pattern) (size : Option ℕ) (begun proof : Draft) → is_some size ≡ true → ((nodes : ℕ) → size ≡ Some nodes → (tree : List Node) × TreeIs (pattern_search file.automaton p) budget tree nodes × DraftKeeps begun proof tree) → proof.wanted ≡ begun.wanted
 wanted_by file budget p None begun proof is drafted = absurd (false≢true is)
 wanted_by file budget p (Some nodes) begun proof is drafted = (drafted nodes refl).2.wanted
 

@@ -1,6 +1,5 @@
-mod WordsTaken
+mod Prefixes
 mod WordsBudget
-mod WordsPrefix
 mod VerdictsMade
 mod VerdictsOnce
 mod PiecesMade
@@ -10,8 +9,11 @@ mod CertificatesMade
 mod Certifying
 mod CertificatesOnce
 mod UnsafePrinted
+mod SamplesMade
 mod Meanings
 mod Clauses
 mod WordsDiffer
 mod Accepted
 mod RunsReplayed
+mod PiecesJudged
+mod Benching

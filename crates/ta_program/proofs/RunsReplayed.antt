@@ -3,7 +3,7 @@ use Rattle.std.proofs.Common.{◌≡◌, ◌⊎◌, inl, ℕ, List, [], Option, 
 use Rattle.ta_automaton.specs.declared.file.File.{File}
 use Rattle.ta_replay.specs.declared.run.Run.{Run}
 use Rattle.ta_replay.specs.Shows.{shown_of}
-use Rattle.ta_report.specs.Report.{report_text}
+use Rattle.ta_report.specs.Telling.{report_of}
 use Rattle.ta_report.specs.Shown.{shown_line}
 use Rattle.ta_shelf.specs.Put.{Told}
 use Rattle.ta_shell.specs.declared.answer.Answer.{Answer}
@@ -13,12 +13,10 @@ use Rattle.ta_shell.specs.Stages.{IsOf}
 use Rattle.ta_program.specs.declared.limits.TheConstants.{RUN}
 use Rattle.ta_program.specs.Kinds.{IsFile, ShowsRun, run_kind}
 use Rattle.ta_program.specs.Laws.{PrintedRunsAreReplayed}
-use Rattle.ta_program.specs.Replay.{SaysShown}
-use Rattle.ta_program.specs.Requests.{meaning_of}
+use Rattle.ta_program.specs.Replay.{SaysShown, replay_meaning}
 use Rattle.ta_program.specs.Reporting.{ReportHolds}
-use Rattle.ta_program.specs.Words.Asked.{Replay}
-use Rattle.ta_program.proofs.Clauses.{verify_reports}
-use Rattle.ta_program.proofs.Meanings.{decided}
+use Rattle.ta_program.proofs.Clauses.{as_replay, verify_reports}
+use Rattle.ta_program.proofs.Meanings.{replay_decides}
 use Rattle.ta_program.proofs.UnsafePrinted.{unsafe_printed}
 
 -- the answer that a run shows its pattern
@@ -29,21 +27,25 @@ shown_answer file run bytes shows =
     (answer, refl, record { pattern = p; named = shows.shows.named; writes = record { numbered = refl; written = refl; no_put = refl } })
 
 -- a run that shows its pattern is shown, 6 and 7 aside
-shown_number : (told : Told) (name run_name : List ℕ) (file : File) (run : Run) → IsFile (in_files told) name file → IsOf (run_kind file) (in_files told) run_name run → (number : ℕ) (before after : State) → before.shelf.files ≡ Some told → Performs (meaning_of (Replay name run_name)) number before after → (number ≡ 0) ⊎ ((number ≡ 6) ⊎ (number ≡ 7))
+shown_number : (told : Told) (name run_name : List ℕ) (file : File) (run : Run) → IsFile (in_files told) name file → IsOf (run_kind file) (in_files told) run_name run → (number : ℕ) (before after : State) → before.shelf.files ≡ Some told → Performs (replay_meaning name run_name) number before after → (number ≡ 0) ⊎ ((number ≡ 6) ⊎ (number ≡ 7))
 shown_number told name run_name file run is_file is_run number before after is p =
     let answer = shown_answer file run is_run.bytes is_run.means in
-    p.exact (decided (Replay name run_name)) told is 0 (inl (answer.0, answer.1, (file, is_file, (run, is_run, answer.2))))
+    p.exact (replay_decides name run_name) told is 0 (inl (answer.0, answer.1, (file, is_file, (run, is_run, answer.2))))
 
 pub runs_replayed : PrintedRunsAreReplayed
-runs_replayed words number before after h name budget out asks low told is =
-    let reports = verify_reports words number before after h name budget out asks low in
-    let r = subst (λ (files : Option Told). ReportHolds number (seen files reports.added) name budget before.out.written after.out.written) is reports.such in
+runs_replayed words number before after h asked asks low told is =
+    let name = asked.file in
+    let budget = asked.nodes in
+    let reports = verify_reports words number before after h asked asks low in
+    let r = subst (λ (files : Option Told). ReportHolds number (seen files reports.added) name budget asked.json before.out.written after.out.written) is reports.such in
     record {
       file = r.file;
-      text = report_text r.file r.verdicts;
+      text = report_of asked.json r.file r.sample r.verdicts;
       gained = r.wrote;
-      replayed = λ k p named line bytes part run_name later same has second begun ended begun_is performs.
-          let printed = unsafe_printed r.file budget r.verdicts r.are k p named line in
+      replayed = λ k p named line bytes part again names replays named_so later same has second begun ended begun_is done.
+          let run_name = names.other in
+          let performs = subst (λ (n : List ℕ). Performs (replay_meaning n run_name) second begun ended) named_so (as_replay again second begun ended done names replays) in
+          let printed = unsafe_printed asked.json r.file budget r.sample r.is_sample r.verdicts r.are k p named line in
           let shows : ShowsRun r.file bytes printed.run = subst (λ (bs : List ℕ). ShowsRun r.file bs printed.run) (sym (printed.only bytes part)) printed.shows in
           let within : length bytes ≤ RUN.bytes = subst (λ (bs : List ℕ). length bs ≤ RUN.bytes) (sym (printed.only bytes part)) printed.within in
           let is_file : IsFile (in_files later) name r.file = record { bytes = r.is_file.bytes; had = record { seen = same ∙ r.is_file.had.seen.1; within = r.is_file.had.within }; means = r.is_file.means } in

@@ -1,5 +1,5 @@
 -- What the report says of unsafe patterns
-use Rattle.std.proofs.Common.{◌≡◌, ◌+◌, ◌≤◌, ℕ, zero, suc, true, length, List, [], ◌∷◌, Some, slice_get, codes, refl, sym, ap, subst, ◌∙◌, arith}
+use Rattle.std.proofs.Common.{◌≡◌, ◌+◌, ◌≤◌, ℕ, zero, suc, true, length, List, [], ◌∷◌, Some, slice_get, Bool, refl, sym, ap, subst, ◌∙◌, arith}
 use Rattle.std.specs.List.{list_any}
 use Rattle.std.proofs.Math.Nat.{mul-le-mul_right}
 use Rattle.ta_automaton.specs.declared.file.File.{File}
@@ -14,15 +14,17 @@ use Rattle.ta_replay.proofs.Counting.{marks_are_events}
 use Rattle.ta_replay.proofs.Occurring.{shown_occurs}
 use Rattle.ta_replay.proofs.RunFacts.{pattern_within}
 use Rattle.ta_replay.proofs.TextsShort.{lines_counted, run_text_short}
-use Rattle.ta_report.specs.Printed.{HasLine, told_of}
-use Rattle.ta_report.specs.Report.{VerdictFits, report_text}
+use Rattle.ta_report.specs.Report.{VerdictFits}
+use Rattle.ta_report.specs.Telling.{TellsUnsafe, report_of}
+use Rattle.ta_report.specs.declared.verdict.ReportSample.{ReportSample}
 use Rattle.ta_report.specs.declared.verdict.Verdict.{Verdict}
 use Rattle.ta_report.specs.declared.verdict.Verdict.TheVariants.{Safe, Unsafe, Spent, Overflow}
-use Rattle.ta_report.proofs.Printed.{each_at, printed_runs, printed_unsafe, runs_printed}
+use Rattle.ta_report.proofs.Printed.{each_at}
+use Rattle.ta_report.proofs.Tellings.{run_told, told_run, told_unsafe}
 use Rattle.ta_witness.specs.Witness.{IsShortRun}
 use Rattle.ta_program.specs.declared.limits.TheConstants.{RUN}
 use Rattle.ta_program.specs.Printed.{UnsafePrinted}
-use Rattle.ta_program.specs.Verify.{AreVerdicts, UnsafeHolds, VerdictHolds, VerdictsHold, is_unsafe}
+use Rattle.ta_program.specs.Verify.{AreVerdicts, IsSample, UnsafeHolds, VerdictHolds, VerdictsHold, is_unsafe}
 
 -- the verdict on the pattern of a number
 pub hold_at : (file : File) (budget number : ℕ) (ps : List Pattern) (vs : List Verdict) (k : ℕ) (p : Pattern) (v : Verdict) → VerdictsHold file budget number ps vs → slice_get ps k ≡ Some p → slice_get vs k ≡ Some v → VerdictHolds file budget (number + k) p v
@@ -104,10 +106,10 @@ few_lines file run fits shows short =
 run_within : (file : File) (run : Run) → Fits file run → Shows file run → IsShortRun file run → length (run_text file run) ≤ RUN.bytes
 run_within file run fits shows short = let text = run_text_short file run fits (few_lines file run fits shows short) in omega (arith, text)
 
--- a pattern whose line says unsafe, and what stands behind the line
-pub unsafe_printed : (file : File) (budget : ℕ) (vs : List Verdict) → AreVerdicts file budget vs → (k : ℕ) (p : Pattern) → slice_get file.patterns k ≡ Some p → HasLine (told_of p.name (codes "unsafe, ")) (report_text file vs) → UnsafePrinted file k p (report_text file vs)
-unsafe_printed file budget vs are k p named line =
-    let said = printed_unsafe file vs k p named are.fit line in
+-- a pattern that a report tells is unsafe, and its run
+pub unsafe_printed : (json : Bool) (file : File) (budget : ℕ) (x : ReportSample) → IsSample file budget x → (vs : List Verdict) → AreVerdicts file budget vs → (k : ℕ) (p : Pattern) → slice_get file.patterns k ≡ Some p → TellsUnsafe json p.name (report_of json file x vs) → UnsafePrinted json file k p (report_of json file x vs)
+unsafe_printed json file budget x sampled vs are k p named line =
+    let said = told_unsafe file x vs k p named sampled.fits are.fit json line in
     let nodes = said.0 in
     let run = said.1 in
     let here : 0 + k ≡ k = omega arith in
@@ -119,9 +121,9 @@ unsafe_printed file budget vs are k p named line =
       rules = occurs.rules;
       occurs = occurs.occurs;
       bytes = run_text file run;
-      stands = runs_printed file vs k p named are.fit nodes run said.2;
+      stands = run_told file x vs k p named sampled.fits are.fit json nodes run said.2 line;
       only = λ other part.
-          let found = printed_runs file vs k p named are.fit other part in
+          let found = told_run file x vs k p named sampled.fits are.fit json other part in
           let verdicts : Some (Unsafe found.0 found.1) ≡ Some (Unsafe nodes run) = sym found.2 ∙ said.2 in
           let same : found.1 ≡ run = cc in
           found.3 ∙ ap (run_text file) same;

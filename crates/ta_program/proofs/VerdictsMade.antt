@@ -22,15 +22,16 @@ use Rattle.ta_report.specs.declared.verdict.ReportKind.TheVariants as kind
 use Rattle.ta_report.specs.declared.verdict.Verdict.{Verdict}
 use Rattle.ta_report.specs.Report.{VerdictFits}
 use Rattle.ta_witness.specs.Witness.{IsSolution, WitnessLeaves}
+use Rattle.ta_encode.specs.PatternSearch.{pattern_search}
 use Rattle.ta_program.specs.Verify.{AreVerdicts, LeavesIn, RunLeaves, SafeHolds, VerdictHolds, VerdictsHold, place_of}
 
 -- a refuted pattern is safe
-pub safe_holds : (file : File) (number : ℕ) (p : Pattern) → slice_get file.patterns number ≡ Some p → LoopsPure file.automaton → (budget : ℕ) → budget ≤ 1000000000 → (tree : List Node) (nodes leaves : ℕ) → TreeIs file.automaton p budget tree nodes → leaves ≡ leaf_count tree → SafeHolds file p budget nodes leaves
+pub safe_holds : (file : File) (number : ℕ) (p : Pattern) → slice_get file.patterns number ≡ Some p → LoopsPure file.automaton → (budget : ℕ) → budget ≤ 1000000000 → (tree : List Node) (nodes leaves : ℕ) → TreeIs (pattern_search file.automaton p) budget tree nodes → leaves ≡ leaf_count tree → SafeHolds file p budget nodes leaves
 safe_holds file number p at loops budget within tree nodes leaves is counted =
     record { safe = (refuted_safe file number p at loops budget within tree nodes is).1; tree = tree; is = is; counted = counted }
 
 -- what a walk finds is a solution
-pub solution_is : (file : File) (number : ℕ) (p : Pattern) → slice_get file.patterns number ≡ Some p → (budget nodes : ℕ) (solution : Solution) → NodeOf file.automaton p budget nodes (SolutionAt file.automaton p number solution) → IsSolution file solution
+pub solution_is : (file : File) (number : ℕ) (p : Pattern) → slice_get file.patterns number ≡ Some p → (budget nodes : ℕ) (solution : Solution) → NodeOf (pattern_search file.automaton p) budget nodes (SolutionAt file.automaton p number solution) → IsSolution file solution
 solution_is file number p at budget nodes solution found =
     let solved = found_solved file.automaton p number budget nodes solution found in
     record {
@@ -41,28 +42,28 @@ solution_is file number p at budget nodes solution found =
       solved = solved.3;
     }
 
-pub solution_found : (file : File) (number : ℕ) → number < length file.patterns → (budget nodes : ℕ) (solution : Solution) → OfPattern file number (λ p. NodeOf file.automaton p budget nodes (SolutionAt file.automaton p number solution)) → IsSolution file solution
+pub solution_found : (file : File) (number : ℕ) → number < length file.patterns → (budget nodes : ℕ) (solution : Solution) → OfPattern file number (λ p. NodeOf (pattern_search file.automaton p) budget nodes (SolutionAt file.automaton p number solution)) → IsSolution file solution
 solution_found file number within budget nodes solution found =
     let at = some_at file.patterns number within in
     solution_is file number at.0 at.1 budget nodes solution (found at.0 at.1)
 
 -- what is known of a node
-pub of_node : (file : File) (p : Pattern) (budget number : ℕ) (fact other : Pending → Type 0) → ((w : Pending) → fact w → other w) → NodeOf file.automaton p budget number fact → NodeOf file.automaton p budget number other
+pub of_node : (file : File) (p : Pattern) (budget number : ℕ) (fact other : Pending → Type 0) → ((w : Pending) → fact w → other w) → NodeOf (pattern_search file.automaton p) budget number fact → NodeOf (pattern_search file.automaton p) budget number other
 of_node file p budget number fact other gives node =
     record { before = node.before; number_is = node.number_is; within = node.within; word = node.word; visited = node.visited; holds = gives node.word node.holds }
 
 -- where a walk says that a number leaves the range, it does
-leaves_in : (file : File) (number : ℕ) (p : Pattern) (k : PlaceKind) (r : ReportKind) (w : Pending) → place_of r ≡ k → LeavesAt file.automaton p w k → LeavesIn file number p r w
-leaves_in file number p k (kind.Pivot pivot) w same leaves = subst (LeavesAt file.automaton p w) (sym same) leaves
-leaves_in file number p k kind.Leaf w same leaves = subst (LeavesAt file.automaton p w) (sym same) leaves
-leaves_in file number p k kind.Run w same leaves = absurd (subst (LeavesAt file.automaton p w) (sym same) leaves)
+leaves_in : (file : File) (number : ℕ) (p : Pattern) (k : PlaceKind) (r : ReportKind) (w : Pending) → place_of r ≡ k → LeavesAt (pattern_search file.automaton p) w k → LeavesIn file number p r w
+leaves_in file number p k (kind.Pivot pivot) w same leaves = subst (LeavesAt (pattern_search file.automaton p) w) (sym same) leaves
+leaves_in file number p k kind.Leaf w same leaves = subst (LeavesAt (pattern_search file.automaton p) w) (sym same) leaves
+leaves_in file number p k kind.Run w same leaves = absurd (subst (LeavesAt (pattern_search file.automaton p) w) (sym same) leaves)
 
-pub overflow_holds : (file : File) (number : ℕ) (p : Pattern) (budget node : ℕ) (k : PlaceKind) (r : ReportKind) → place_of r ≡ k → NodeOf file.automaton p budget node (λ w. LeavesAt file.automaton p w k) → NodeOf file.automaton p budget node (LeavesIn file number p r)
+pub overflow_holds : (file : File) (number : ℕ) (p : Pattern) (budget node : ℕ) (k : PlaceKind) (r : ReportKind) → place_of r ≡ k → NodeOf (pattern_search file.automaton p) budget node (λ w. LeavesAt (pattern_search file.automaton p) w k) → NodeOf (pattern_search file.automaton p) budget node (LeavesIn file number p r)
 overflow_holds file number p budget node k r same found =
-    of_node file p budget node (λ w. LeavesAt file.automaton p w k) (LeavesIn file number p r) (λ w. leaves_in file number p k r w same) found
+    of_node file p budget node (λ w. LeavesAt (pattern_search file.automaton p) w k) (LeavesIn file number p r) (λ w. leaves_in file number p k r w same) found
 
 -- the run of a whole node leaves the range
-pub run_leaves : (file : File) (number : ℕ) (p : Pattern) (budget node : ℕ) (solution : Solution) → NodeOf file.automaton p budget node (SolutionAt file.automaton p number solution) → WitnessLeaves file solution → NodeOf file.automaton p budget node (LeavesIn file number p kind.Run)
+pub run_leaves : (file : File) (number : ℕ) (p : Pattern) (budget node : ℕ) (solution : Solution) → NodeOf (pattern_search file.automaton p) budget node (SolutionAt file.automaton p number solution) → WitnessLeaves file solution → NodeOf (pattern_search file.automaton p) budget node (LeavesIn file number p kind.Run)
 run_leaves file number p budget node solution found leaves =
     of_node file p budget node (SolutionAt file.automaton p number solution) (RunLeaves file number p) (λ w whole. record { solution = solution; whole = whole; run = leaves }) found
 

@@ -12,6 +12,7 @@ use Rattle.ta_shell.specs.Lines.{file_line}
 use Rattle.ta_shell.specs.Puts.{put_bytes}
 use Rattle.ta_walk.specs.Ends.{TreeIs}
 use Rattle.ta_program.specs.declared.limits.TheConstants.{CERTIFICATE}
+use Rattle.ta_encode.specs.PatternSearch.{pattern_search}
 use Rattle.ta_program.specs.Verify.{AreVerdicts}
 
 -- how many nodes the tree of a pattern has that a verdict says is safe
@@ -44,7 +45,7 @@ safe_numbers file vs = map (λ one. one.number) (safe_ones 0 file.patterns vs)
 -- the nodes are those of the pattern's tree, within the budget
 pub record IsTree (file : File) (budget : ℕ) (one : SafeOne) (proof : Proof) : Type 0 where
   pub numbered : proof.pattern ≡ one.number
-  pub is : TreeIs file.automaton one.pattern budget proof.nodes one.nodes
+  pub is : TreeIs (pattern_search file.automaton one.pattern) budget proof.nodes one.nodes
 
 -- a tree for each, in order, and no other
 abbrev pub AreTrees : File → ℕ → List SafeOne → List Proof → Type 0

@@ -1,5 +1,5 @@
 -- The command `compress` (this project's profile)
-use Rattle.std.specs.Prelude.{ℕ, ◌≡◌, ◌≢◌, ◌⊎◌, List, [], ◌++◌, codes, decimal, unsigned_abs, Option}
+use Rattle.std.specs.Prelude.{ℕ, ◌≡◌, ◌≢◌, ◌⊎◌, List, [], ◌++◌, codes, decimal, unsigned_abs, Option, Some}
 use Rattle.ta_automaton.specs.declared.file.File.{File}
 use Rattle.ta_compress.specs.declared.fault.CompressFault.{CompressFault}
 use Rattle.ta_compress.specs.declared.fault.CompressFault.TheVariants as fault
@@ -20,7 +20,10 @@ use Rattle.ta_shell.specs.Commands.{Meaning}
 use Rattle.ta_shell.specs.Sights.{View}
 use Rattle.ta_shell.specs.Stages.{IsOf, Kind, Writes, after, replies}
 use Rattle.ta_program.specs.declared.limits.TheConstants.{RUN}
+use Rattle.ta_program.specs.Asked.{Asked, ask}
 use Rattle.ta_program.specs.Kinds.{IsFile, file_kind}
+use Rattle.ta_program.specs.Values.{TwoNames, two_names}
+use Rattle.ta_program.specs.Words.{behind_name}
 
 -- the bytes are the text of a run that can be compressed
 pub record Compresses (file : File) (bytes : List ℕ) (run : Run) : Type 0 where
@@ -58,7 +61,7 @@ compress_fault_text fault.Memory = codes "out of memory"
 
 -- RUN, for a file
 abbrev pub long_kind : File → Kind Run CompressFault
-long_kind file = record { limit = RUN; means = Compresses file; at_fault = CompressFaultIn file; words = compress_fault_text }
+long_kind file = record { limit = RUN; means = Compresses file; at_fault = CompressFaultIn file; broken = λ bytes fault. ⊥; words = compress_fault_text }
 
 -- the compressed run: it fits the file and shows its pattern, begins at the same configuration and marks the same events in the
 -- same order at the same configurations, and is short
@@ -82,6 +85,13 @@ short_meaning file name = after (long_kind file) name [] (λ run. replies [] (Sa
 -- FILE is read, and then RUN
 abbrev pub compress_meaning : List ℕ → List ℕ → Meaning
 compress_meaning file_name run_name = after file_kind file_name [] (λ file. short_meaning file run_name)
+
+-- `compress FILE RUN`
+abbrev pub compress_of : List (List ℕ) → Option TwoNames
+compress_of = behind_name (codes "compress") two_names
+
+abbrev pub compress_asked : List (List ℕ) → Asked
+compress_asked words = ask (λ names. Some names.file) (λ names. compress_meaning names.file names.other) (two_names words)
 
 -- FILE is legal, RUN is the text of a run that can be compressed, and the output gained the text of the compressed run
 pub record CompressHolds (view : View) (file_name run_name : List ℕ) (written written' : Option (List ℕ)) : Type 0 where

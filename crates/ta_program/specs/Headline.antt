@@ -15,8 +15,9 @@ use Rattle.ta_shelf.specs.Calls.{Call, Grew}
 use Rattle.ta_shelf.specs.Put.{Told}
 use Rattle.ta_shelf.specs.Sink.{with_text}
 use Rattle.ta_shell.specs.Sights.{View, Whole, seen}
-use Rattle.ta_program.specs.Words.{request_of}
-use Rattle.ta_program.specs.Words.Asked.{Check, Verify}
+use Rattle.ta_program.specs.Check.{check_of}
+use Rattle.ta_program.specs.Values.{TwoNames}
+use Rattle.ta_program.specs.VerifyWords.{VerifyWords, verify_of}
 
 -- a name has bytes that are a text of the grammar, whose tree means this file
 pub record HoldsFile (view : View) (name : List ℕ) (file : File) : Type 0 where
@@ -54,6 +55,6 @@ pub record EachPrintedSafe (word : List ℕ) (view : View) (name : List ℕ) (wr
 -- `verify FILE` with status 0 and with status 1, and `check FILE CERT` with status 0, of what is seen in the calls of the run and
 -- in the files
 pub record StatusTells (number : ℕ) (words : List (List ℕ)) (files : Option Told) (calls calls' : List Call) (written written' : Option (List ℕ)) : Type 0 where
-  pub safe : (name : List ℕ) (budget : ℕ) (out : Option (List ℕ)) → request_of words ≡ Some (Verify name budget out) → number ≡ 0 → Grew (λ read. EachPatternSafe (seen files read) name) calls calls'
-  pub occurs : (name : List ℕ) (budget : ℕ) (out : Option (List ℕ)) → request_of words ≡ Some (Verify name budget out) → number ≡ 1 → Grew (λ read. SomePatternOccurs (seen files read) name) calls calls'
-  pub proved : (name certificate : List ℕ) → request_of words ≡ Some (Check name certificate) → number ≡ 0 → Grew (λ read. EachPrintedSafe (codes "proved") (seen files read) name written written') calls calls'
+  pub safe : (asked : VerifyWords) → verify_of words ≡ Some asked → number ≡ 0 → Grew (λ read. EachPatternSafe (seen files read) asked.file) calls calls'
+  pub occurs : (asked : VerifyWords) → verify_of words ≡ Some asked → number ≡ 1 → Grew (λ read. SomePatternOccurs (seen files read) asked.file) calls calls'
+  pub proved : (asked : TwoNames) → check_of words ≡ Some asked → number ≡ 0 → Grew (λ read. EachPrintedSafe (codes "proved") (seen files read) asked.file written written') calls calls'

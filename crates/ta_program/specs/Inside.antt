@@ -1,2 +1,4 @@
 pub mod Drafts
 pub mod Certifying
+pub mod Judged
+pub mod Reported

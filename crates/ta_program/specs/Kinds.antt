@@ -3,7 +3,7 @@ use Rattle.std.specs.Prelude.{ℕ, ◌≢◌, ◌⊎◌, List}
 use Rattle.ta_automaton.specs.declared.file.File.{File}
 use Rattle.ta_cert.specs.declared.fault.CertFault.{CertFault}
 use Rattle.ta_check.specs.Certificate.{AllSafe, Certificate}
-use Rattle.ta_check.specs.Faults.{IsFirstFault}
+use Rattle.ta_check.specs.Faults.{IsFirstFault, IsLasting}
 use Rattle.ta_syntax.specs.declared.fault.FileFault.{FileFault}
 use Rattle.ta_meaning.specs.FirstFault.{FirstFault}
 use Rattle.ta_meaning.specs.Reading.{Legal}
@@ -22,7 +22,7 @@ use Rattle.ta_program.specs.declared.limits.TheConstants.{CERTIFICATE, FILE, RUN
 
 -- FILE: bytes that mean an automaton with patterns, or have a first fault
 abbrev pub file_kind : Kind File FileFault
-file_kind = record { limit = FILE; means = Legal; at_fault = FirstFault; words = file_fault_text }
+file_kind = record { limit = FILE; means = Legal; at_fault = FirstFault; broken = λ bytes fault. ⊥; words = file_fault_text }
 
 -- the bytes of a name mean this file
 abbrev pub IsFile : View → List ℕ → File → Type 0
@@ -38,9 +38,9 @@ pub record CertificateFault (file : File) (bytes : List ℕ) (found : CertFault)
   pub first : IsFirstFault file bytes found
   pub no_certificate : (numbers : List ℕ) → ¬ Certificate file bytes numbers
 
--- CERT, for a file
+-- CERT, for a file, whose reading ends at a fault that each longer text keeps
 abbrev pub certificate_kind : File → Kind (List ℕ) CertFault
-certificate_kind file = record { limit = CERTIFICATE; means = Proves file; at_fault = CertificateFault file; words = cert_fault_text }
+certificate_kind file = record { limit = CERTIFICATE; means = Proves file; at_fault = CertificateFault file; broken = IsLasting file; words = cert_fault_text }
 
 -- the bytes are the text of a run that shows its pattern in a replay that stays in range
 pub record ShowsRun (file : File) (bytes : List ℕ) (run : Run) : Type 0 where
@@ -62,4 +62,4 @@ pub record RunFaultIn (file : File) (bytes : List ℕ) (found : RunFault) : Type
 
 -- RUN, for a file
 abbrev pub run_kind : File → Kind Run RunFault
-run_kind file = record { limit = RUN; means = ShowsRun file; at_fault = RunFaultIn file; words = run_fault_text }
+run_kind file = record { limit = RUN; means = ShowsRun file; at_fault = RunFaultIn file; broken = λ bytes fault. ⊥; words = run_fault_text }

@@ -1,12 +1,17 @@
 pub mod Words
+pub mod Values
 pub mod Taken
 pub mod Kinds
+pub mod Asked
+pub mod Asking
 pub mod Check
 pub mod Compress
 pub mod Replay
 pub mod Verify
+pub mod VerifyWords
 pub mod Certified
 pub mod Reporting
+pub mod Bench
 pub mod Requests
 pub mod Headline
 pub mod Printed

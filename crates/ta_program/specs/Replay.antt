@@ -1,5 +1,5 @@
 -- The command `replay` (this project's profile)
-use Rattle.std.specs.Prelude.{ℕ, ◌≡◌, List, [], slice_get, Option, Some}
+use Rattle.std.specs.Prelude.{ℕ, ◌≡◌, List, [], codes, slice_get, Option, Some}
 use Rattle.ta_automaton.specs.declared.file.File.{File}
 use Rattle.ta_automaton.specs.declared.pattern.Pattern.{Pattern}
 use Rattle.ta_replay.specs.declared.run.Run.{Run}
@@ -10,7 +10,10 @@ use Rattle.ta_shell.specs.declared.answer.Answer.{Answer}
 use Rattle.ta_shell.specs.Commands.{Meaning}
 use Rattle.ta_shell.specs.Sights.{View}
 use Rattle.ta_shell.specs.Stages.{IsOf, Writes, after, replies}
+use Rattle.ta_program.specs.Asked.{Asked, ask}
 use Rattle.ta_program.specs.Kinds.{IsFile, file_kind, run_kind}
+use Rattle.ta_program.specs.Values.{TwoNames, two_names}
+use Rattle.ta_program.specs.Words.{behind_name}
 
 -- the line says that a run shows its pattern
 pub record SaysShown (file : File) (run : Run) (answer : Answer) : Type 0 where
@@ -25,6 +28,13 @@ shown_meaning file name = after (run_kind file) name [] (λ run. replies [] (Say
 -- FILE is read, and then RUN
 abbrev pub replay_meaning : List ℕ → List ℕ → Meaning
 replay_meaning file_name run_name = after file_kind file_name [] (λ file. shown_meaning file run_name)
+
+-- `replay FILE RUN`
+abbrev pub replay_of : List (List ℕ) → Option TwoNames
+replay_of = behind_name (codes "replay") two_names
+
+abbrev pub replay_asked : List (List ℕ) → Asked
+replay_asked words = ask (λ names. Some names.file) (λ names. replay_meaning names.file names.other) (two_names words)
 
 -- FILE is legal, RUN is the text of a run that shows its pattern, and the output gained the line that says so
 pub record ReplayHolds (view : View) (file_name run_name : List ℕ) (written written' : Option (List ℕ)) : Type 0 where

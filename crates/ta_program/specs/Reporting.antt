@@ -1,9 +1,10 @@
 -- What `verify` writes (this project's profile)
-use Rattle.std.specs.Prelude.{ℕ, ◌≤◌, ◌≡◌, List, length, Option, Some}
+use Rattle.std.specs.Prelude.{ℕ, ◌≤◌, ◌≡◌, Bool, List, length, Option, Some}
 use Rattle.ta_automaton.specs.declared.file.File.{File}
 use Rattle.ta_check.specs.Certificate.{Certificate}
+use Rattle.ta_report.specs.declared.verdict.ReportSample.{ReportSample}
 use Rattle.ta_report.specs.declared.verdict.Verdict.{Verdict}
-use Rattle.ta_report.specs.Report.{report_text}
+use Rattle.ta_report.specs.Telling.{report_of}
 use Rattle.ta_shelf.specs.Put.{OthersStay, Told, WhereTold}
 use Rattle.ta_shelf.specs.Sink.{with_text}
 use Rattle.ta_shell.specs.declared.answer.Answer.{Answer}
@@ -12,33 +13,42 @@ use Rattle.ta_shell.specs.Sights.{View}
 use Rattle.ta_shell.specs.Stages.{after, settles}
 use Rattle.ta_program.specs.declared.limits.TheConstants.{CERTIFICATE}
 use Rattle.ta_program.specs.Certified.{CertificateOf, HindersCertificate, PutsCertificate, may_put, safe_numbers}
+use Rattle.ta_program.specs.Asked.{Asked, ask}
 use Rattle.ta_program.specs.Kinds.{IsFile, file_kind}
-use Rattle.ta_program.specs.Verify.{AreVerdicts, verdicts_number}
+use Rattle.ta_program.specs.Verify.{AreVerdicts, IsSample, verdicts_number}
+use Rattle.ta_program.specs.VerifyWords.{verify_words}
 
--- the report of such verdicts, with the number that they give, and the certificate that is asked for
-pub record Reports (file : File) (budget : ℕ) (out : Option (List ℕ)) (answer : Answer) : Type 0 where
+-- the report of the sample and of such verdicts, in JSON or not, with the number that the verdicts give, and the certificate that is asked for
+pub record Reports (file : File) (budget : ℕ) (json : Bool) (out : Option (List ℕ)) (answer : Answer) : Type 0 where
+  pub sample : ReportSample
+  pub is_sample : IsSample file budget sample
   pub verdicts : List Verdict
   pub are : AreVerdicts file budget verdicts
   pub numbered : answer.number ≡ verdicts_number verdicts
-  pub written : answer.text ≡ report_text file verdicts
+  pub written : answer.text ≡ report_of json file sample verdicts
   pub puts : PutsCertificate file budget verdicts out answer.puts
 
--- the report says what is known of each pattern, unless the certificate that is asked for is too long
-abbrev pub report_meaning : File → ℕ → Option (List ℕ) → Meaning
-report_meaning file budget out = settles (may_put out) (Reports file budget out) (HindersCertificate file budget out)
+-- the report says what is known of the parameters and of each pattern, unless the certificate that is asked for is too long
+abbrev pub report_meaning : File → ℕ → Bool → Option (List ℕ) → Meaning
+report_meaning file budget json out = settles (may_put out) (Reports file budget json out) (HindersCertificate file budget out)
 
--- FILE is read, and the report says what is known of each pattern
-abbrev pub verify_meaning : List ℕ → ℕ → Option (List ℕ) → Meaning
-verify_meaning name budget out = after file_kind name (may_put out) (λ file. report_meaning file budget out)
+-- FILE is read, and the report says what is known
+abbrev pub verify_meaning : List ℕ → ℕ → Bool → Option (List ℕ) → Meaning
+verify_meaning name budget json out = after file_kind name (may_put out) (λ file. report_meaning file budget json out)
 
--- FILE is legal, each verdict holds, they give the number, and the output gained the report
-pub record ReportHolds (number : ℕ) (view : View) (name : List ℕ) (budget : ℕ) (written written' : Option (List ℕ)) : Type 0 where
+abbrev pub verify_asked : List (List ℕ) → Asked
+verify_asked words = ask (λ asked. Some asked.file) (λ asked. verify_meaning asked.file asked.nodes asked.json asked.out) (verify_words words)
+
+-- FILE is legal, what is said of the parameters holds, each verdict holds, the verdicts give the number, and the output gained the report
+pub record ReportHolds (number : ℕ) (view : View) (name : List ℕ) (budget : ℕ) (json : Bool) (written written' : Option (List ℕ)) : Type 0 where
   pub file : File
   pub is_file : IsFile view name file
+  pub sample : ReportSample
+  pub is_sample : IsSample file budget sample
   pub verdicts : List Verdict
   pub are : AreVerdicts file budget verdicts
   pub numbered : verdicts_number verdicts ≡ number
-  pub wrote : written' ≡ with_text written (report_text file verdicts)
+  pub wrote : written' ≡ with_text written (report_of json file sample verdicts)
 
 -- the file of a name holds this text, and every other file is as it was
 pub record HoldsText (name text : List ℕ) (before after : Told) : Type 0 where
@@ -47,8 +57,8 @@ pub record HoldsText (name text : List ℕ) (before after : Told) : Type 0 where
 
 -- the report holds; OUT holds the certificate of the patterns that it says are safe, and every other file is as it was; and that
 -- text is a certificate of FILE that proves exactly these patterns, so `check` accepts it
-pub record CertificateStands (number : ℕ) (view : View) (name : List ℕ) (budget : ℕ) (out : List ℕ) (files files' : Option Told) (written written' : Option (List ℕ)) : Type 0 where
-  pub report : ReportHolds number view name budget written written'
+pub record CertificateStands (number : ℕ) (view : View) (name : List ℕ) (budget : ℕ) (json : Bool) (out : List ℕ) (files files' : Option Told) (written written' : Option (List ℕ)) : Type 0 where
+  pub report : ReportHolds number view name budget json written written'
   pub text : List ℕ
   pub certificate : CertificateOf report.file budget report.verdicts text
   pub within : length text ≤ CERTIFICATE.bytes

@@ -1,16 +1,20 @@
 -- The command `verify` (this project's profile)
-use Rattle.std.specs.Prelude.{ℕ, ◌+◌, ◌≡◌, Bool, true, false, List, [], ◌∷◌, slice_get, Some, if◌then◌else◌}
+use Rattle.std.specs.Prelude.{ℕ, ◌+◌, ◌≡◌, Bool, true, false, List, [], ◌∷◌, slice_get, Some, if◌then◌else◌, ℤ, pos, map}
 use Rattle.std.specs.List.{list_any}
+use Rattle.ta_automaton.specs.declared.automaton.Automaton.{Automaton}
 use Rattle.ta_automaton.specs.declared.file.File.{File}
 use Rattle.ta_automaton.specs.declared.pattern.Pattern.{Pattern}
 use Rattle.ta_automaton.specs.Lists.{Each}
 use Rattle.ta_automaton.specs.Runs as runs
 use Rattle.ta_cert.specs.declared.line.Node.{Node}
+use Rattle.ta_encode.specs.Sample.{HasStart}
 use Rattle.ta_encode.specs.declared.encoded.Solution.{Solution}
 use Rattle.ta_encode.specs.InPreorder.{Pending}
 use Rattle.ta_replay.specs.declared.run.Run.{Run}
 use Rattle.ta_replay.specs.Replays.{ReplayStays}
 use Rattle.ta_replay.specs.Shows.{Shows}
+use Rattle.ta_walk.specs.Samples.{IsSampleEnd}
+use Rattle.ta_walk.specs.declared.end.SampleEnd.TheVariants as samples
 use Rattle.ta_walk.specs.declared.end.PlaceKind.{PlaceKind}
 use Rattle.ta_walk.specs.declared.end.PlaceKind.TheVariants as place
 use Rattle.ta_walk.specs.Visit.{LeavesAt}
@@ -19,7 +23,10 @@ use Rattle.ta_report.specs.declared.verdict.ReportKind.{ReportKind}
 use Rattle.ta_report.specs.declared.verdict.ReportKind.TheVariants as kind
 use Rattle.ta_report.specs.declared.verdict.Verdict.{Verdict}
 use Rattle.ta_report.specs.declared.verdict.Verdict.TheVariants.{Safe, Unsafe, Spent, Overflow}
-use Rattle.ta_report.specs.Report.{VerdictFits}
+use Rattle.ta_report.specs.declared.verdict.ReportSample.{ReportSample}
+use Rattle.ta_report.specs.declared.verdict.ReportSample.TheVariants as sample
+use Rattle.ta_report.specs.Report.{SampleFits, VerdictFits}
+use Rattle.ta_encode.specs.PatternSearch.{pattern_search}
 use Rattle.ta_witness.specs.Witness.{IsShortRun, WitnessLeaves, WitnessOf}
 
 -- the place of a walk that a report names
@@ -32,14 +39,14 @@ place_of kind.Run = place.Run
 pub record SafeHolds (file : File) (p : Pattern) (budget nodes leaves : ℕ) : Type 0 where
   pub safe : runs.Safe file.automaton p
   pub tree : List Node
-  pub is : TreeIs file.automaton p budget tree nodes
+  pub is : TreeIs (pattern_search file.automaton p) budget tree nodes
   pub counted : leaves ≡ leaf_count tree
 
 -- the run shows the pattern of a number in a replay that stays in range, and has at most (guards + events) * (rules + 1) steps; it
 -- is the run of the first whole node, which is the node of this number, within the budget
 pub record UnsafeHolds (file : File) (number : ℕ) (p : Pattern) (budget nodes : ℕ) (run : Run) : Type 0 where
   pub solution : Solution
-  pub node : NodeOf file.automaton p budget nodes (SolutionAt file.automaton p number solution)
+  pub node : NodeOf (pattern_search file.automaton p) budget nodes (SolutionAt file.automaton p number solution)
   pub is : WitnessOf file solution run
   pub shows : Shows file run
   pub stays : ReplayStays file run
@@ -53,17 +60,46 @@ pub record RunLeaves (file : File) (number : ℕ) (p : Pattern) (w : Pending) : 
 
 -- where a number of a node leaves the range: in a pivot, in the check of the leaf that it is, or in the replay of its run
 abbrev pub LeavesIn : File → ℕ → Pattern → ReportKind → Pending → Type 0
-LeavesIn file number p (kind.Pivot pivot) w = LeavesAt file.automaton p w (place.Pivot pivot)
-LeavesIn file number p kind.Leaf w = LeavesAt file.automaton p w place.Leaf
+LeavesIn file number p (kind.Pivot pivot) w = LeavesAt (pattern_search file.automaton p) w (place.Pivot pivot)
+LeavesIn file number p kind.Leaf w = LeavesAt (pattern_search file.automaton p) w place.Leaf
 LeavesIn file number p kind.Run w = RunLeaves file number p w
+
+-- the values are a sample of the parameters: natural numbers that meet the resilience condition and have an initial configuration; and
+-- the search for a sample ends with them within a budget of nodes
+pub record SampleReal (a : Automaton) (budget : ℕ) (values : List ℤ) : Type 0 where
+  pub parameters : List ℕ
+  pub are : values ≡ map pos parameters
+  pub start : HasStart a parameters
+  pub found : IsSampleEnd a budget (samples.Sample values)
+
+-- no parameters meet the resilience condition and have an initial configuration; and the search ends without any within the budget
+pub record NoSample (a : Automaton) (budget : ℕ) : Type 0 where
+  pub none : (parameters : List ℕ) → ¬ HasStart a parameters
+  pub refuted : IsSampleEnd a budget samples.Empty
+
+-- what is said of the parameters holds, for a budget of nodes
+abbrev pub SampleHolds : File → ℕ → ReportSample → Type 0
+SampleHolds file budget (sample.Sample values) = SampleReal file.automaton budget values
+SampleHolds file budget sample.Empty = NoSample file.automaton budget
+SampleHolds file budget (sample.Spent count) = IsSampleEnd file.automaton budget (samples.Spent count)
+SampleHolds file budget (sample.Overflow node kind) = IsSampleEnd file.automaton budget (samples.Overflow node (place_of kind))
+
+-- a sample of the parameters of a file: what is said of it holds, and it has a value for each of them
+pub record IsSample (file : File) (budget : ℕ) (s : ReportSample) : Type 0 where
+  pub holds : SampleHolds file budget s
+  pub fits : SampleFits file s
+
+-- a file has one sample for a budget
+abbrev pub SamplesAreDetermined : Type 0
+SamplesAreDetermined = (file : File) (budget : ℕ) (s t : ReportSample) → IsSample file budget s → IsSample file budget t → s ≡ t
 
 -- a verdict on the pattern of a number holds, for a budget of nodes. Each node before the one that is named was a leaf, an
 -- extension or a split, and no number of it left the range
 abbrev pub VerdictHolds : File → ℕ → ℕ → Pattern → Verdict → Type 0
 VerdictHolds file budget number p (Safe nodes leaves) = SafeHolds file p budget nodes leaves
 VerdictHolds file budget number p (Unsafe nodes run) = UnsafeHolds file number p budget nodes run
-VerdictHolds file budget number p (Spent nodes) = IsSpent file.automaton p budget nodes
-VerdictHolds file budget number p (Overflow node kind) = NodeOf file.automaton p budget node (LeavesIn file number p kind)
+VerdictHolds file budget number p (Spent nodes) = IsSpent (pattern_search file.automaton p) budget nodes
+VerdictHolds file budget number p (Overflow node kind) = NodeOf (pattern_search file.automaton p) budget node (LeavesIn file number p kind)
 
 -- a verdict for each of the patterns, of which the first has this number, and each holds
 abbrev pub VerdictsHold : File → ℕ → ℕ → List Pattern → List Verdict → Type 0

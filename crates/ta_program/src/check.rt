@@ -1,29 +1,74 @@
 //! The command `check`.
 #![tactic(auto)]
 
-ghost use Rattle.std.specs.Prelude.{◌≡◌, [], Option};
+ghost use Rattle.std.specs.Prelude.{ℕ, ◌≡◌, ◌≤◌, List, [], length, Option, map, option_map};
+ghost use Rattle.ta_check.specs.Checkers.{IsSound, StandsFor};
 ghost use Rattle.ta_report.specs.Check.{check_text};
-ghost use Rattle.ta_shelf.specs.Calls.{Grew};
+ghost use Rattle.ta_shelf.specs.Calls.{Call, Grew};
 ghost use Rattle.ta_shelf.specs.Put.{Told};
 ghost use Rattle.ta_shell.specs.Commands.{Says};
 ghost use Rattle.ta_shell.specs.Reading.{ReadCause};
 ghost use Rattle.ta_shell.specs.Stages.{Stage, Writes, replies};
 ghost use Rattle.ta_program.specs.Check.{check_meaning, proved_meaning};
+ghost use Rattle.ta_program.specs.Inside.Judged.{Judged, JudgedTo, PieceFed, RefusedBy, Turn};
 ghost use Rattle.ta_program.specs.Kinds.{certificate_kind};
+ghost use Rattle.ta_program.specs.Taken.{names_seen};
+ghost use Rattle.ta_program.specs.Values.{two_names};
 
 use crate::limits::CERTIFICATE;
 use crate::reading::read_legal;
+use crate::request::Request;
+use crate::values::{TwoNames, two_names};
 use std::alloc::{AllocError, Global};
 use ta_automaton::File;
 use ta_cert::CertFault;
-use ta_check::Accepted;
+use ta_check::{Accepted, Checker};
 use ta_report::{cert_fault_phrase, check_text};
 use ta_scope::ScopedFile;
-use ta_shelf::{Shelf, Text};
-use ta_shell::{Answer, Refusal, read_text};
+use ta_shelf::{Shelf, Text, read_piece};
+use ta_shell::{Answer, Command, Refusal, too_long, unread};
+
+/// How many bytes of a certificate are read at once.
+const PIECE: usize = 65_536;
+
+/// What `check` is asked for.
+#[derive(Drop)]
+pub(crate) struct Check<'a> {
+    names: TwoNames<'a>,
+}
+
+impl<'a> Request<'a> for Check<'a> {
+    ghost use Rattle.ta_program.specs.Check.{check_asked};
+
+    ghost asked = { check_asked };
+
+    fn read(words: &[&'a str]) -> Option<Check<'a>> {
+        read_check(words)
+    }
+}
+
+impl<'a> Command for Check<'a> {
+    ghost use Rattle.ta_program.specs.Check.{check_meaning};
+
+    ghost meaning = { λ command. check_meaning command.names.file.now command.names.other.now };
+
+    fn judge<S: Shelf>(&self, alloc: Global, shelf: &mut S) -> Result<Answer, Refusal<'_>> {
+        judge_check(alloc, shelf, self.names.file, self.names.other)
+    }
+}
+
+/// Reads the words of `check`.
+fn read_check<'a>(words: &[&'a str]) -> Option<Check<'a>>
+    ensures { option_map (λ command. names_seen command.names) result ≡ two_names (map (λ w. w.now) words.now) }
+{
+    match two_names(words) {
+        Some(names) => Some(Check { names }),
+        None => None,
+    }
+}
 
 /// Reads a file, then a certificate, and says which patterns are proved.
-pub(crate) fn judge_check<'a, S: Shelf>(
+fn judge_check<'a, S: Shelf>(
     alloc: Global,
     shelf: &mut S,
     file: &'a str,
@@ -56,7 +101,7 @@ fn judge_certificate<'a, S: Shelf>(
     }
 }
 
-/// Reads a certificate and judges it for a file.
+/// Reads a certificate and judges it for a file. It is read in pieces, and up to its first fault.
 fn read_certificate<'a, S: Shelf>(
     alloc: Global,
     shelf: &mut S,
@@ -67,17 +112,106 @@ fn read_certificate<'a, S: Shelf>(
     ensures cause { ReadCause result (S.faults shelf.old) (S.faults shelf.new) }
     ensures kept { S.files shelf.new ≡ S.files shelf.old }
 {
-    match read_text(alloc, shelf, name, CERTIFICATE) {
-        Ok(bytes) => match ta_check::check(alloc, scoped, bytes.as_slice()) {
+    match judge_pieces(alloc, shelf, scoped, name) {
+        Ok(checker) => match checker.finish() {
             Ok(accepted) => Ok(accepted),
-            Err(CertFault::Memory) => Err(Refusal::Memory),
-            Err(fault) => Err(Refusal::Refused {
-                number: CERTIFICATE.number,
-                name,
-                why: cert_fault_phrase(&fault),
-            }),
+            Err(fault) => Err(refused(name, &fault)),
         },
         Err(refusal) => Err(refusal),
+    }
+}
+
+/// Judges the pieces of a certificate to its end, which the judge is still to be told.
+fn judge_pieces<'a, 'b, S: Shelf>(
+    alloc: Global,
+    shelf: &mut S,
+    scoped: &'b ScopedFile,
+    name: &'a str,
+) -> Result<Checker<'b>, Refusal<'a>>
+    ensures judged { Grew (Judged scoped.now.file (S.files shelf.old) name.now result) (S.calls shelf.old) (S.calls shelf.new) }
+    ensures cause { ReadCause result (S.faults shelf.old) (S.faults shelf.new) }
+    ensures kept { S.files shelf.new ≡ S.files shelf.old }
+{
+    let mut checker = Checker::new(alloc, scoped);
+    let mut buffer = [0u8; PIECE];
+    let mut at = 0;
+    'pieces: loop {
+        match judge_piece(shelf, name, at, &mut buffer, &mut checker) {
+            Ok(Some(next)) => at = next,
+            Ok(None) => return Ok(checker),
+            Err(refusal) => return Err(refusal),
+        }
+    }
+}
+
+/// Reads the piece of a certificate from an offset on and judges it; gives the offset behind it, where
+/// the file may go on.
+fn judge_piece<'a, S: Shelf>(
+    shelf: &mut S,
+    name: &'a str,
+    at: u64,
+    buffer: &mut [u8],
+    checker: &mut Checker<'_>,
+) -> Result<Option<u64>, Refusal<'a>>
+    requires within { at ≤ CERTIFICATE.bytes }
+    requires room { length buffer.old ≡ 65536 }
+    requires sound { IsSound checker.old }
+    ensures turn { (first : List Call) (text : List ℕ) → JudgedTo (S.files shelf.old) name.now first (S.calls shelf.old) checker.old text → at ≡ length text
+        → Turn checker.old.scoped.now.file (S.files shelf.old) name.now at first (S.calls shelf.new) checker.new result }
+    ensures file { checker.new.scoped.now ≡ checker.old.scoped.now }
+    ensures cause { ReadCause result (S.faults shelf.old) (S.faults shelf.new) }
+    ensures kept { S.files shelf.new ≡ S.files shelf.old }
+{
+    match read_piece(shelf, name, at, buffer) {
+        Ok(count) => {
+            let ended = count < buffer.len();
+            feed_piece(name, at, &buffer[..count], ended, checker)
+        }
+        Err(fault) => Err(unread(name, CERTIFICATE, fault)),
+    }
+}
+
+/// Judges a piece that begins at an offset, as far as a certificate may go; it may end the file.
+fn feed_piece<'a>(
+    name: &'a str,
+    at: u64,
+    piece: &[u8],
+    ended: bool,
+    checker: &mut Checker<'_>,
+) -> Result<Option<u64>, Refusal<'a>>
+    requires within { at ≤ CERTIFICATE.bytes }
+    requires sound { IsSound checker.old }
+    ensures fed { (text : List ℕ) → StandsFor checker.old text → at ≡ length text → PieceFed checker.old.scoped.now.file name.now text piece.now ended checker.new result }
+    ensures file { checker.new.scoped.now ≡ checker.old.scoped.now }
+    ensures cause { ReadCause result 0 0 }
+{
+    let room = CERTIFICATE.bytes - at;
+    let allowed = (piece.len() as u64).min(room) as usize;
+    match checker.feed(&piece[..allowed]) {
+        Ok(()) => {
+            if allowed < piece.len() {
+                Err(too_long(name, CERTIFICATE))
+            } else if ended {
+                Ok(None)
+            } else {
+                Ok(Some(at + piece.len() as u64))
+            }
+        }
+        Err(fault) => Err(refused(name, &fault)),
+    }
+}
+
+/// Why a certificate is refused.
+fn refused<'a>(name: &'a str, fault: &CertFault) -> Refusal<'a>
+    ensures { RefusedBy name.now fault.now result }
+{
+    match fault {
+        CertFault::Memory => Refusal::Memory,
+        _ => Refusal::Refused {
+            number: CERTIFICATE.number,
+            name,
+            why: cert_fault_phrase(fault),
+        },
     }
 }
 

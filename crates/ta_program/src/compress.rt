@@ -1,7 +1,7 @@
 //! The command `compress`.
 #![tactic(auto)]
 
-ghost use Rattle.std.specs.Prelude.{◌≡◌, ◌≢◌, ◌++◌, [], codes, decimal, unsigned_abs, IfOk, IfErr, Option};
+ghost use Rattle.std.specs.Prelude.{◌≡◌, ◌≢◌, ◌++◌, [], codes, decimal, unsigned_abs, IfOk, IfErr, Option, map, option_map};
 ghost use Rattle.ta_compress.specs.declared.fault.CompressFault.TheVariants as fault;
 ghost use Rattle.ta_replay.specs.declared.run.Run.{Run};
 ghost use Rattle.ta_replay.specs.Fits.{Fits};
@@ -13,9 +13,13 @@ ghost use Rattle.ta_shell.specs.Lines.{phrase_text};
 ghost use Rattle.ta_shell.specs.Reading.{ReadCause};
 ghost use Rattle.ta_shell.specs.Stages.{Stage, replies};
 ghost use Rattle.ta_program.specs.Compress.{CompressFaultIn, Compresses, SaysShort, ShortOf, compress_fault_text, compress_meaning, long_kind, of_run, short_meaning};
+ghost use Rattle.ta_program.specs.Taken.{names_seen};
+ghost use Rattle.ta_program.specs.Values.{two_names};
 
 use crate::limits::RUN;
 use crate::reading::read_legal;
+use crate::request::Request;
+use crate::values::{TwoNames, two_names};
 use std::alloc::{AllocError, Global};
 use ta_automaton::File;
 use ta_compress::{CompressFault, compress};
@@ -23,10 +27,46 @@ use ta_replay::{Run, RunFault, print_run, read_run};
 use ta_report::run_fault_phrase;
 use ta_scope::ScopedFile;
 use ta_shelf::{Shelf, Text};
-use ta_shell::{Answer, Phrase, Refusal, read_text};
+use ta_shell::{Answer, Command, Phrase, Refusal, read_text};
+
+/// What `compress` is asked for.
+#[derive(Drop)]
+pub(crate) struct Compress<'a> {
+    names: TwoNames<'a>,
+}
+
+impl<'a> Request<'a> for Compress<'a> {
+    ghost use Rattle.ta_program.specs.Compress.{compress_asked};
+
+    ghost asked = { compress_asked };
+
+    fn read(words: &[&'a str]) -> Option<Compress<'a>> {
+        read_compress(words)
+    }
+}
+
+impl<'a> Command for Compress<'a> {
+    ghost use Rattle.ta_program.specs.Compress.{compress_meaning};
+
+    ghost meaning = { λ command. compress_meaning command.names.file.now command.names.other.now };
+
+    fn judge<S: Shelf>(&self, alloc: Global, shelf: &mut S) -> Result<Answer, Refusal<'_>> {
+        judge_compress(alloc, shelf, self.names.file, self.names.other)
+    }
+}
+
+/// Reads the words of `compress`.
+fn read_compress<'a>(words: &[&'a str]) -> Option<Compress<'a>>
+    ensures { option_map (λ command. names_seen command.names) result ≡ two_names (map (λ w. w.now) words.now) }
+{
+    match two_names(words) {
+        Some(names) => Some(Compress { names }),
+        None => None,
+    }
+}
 
 /// Reads a file, then a run, and answers the text of the compressed run.
-pub(crate) fn judge_compress<'a, S: Shelf>(
+fn judge_compress<'a, S: Shelf>(
     alloc: Global,
     shelf: &mut S,
     file: &'a str,

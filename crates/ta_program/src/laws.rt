@@ -3,11 +3,13 @@
 #![tactic(auto)]
 
 ghost use Rattle.ta_program.specs.Laws.{PrintedRunsAreReplayed, WrittenIsAccepted};
-ghost use Rattle.ta_program.specs.Verify.{VerdictsAreDetermined};
+ghost use Rattle.ta_program.specs.Verify.{SamplesAreDetermined, VerdictsAreDetermined};
 
-/// A file has one list of verdicts for a budget, and so one report and one status.
+/// A file has one sample of its parameters and one list of verdicts for a budget, and so one report
+/// and one status.
 pub fn verdicts_are_determined()
-    ensures { VerdictsAreDetermined }
+    ensures verdicts { VerdictsAreDetermined }
+    ensures samples { SamplesAreDetermined }
 {}
 
 /// What `verify` prints as a run `replay` shows.

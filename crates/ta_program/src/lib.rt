@@ -1,6 +1,7 @@
 //! The program, over the words, the files and the sinks that it is given.
 #![tactic(auto)]
 
+mod bench;
 mod budget;
 mod certified;
 mod check;
@@ -11,8 +12,9 @@ mod limits;
 mod pieces;
 mod reading;
 mod replay;
-mod requests;
+mod request;
 mod running;
+mod values;
 mod verify;
 mod words;
 

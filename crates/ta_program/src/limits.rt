@@ -8,9 +8,9 @@ pub const FILE: Limit = Limit {
     number: 3,
 };
 
-/// A certificate.
+/// A certificate, read or written.
 pub const CERTIFICATE: Limit = Limit {
-    bytes: 67_108_864,
+    bytes: 1_073_741_824,
     number: 4,
 };
 

@@ -1,7 +1,7 @@
 //! The command `replay`.
 #![tactic(auto)]
 
-ghost use Rattle.std.specs.Prelude.{◌≡◌, ◌≢◌, [], IfOk, IfErr, Option};
+ghost use Rattle.std.specs.Prelude.{◌≡◌, ◌≢◌, [], IfOk, IfErr, Option, map, option_map};
 ghost use Rattle.ta_replay.specs.declared.fault.RunFault.TheVariants as fault;
 ghost use Rattle.ta_replay.specs.Fits.{Fits};
 ghost use Rattle.ta_replay.specs.Shows.{shown_of};
@@ -12,18 +12,58 @@ ghost use Rattle.ta_shell.specs.Reading.{ReadCause};
 ghost use Rattle.ta_shell.specs.Stages.{Stage, replies};
 ghost use Rattle.ta_program.specs.Kinds.{RunFaultIn, ShowsRun, run_kind};
 ghost use Rattle.ta_program.specs.Replay.{SaysShown, replay_meaning, shown_meaning};
+ghost use Rattle.ta_program.specs.Taken.{names_seen};
+ghost use Rattle.ta_program.specs.Values.{two_names};
 
 use crate::limits::RUN;
 use crate::reading::read_legal;
+use crate::request::Request;
+use crate::values::{TwoNames, two_names};
 use std::alloc::{AllocError, Global};
 use ta_automaton::File;
 use ta_replay::{Run, RunFault, Shown, read_run, replay};
 use ta_report::{run_fault_phrase, shown_line};
 use ta_shelf::{Shelf, Text};
-use ta_shell::{Answer, Refusal, read_text};
+use ta_shell::{Answer, Command, Refusal, read_text};
+
+/// What `replay` is asked for.
+#[derive(Drop)]
+pub(crate) struct Replay<'a> {
+    names: TwoNames<'a>,
+}
+
+impl<'a> Request<'a> for Replay<'a> {
+    ghost use Rattle.ta_program.specs.Replay.{replay_asked};
+
+    ghost asked = { replay_asked };
+
+    fn read(words: &[&'a str]) -> Option<Replay<'a>> {
+        read_replay(words)
+    }
+}
+
+impl<'a> Command for Replay<'a> {
+    ghost use Rattle.ta_program.specs.Replay.{replay_meaning};
+
+    ghost meaning = { λ command. replay_meaning command.names.file.now command.names.other.now };
+
+    fn judge<S: Shelf>(&self, alloc: Global, shelf: &mut S) -> Result<Answer, Refusal<'_>> {
+        judge_replay(alloc, shelf, self.names.file, self.names.other)
+    }
+}
+
+/// Reads the words of `replay`.
+fn read_replay<'a>(words: &[&'a str]) -> Option<Replay<'a>>
+    ensures { option_map (λ command. names_seen command.names) result ≡ two_names (map (λ w. w.now) words.now) }
+{
+    match two_names(words) {
+        Some(names) => Some(Replay { names }),
+        None => None,
+    }
+}
 
 /// Reads a file, then a run, and says that the run shows its pattern.
-pub(crate) fn judge_replay<'a, S: Shelf>(
+fn judge_replay<'a, S: Shelf>(
     alloc: Global,
     shelf: &mut S,
     file: &'a str,
@@ -96,7 +136,7 @@ fn follow(alloc: Global, file: &File, bytes: &[u8]) -> Result<ShownRun, RunFault
     ensures fault { IfErr result (λ found. found ≢ fault.Memory → RunFaultIn file.now bytes.now found) }
 {
     let run = read_run(alloc, file, bytes)?;
-    let shown = replay(alloc, file, &run)?;
+    let shown = replay(file, &run)?;
     Ok(ShownRun { run, shown })
 }
 

@@ -1,14 +1,19 @@
 //! A run of the program.
 #![tactic(auto)]
 
-ghost use Rattle.std.specs.Prelude.{◌≡◌, map, option_map};
-ghost use Rattle.ta_shell.specs.Ends.{Quiet, state};
+ghost use Rattle.std.specs.Prelude.{◌≡◌, map};
+ghost use Rattle.ta_shell.specs.Ends.{Quiet, SinkState, Tells, state};
+ghost use Rattle.ta_program.specs.Asked.{Runs, usage_line};
 ghost use Rattle.ta_program.specs.Headline.{StatusTells};
-ghost use Rattle.ta_program.specs.Program.{CertificateWritten, CheckProves, Completes, ExactlySo, KeepsFiles, Opens, PrintedHolds, ReplayShows, RunShortens, Runs, Tellings, UsageExactly, VerifyReports};
-ghost use Rattle.ta_program.specs.Requests.{asked};
-ghost use Rattle.ta_program.specs.Words.{request_of};
+ghost use Rattle.ta_program.specs.Program.{Benches, CertificateWritten, CheckProves, Completes, ExactlySo, KeepsFiles, Opens, PrintedHolds, ReplayShows, RunShortens, Tellings, UsageExactly, VerifyReports};
+ghost use Rattle.ta_program.specs.Requests.{request_of};
 
-use crate::words::{Request, read_words};
+use crate::bench::Bench;
+use crate::check::Check;
+use crate::compress::Compress;
+use crate::replay::Replay;
+use crate::request::Request;
+use crate::verify::Verify;
 use std::alloc::Global;
 use ta_shelf::{Shelf, Sink};
 use ta_shell::{perform, tell_line};
@@ -38,9 +43,10 @@ pub fn run<S: Shelf, O: Sink, E: Sink>(
     ensures check { CheckProves result (map (λ w. w.now) words.now) (S.files shelf.old) (S.calls shelf.old) (S.calls shelf.new) (O.written out.old) (O.written out.new) }
     ensures replay { ReplayShows result (map (λ w. w.now) words.now) (S.files shelf.old) (S.calls shelf.old) (S.calls shelf.new) (O.written out.old) (O.written out.new) }
     ensures compress { RunShortens result (map (λ w. w.now) words.now) (S.files shelf.old) (S.calls shelf.old) (S.calls shelf.new) (O.written out.old) (O.written out.new) }
+    ensures bench { Benches result (map (λ w. w.now) words.now) (O.written out.old) (O.written out.new) }
     ensures printed { PrintedHolds result (map (λ w. w.now) words.now) (S.files shelf.old) (S.calls shelf.old) (S.calls shelf.new) (O.written out.old) (O.written out.new) }
-    ensures usage { UsageExactly result (map (λ w. w.now) words.now) }
-    ensures exact { ExactlySo result (map (λ w. w.now) words.now) (S.files shelf.old) }
+    ensures usage { UsageExactly result (request_of (map (λ w. w.now) words.now)) }
+    ensures exact { ExactlySo result (request_of (map (λ w. w.now) words.now)) (S.files shelf.old) }
     ensures kept { KeepsFiles result (map (λ w. w.now) words.now) (S.files shelf.old) (S.files shelf.new) }
     ensures opened { Opens (request_of (map (λ w. w.now) words.now)) (S.calls shelf.old) (S.calls shelf.new) }
     ensures runs { Runs (request_of (map (λ w. w.now) words.now)) result
@@ -56,27 +62,58 @@ pub fn run<S: Shelf, O: Sink, E: Sink>(
         (state (S.files shelf.old) (S.calls shelf.old) (S.faults shelf.old) (O.written out.old) (O.faults out.old) (O.stalls out.old) (E.written err.old) (E.faults err.old) (E.stalls err.old))
         (state (S.files shelf.new) (S.calls shelf.new) (S.faults shelf.new) (O.written out.new) (O.faults out.new) (O.stalls out.new) (E.written err.new) (E.faults err.new) (E.stalls err.new)) }
 {
-    let request = read_words(words);
-    obey(alloc, &request, shelf, out, err)
+    obey(alloc, words, shelf, out, err)
 }
 
-/// Does what is asked for, where something is.
+/// Does what is asked for, where something is: one row a command.
 fn obey<S: Shelf, O: Sink, E: Sink>(
     alloc: Global,
-    request: &Option<Request<'_>>,
+    words: &[&str],
     shelf: &mut S,
     out: &mut O,
     err: &mut E,
 ) -> u8
-    ensures { Runs (option_map asked request.now) result
+    ensures { Runs (request_of (map (λ w. w.now) words.now)) result
         (state (S.files shelf.old) (S.calls shelf.old) (S.faults shelf.old) (O.written out.old) (O.faults out.old) (O.stalls out.old) (E.written err.old) (E.faults err.old) (E.stalls err.old))
         (state (S.files shelf.new) (S.calls shelf.new) (S.faults shelf.new) (O.written out.new) (O.faults out.new) (O.stalls out.new) (E.written err.new) (E.faults err.new) (E.stalls err.new)) }
 {
-    match request {
-        Some(request) => perform(alloc, request, shelf, out, err),
-        None => {
-            tell_line(err, USAGE);
-            5
-        }
+    let Some((name, words)) = words.split_first() else {
+        return refuse(err);
+    };
+    match *name {
+        "bench" => attempt::<Bench, S, O, E>(alloc, words, shelf, out, err),
+        "check" => attempt::<Check<'_>, S, O, E>(alloc, words, shelf, out, err),
+        "compress" => attempt::<Compress<'_>, S, O, E>(alloc, words, shelf, out, err),
+        "replay" => attempt::<Replay<'_>, S, O, E>(alloc, words, shelf, out, err),
+        "verify" => attempt::<Verify<'_>, S, O, E>(alloc, words, shelf, out, err),
+        _ => refuse(err),
     }
+}
+
+/// Does a command, where the words behind its name are of its form.
+fn attempt<'a, C: Request<'a>, S: Shelf, O: Sink, E: Sink>(
+    alloc: Global,
+    words: &[&'a str],
+    shelf: &mut S,
+    out: &mut O,
+    err: &mut E,
+) -> u8
+    ensures { Runs (C.asked (map (λ w. w.now) words.now)) result
+        (state (S.files shelf.old) (S.calls shelf.old) (S.faults shelf.old) (O.written out.old) (O.faults out.old) (O.stalls out.old) (E.written err.old) (E.faults err.old) (E.stalls err.old))
+        (state (S.files shelf.new) (S.calls shelf.new) (S.faults shelf.new) (O.written out.new) (O.faults out.new) (O.stalls out.new) (E.written err.new) (E.faults err.new) (E.stalls err.new)) }
+{
+    match C::read(words) {
+        Some(command) => perform(alloc, &command, shelf, out, err),
+        None => refuse(err),
+    }
+}
+
+/// Tells that the words are no command's.
+fn refuse<E: Sink>(err: &mut E) -> u8
+    ensures five { result ≡ 5 }
+    ensures told { Tells usage_line (record { written = E.written err.old; faults = E.faults err.old; stalls = E.stalls err.old })
+        (record { written = E.written err.new; faults = E.faults err.new; stalls = E.stalls err.new }) }
+{
+    tell_line(err, USAGE);
+    5
 }

@@ -1,7 +1,7 @@
 //! The command `verify`.
 #![tactic(auto)]
 
-ghost use Rattle.std.specs.Prelude.{ℕ, ◌≡◌, ◌<◌, [], IfOk, is_some, length, None, Option, option_map};
+ghost use Rattle.std.specs.Prelude.{ℕ, ◌≡◌, ◌<◌, [], IfOk, is_some, length, map, None, Option, option_map};
 ghost use Rattle.ta_automaton.specs.declared.pattern.Pattern.{Pattern};
 ghost use Rattle.ta_report.specs.Report.{VerdictFits};
 ghost use Rattle.ta_shelf.specs.Calls.{Grew};
@@ -12,52 +12,138 @@ ghost use Rattle.ta_walk.specs.Ends.{NodeOf, SolutionAt};
 ghost use Rattle.ta_witness.specs.Witness.{IsSolution};
 ghost use Rattle.ta_words.specs.Calls.{OfPattern};
 ghost use Rattle.ta_program.specs.Certified.{safe_ones, tree_size};
+ghost use Rattle.ta_program.specs.Inside.Reported.{SampleReported};
 ghost use Rattle.ta_program.specs.Inside.Drafts.{AddsTree, Drafted, HasProofs, HasTrees};
 ghost use Rattle.ta_program.specs.Reporting.{report_meaning, verify_meaning};
-ghost use Rattle.ta_program.specs.Verify.{AreVerdicts, VerdictHolds, is_unknown, is_unsafe, place_of, verdicts_number};
+ghost use Rattle.ta_encode.specs.PatternSearch.{pattern_search};
+ghost use Rattle.ta_program.specs.Verify.{AreVerdicts, IsSample, VerdictHolds, is_unknown, is_unsafe, place_of, verdicts_number};
+ghost use Rattle.ta_program.specs.Asking.{verify_seen};
+ghost use Rattle.ta_program.specs.Taken.{taken_of};
+ghost use Rattle.ta_program.specs.VerifyWords.{verify_taken, verify_words};
 
 use crate::budget::Budget;
 use crate::certified::answer_certified;
 use crate::draft::Draft;
 use crate::reading::read_legal;
+use crate::request::Request;
+use crate::values::{budget_of, name_of, out_of};
+use crate::words::{OptionWord, Taken, take_words};
 use std::alloc::{AllocError, Global};
+use ta_automaton::File;
 use ta_cert::Line;
 use ta_dense::NarrowDictionary;
 use ta_encode::Solution;
-use ta_report::{ReportKind, Verdict, report_text};
+use ta_report::{ReportKind, ReportSample, Verdict, report_json, report_text};
 use ta_scope::ScopedFile;
 use ta_shelf::{Shelf, Text};
-use ta_shell::{Answer, Refusal};
-use ta_walk::{PlaceKind, VisitEnd, visit};
+use ta_shell::{Answer, Command, Refusal};
+use ta_walk::{PlaceKind, SampleEnd, VisitEnd, sample, visit};
 use ta_witness::{WitnessFault, witness};
 
-/// Reads a file, gives a verdict on each of its patterns, and puts the certificate of those that are
+/// What `verify` is asked for.
+#[derive(Drop)]
+pub(crate) struct Verify<'a> {
+    file: &'a str,
+    budget: Budget,
+    out: Option<&'a str>,
+    json: bool,
+}
+
+impl<'a> Request<'a> for Verify<'a> {
+    ghost use Rattle.ta_program.specs.Reporting.{verify_asked};
+
+    ghost asked = { verify_asked };
+
+    fn read(words: &[&'a str]) -> Option<Verify<'a>> {
+        read_verify(words)
+    }
+}
+
+impl<'a> Command for Verify<'a> {
+    ghost use Rattle.std.specs.Prelude.{option_map};
+    ghost use Rattle.ta_program.specs.Reporting.{verify_meaning};
+
+    ghost meaning = { λ command. verify_meaning command.file.now command.budget.nodes command.json (option_map (λ w. w.now) command.out) };
+
+    fn judge<S: Shelf>(&self, alloc: Global, shelf: &mut S) -> Result<Answer, Refusal<'_>> {
+        judge_verify(alloc, shelf, self.file, &self.budget, self.json, self.out)
+    }
+}
+
+/// Reads the words of `verify`.
+fn read_verify<'a>(words: &[&'a str]) -> Option<Verify<'a>>
+    ensures { option_map verify_seen result ≡ verify_words (map (λ w. w.now) words.now) }
+{
+    let options = [
+        OptionWord {
+            word: "--nodes",
+            valued: true,
+        },
+        OptionWord {
+            word: "--certificate",
+            valued: true,
+        },
+        OptionWord {
+            word: "--json",
+            valued: false,
+        },
+    ];
+    match take_words(1, &options, words) {
+        Some(taken) => verify_taken(taken),
+        None => None,
+    }
+}
+
+/// What is asked for by what was taken of the words.
+fn verify_taken(taken: Taken<'_>) -> Option<Verify<'_>>
+    ensures { option_map verify_seen result ≡ verify_taken (taken_of taken.entry) }
+{
+    let Some(file) = name_of(taken.plain(0)) else {
+        return None;
+    };
+    let Some(nodes) = budget_of(taken.value(0)) else {
+        return None;
+    };
+    match out_of(file, taken.value(1)) {
+        Some(out) => Some(Verify {
+            file,
+            budget: Budget { nodes },
+            out,
+            json: taken.value(2).is_some(),
+        }),
+        None => None,
+    }
+}
+
+/// Reads a file, gives a sample of its parameters and a verdict on each of its patterns, and puts the certificate of those that are
 /// safe in the file OUT, where that is asked for.
-pub(crate) fn judge_verify<'a, S: Shelf>(
+fn judge_verify<'a, S: Shelf>(
     alloc: Global,
     shelf: &mut S,
     file: &'a str,
     budget: &Budget,
+    json: bool,
     out: Option<&'a str>,
 ) -> Result<Answer, Refusal<'a>>
-    ensures says { Grew (Says (verify_meaning file.now budget.now.nodes (option_map (λ w. w.now) out.entry)) (S.files shelf.old) result) (S.calls shelf.old) (S.calls shelf.new) }
+    ensures says { Grew (Says (verify_meaning file.now budget.now.nodes json (option_map (λ w. w.now) out.entry)) (S.files shelf.old) result) (S.calls shelf.old) (S.calls shelf.new) }
     ensures cause { ReadCause result (S.faults shelf.old) (S.faults shelf.new) }
     ensures kept { S.files shelf.new ≡ S.files shelf.old }
 {
     match read_legal(alloc, shelf, file) {
-        Ok(scoped) => answer_report(alloc, &scoped, budget, out),
+        Ok(scoped) => answer_report(alloc, &scoped, budget, json, out),
         Err(refusal) => Err(refusal),
     }
 }
 
-/// The answer with a verdict on each pattern of a file, and the certificate that is asked for.
+/// The answer with a sample of the parameters and a verdict on each pattern of a file, and the certificate that is asked for.
 fn answer_report<'a>(
     alloc: Global,
     scoped: &ScopedFile,
     budget: &Budget,
+    json: bool,
     out: Option<&'a str>,
 ) -> Result<Answer, Refusal<'a>>
-    ensures says { (files : Option Told) → Says (report_meaning scoped.now.file budget.now.nodes (option_map (λ w. w.now) out.entry)) files result [] }
+    ensures says { (files : Option Told) → Says (report_meaning scoped.now.file budget.now.nodes json (option_map (λ w. w.now) out.entry)) files result [] }
     ensures cause { ReadCause result 0 0 }
 {
     let Ok(mut draft) = Draft::begin(alloc, out.is_some(), &Line::Header) else {
@@ -67,13 +153,48 @@ fn answer_report<'a>(
         return Err(Refusal::Memory);
     };
     let number = number_of(verdicts.as_slice());
-    let Ok(text) = report_text(alloc, scoped.file(), verdicts.as_slice()) else {
+    let Ok(text) = report(alloc, json, &scoped.file, budget, verdicts.as_slice()) else {
         return Err(Refusal::Memory);
     };
-    let text = Text::from_string(text.into_string());
     match out {
         None => Ok(Answer::writing(alloc, number, text)),
         Some(name) => answer_certified(alloc, number, text, name, draft),
+    }
+}
+
+/// The report of a sample of the parameters and of these verdicts, in JSON where that is asked for.
+fn report(
+    alloc: Global,
+    json: bool,
+    file: &File,
+    budget: &Budget,
+    verdicts: &[Verdict],
+) -> Result<Text, AllocError>
+    requires { AreVerdicts file.now budget.now.nodes verdicts.now }
+    ensures { IfOk result (SampleReported json file.now budget.now.nodes verdicts.now) }
+{
+    let sample = sample_of(alloc, file, budget)?;
+    if json {
+        let line = report_json(alloc, file, &sample, verdicts)?;
+        Ok(Text::from_string(line.into_string()))
+    } else {
+        let lines = report_text(alloc, file, &sample, verdicts)?;
+        Ok(Text::from_string(lines.into_string()))
+    }
+}
+
+/// A sample of the parameters of a file, within the budget.
+fn sample_of(alloc: Global, file: &File, budget: &Budget) -> Result<ReportSample, AllocError>
+    ensures { IfOk result (IsSample file.now budget.now.nodes) }
+{
+    match sample::<NarrowDictionary>(alloc, file, budget.nodes)? {
+        SampleEnd::Sample(values) => Ok(ReportSample::Sample(values)),
+        SampleEnd::Empty => Ok(ReportSample::Empty),
+        SampleEnd::Spent { count } => Ok(ReportSample::Spent { count }),
+        SampleEnd::Overflow { node, kind } => Ok(ReportSample::Overflow {
+            node,
+            kind: report_kind(kind),
+        }),
     }
 }
 
@@ -91,14 +212,14 @@ fn number_of(verdicts: &[Verdict]) -> u8
 }
 
 /// Whether a pattern occurs in a run.
-fn is_unsafe(verdict: &Verdict) -> bool
+pub(crate) fn is_unsafe(verdict: &Verdict) -> bool
     ensures { result ≡ is_unsafe verdict.now }
 {
     matches!(verdict, Verdict::Unsafe { .. })
 }
 
 /// Whether a pattern is neither safe nor unsafe.
-fn is_unknown(verdict: &Verdict) -> bool
+pub(crate) fn is_unknown(verdict: &Verdict) -> bool
     ensures { result ≡ is_unknown verdict.now }
 {
     matches!(verdict, Verdict::Spent { .. } | Verdict::Overflow { .. })
@@ -106,7 +227,7 @@ fn is_unknown(verdict: &Verdict) -> bool
 
 /// A verdict on each pattern of a file, in order. The trees of those that are safe are added to a
 /// draft.
-fn verdicts_on(
+pub(crate) fn verdicts_on(
     alloc: Global,
     scoped: &ScopedFile,
     budget: &Budget,
@@ -192,7 +313,7 @@ fn verdict_of(
     solution: &Solution,
 ) -> Result<Verdict, AllocError>
     requires { IsSolution scoped.now.file solution.now }
-    ensures holds { (budget number : ℕ) (p : Pattern) → NodeOf scoped.now.file.automaton p budget node (SolutionAt scoped.now.file.automaton p number solution.now) → IfOk result (λ verdict. VerdictHolds scoped.now.file budget number p verdict) }
+    ensures holds { (budget number : ℕ) (p : Pattern) → NodeOf (pattern_search scoped.now.file.automaton p) budget node (SolutionAt scoped.now.file.automaton p number solution.now) → IfOk result (λ verdict. VerdictHolds scoped.now.file budget number p verdict) }
     ensures no_tree { IfOk result (λ verdict. tree_size verdict ≡ None) }
     ensures fits { IfOk result (VerdictFits scoped.now.file) }
 {

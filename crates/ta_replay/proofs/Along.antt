@@ -152,7 +152,8 @@ never a p Marked values line number (Count n) h run s = s
 never a p Marked values line number (Event n) h run s = s
 never a p Marked values line number (Overflow n) h run s = inr (inr s)
 never a p Marked values line number (Order n) h run s = s
-never a p Marked values line number Memory h run s = tt
+never a p Marked values (Step r factor) number Memory h run s = h
+never a p Marked values (Mark e) number Memory h run s = h
 
 -- a line that refuses
 pub following_stops : (a : Automaton) (p : Pattern) (run : Run) (i : ℕ) (config : Config) (marks : ℕ) (line : RunLine) (number : ℕ) (fault : RunFault) → slice_get run.lines i ≡ Some line → Following a p run i config marks → number ≡ line_number a i → LineRefuses a p (IsBitSet marks) config.values.items line number fault → FirstRefusal a p run fault

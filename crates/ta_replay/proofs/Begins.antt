@@ -90,7 +90,7 @@ config_refuses a p run (Event line) h = absurd h
 config_refuses a p run (MissingEvent e) h = absurd h
 config_refuses a p run (Overflow line) h = inl h
 config_refuses a p run (Order line) h = absurd h
-config_refuses a p run Memory h = tt
+config_refuses a p run Memory h = h
 
 pub start_refuses : (a : Automaton) (p : Pattern) (run : Run) (config : Config) (fault : RunFault) → StartsWith a run config → StartRefuses p config.values.items fault → FirstRefusal a p run fault
 start_refuses a p run config (Line line) s h = h
@@ -105,7 +105,7 @@ start_refuses a p run config (Event line) s h = absurd h
 start_refuses a p run config (MissingEvent e) s h = absurd h
 start_refuses a p run config (Overflow line) s h = inr (inl (h.0, (h.1.0, record { may_start = s.may_start; first = config.values.items; starts = s.starts; stops = h.1.1 })))
 start_refuses a p run config (Order line) s h = absurd h
-start_refuses a p run config Memory s h = tt
+start_refuses a p run config Memory s h = h
 
 pub filled_refuses : (a : Automaton) (p : Pattern) (run : Run) (config : Config) (j line : ℕ) → StartsWith a run config → ConditionPasses (point_of config.values.items) p.start → FirstFilled a p run j → line ≡ 2 + length a.parameters + j → FirstRefusal a p run (NotEmpty line)
 filled_refuses a p run config j line s start filled is = inl (record {

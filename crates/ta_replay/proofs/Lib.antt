@@ -8,7 +8,7 @@ pub mod RunFronts
 pub mod TextsShort
 pub mod Occurring
 mod NumberedNames
-mod ListSteps
+pub mod ListSteps
 mod ValueLines
 mod StepLines
 mod Fronts
@@ -25,6 +25,6 @@ mod Begins
 mod Ends
 pub mod Counting
 pub mod Showing
-mod Refusing
+pub mod Refusing
 mod Naming
 mod TextAnswers

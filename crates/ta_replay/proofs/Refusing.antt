@@ -45,10 +45,10 @@ no_leave point condition k stays stop =
 -- what may still be answered of a run that shows its pattern
 abbrev pub Possible : Automaton → Pattern → Run → RunFault → Type 0
 Possible a p run (Overflow line) = ¬ NumbersStay a p run
-Possible a p run Memory = Unit {0}
+Possible a p run Memory = ⊥
 Possible a p run _ = ⊥
 
-config_denied : (a : Automaton) (p : Pattern) (run : Run) (fault : RunFault) → FitsPattern a p run → ShowsPattern a p run → ConfigRefuses a run fault → Possible a p run fault
+pub config_denied : (a : Automaton) (p : Pattern) (run : Run) (fault : RunFault) → FitsPattern a p run → ShowsPattern a p run → ConfigRefuses a run fault → Possible a p run fault
 config_denied a p run (Line line) fits s h = h
 config_denied a p run (Name line) fits s h = h
 config_denied a p run (Resilience k) fits s h =
@@ -66,7 +66,7 @@ config_denied a p run (Overflow line) fits s h = λ stays. elim h.1 [
   | inr w ↦ elim w.1 [ inl leaves ↦ leaves stays.processes | inr leaves ↦ leaves stays.sum ]
 ]
 config_denied a p run (Order line) fits s h = h
-config_denied a p run Memory fits s h = tt
+config_denied a p run Memory fits s h = h
 
 start_denied : (a : Automaton) (p : Pattern) (run : Run) (k : ℕ) → FitsPattern a p run → ShowsPattern a p run → StartStops a p run RowFails k → ⊥
 start_denied a p run k fits s h =
@@ -154,7 +154,7 @@ step_denied a p run fits s fault stop r factor number is other h =
       by_fault (Event line) g = g
       by_fault (MissingEvent e) g = g
       by_fault (Order line) g = g
-      by_fault Memory g = tt
+      by_fault Memory g = g
 
 order_there : (a : Automaton) (p : Pattern) (run : Run) → (s : ShowsPattern a p run) (i e : ℕ) → e < length p.events → MarksAt run.lines i e → InOrder p (IsMarked (take i run.lines)) e
 order_there a p run s i e exists at = record {
@@ -205,7 +205,7 @@ mark_denied a p run fits s fault stop e number is other h =
       by_fault (Guard line guard) g = g
       by_fault (Count line) g = g
       by_fault (MissingEvent k) g = g
-      by_fault Memory g = tt
+      by_fault Memory g = g
 
 line_denied : (a : Automaton) (p : Pattern) (run : Run) → FitsPattern a p run → ShowsPattern a p run → (fault : RunFault) → LineStops a p run fault → Possible a p run fault
 line_denied a p run fits s fault stop = by_line stop.line refl stop.refuses where
@@ -213,7 +213,7 @@ line_denied a p run fits s fault stop = by_line stop.line refl stop.refuses wher
   by_line (Step r factor) is h = step_denied a p run fits s fault stop r factor (line_number a stop.i) is fault h
   by_line (Mark e) is h = mark_denied a p run fits s fault stop e (line_number a stop.i) is fault h
 
--- a run that shows its pattern is refused only where a number leaves the range, or for want of memory
+-- a run that shows its pattern is refused only where a number leaves the range
 pub denied : (a : Automaton) (p : Pattern) (run : Run) → FitsPattern a p run → ShowsPattern a p run → (fault : RunFault) → FirstRefusal a p run fault → Possible a p run fault
 denied a p run fits s (Line line) h = h
 denied a p run fits s (Name line) h = h
@@ -230,7 +230,7 @@ denied a p run fits s (Overflow line) (inl h) = config_denied a p run (Overflow 
 denied a p run fits s (Overflow line) (inr (inl h)) = λ stays. start_leaves_denied a p run h.1.0 stays h.1.1
 denied a p run fits s (Overflow line) (inr (inr h)) = line_denied a p run fits s (Overflow line) h
 denied a p run fits s (Order line) h = line_denied a p run fits s (Order line) h
-denied a p run fits s Memory h = tt
+denied a p run fits s Memory h = h
 
 pub only_memory : (a : Automaton) (p : Pattern) (run : Run) → NumbersStay a p run → (fault : RunFault) → Possible a p run fault → fault ≡ Memory
 only_memory a p run stays (Line line) h = absurd h
@@ -261,4 +261,4 @@ refused_though file p run named (Event line) h = h
 refused_though file p run named (MissingEvent e) h = h
 refused_though file p run named (Overflow line) h = λ stays. h (stays p named)
 refused_though file p run named (Order line) h = h
-refused_though file p run named Memory h = tt
+refused_though file p run named Memory h = h

@@ -78,7 +78,6 @@ abbrev pub ConfigRefuses : Automaton → Run → RunFault → Type 0
 ConfigRefuses a run (Resilience k) = StartFails a run.parameters run.counts (start.Resilience k)
 ConfigRefuses a run Processes = StartFails a run.parameters run.counts start.Processes
 ConfigRefuses a run (Overflow line) = (line ≡ 1) × StartFails a run.parameters run.counts start.OutOfRange
-ConfigRefuses a run Memory = Unit {0}
 ConfigRefuses a run _ = ⊥
 
 -- how the start condition refuses at some values
@@ -112,7 +111,7 @@ pub record LacksMark (a : Automaton) (p : Pattern) (run : Run) (e : ℕ) : Type 
   pub missing : ¬ IsMarked run.lines e
   pub before : (f : ℕ) → f < e → IsMarked run.lines f
 
--- the first check of the replay for a pattern that refuses; want of memory is free
+-- the first check of the replay for a pattern that refuses; none wants memory
 abbrev pub FirstRefusal : Automaton → Pattern → Run → RunFault → Type 0
 FirstRefusal a p run (Line line) = ⊥
 FirstRefusal a p run (Name line) = ⊥
@@ -127,14 +126,13 @@ FirstRefusal a p run (MissingEvent e) = LacksMark a p run e
 FirstRefusal a p run (Overflow line) =
     ConfigRefuses a run (Overflow line) ⊎ ((line ≡ 1) × ((k : ℕ) × StartStops a p run RowLeaves k)) ⊎ LineStops a p run (Overflow line)
 FirstRefusal a p run (Order line) = LineStops a p run (Order line)
-FirstRefusal a p run Memory = Unit {0}
+FirstRefusal a p run Memory = ⊥
 
 -- the first check of the replay that refuses
 abbrev pub ReplayFault : File → Run → RunFault → Type 0
 ReplayFault file run fault = (p : Pattern) → slice_get file.patterns run.pattern ≡ Some p → FirstRefusal file.automaton p run fault
 
--- how a run that shows its pattern is refused: only where some number leaves the range, or for want of memory
+-- how a run that shows its pattern is refused: only where some number leaves the range
 abbrev pub RefusedThough : File → Run → RunFault → Type 0
 RefusedThough file run (Overflow line) = ¬ ReplayStays file run
-RefusedThough file run Memory = Unit {0}
 RefusedThough file run _ = ⊥

@@ -13,7 +13,10 @@ mod writing;
 
 pub use fault::RunFault;
 pub use laws::{pieces_are_short, pieces_show, shown_runs_occur, texts_have_answers};
+pub use names::find_pattern;
+pub use numbers::read_number;
 pub use reading::read_run;
 pub use replaying::replay;
 pub use run::{Run, RunLine, Shown};
+pub use words::split_at_byte;
 pub use writing::print_run;

@@ -17,14 +17,13 @@ ghost use Rattle.ta_replay.specs.declared.run.RunLine.TheVariants.{Mark};
 
 use crate::fault::RunFault;
 use crate::run::{Run, RunLine, Shown};
-use std::alloc::Global;
 use ta_automaton::{Automaton, File, Pattern};
 use ta_counter::{Config, StartFault, StepFault};
 use ta_pattern::{failing_start, holds_empty, holds_event};
 
-/// Follows a run line by line, up to the first check that refuses. Making the first configuration
-/// takes memory, and nothing after that.
-pub fn replay(alloc: Global, file: &File, run: &Run) -> Result<Shown, RunFault>
+/// Follows a run line by line, up to the first check that refuses. It takes no memory: so a run that
+/// fits shows its pattern, or some check is the first that refuses.
+pub fn replay(file: &File, run: &Run) -> Result<Shown, RunFault>
     requires { Fits file.now run.now }
     ensures shows { OnOk result (Shows file.now run.now) }
     ensures stays { OnOk result (ReplayStays file.now run.now) }
@@ -34,7 +33,7 @@ pub fn replay(alloc: Global, file: &File, run: &Run) -> Result<Shown, RunFault>
     ensures only { Shows file.now run.now → ReplayStays file.now run.now → IfErr result (λ fault. fault ≡ Memory) }
 {
     let pattern = &file.patterns.as_slice()[run.pattern as usize];
-    replay_pattern(alloc, &file.automaton, pattern, run)?;
+    replay_pattern(&file.automaton, pattern, run)?;
     // Each event has exactly one mark now.
     Ok(Shown {
         steps: steps_of(run.lines.as_slice()),
@@ -43,19 +42,14 @@ pub fn replay(alloc: Global, file: &File, run: &Run) -> Result<Shown, RunFault>
 }
 
 /// Follows a run for a pattern.
-fn replay_pattern(
-    alloc: Global,
-    automaton: &Automaton,
-    pattern: &Pattern,
-    run: &Run,
-) -> Result<(), RunFault>
+fn replay_pattern(automaton: &Automaton, pattern: &Pattern, run: &Run) -> Result<(), RunFault>
     requires fits { FitsPattern automaton.now pattern.now run.now }
     requires within { PatternOf automaton.now pattern.now }
     ensures shows { OnOk result (ShowsPattern automaton.now pattern.now run.now) }
     ensures stays { OnOk result (NumbersStay automaton.now pattern.now run.now) }
     ensures refuses { IfErr result (FirstRefusal automaton.now pattern.now run.now) }
 {
-    let config = begin(alloc, automaton, pattern, run)?;
+    let config = begin(automaton, pattern, run)?;
     let marks = follow(automaton, pattern, run, config)?;
     if let Some(event) = first_unmarked(pattern, marks) {
         return Err(RunFault::MissingEvent(event));
@@ -64,18 +58,13 @@ fn replay_pattern(
 }
 
 /// The configuration that the lines start at.
-fn begin(
-    alloc: Global,
-    automaton: &Automaton,
-    pattern: &Pattern,
-    run: &Run,
-) -> Result<Config, RunFault>
+fn begin(automaton: &Automaton, pattern: &Pattern, run: &Run) -> Result<Config, RunFault>
     requires fits { FitsPattern automaton.now pattern.now run.now }
     requires within { PatternOf automaton.now pattern.now }
     ensures begins { IfOk result (λ config. Following automaton.now pattern.now run.now 0 config 0) }
     ensures refuses { IfErr result (FirstRefusal automaton.now pattern.now run.now) }
 {
-    let config = first_config(alloc, automaton, run)?;
+    let config = first_config(automaton, run)?;
     check_start(pattern, &config)?;
     if let Some(place) = first_filled(automaton, pattern, run) {
         let line = 2 + automaton.parameters.as_slice().len() + place;
@@ -85,7 +74,7 @@ fn begin(
 }
 
 /// The configuration of the run's parameters and start counts.
-fn first_config(alloc: Global, automaton: &Automaton, run: &Run) -> Result<Config, RunFault>
+fn first_config(automaton: &Automaton, run: &Run) -> Result<Config, RunFault>
     requires parameters { length run.now.parameters ≡ length automaton.now.parameters }
     requires parameters_natural { Each Value run.now.parameters }
     requires counts { length run.now.counts ≡ length automaton.now.initial }
@@ -94,12 +83,11 @@ fn first_config(alloc: Global, automaton: &Automaton, run: &Run) -> Result<Confi
     ensures refuses { IfErr result (ConfigRefuses automaton.now run.now) }
 {
     let parameters = run.parameters.as_slice();
-    match Config::start(alloc, automaton, parameters, run.counts.as_slice()) {
+    match Config::start(automaton, parameters, run.counts.as_slice()) {
         Ok(config) => Ok(config),
         Err(StartFault::Resilience(comparison)) => Err(RunFault::Resilience(comparison)),
         Err(StartFault::Processes) => Err(RunFault::Processes),
         Err(StartFault::OutOfRange) => Err(RunFault::Overflow(1)),
-        Err(StartFault::Memory) => Err(RunFault::Memory),
     }
 }
 

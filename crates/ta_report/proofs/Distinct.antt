@@ -1,5 +1,6 @@
--- Reports of a file with one text have the same verdicts.
-use Rattle.std.proofs.Common.{ℕ, ◌<◌, ◌≤◌, ◌^◌, ◌≡◌, List, [], ◌∷◌, ◌++◌, length, codes, decimal, refl, sym, ap, ◌∙◌, append_assoc, arith, ◌⊎◌, inl, inr, lit<, lit≤}
+-- Reports of a file with one text have the same sample and the same verdicts.
+use Rattle.std.proofs.Common.{ℕ, ℤ, ◌<◌, ◌≤◌, ◌^◌, ◌≡◌, List, [], ◌∷◌, ◌++◌, length, codes, decimal, refl, sym, ap, ◌∙◌, append_assoc, arith, ◌⊎◌, inl, inr, lit<, lit≤}
+use Rattle.std.specs.Fmt.{signed_decimal}
 use Rattle.std.specs.Str.Parse.{AllDigits}
 use Rattle.std.proofs.lemmas.Fmt.{decimal_injective, decimal_is_IsNumeral}
 use Rattle.std.proofs.lemmas.List.{append_cancel_left}
@@ -7,14 +8,19 @@ use Rattle.std.proofs.lemmas.Str.Parse.{digit_from_value}
 use Rattle.ta_automaton.specs.declared.pattern.Pattern.{Pattern}
 use Rattle.ta_automaton.specs.declared.file.File.{File}
 use Rattle.ta_automaton.specs.Lists.{Each}
+use Rattle.ta_counter.specs.Values.{Value}
 use Rattle.ta_replay.specs.declared.run.Run.{Run as RunOf}
 use Rattle.ta_replay.specs.RunText.{run_text}
+use Rattle.ta_replay.proofs.Bytes.{first_byte}
+use Rattle.ta_replay.proofs.Decimals.{number_avoids, number_same as value_once}
 use Rattle.ta_replay.proofs.RunFronts.{run_front}
 use Rattle.ta_report.specs.declared.verdict.ReportKind.{ReportKind}
 use Rattle.ta_report.specs.declared.verdict.ReportKind.TheVariants.{Pivot, Leaf, Run}
+use Rattle.ta_report.specs.declared.verdict.ReportSample.{ReportSample}
+use Rattle.ta_report.specs.declared.verdict.ReportSample.TheVariants as sample
 use Rattle.ta_report.specs.declared.verdict.Verdict.{Verdict}
 use Rattle.ta_report.specs.declared.verdict.Verdict.TheVariants.{Safe, Unsafe, Spent, Overflow}
-use Rattle.ta_report.specs.Report.{PlaceFits, ReportsAreDistinct, VerdictFits, place_text, run_part, verdict_line, verdict_lines, verdict_text}
+use Rattle.ta_report.specs.Report.{PlaceFits, ReportsAreDistinct, SampleFits, VerdictFits, overflow_text, place_text, run_part, sample_line, sample_text, spent_text, values_text, verdict_line, verdict_lines, verdict_text}
 
 -- a number is written in digits
 written : (n : ℕ) → n < 2 ^ 64 → AllDigits 10 (decimal n)
@@ -59,7 +65,7 @@ pub apart_third : {X : Type 0} (a b x y : ℕ) (xs ys : List ℕ) → x < y ⊎ 
 apart_third a b x y xs ys other e = let tails : x ∷ xs ≡ y ∷ ys = cc in apart x y xs ys other tails
 
 -- the place in front of a line's end is determined
-place_same : (j k : ReportKind) (r s : List ℕ) → PlaceFits j → PlaceFits k → place_text j ++ (10 ∷ r) ≡ place_text k ++ (10 ∷ s) → (j ≡ k) × (r ≡ s)
+pub place_same : (j k : ReportKind) (r s : List ℕ) → PlaceFits j → PlaceFits k → place_text j ++ (10 ∷ r) ≡ place_text k ++ (10 ∷ s) → (j ≡ k) × (r ≡ s)
 place_same (Pivot m) (Pivot n) r s fj fk e =
     let parts = number_same 10 m n r s (lit< tt) fj fk (append_cancel_left (codes "pivot ") _ _ e) in
     (ap Pivot parts.0, parts.1)
@@ -73,8 +79,90 @@ place_same Run Leaf r s fj fk e = apart 114 108 _ _ (inr (lit< tt)) e
 place_same Run Run r s fj fk e = (refl, append_cancel_left (codes "run\n") r s e)
 
 -- what is said of a budget that is spent, and what stands behind it
-spent_flat : (n : ℕ) (t : List ℕ) → verdict_text (Spent n) ++ (10 ∷ t) ≡ codes "unknown, " ++ (decimal n ++ (codes " nodes spent\n" ++ t))
+spent_flat : (n : ℕ) (t : List ℕ) → spent_text n ++ (10 ∷ t) ≡ codes "unknown, " ++ (decimal n ++ (codes " nodes spent\n" ++ t))
 spent_flat n t = ap (λ tail. codes "unknown, " ++ tail) (append_assoc (decimal n) (codes " nodes spent") (10 ∷ t))
+
+overflow_flat : (x : ℕ) (i : ReportKind) (t : List ℕ) → overflow_text x i ++ (10 ∷ t) ≡ codes "unknown, outside 128 bits at node " ++ (decimal x ++ (codes ", " ++ (place_text i ++ (10 ∷ t))))
+overflow_flat x i t = ap (λ tail. codes "unknown, outside 128 bits at node " ++ tail) (append_assoc (decimal x) (codes ", " ++ place_text i) (10 ∷ t))
+
+spent_same : (m n : ℕ) (r s : List ℕ) → m < 2 ^ 64 → n < 2 ^ 64 → spent_text m ++ (10 ∷ r) ≡ spent_text n ++ (10 ∷ s) → (m ≡ n) × (r ≡ s)
+spent_same m n r s fm fn e =
+    let first = number_same 32 m n _ _ (lit< tt) fm fn (append_cancel_left (codes "unknown, ") _ _ (sym (spent_flat m r) ∙ e ∙ spent_flat n s)) in
+    (first.0, append_cancel_left (codes "nodes spent\n") r s first.1)
+
+spent_other : (m n : ℕ) (j : ReportKind) (r s : List ℕ) → m < 2 ^ 64 → spent_text m ++ (10 ∷ r) ≡ overflow_text n j ++ (10 ∷ s) → ⊥
+spent_other m n j r s fm e = number_other m 111 _ _ fm (lit≤ tt) (append_cancel_left (codes "unknown, ") _ _ (sym (spent_flat m r) ∙ e))
+
+overflow_same : (m n : ℕ) (j k : ReportKind) (r s : List ℕ) → (m < 2 ^ 64) × PlaceFits j → (n < 2 ^ 64) × PlaceFits k → overflow_text m j ++ (10 ∷ r) ≡ overflow_text n k ++ (10 ∷ s) → (m ≡ n) × (j ≡ k) × (r ≡ s)
+overflow_same m n j k r s fm fn e =
+    let first = number_same 44 m n _ _ (lit< tt) fm.0 fn.0 (append_cancel_left (codes "unknown, outside 128 bits at node ") _ _ (sym (overflow_flat m j r) ∙ e ∙ overflow_flat n k s)) in
+    let second = place_same j k r s fm.1 fn.1 (append_cancel_left (codes " ") _ _ first.1) in
+    (first.0, second.0, second.1)
+
+-- a value in front of a byte below the digits is determined, and so is what stands behind it
+value_same : (low : ℕ) (y z : ℤ) (r s : List ℕ) → low < 48 → Value y → Value z → signed_decimal y ++ (low ∷ r) ≡ signed_decimal z ++ (low ∷ s) → (y ≡ z) × (r ≡ s)
+value_same low y z r s below is are e =
+    let parts = first_byte low (signed_decimal y) (signed_decimal z) r s (number_avoids low y below is) (number_avoids low z below are) e in
+    (value_once y z is are parts.0, parts.1)
+
+-- a value and its name, and what stands behind them
+value_flat : (n : List ℕ) (v : ℤ) (more t : List ℕ) → (codes " " ++ (n ++ (codes "=" ++ (signed_decimal v ++ more)))) ++ t ≡ codes " " ++ (n ++ (codes "=" ++ (signed_decimal v ++ (more ++ t))))
+value_flat n v more t = ap (λ tail. codes " " ++ tail) (append_assoc n (codes "=" ++ (signed_decimal v ++ more)) t ∙ ap (λ tail. n ++ (codes "=" ++ tail)) (append_assoc (signed_decimal v) more t))
+
+value_front : (n : List ℕ) (v w : ℤ) (more rest t u : List ℕ) → (codes " " ++ (n ++ (codes "=" ++ (signed_decimal v ++ more)))) ++ t ≡ (codes " " ++ (n ++ (codes "=" ++ (signed_decimal w ++ rest)))) ++ u → signed_decimal v ++ (more ++ t) ≡ signed_decimal w ++ (rest ++ u)
+value_front n v w more rest t u e = append_cancel_left (codes "=") _ _ (append_cancel_left n _ _ (append_cancel_left (codes " ") _ _ (sym (value_flat n v more t) ∙ e ∙ value_flat n w rest u)))
+
+-- the values in front of a line's end are determined
+values_same : (ns : List (List ℕ)) (vs ws : List ℤ) (r s : List ℕ) → length vs ≡ length ns → length ws ≡ length ns → Each Value vs → Each Value ws → values_text ns vs ++ (10 ∷ r) ≡ values_text ns ws ++ (10 ∷ s) → (vs ≡ ws) × (r ≡ s)
+values_same [] [] [] r s cv cw fv fw e = (refl, append_cancel_left (codes "\n") r s e)
+values_same [] [] (w ∷ ws) r s cv cw fv fw e = absurd (omega arith)
+values_same [] (v ∷ vs) ws r s cv cw fv fw e = absurd (omega arith)
+values_same (n ∷ ns) [] ws r s cv cw fv fw e = absurd (omega arith)
+values_same (n ∷ ns) (v ∷ vs) [] r s cv cw fv fw e = absurd (omega arith)
+values_same (n ∷ []) (v ∷ []) (w ∷ []) r s cv cw fv fw e =
+    let parts = value_same 10 v w r s (lit< tt) fv.0 fw.0 (value_front n v w [] [] (10 ∷ r) (10 ∷ s) e) in
+    (ap (λ x. x ∷ []) parts.0, parts.1)
+values_same (n ∷ []) (v ∷ u ∷ vs) (w ∷ ws) r s cv cw fv fw e = absurd (omega arith)
+values_same (n ∷ []) (v ∷ []) (w ∷ x ∷ ws) r s cv cw fv fw e = absurd (omega arith)
+values_same (n ∷ m ∷ ns) (v ∷ []) (w ∷ ws) r s cv cw fv fw e = absurd (omega arith)
+values_same (n ∷ m ∷ ns) (v ∷ u ∷ vs) (w ∷ []) r s cv cw fv fw e = absurd (omega arith)
+values_same (n ∷ m ∷ ns) (v ∷ u ∷ vs) (w ∷ x ∷ ws) r s cv cw fv fw e =
+    let parts = value_same 32 v w _ _ (lit< tt) fv.0 fw.0 (value_front n v w (values_text (m ∷ ns) (u ∷ vs)) (values_text (m ∷ ns) (x ∷ ws)) (10 ∷ r) (10 ∷ s) e) in
+    let rest = values_same (m ∷ ns) (u ∷ vs) (x ∷ ws) r s (omega arith) (omega arith) fv.1 fw.1 (ap (λ t. 32 ∷ t) parts.1) in
+    (ap (λ y. y ∷ u ∷ vs) parts.0 ∙ ap (λ ys. w ∷ ys) rest.0, rest.1)
+
+-- the sample in front of a line's end is determined
+sample_same : (file : File) (x y : ReportSample) (r s : List ℕ) → SampleFits file x → SampleFits file y → sample_text file x ++ (10 ∷ r) ≡ sample_text file y ++ (10 ∷ s) → (x ≡ y) × (r ≡ s)
+sample_same file (sample.Sample vs) (sample.Sample ws) r s fx fy e =
+    let names = file.automaton.parameters in
+    let parts = values_same names vs ws r s fx.0 fy.0 fx.1 fy.1 (append_cancel_left (codes "sample") _ _ (sym (append_assoc (codes "sample") (values_text names vs) (10 ∷ r)) ∙ e ∙ append_assoc (codes "sample") (values_text names ws) (10 ∷ s))) in
+    (ap sample.Sample parts.0, parts.1)
+sample_same file (sample.Sample vs) sample.Empty r s fx fy e = apart 115 110 _ _ (inr (lit< tt)) e
+sample_same file (sample.Sample vs) (sample.Spent n) r s fx fy e = apart 115 117 _ _ (inl (lit< tt)) e
+sample_same file (sample.Sample vs) (sample.Overflow n j) r s fx fy e = apart 115 117 _ _ (inl (lit< tt)) e
+sample_same file sample.Empty (sample.Sample ws) r s fx fy e = apart 110 115 _ _ (inl (lit< tt)) e
+sample_same file sample.Empty sample.Empty r s fx fy e = (refl, append_cancel_left (codes "none\n") r s e)
+sample_same file sample.Empty (sample.Spent n) r s fx fy e = apart 110 117 _ _ (inl (lit< tt)) e
+sample_same file sample.Empty (sample.Overflow n j) r s fx fy e = apart 110 117 _ _ (inl (lit< tt)) e
+sample_same file (sample.Spent m) (sample.Sample ws) r s fx fy e = apart 117 115 _ _ (inr (lit< tt)) e
+sample_same file (sample.Spent m) sample.Empty r s fx fy e = apart 117 110 _ _ (inr (lit< tt)) e
+sample_same file (sample.Spent m) (sample.Spent n) r s fx fy e = let parts = spent_same m n r s fx fy e in (ap sample.Spent parts.0, parts.1)
+sample_same file (sample.Spent m) (sample.Overflow n j) r s fx fy e = absurd (spent_other m n j r s fx e)
+sample_same file (sample.Overflow m j) (sample.Sample ws) r s fx fy e = apart 117 115 _ _ (inr (lit< tt)) e
+sample_same file (sample.Overflow m j) sample.Empty r s fx fy e = apart 117 110 _ _ (inr (lit< tt)) e
+sample_same file (sample.Overflow m j) (sample.Spent n) r s fx fy e = absurd (spent_other n m j s r fy (sym e))
+sample_same file (sample.Overflow m j) (sample.Overflow n k) r s fx fy e =
+    let parts = overflow_same m n j k r s fx fy e in
+    (ap (λ z. sample.Overflow z j) parts.0 ∙ ap (λ i. sample.Overflow n i) parts.1, parts.2)
+
+-- the line of the parameters, and what stands behind it
+pub sample_flat : (file : File) (x : ReportSample) (r : List ℕ) → sample_line file x ++ r ≡ (codes "parameters: " ++ sample_text file x) ++ (10 ∷ r)
+sample_flat file x r = ap (λ tail. codes "parameters: " ++ tail) (append_assoc (sample_text file x) (codes "\n") r) ∙ sym (append_assoc (codes "parameters: ") (sample_text file x) (10 ∷ r))
+
+sample_line_same : (file : File) (x y : ReportSample) (r s : List ℕ) → SampleFits file x → SampleFits file y → sample_line file x ++ r ≡ sample_line file y ++ s → (x ≡ y) × (r ≡ s)
+sample_line_same file x y r s fx fy e =
+    let behind = append_cancel_left (codes "parameters: ") _ _ (sym (append_assoc (codes "parameters: ") (sample_text file x) (10 ∷ r)) ∙ sym (sample_flat file x r) ∙ e ∙ sample_flat file y s ∙ append_assoc (codes "parameters: ") (sample_text file y) (10 ∷ s)) in
+    sample_same file x y r s fx fy behind
 
 -- what is said of an unsafe pattern, and what stands behind it
 unsafe_flat : (n : ℕ) (run : RunOf) (t : List ℕ) → verdict_text (Unsafe n run) ++ (10 ∷ t) ≡ codes "unsafe, " ++ (decimal n ++ (codes " nodes\n" ++ t))
@@ -100,21 +188,14 @@ verdict_same file (Unsafe m run) (Spent n) r s fv fw e = apart_third 117 110 115
 verdict_same file (Unsafe m run) (Overflow n j) r s fv fw e = apart_third 117 110 115 107 _ _ (inr (lit< tt)) e
 verdict_same file (Spent m) (Safe n l) r s fv fw e = apart 117 115 _ _ (inr (lit< tt)) e
 verdict_same file (Spent m) (Unsafe n run) r s fv fw e = apart_third 117 110 107 115 _ _ (inl (lit< tt)) e
-verdict_same file (Spent m) (Spent n) r s fv fw e =
-    let first = number_same 32 m n _ _ (lit< tt) fv fw (append_cancel_left (codes "unknown, ") _ _ (sym (spent_flat m r) ∙ e ∙ spent_flat n s)) in
-    (ap Spent first.0, append_cancel_left (codes "nodes spent\n") r s first.1)
-verdict_same file (Spent m) (Overflow n j) r s fv fw e =
-    absurd (number_other m 111 _ _ fv (lit≤ tt) (append_cancel_left (codes "unknown, ") _ _ (sym (spent_flat m r) ∙ e)))
+verdict_same file (Spent m) (Spent n) r s fv fw e = let parts = spent_same m n r s fv fw e in (ap Spent parts.0, parts.1)
+verdict_same file (Spent m) (Overflow n j) r s fv fw e = absurd (spent_other m n j r s fv e)
 verdict_same file (Overflow m j) (Safe n l) r s fv fw e = apart 117 115 _ _ (inr (lit< tt)) e
 verdict_same file (Overflow m j) (Unsafe n run) r s fv fw e = apart_third 117 110 107 115 _ _ (inl (lit< tt)) e
-verdict_same file (Overflow m j) (Spent n) r s fv fw e =
-    absurd (number_other n 111 _ _ fw (lit≤ tt) (append_cancel_left (codes "unknown, ") _ _ (sym (spent_flat n s) ∙ sym e)))
+verdict_same file (Overflow m j) (Spent n) r s fv fw e = absurd (spent_other n m j s r fw (sym e))
 verdict_same file (Overflow m j) (Overflow n k) r s fv fw e =
-    let flat : (x : ℕ) (i : ReportKind) (t : List ℕ) → verdict_text (Overflow x i) ++ (10 ∷ t) ≡ codes "unknown, outside 128 bits at node " ++ (decimal x ++ (codes ", " ++ (place_text i ++ (10 ∷ t)))) =
-    λ x i t. ap (λ tail. codes "unknown, outside 128 bits at node " ++ tail) (append_assoc (decimal x) (codes ", " ++ place_text i) (10 ∷ t)) in
-    let first = number_same 44 m n _ _ (lit< tt) fv.0 fw.0 (append_cancel_left (codes "unknown, outside 128 bits at node ") _ _ (sym (flat m j r) ∙ e ∙ flat n k s)) in
-    let second = place_same j k r s fv.1 fw.1 (append_cancel_left (codes " ") _ _ first.1) in
-    (ap (λ x. Overflow x j) first.0 ∙ ap (λ i. Overflow n i) second.0, second.1)
+    let parts = overflow_same m n j k r s fv fw e in
+    (ap (λ x. Overflow x j) parts.0 ∙ ap (λ i. Overflow n i) parts.1, parts.2)
 
 -- a line, and what stands behind it
 line_flat : (p : Pattern) (v : Verdict) (r : List ℕ) → verdict_line p v ++ r ≡ codes "pattern " ++ (p.name ++ (codes ": " ++ (verdict_text v ++ (10 ∷ r))))
@@ -141,6 +222,7 @@ lines_same file (p ∷ ps) (v ∷ vs) (w ∷ ws) cv cw fv fw e =
     ap (λ x. x ∷ vs) parts.0 ∙ ap (λ xs. w ∷ xs) rest
 
 pub reports_distinct : ReportsAreDistinct
-reports_distinct file vs ws cv cw fv fw e =
+reports_distinct file x y vs ws cv cw fx fy fv fw e =
     let lines = append_cancel_left (codes "\n") _ _ (append_cancel_left file.automaton.name _ _ (append_cancel_left (codes "automaton ") _ _ e)) in
-    lines_same file file.patterns vs ws cv cw fv fw lines
+    let parts = sample_line_same file x y _ _ fx fy lines in
+    (parts.0, lines_same file file.patterns vs ws cv cw fv fw parts.1)

@@ -1,3 +1,8 @@
 -- lemmas for the crates above
 pub mod Printed
 mod Distinct
+pub mod ReadBack
+mod JsonSayings
+mod JsonItems
+mod ValuesWritten
+pub mod Tellings

@@ -1,5 +1,6 @@
 -- What a printed line of a pattern says.
-use Rattle.std.proofs.Common.{ℕ, zero, suc, ◌+◌, ◌<◌, ◌^◌, ◌≡◌, ◌⊎◌, inl, inr, Bool, true, false, List, [], ◌∷◌, ◌++◌, map, codes, decimal, refl, sym, ap, subst, ◌∙◌, append_assoc, arith, lit<, slice_get, Some, if◌then◌else◌}
+use Rattle.std.proofs.Common.{ℕ, ℤ, zero, suc, ◌+◌, ◌<◌, ◌^◌, ◌≡◌, ◌⊎◌, inl, inr, Bool, true, false, List, [], ◌∷◌, ◌++◌, map, codes, decimal, refl, sym, ap, subst, ◌∙◌, append_assoc, arith, lit<, slice_get, Some, if◌then◌else◌}
+use Rattle.std.specs.Fmt.{signed_decimal}
 use Rattle.std.proofs.lemmas.Fmt.{decimal_is_IsNumeral}
 use Rattle.std.proofs.lemmas.List.{append_cancel_left}
 use Rattle.ta_automaton.specs.declared.file.File.{File}
@@ -7,25 +8,28 @@ use Rattle.ta_automaton.specs.declared.pattern.Pattern.{Pattern}
 use Rattle.ta_automaton.specs.Lists.{Distinct, Each}
 use Rattle.ta_automaton.specs.Names.{Name}
 use Rattle.ta_automaton.specs.Patterns.{PatternWithin, pattern_name}
+use Rattle.ta_counter.specs.Values.{Value}
 use Rattle.ta_replay.specs.declared.run.Run.{Run as RunOf}
 use Rattle.ta_replay.specs.Fits.{Fits}
 use Rattle.ta_replay.specs.RunText.{lines_text, named_line, run_lines, run_text, valued_line}
 use Rattle.ta_replay.specs.TextFaults.{Avoids}
 use Rattle.ta_replay.proofs.Bytes.{avoids-append, first_byte}
-use Rattle.ta_replay.proofs.Decimals.{digits_avoid}
+use Rattle.ta_replay.proofs.Decimals.{digits_avoid, number_avoids}
 use Rattle.ta_replay.proofs.Forms.{word_avoids}
 use Rattle.ta_replay.proofs.RunFacts.{clear}
 use Rattle.ta_replay.proofs.RunFronts.{each_run_line, no_feeds}
 use Rattle.ta_replay.proofs.Statements.{differ, word_of}
 use Rattle.ta_report.specs.declared.verdict.ReportKind.{ReportKind}
 use Rattle.ta_report.specs.declared.verdict.ReportKind.TheVariants.{Pivot, Leaf, Run}
+use Rattle.ta_report.specs.declared.verdict.ReportSample.{ReportSample}
+use Rattle.ta_report.specs.declared.verdict.ReportSample.TheVariants as sample
 use Rattle.ta_report.specs.declared.verdict.Verdict.{Verdict}
 use Rattle.ta_report.specs.declared.verdict.Verdict.TheVariants.{Safe, Unsafe, Spent, Overflow}
 use Rattle.ta_report.specs.Check.{is_proved, proof_lines, proof_word}
 use Rattle.ta_report.specs.Printed.{LineAt, PrintedProved, PrintedSafe, PrintedUnsafe, told_of}
 use Rattle.ta_report.specs.PrintedRuns.{Begins, IsPlain, PrintedRuns, RunsArePrinted}
-use Rattle.ta_report.specs.Report.{PlaceFits, VerdictFits, place_text, report_text, run_part, verdict_lines, verdict_text}
-use Rattle.ta_report.proofs.Distinct.{apart, apart_third}
+use Rattle.ta_report.specs.Report.{PlaceFits, SampleFits, VerdictFits, overflow_text, place_text, report_text, run_part, sample_line, sample_text, spent_text, values_text, verdict_lines, verdict_text}
+use Rattle.ta_report.proofs.Distinct.{apart, apart_third, sample_flat}
 
 -- a line feed behind which something stands is that of the first line, or stands behind that one
 behind_line : (xs rest before tail : List ℕ) → Avoids 10 xs → xs ++ (10 ∷ rest) ≡ before ++ (10 ∷ tail) → (rest ≡ tail) ⊎ ((more : List ℕ) × (rest ≡ more ++ (10 ∷ tail)))
@@ -142,7 +146,7 @@ named (p ∷ ps) (w ∷ ws) name front behind names are clears is at = λ none.
     ]
 
 -- each item but none is this one
-not_there : (name : List ℕ) (ps : List Pattern) (k : ℕ) (p : Pattern) → slice_get ps k ≡ Some p → p.name ≡ name → ¬ Each (λ y. name ≡ y → ⊥) (map pattern_name ps)
+pub not_there : (name : List ℕ) (ps : List Pattern) (k : ℕ) (p : Pattern) → slice_get ps k ≡ Some p → p.name ≡ name → ¬ Each (λ y. name ≡ y → ⊥) (map pattern_name ps)
 not_there name [] k p at same none = cc
 not_there name (q ∷ ps) zero p at same none = let is : q ≡ p = cc in none.0 (sym same ∙ ap pattern_name (sym is))
 not_there name (q ∷ ps) (suc k) p at same none = not_there name ps k p at same none.1
@@ -239,13 +243,51 @@ place_clear (Pivot pivot) fits = avoids-append 10 (codes "pivot ") (decimal pivo
 place_clear Leaf fits = clear (codes "leaf") refl
 place_clear Run fits = clear (codes "run") refl
 
+spent_clear : (n : ℕ) → n < 2 ^ 64 → Avoids 10 (spent_text n)
+spent_clear n fits = between (codes "unknown, ") _ n (clear (codes "unknown, ") refl) fits (clear (codes " nodes spent") refl)
+
+overflow_clear : (n : ℕ) (kind : ReportKind) → (n < 2 ^ 64) × PlaceFits kind → Avoids 10 (overflow_text n kind)
+overflow_clear n kind fits =
+    let place = avoids-append 10 (codes ", ") (place_text kind) (clear (codes ", ") refl) (place_clear kind fits.1) in
+    between (codes "unknown, outside 128 bits at node ") _ n (clear (codes "unknown, outside 128 bits at node ") refl) fits.0 place
+
 verdict_clear : (file : File) (v : Verdict) → VerdictFits file v → Avoids 10 (verdict_text v)
 verdict_clear file (Safe n l) fits = between (codes "safe, ") _ n (clear (codes "safe, ") refl) fits.0 (between (codes " nodes, ") _ l (clear (codes " nodes, ") refl) fits.1 (clear (codes " leaves") refl))
 verdict_clear file (Unsafe n run) fits = between (codes "unsafe, ") _ n (clear (codes "unsafe, ") refl) fits.0 (clear (codes " nodes") refl)
-verdict_clear file (Spent n) fits = between (codes "unknown, ") _ n (clear (codes "unknown, ") refl) fits (clear (codes " nodes spent") refl)
-verdict_clear file (Overflow n kind) fits =
-    let place = avoids-append 10 (codes ", ") (place_text kind) (clear (codes ", ") refl) (place_clear kind fits.1) in
-    between (codes "unknown, outside 128 bits at node ") _ n (clear (codes "unknown, outside 128 bits at node ") refl) fits.0 place
+verdict_clear file (Spent n) fits = spent_clear n fits
+verdict_clear file (Overflow n kind) fits = overflow_clear n kind fits
+
+-- the values of the parameters stand in one line
+values_clear : (ns : List (List ℕ)) (vs : List ℤ) → Each Name ns → Each Value vs → Avoids 10 (values_text ns vs)
+values_clear [] vs are fits = tt
+values_clear (n ∷ ns) [] are fits = tt
+values_clear (n ∷ ns) (v ∷ vs) are fits =
+    let rest = avoids-append 10 (signed_decimal v) (values_text ns vs) (number_avoids 10 v (lit< tt) fits.0) (values_clear ns vs are.1 fits.1) in
+    avoids-append 10 (codes " ") (n ++ (codes "=" ++ (signed_decimal v ++ values_text ns vs))) (clear (codes " ") refl)
+    (avoids-append 10 n (codes "=" ++ (signed_decimal v ++ values_text ns vs)) (no_feed n are.0) (avoids-append 10 (codes "=") (signed_decimal v ++ values_text ns vs) (clear (codes "=") refl) rest))
+
+each_front : (P : List ℕ → Type 0) (xs ys : List (List ℕ)) → Each P (xs ++ ys) → Each P xs
+each_front P [] ys are = tt
+each_front P (x ∷ xs) ys are = (are.0, each_front P xs ys are.1)
+
+sample_clear : (file : File) (x : ReportSample) → SampleFits file x → Avoids 10 (sample_text file x)
+sample_clear file (sample.Sample values) fits =
+    let a = file.automaton in
+    let names = each_front Name a.parameters a.shared (each_front Name (a.parameters ++ a.shared) a.locations a.shape.names_legal) in
+    avoids-append 10 (codes "sample") (values_text a.parameters values) (clear (codes "sample") refl) (values_clear a.parameters values names fits.1)
+sample_clear file sample.Empty fits = clear (codes "none") refl
+sample_clear file (sample.Spent n) fits = spent_clear n fits
+sample_clear file (sample.Overflow n kind) fits = overflow_clear n kind fits
+
+-- the line of the parameters tells of no pattern
+abbrev first_plain : File → ReportSample → List ℕ
+first_plain file x = codes "parameters: " ++ sample_text file x
+
+sample_plain : (file : File) (x : ReportSample) → SampleFits file x → IsPlain (first_plain file x)
+sample_plain file x fits = record {
+  no_feed = avoids-append 10 (codes "parameters: ") (sample_text file x) (clear (codes "parameters: ") refl) (sample_clear file x fits);
+  other = λ begins. differ 2 (first_plain file x) (codes "pattern " ++ begins.0) refl begins.1;
+}
 
 -- what a report says of a pattern
 abbrev run_more : File → Verdict → List (List ℕ)
@@ -310,9 +352,11 @@ each_at P [] k x are at = cc
 each_at P (y ∷ xs) zero x are at = let same : y ≡ x = cc in subst P same are.0
 each_at P (y ∷ xs) (suc k) x are at = each_at P xs k x are.1 at
 
--- the first line of a report, and those behind it
-report_flat : (file : File) (vs : List Verdict) → report_text file vs ≡ (codes "automaton " ++ file.automaton.name) ++ (10 ∷ lines_of file.patterns (map (said_of file) vs))
-report_flat file vs = sym (append_assoc (codes "automaton ") file.automaton.name (10 ∷ verdict_lines file file.patterns vs)) ∙ ap (λ lines. (codes "automaton " ++ file.automaton.name) ++ (10 ∷ lines)) (verdict_lines_are file file.patterns vs)
+-- the first lines of a report, and those behind them
+report_flat : (file : File) (x : ReportSample) (vs : List Verdict) → report_text file x vs ≡ (codes "automaton " ++ file.automaton.name) ++ (10 ∷ (first_plain file x ++ (10 ∷ lines_of file.patterns (map (said_of file) vs))))
+report_flat file x vs =
+    sym (append_assoc (codes "automaton ") file.automaton.name (10 ∷ (sample_line file x ++ verdict_lines file file.patterns vs)))
+    ∙ ap (λ rest. (codes "automaton " ++ file.automaton.name) ++ (10 ∷ rest)) (sample_flat file x (verdict_lines file file.patterns vs) ∙ ap (λ lines. first_plain file x ++ (10 ∷ lines)) (verdict_lines_are file file.patterns vs))
 
 -- the verdict that a line of a report tells, and what stands behind it
 pub record Told (file : File) (vs : List Verdict) (k : ℕ) (front behind : List ℕ) : Type 0 where
@@ -322,9 +366,12 @@ pub record Told (file : File) (vs : List Verdict) (k : ℕ) (front behind : List
   pub next : IsNext rest
   pub same : verdict_text verdict ++ (10 ∷ (lines_text (run_more file verdict) ++ rest)) ≡ front ++ behind
 
-told_at : (file : File) (vs : List Verdict) (k : ℕ) (p : Pattern) (front behind : List ℕ) → slice_get file.patterns k ≡ Some p → Each (VerdictFits file) vs → LineAt (told_of p.name front) behind (report_text file vs) → Told file vs k front behind
-told_at file vs k p front behind at fits has =
-    let lines = behind_first file front behind (report_text file vs) (lines_of file.patterns (map (said_of file) vs)) file.automaton.shape.name_legal (report_flat file vs) p.name has in
+told_at : (file : File) (x : ReportSample) (vs : List Verdict) (k : ℕ) (p : Pattern) (front behind : List ℕ) → slice_get file.patterns k ≡ Some p → SampleFits file x → Each (VerdictFits file) vs → LineAt (told_of p.name front) behind (report_text file x vs) → Told file vs k front behind
+told_at file x vs k p front behind at fit fits has =
+    let rest = lines_of file.patterns (map (said_of file) vs) in
+    let later = behind_first file front behind (report_text file x vs) (first_plain file x ++ (10 ∷ rest)) file.automaton.shape.name_legal (report_flat file x vs) p.name has in
+    let more : List (List ℕ) = first_plain file x ∷ [] in
+    let lines = past_plain p.name front behind rest more (sample_plain file x fit, tt) (subst (LineAt (told_of p.name front) behind) (sym (append_assoc (first_plain file x) (10 ∷ []) rest)) later) in
     let name = within_name _ _ p (each_at _ file.patterns k p file.shape.within at) in
     let found = said_at file.patterns (map (said_of file) vs) k p front behind (within_name _ _) file.shape.within file.shape.distinct (verdicts_clear file vs fits) name at lines in
     let verdict = said_get file vs k found.said found.at in
@@ -337,31 +384,34 @@ told_at file vs k p front behind at fits has =
     }
 
 pub printed_safe : PrintedSafe
-printed_safe file vs k p at fits has =
-    let told = told_at file vs k p (codes "safe, ") has.0 at fits has.1 in
+printed_safe file x vs k p at fit fits has =
+    let told = told_at file x vs k p (codes "safe, ") has.0 at fit fits has.1 in
     let word = safe_word told.verdict (lines_text (run_more file told.verdict) ++ told.rest) has.0 told.same in
     (word.0, word.1, told.at ∙ ap Some word.2)
 
 pub printed_unsafe : PrintedUnsafe
-printed_unsafe file vs k p at fits has =
-    let told = told_at file vs k p (codes "unsafe, ") has.0 at fits has.1 in
+printed_unsafe file x vs k p at fit fits has =
+    let told = told_at file x vs k p (codes "unsafe, ") has.0 at fit fits has.1 in
     let word = unsafe_word told.verdict (lines_text (run_more file told.verdict) ++ told.rest) has.0 told.same in
     (word.0, word.1, told.at ∙ ap Some word.2)
 
 -- the text of a run stands behind the line of its pattern
 pub runs_printed : RunsArePrinted
-runs_printed file vs k p at fits nodes run is =
-    let fit : VerdictFits file (Unsafe nodes run) = each_at (VerdictFits file) vs k (Unsafe nodes run) fits is in
+runs_printed file x vs k p at fit fits nodes run is =
+    let fit_of : VerdictFits file (Unsafe nodes run) = each_at (VerdictFits file) vs k (Unsafe nodes run) fits is in
     let found = stands_at file.patterns (map (said_of file) vs) k p (said_of file (Unsafe nodes run)) at (verdict_get file vs k (Unsafe nodes run) is) in
+    let front = told_of p.name (verdict_text (Unsafe nodes run)) in
+    let behind = 10 ∷ (run_text file run ++ found.rest) in
+    let rest = lines_of file.patterns (map (said_of file) vs) in
     record {
       lines = run_lines file run;
       bytes_are = refl;
-      plain = run_plain file run fit.1;
+      plain = run_plain file run fit_of.1;
       words = decimal nodes ++ codes " nodes";
-      no_feed = avoids-append 10 (decimal nodes) (codes " nodes") (number_clear nodes fit.0) (clear (codes " nodes") refl);
+      no_feed = avoids-append 10 (decimal nodes) (codes " nodes") (number_clear nodes fit_of.0) (clear (codes " nodes") refl);
       behind = found.rest;
       ends = found.next;
-      stands = subst (LineAt (told_of p.name (verdict_text (Unsafe nodes run))) (10 ∷ (run_text file run ++ found.rest))) (sym (report_flat file vs)) (later_line (told_of p.name (verdict_text (Unsafe nodes run))) (10 ∷ (run_text file run ++ found.rest)) (codes "automaton " ++ file.automaton.name) (lines_of file.patterns (map (said_of file) vs)) found.stands);
+      stands = subst (LineAt front behind) (sym (report_flat file x vs)) (later_line front behind (codes "automaton " ++ file.automaton.name) (first_plain file x ++ (10 ∷ rest)) (later_line front behind (first_plain file x) rest found.stands));
     }
 
 -- plain lines up to the next pattern, or to the end, are determined
@@ -387,8 +437,8 @@ run_of_word file v rest words bytes behind fits free lines are plain next ends e
     (is.0, is.1, is.2, are ∙ sym same ∙ sym (more_text file v) ∙ ap (run_part file) is.2)
 
 pub printed_runs : PrintedRuns
-printed_runs file vs k p at fits bytes part =
-    let told = told_at file vs k p (codes "unsafe, " ++ part.words) (10 ∷ (bytes ++ part.behind)) at fits part.stands in
+printed_runs file x vs k p at fit_sample fits bytes part =
+    let told = told_at file x vs k p (codes "unsafe, " ++ part.words) (10 ∷ (bytes ++ part.behind)) at fit_sample fits part.stands in
     let fit : VerdictFits file told.verdict = each_at (VerdictFits file) vs k told.verdict fits told.at in
     let is = run_of_word file told.verdict told.rest part.words bytes part.behind fit part.no_feed part.lines part.bytes_are part.plain told.next part.ends told.same in
     (is.0, is.1, told.at ∙ ap Some is.2, is.3)

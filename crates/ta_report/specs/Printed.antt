@@ -5,7 +5,8 @@ use Rattle.ta_automaton.specs.declared.pattern.Pattern.{Pattern}
 use Rattle.ta_report.specs.Check.{check_text, is_proved}
 use Rattle.ta_automaton.specs.Lists.{Each}
 use Rattle.ta_replay.specs.declared.run.Run.{Run}
-use Rattle.ta_report.specs.Report.{VerdictFits, report_text}
+use Rattle.ta_report.specs.Report.{SampleFits, VerdictFits, report_text}
+use Rattle.ta_report.specs.declared.verdict.ReportSample.{ReportSample}
 use Rattle.ta_report.specs.declared.verdict.Verdict.{Verdict}
 use Rattle.ta_report.specs.declared.verdict.Verdict.TheVariants.{Safe, Unsafe}
 
@@ -24,17 +25,17 @@ told_of name word = codes "pattern " ++ (name ++ (codes ": " ++ word))
 -- a pattern that a report prints as safe has the verdict Safe
 abbrev pub PrintedSafe : Type 0
 PrintedSafe =
-    (file : File) (verdicts : List Verdict) (number : ℕ) (pattern : Pattern) → slice_get file.patterns number ≡ Some pattern
-    → Each (VerdictFits file) verdicts
-    → HasLine (told_of pattern.name (codes "safe, ")) (report_text file verdicts)
+    (file : File) (sample : ReportSample) (verdicts : List Verdict) (number : ℕ) (pattern : Pattern) → slice_get file.patterns number ≡ Some pattern
+    → SampleFits file sample → Each (VerdictFits file) verdicts
+    → HasLine (told_of pattern.name (codes "safe, ")) (report_text file sample verdicts)
     → (nodes : ℕ) × (leaves : ℕ) × (slice_get verdicts number ≡ Some (Safe nodes leaves))
 
 -- a pattern that a report prints as unsafe has the verdict Unsafe
 abbrev pub PrintedUnsafe : Type 0
 PrintedUnsafe =
-    (file : File) (verdicts : List Verdict) (number : ℕ) (pattern : Pattern) → slice_get file.patterns number ≡ Some pattern
-    → Each (VerdictFits file) verdicts
-    → HasLine (told_of pattern.name (codes "unsafe, ")) (report_text file verdicts)
+    (file : File) (sample : ReportSample) (verdicts : List Verdict) (number : ℕ) (pattern : Pattern) → slice_get file.patterns number ≡ Some pattern
+    → SampleFits file sample → Each (VerdictFits file) verdicts
+    → HasLine (told_of pattern.name (codes "unsafe, ")) (report_text file sample verdicts)
     → (nodes : ℕ) × (run : Run) × (slice_get verdicts number ≡ Some (Unsafe nodes run))
 
 -- a pattern that the text of `check` prints as proved is among the proved ones

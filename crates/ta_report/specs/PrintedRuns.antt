@@ -7,7 +7,8 @@ use Rattle.ta_replay.specs.declared.run.Run.{Run}
 use Rattle.ta_replay.specs.RunText.{lines_text, run_text}
 use Rattle.ta_replay.specs.TextFaults.{Avoids}
 use Rattle.ta_report.specs.Printed.{LineAt, told_of}
-use Rattle.ta_report.specs.Report.{VerdictFits, report_text}
+use Rattle.ta_report.specs.Report.{SampleFits, VerdictFits, report_text}
+use Rattle.ta_report.specs.declared.verdict.ReportSample.{ReportSample}
 use Rattle.ta_report.specs.declared.verdict.Verdict.{Verdict}
 use Rattle.ta_report.specs.declared.verdict.Verdict.TheVariants.{Unsafe}
 
@@ -35,15 +36,15 @@ pub record RunPart (name bytes text : List ℕ) : Type 0 where
 -- behind the line of an unsafe pattern stands the text of its run
 abbrev pub RunsArePrinted : Type 0
 RunsArePrinted =
-    (file : File) (verdicts : List Verdict) (number : ℕ) (pattern : Pattern) → slice_get file.patterns number ≡ Some pattern
-    → Each (VerdictFits file) verdicts
+    (file : File) (sample : ReportSample) (verdicts : List Verdict) (number : ℕ) (pattern : Pattern) → slice_get file.patterns number ≡ Some pattern
+    → SampleFits file sample → Each (VerdictFits file) verdicts
     → (nodes : ℕ) (run : Run) → slice_get verdicts number ≡ Some (Unsafe nodes run)
-    → RunPart pattern.name (run_text file run) (report_text file verdicts)
+    → RunPart pattern.name (run_text file run) (report_text file sample verdicts)
 
 -- and nothing else does: what is found there is the text of its run
 abbrev pub PrintedRuns : Type 0
 PrintedRuns =
-    (file : File) (verdicts : List Verdict) (number : ℕ) (pattern : Pattern) → slice_get file.patterns number ≡ Some pattern
-    → Each (VerdictFits file) verdicts
-    → (bytes : List ℕ) → RunPart pattern.name bytes (report_text file verdicts)
+    (file : File) (sample : ReportSample) (verdicts : List Verdict) (number : ℕ) (pattern : Pattern) → slice_get file.patterns number ≡ Some pattern
+    → SampleFits file sample → Each (VerdictFits file) verdicts
+    → (bytes : List ℕ) → RunPart pattern.name bytes (report_text file sample verdicts)
     → (nodes : ℕ) × (run : Run) × (slice_get verdicts number ≡ Some (Unsafe nodes run)) × (bytes ≡ run_text file run)

@@ -1,12 +1,16 @@
 -- The report of `verify` (this project's profile)
-use Rattle.std.specs.Prelude.{ℕ, ◌≡◌, ◌<◌, ◌^◌, List, [], ◌∷◌, ◌++◌, codes, decimal, length}
+use Rattle.std.specs.Prelude.{ℕ, ℤ, ◌≡◌, ◌<◌, ◌^◌, List, [], ◌∷◌, ◌++◌, codes, decimal, length}
+use Rattle.std.specs.Fmt.{signed_decimal}
 use Rattle.ta_automaton.specs.declared.file.File.{File}
 use Rattle.ta_automaton.specs.declared.pattern.Pattern.{Pattern}
 use Rattle.ta_automaton.specs.Lists.{Each}
+use Rattle.ta_counter.specs.Values.{Value}
 use Rattle.ta_replay.specs.Fits.{Fits}
 use Rattle.ta_replay.specs.RunText.{run_text}
 use Rattle.ta_report.specs.declared.verdict.ReportKind.{ReportKind}
 use Rattle.ta_report.specs.declared.verdict.ReportKind.TheVariants as kind
+use Rattle.ta_report.specs.declared.verdict.ReportSample.{ReportSample}
+use Rattle.ta_report.specs.declared.verdict.ReportSample.TheVariants as sample
 use Rattle.ta_report.specs.declared.verdict.Verdict.{Verdict}
 use Rattle.ta_report.specs.declared.verdict.Verdict.TheVariants.{Safe, Unsafe, Spent, Overflow}
 
@@ -16,12 +20,36 @@ place_text (kind.Pivot pivot) = codes "pivot " ++ decimal pivot
 place_text kind.Leaf = codes "leaf"
 place_text kind.Run = codes "run"
 
+-- what is said where the budget was spent, and where a number left 128 bits
+abbrev pub spent_text : ℕ → List ℕ
+spent_text nodes = codes "unknown, " ++ (decimal nodes ++ codes " nodes spent")
+
+abbrev pub overflow_text : ℕ → ReportKind → List ℕ
+overflow_text node kind = codes "unknown, outside 128 bits at node " ++ (decimal node ++ (codes ", " ++ place_text kind))
+
+-- the values of the parameters
+abbrev pub values_text : List (List ℕ) → List ℤ → List ℕ
+values_text [] vs = []
+values_text (n ∷ ns) [] = []
+values_text (n ∷ ns) (v ∷ vs) = codes " " ++ (n ++ (codes "=" ++ (signed_decimal v ++ values_text ns vs)))
+
+-- what is said of the parameters
+abbrev pub sample_text : File → ReportSample → List ℕ
+sample_text file (sample.Sample values) = codes "sample" ++ values_text file.automaton.parameters values
+sample_text file sample.Empty = codes "none"
+sample_text file (sample.Spent count) = spent_text count
+sample_text file (sample.Overflow node kind) = overflow_text node kind
+
+-- the line of the parameters
+abbrev pub sample_line : File → ReportSample → List ℕ
+sample_line file s = codes "parameters: " ++ (sample_text file s ++ codes "\n")
+
 -- what is said behind a pattern's name
 abbrev pub verdict_text : Verdict → List ℕ
 verdict_text (Safe nodes leaves) = codes "safe, " ++ (decimal nodes ++ (codes " nodes, " ++ (decimal leaves ++ codes " leaves")))
 verdict_text (Unsafe nodes run) = codes "unsafe, " ++ (decimal nodes ++ codes " nodes")
-verdict_text (Spent nodes) = codes "unknown, " ++ (decimal nodes ++ codes " nodes spent")
-verdict_text (Overflow node kind) = codes "unknown, outside 128 bits at node " ++ (decimal node ++ (codes ", " ++ place_text kind))
+verdict_text (Spent nodes) = spent_text nodes
+verdict_text (Overflow node kind) = overflow_text node kind
 
 -- the line of a pattern
 abbrev pub verdict_line : Pattern → Verdict → List ℕ
@@ -40,15 +68,22 @@ verdict_lines file [] vs = []
 verdict_lines file (p ∷ ps) [] = []
 verdict_lines file (p ∷ ps) (v ∷ vs) = verdict_line p v ++ (run_part file v ++ verdict_lines file ps vs)
 
--- the report of a verdict for each pattern
-abbrev pub report_text : File → List Verdict → List ℕ
-report_text file verdicts = codes "automaton " ++ (file.automaton.name ++ (codes "\n" ++ verdict_lines file file.patterns verdicts))
+-- the report of a sample of the parameters and a verdict for each pattern
+abbrev pub report_text : File → ReportSample → List Verdict → List ℕ
+report_text file s verdicts = codes "automaton " ++ (file.automaton.name ++ (codes "\n" ++ (sample_line file s ++ verdict_lines file file.patterns verdicts)))
 
 -- the numbers are those of 64 bits, as the program's are: `decimal` writes 64 digits at most
 abbrev pub PlaceFits : ReportKind → Type 0
 PlaceFits (kind.Pivot pivot) = pivot < 2 ^ 64
 PlaceFits kind.Leaf = Unit {0}
 PlaceFits kind.Run = Unit {0}
+
+-- and a sample has a natural value in range for each parameter
+abbrev pub SampleFits : File → ReportSample → Type 0
+SampleFits file (sample.Sample values) = (length values ≡ length file.automaton.parameters) × Each Value values
+SampleFits file sample.Empty = Unit {0}
+SampleFits file (sample.Spent count) = count < 2 ^ 64
+SampleFits file (sample.Overflow node kind) = (node < 2 ^ 64) × PlaceFits kind
 
 -- and a run fits the file
 abbrev pub VerdictFits : File → Verdict → Type 0
@@ -57,10 +92,10 @@ VerdictFits file (Unsafe nodes run) = (nodes < 2 ^ 64) × Fits file run
 VerdictFits file (Spent nodes) = nodes < 2 ^ 64
 VerdictFits file (Overflow node kind) = (node < 2 ^ 64) × PlaceFits kind
 
--- two reports of a file with one text have the same verdicts, and the same runs inside
+-- two reports of a file with one text have the same sample and the same verdicts, and the same runs inside
 abbrev pub ReportsAreDistinct : Type 0
 ReportsAreDistinct =
-    (file : File) (vs ws : List Verdict) → length vs ≡ length file.patterns → length ws ≡ length file.patterns
-    → Each (VerdictFits file) vs → Each (VerdictFits file) ws
-    → report_text file vs ≡ report_text file ws
-    → vs ≡ ws
+    (file : File) (s t : ReportSample) (vs ws : List Verdict) → length vs ≡ length file.patterns → length ws ≡ length file.patterns
+    → SampleFits file s → SampleFits file t → Each (VerdictFits file) vs → Each (VerdictFits file) ws
+    → report_text file s vs ≡ report_text file t ws
+    → (s ≡ t) × (vs ≡ ws)

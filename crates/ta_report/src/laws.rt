@@ -1,14 +1,16 @@
 //! What a text tells. The functions do nothing: their contracts state the laws.
 #![tactic(auto)]
 
+ghost use Rattle.ta_report.specs.Json.{JsonIsDistinct, JsonIsRead, JsonRuns, JsonSafe, JsonUnsafe};
 ghost use Rattle.ta_report.specs.Printed.{PrintedProved, PrintedSafe, PrintedUnsafe};
 ghost use Rattle.ta_report.specs.PrintedRuns.{PrintedRuns, RunsArePrinted};
 ghost use Rattle.ta_report.specs.Report.{ReportsAreDistinct};
 
 /// It does nothing: its contract states that two reports of a file with one text have the same
-/// verdicts, and the same runs inside.
+/// sample and the same verdicts, and the same runs inside, and so have two lines of JSON.
 pub fn reports_are_distinct()
-    ensures { ReportsAreDistinct }
+    ensures text { ReportsAreDistinct }
+    ensures json { JsonIsDistinct }
 {}
 
 /// It does nothing: its contract states that a pattern that is printed as safe has the verdict
@@ -25,4 +27,14 @@ pub fn lines_tell()
 pub fn runs_are_printed()
     ensures there { RunsArePrinted }
     ensures only { PrintedRuns }
+{}
+
+/// It does nothing: its contract states that the line of JSON is read as the report, that a pattern
+/// that it says is safe has the verdict Safe, that one that it says is unsafe has the verdict Unsafe
+/// and the lines of its run, and that nothing else is there as its run.
+pub fn json_tells()
+    ensures read { JsonIsRead }
+    ensures safe { JsonSafe }
+    ensures unsafe_ { JsonUnsafe }
+    ensures runs { JsonRuns }
 {}

@@ -3,26 +3,74 @@
 
 ghost use Rattle.std.specs.Prelude.{◌≡◌, ◌++◌, IfOk, OnOk, length, string_bytes};
 ghost use Rattle.ta_automaton.specs.Lists.{Each};
-ghost use Rattle.ta_report.specs.Report.{VerdictFits, report_text, run_part};
+ghost use Rattle.ta_counter.specs.Values.{Value};
+ghost use Rattle.ta_report.specs.Report.{SampleFits, VerdictFits, report_text, run_part, sample_line, values_text};
 
-use crate::verdict::Verdict;
+use crate::verdict::{ReportSample, Verdict};
 use std::alloc::{AllocError, Global};
 use ta_automaton::{File, Text};
 use ta_replay::print_run;
 
-/// The report of one verdict for each pattern, in the order of the file: a line, and behind it the
-/// text of the run where there is one.
-pub fn report_text(alloc: Global, file: &File, verdicts: &[Verdict]) -> Result<Text, AllocError>
+/// The report of a sample of the parameters, in a line, and of one verdict for each pattern, in the
+/// order of the file: a line, and behind it the text of the run where there is one.
+pub fn report_text(
+    alloc: Global,
+    file: &File,
+    sample: &ReportSample,
+    verdicts: &[Verdict],
+) -> Result<Text, AllocError>
+    requires sample { SampleFits file.now sample.now }
     requires all { length verdicts.now ≡ length file.now.patterns }
     requires fit { Each (VerdictFits file.now) verdicts.now }
-    ensures { IfOk result (λ text. text ≡ report_text file.now verdicts.now) }
+    ensures { IfOk result (λ text. text ≡ report_text file.now sample.now verdicts.now) }
 {
     let mut text = format!(in alloc; "automaton {}\n", file.automaton.name.as_str())?;
+    write_sample(&mut text, file, sample)?;
     for (pattern, verdict) in file.patterns.as_slice().iter().zip(verdicts) {
         write!(text, "pattern {}: {verdict}\n", pattern.name.as_str())?;
         write_run(alloc, &mut text, file, verdict)?;
     }
     Ok(Text::from_string(text))
+}
+
+/// Writes the line of the parameters.
+fn write_sample(text: &mut String, file: &File, sample: &ReportSample) -> Result<(), AllocError>
+    requires { SampleFits file.now sample.now }
+    ensures { OnOk result (string_bytes text.new ≡ string_bytes text.old ++ sample_line file.now sample.now) }
+{
+    match sample {
+        ReportSample::Sample(values) => {
+            text.push_str("parameters: sample")?;
+            write_values(
+                text,
+                file.automaton.parameters.as_slice(),
+                values.as_slice(),
+            )?;
+            text.push_str("\n")?;
+        }
+        ReportSample::Empty => text.push_str("parameters: none\n")?,
+        ReportSample::Spent { count } => {
+            write!(text, "parameters: unknown, {count} nodes spent\n")?;
+        }
+        ReportSample::Overflow { node, kind } => {
+            write!(
+                text,
+                "parameters: unknown, outside 128 bits at node {node}, {kind}\n"
+            )?;
+        }
+    }
+    Ok(())
+}
+
+/// Writes the values of the parameters, each with its name.
+fn write_values(text: &mut String, names: &[Text], values: &[i128]) -> Result<(), AllocError>
+    requires { length values.now ≡ length names.now }
+    ensures { OnOk result (string_bytes text.new ≡ string_bytes text.old ++ values_text names.now values.now) }
+{
+    for (i, value) in values.iter().enumerate() {
+        write!(text, " {}={}", names[i].as_str(), *value)?;
+    }
+    Ok(())
 }
 
 /// Writes the text of a verdict's run, where it has one.

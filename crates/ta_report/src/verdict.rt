@@ -5,6 +5,7 @@ ghost use Rattle.std.specs.Prelude.{Some};
 ghost use Rattle.ta_report.specs.Report.{place_text, verdict_text};
 
 use std::fmt;
+use ta_linear::List;
 use ta_replay::Run;
 
 /// Where a number left 128 bits.
@@ -27,6 +28,20 @@ pub enum Verdict {
     Unsafe { nodes: u64, run: Run },
     /// These many nodes were visited, and the tree has more.
     Spent { nodes: u64 },
+    /// At the node of this number a number left 128 bits.
+    Overflow { node: u64, kind: ReportKind },
+}
+
+/// What is said of the parameters, within a budget of nodes.
+#[derive(Drop)]
+pub enum ReportSample {
+    /// These values, one for each parameter, meet the resilience condition and have an initial
+    /// configuration.
+    Sample(List<i128>),
+    /// No values do.
+    Empty,
+    /// These many nodes were visited, and the tree has more.
+    Spent { count: u64 },
     /// At the node of this number a number left 128 bits.
     Overflow { node: u64, kind: ReportKind },
 }

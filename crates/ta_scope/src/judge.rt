@@ -28,6 +28,7 @@ fn first_at_fault(automaton: &Automaton, table: &[u32]) -> Result<(), ScopeFault
     ensures ok { OnOk result (InScope automaton.now) }
     ensures fault { IfErr result (λ fault. ScopeFaultOf automaton.now fault) }
     ensures out_of_scope { IfErr result (λ fault. ¬ InScope automaton.now) }
+    ensures no_memory { IfErr result (λ fault. fault ≢ Memory) }
 {
     for (number, rule) in automaton.rules.as_slice().iter().enumerate() {
         if is_at_fault(table, rule) {

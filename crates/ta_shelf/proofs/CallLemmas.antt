@@ -1,5 +1,5 @@
 -- the calls of a reading, one more at a time
-use Rattle.std.proofs.Common.{◌≡◌, ℕ, ◌+◌, ◌<◌, List, [], ◌∷◌, ◌++◌, length, length-append, append_assoc, append-nil, Ok, refl, sym, ◌∙◌, ap, arith}
+use Rattle.std.proofs.Common.{◌≡◌, ℕ, ◌+◌, ◌<◌, List, [], ◌∷◌, ◌++◌, length, length-append, append_assoc, append-nil, Ok, refl, sym, subst, ◌∙◌, ap, arith}
 use Rattle.ta_shelf.specs.Calls.{Call, bytes_of, bytes_given, ReadsOn, Spells}
 
 pub bytes_given-append : (first later : List Call) → bytes_given (first ++ later) ≡ bytes_given first ++ bytes_given later
@@ -19,22 +19,34 @@ ReadsOn-then name at (first ∷ turns) call order same place some =
     let later : ReadsOn name (at + length (bytes_of first.gave)) turns = order.3 in
     (order.0, order.1, order.2, ReadsOn-then name (at + length (bytes_of first.gave)) turns call later same (omega (arith, place, size)) some)
 
--- the calls of a reading so far, which gave these bytes
-pub record Turns (name read : List ℕ) (before now : List Call) : Type 0 where
+-- calls that read on behind others
+pub ReadsOn-append : (name : List ℕ) (at : ℕ) (first later : List Call) → ReadsOn name at first → ReadsOn name (at + length (bytes_given first)) later → ReadsOn name at (first ++ later)
+ReadsOn-append name at [] later order behind = let here : at + 0 ≡ at = omega arith in subst (λ (n : ℕ). ReadsOn name n later) here behind
+ReadsOn-append name at (call ∷ first) later order behind =
+    let size : length (bytes_of call.gave ++ bytes_given first) ≡ length (bytes_of call.gave) + length (bytes_given first) = length-append (bytes_of call.gave) (bytes_given first) in
+    let there : at + length (bytes_of call.gave ++ bytes_given first) ≡ (at + length (bytes_of call.gave)) + length (bytes_given first) = omega (arith, size) in
+    (order.0, order.1, order.2, ReadsOn-append name (at + length (bytes_of call.gave)) first later order.3 (subst (λ (n : ℕ). ReadsOn name n later) there behind))
+
+-- the calls of a reading from an offset on so far, which gave these bytes
+pub record TurnsFrom (name : List ℕ) (start : ℕ) (read : List ℕ) (before now : List Call) : Type 0 where
   pub turns : List Call
   pub grown : now ≡ before ++ turns
-  pub in_order : ReadsOn name 0 turns
+  pub in_order : ReadsOn name start turns
   pub given : read ≡ bytes_given turns
 
--- one more call gave the next piece
-pub one_more : (name read piece all : List ℕ) (at : ℕ) (before now after : List Call) → Turns name read before now → at ≡ length read → after ≡ now ++ (record { name = name; at = at; gave = Ok piece }) ∷ [] → 0 < length piece → all ≡ read ++ piece → Turns name all before after
-one_more name read piece all at before now after so_far place logged some whole =
+-- the same of a whole file
+abbrev pub Turns : List ℕ → List ℕ → List Call → List Call → Type 0
+Turns name read before now = TurnsFrom name 0 read before now
+
+-- one more call gave the next bytes
+pub one_more : (name : List ℕ) (start : ℕ) (read piece all : List ℕ) (at : ℕ) (before now after : List Call) → TurnsFrom name start read before now → at ≡ start + length read → after ≡ now ++ (record { name = name; at = at; gave = Ok piece }) ∷ [] → 0 < length piece → all ≡ read ++ piece → TurnsFrom name start all before after
+one_more name start read piece all at before now after so_far place logged some whole =
     let call : Call = record { name = name; at = at; gave = Ok piece } in
     let size : length read ≡ length (bytes_given so_far.turns) = ap length so_far.given in
     record {
       turns = so_far.turns ++ call ∷ [];
       grown = logged ∙ ap (λ calls. calls ++ call ∷ []) so_far.grown ∙ append_assoc before so_far.turns (call ∷ []);
-      in_order = ReadsOn-then name 0 so_far.turns call so_far.in_order refl (omega (arith, place, size)) some;
+      in_order = ReadsOn-then name start so_far.turns call so_far.in_order refl (omega (arith, place, size)) some;
       given = whole ∙ ap (λ bytes. bytes ++ piece) so_far.given ∙ sym (bytes_given-then so_far.turns (so_far.turns ++ call ∷ []) call refl);
     }
 

@@ -1,6 +1,6 @@
 -- lemmas for the crates above
 pub mod WrittenSoFar
-mod CallLemmas
+pub mod CallLemmas
 mod Distinct
 mod ReadSoFar
 mod WithFile

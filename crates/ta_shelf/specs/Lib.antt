@@ -7,4 +7,5 @@ pub mod Put
 pub mod Shelf
 pub mod Sink
 pub mod ReadWhole
+pub mod ReadPiece
 pub mod WriteWhole

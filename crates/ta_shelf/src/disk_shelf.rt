@@ -153,6 +153,8 @@ impl<R: Files + AllocGlobal + Clone + Drop> Shelf for DiskShelf<R> {
 
     ghost calls = { λ s. s.log.calls };
 
+    ghost wants_memory = { Unit {0} };
+
     fn read_at(&mut self, name: &str, at: u64, buf: &mut [u8]) -> Result<usize, ShelfFault> {
         let answer = match self.read_on(name, at, buf) {
             Ok(count) => Ok(count),

@@ -58,6 +58,8 @@ impl Shelf for QuietShelf {
 
     ghost calls = { λ s. s.log.calls };
 
+    ghost wants_memory = { ⊥ };
+
     fn read_at(&mut self, name: &str, at: u64, buf: &mut [u8]) -> Result<usize, ShelfFault>
         ensures count { IfOk result (λ k. k ≤ length buf.new) }
         ensures bytes { ReadsAt (file_named name.now self.old.files) at buf.new result }

@@ -1,9 +1,11 @@
-//! Whole files from a shelf.
+//! Whole files from a shelf, and pieces of them.
 #![tactic(auto)]
 
-ghost use Rattle.std.specs.Prelude.{◌≡◌, ◌≤◌, length, IfOk, IfSome};
-ghost use Rattle.ta_shelf.specs.Calls.{Grew, ReadsBy};
+ghost use Rattle.std.specs.Prelude.{◌≡◌, ◌+◌, ◌<◌, ◌≤◌, ◌^◌, length, IfOk, IfSome, IsErrOf};
+ghost use Rattle.ta_shelf.specs.Calls.{Grew, PieceBy, ReadsBy};
+ghost use Rattle.ta_shelf.specs.ReadPiece.{GivesFirst, ReadsPiece};
 ghost use Rattle.ta_shelf.specs.ReadWhole.{ReadsWhole, FailsOnlyFaulted};
+ghost use Rattle.ta_shelf.specs.Shelf.{FailsOnlyFaulted as PieceFailsOnlyFaulted};
 
 use crate::fault::{ShelfFault, WholeFault};
 use crate::list::List;
@@ -24,6 +26,7 @@ pub fn read_whole<S: Shelf>(
     ensures bytes { IfSome (S.files shelf.old) (λ m. ReadsWhole (m name.now) limit result) }
     ensures short { IfOk result (λ bytes. length bytes ≤ limit) }
     ensures log { Grew (ReadsBy name.now limit result) (S.calls shelf.old) (S.calls shelf.new) }
+    ensures begun { Grew (λ calls. IfSome (S.files shelf.old) (λ m. GivesFirst (m name.now) result calls)) (S.calls shelf.old) (S.calls shelf.new) }
     ensures cause { FailsOnlyFaulted result (S.faults shelf.old) (S.faults shelf.new) }
     ensures kept { S.files shelf.new ≡ S.files shelf.old }
 {
@@ -42,4 +45,31 @@ pub fn read_whole<S: Shelf>(
         bytes.extend_from_slice(&buffer[..count])?;
     }
     Err(WholeFault::TooLong)
+}
+
+/// Reads bytes of a file from the offset `at` on until the buffer is full or the file ends, and says
+/// how many. It takes no memory itself.
+pub fn read_piece<S: Shelf>(
+    shelf: &mut S,
+    name: &str,
+    at: u64,
+    buf: &mut [u8],
+) -> Result<usize, ShelfFault>
+    requires { at + length buf.old < 2 ^ 64 }
+    ensures count { IfOk result (λ k. k ≤ length buf.new) }
+    ensures bytes { IfSome (S.files shelf.old) (λ m. ReadsPiece (m name.now) at buf.new result) }
+    ensures log { Grew (PieceBy name.now at buf.new result) (S.calls shelf.old) (S.calls shelf.new) }
+    ensures cause { PieceFailsOnlyFaulted result (S.faults shelf.old) (S.faults shelf.new) }
+    ensures memory { IsErrOf result ShelfFault.Memory → S.wants_memory }
+    ensures kept { S.files shelf.new ≡ S.files shelf.old }
+{
+    let mut filled = 0;
+    'filling: while filled < buf.len() {
+        match shelf.read_at(name, at + filled as u64, &mut buf[filled..]) {
+            Ok(0) => return Ok(filled),
+            Ok(count) => filled += count,
+            Err(fault) => return Err(fault),
+        }
+    }
+    Ok(filled)
 }

@@ -1,7 +1,7 @@
 //! Files by name.
 #![tactic(auto)]
 
-ghost use Rattle.std.specs.Prelude.{◌≡◌, ◌≤◌, ◌++◌, ◌∷◌, [], ℕ, List, length, IfOk, IfSome};
+ghost use Rattle.std.specs.Prelude.{◌≡◌, ◌≤◌, ◌++◌, ◌∷◌, [], ℕ, List, length, IfOk, IfSome, IsErrOf};
 ghost use Rattle.std.specs.declared.option.Option.{Option};
 ghost use Rattle.ta_shelf.specs.Calls.{Call, filled};
 ghost use Rattle.ta_shelf.specs.Put.{WhereTold, Creates, Appends, OthersStay, PutFailsOnlyFaulted};
@@ -22,11 +22,15 @@ pub trait Shelf {
     // the calls that read so far, each with what it gave; the log takes no memory
     ghost calls: { Self → List Call };
 
+    // whether a call that reads may want memory
+    ghost wants_memory: { Type 0 };
+
     /// Reads bytes of a file from the offset `at` on into a buffer, and says how many.
     fn read_at(&mut self, name: &str, at: u64, buf: &mut [u8]) -> Result<usize, ShelfFault>
         ensures count { IfOk result (λ k. k ≤ length buf.new) }
         ensures bytes { IfSome (files self.old) (λ m. ReadsAt (m name.now) at buf.new result) }
         ensures cause { FailsOnlyFaulted result (faults self.old) (faults self.new) }
+        ensures memory { IsErrOf result ShelfFault.Memory → wants_memory }
         // the log has exactly this call more
         ensures log { calls self.new ≡ calls self.old ++ (record { name = name.now; at = at; gave = filled buf.new result }) ∷ [] }
         ensures kept { files self.new ≡ files self.old };

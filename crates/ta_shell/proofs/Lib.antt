@@ -3,6 +3,7 @@ pub mod Clauses
 pub mod Views
 pub mod Read
 pub mod Joined
+pub mod PiecesSeen
 mod Pieces
 mod PutOrder
 mod PutPieces

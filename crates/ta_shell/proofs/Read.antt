@@ -1,5 +1,5 @@
 -- commands that read one file after the other
-use Rattle.std.proofs.Common.{◌≡◌, ◌∙◌, ◌≤◌, ◌⊎◌, Bor, List, [], ◌++◌, ℕ, Option, Some, Result, Ok, Err, refl, sym, ap, subst, inl, inr, append_assoc}
+use Rattle.std.proofs.Common.{◌≡◌, ◌∙◌, ◌≤◌, ◌⊎◌, Bor, List, [], ◌++◌, ℕ, Option, Some, Result, Ok, Err, refl, sym, ap, subst, inl, inr, append_assoc, take}
 use Rattle.std.proofs.lemmas.List.{append-nil}
 use Rattle.ta_shelf.specs.Calls.{Call, Grew}
 use Rattle.ta_shelf.specs.Put.{Told}
@@ -11,21 +11,30 @@ use Rattle.ta_shell.specs.Puts.{Within}
 use Rattle.ta_shell.specs.declared.phrase.Phrase.{Phrase}
 use Rattle.ta_shell.specs.Lines.{file_line, phrase_text}
 use Rattle.ta_shell.specs.Reading.{IsUnreadable, Reads}
-use Rattle.ta_shell.specs.Sights.{Absent, Longer, View, in_files, seen}
-use Rattle.ta_shell.specs.Stages.{Hinders, IsAtFault, IsOf, Kind, Stage, after, replies, settles}
-use Rattle.ta_shell.proofs.Views.{Monotone, Sub, has_more, not_absent, not_longer, sub_told, sub_within, whole_one}
+use Rattle.ta_shell.specs.Sights.{Absent, Begins, View, in_files, seen}
+use Rattle.ta_shell.specs.Stages.{GoesOn, Hinders, IsAtFault, IsBroken, IsOf, Kind, Stage, after, replies, settles}
+use Rattle.ta_shell.proofs.Views.{Monotone, Sub, begins_some, has_more, not_absent, not_longer, sub_told, sub_within, whole_one}
 
-unreadable_more : (v w : View) → Sub v w → (name : List ℕ) (limit : ℕ) (words : List ℕ) → IsUnreadable v name limit words → IsUnreadable w name limit words
-unreadable_more v w sub name limit words h = elim h [ inl absent ↦ inl (sub name Absent absent.0, absent.1) | inr longer ↦ inr (sub name (Longer limit) longer.0, longer.1) ]
+unreadable_more : (v w : View) → Sub v w → (name : List ℕ) (limit : ℕ) (Such : List ℕ → Type 0) (words : List ℕ) → IsUnreadable v name limit Such words → IsUnreadable w name limit Such words
+unreadable_more v w sub name limit Such words h = elim h [
+  | inl absent ↦ inl (sub name Absent absent.0, absent.1)
+  | inr longer ↦ inr (record { bytes = longer.0.bytes; seen = sub name (Begins longer.0.bytes) longer.0.seen; more = longer.0.more; such = longer.0.such }, longer.1)
+]
 
 module _ {A F : Type 0} (kind : Kind A F) where
   pub is_more : (v w : View) → Sub v w → (name : List ℕ) (value : A) → IsOf kind v name value → IsOf kind w name value
   is_more v w sub name value h = record { bytes = h.bytes; had = has_more v w sub name kind.limit.bytes h.bytes h.had; means = h.means }
 
-  wrong_more : (v w : View) → Sub v w → (name words : List ℕ) → IsUnreadable v name kind.limit.bytes words ⊎ IsAtFault kind v name words → IsUnreadable w name kind.limit.bytes words ⊎ IsAtFault kind w name words
+  fault_more : (v w : View) → Sub v w → (name words : List ℕ) → IsAtFault kind v name words ⊎ IsBroken kind v name words → IsAtFault kind w name words ⊎ IsBroken kind w name words
+  fault_more v w sub name words h = elim h [
+    | inl f ↦ inl (record { bytes = f.bytes; had = has_more v w sub name kind.limit.bytes f.bytes f.had; fault = f.fault; found = f.found; words_are = f.words_are })
+    | inr b ↦ inr (record { bytes = b.bytes; seen = sub name (Begins b.bytes) b.seen; within = b.within; fault = b.fault; found = b.found; hopeless = b.hopeless; words_are = b.words_are })
+  ]
+
+  wrong_more : (v w : View) → Sub v w → (name words : List ℕ) → IsUnreadable v name kind.limit.bytes (GoesOn kind) words ⊎ (IsAtFault kind v name words ⊎ IsBroken kind v name words) → IsUnreadable w name kind.limit.bytes (GoesOn kind) words ⊎ (IsAtFault kind w name words ⊎ IsBroken kind w name words)
   wrong_more v w sub name words h = elim h [
-    | inl unreadable ↦ inl (unreadable_more v w sub name kind.limit.bytes words unreadable)
-    | inr f ↦ inr (record { bytes = f.bytes; had = has_more v w sub name kind.limit.bytes f.bytes f.had; fault = f.fault; found = f.found; words_are = f.words_are })
+    | inl unreadable ↦ inl (unreadable_more v w sub name kind.limit.bytes (GoesOn kind) words unreadable)
+    | inr f ↦ inr (fault_more v w sub name words f)
   ]
 
   hinders_more : (v w : View) → Sub v w → (name : List ℕ) (number : ℕ) (line : List ℕ) → Hinders kind v name number line → Hinders kind w name number line
@@ -83,8 +92,13 @@ module _ {A F : Type 0} (kind : Kind A F) where
       -- a file that means a value is no hindrance
       pub no_hindrance : (v : A) (number : ℕ) (line : List ℕ) → IsOf kind (in_files told) name v → Hinders kind (in_files told) name number line → ⊥
       no_hindrance v number line is h = elim h.wrong [
-        | inl u ↦ elim u [ inl absent ↦ not_absent told name kind.limit.bytes is.bytes is.had absent.0 | inr longer ↦ not_longer told name kind.limit.bytes is.bytes is.had longer.0 ]
-        | inr f ↦ fits f.bytes v f.fault (subst (λ (bytes : List ℕ). kind.means bytes v) (whole_one told name kind.limit.bytes is.bytes f.bytes is.had f.had) is.means) f.found
+        | inl u ↦ elim u [ inl absent ↦ not_absent told name kind.limit.bytes is.bytes is.had absent.0 | inr longer ↦ not_longer told name kind.limit.bytes (GoesOn kind) is.bytes is.had longer.0 ]
+        | inr wrong ↦ elim wrong [
+          | inl f ↦ fits f.bytes v f.fault (subst (λ (bytes : List ℕ). kind.means bytes v) (whole_one told name kind.limit.bytes is.bytes f.bytes is.had f.had) is.means) f.found
+          | inr b ↦
+              let same = begins_some told name kind.limit.bytes is.bytes b.bytes is.had b.seen in
+              b.hopeless same.0 v (subst (λ (bytes : List ℕ). kind.means bytes v) same.1 is.means)
+        ]
       ]
 
       -- either the file hinders, or the rest is so
@@ -126,14 +140,29 @@ replies_one puts Such Other view same number other so so' = elim so [
 
 -- from the bytes of a file to what they mean
 module _ {A F T : Type 0} (kind : Kind A F) (value : T → A) (files : Option Told) (name : List ℕ) (before last : List Call) where
-  unread : (refusal : Refusal) (calls : List Call) → Reads files name kind.limit (Err refusal) calls → Stage {T = T} kind value files name (Err refusal) calls
-  unread (Refused number who why) calls h = record { reading = h.reading; yields = record { numbered = h.gives.0; words = phrase_text why; said = ap (λ (n : List ℕ). file_line n (phrase_text why)) h.gives.1; wrong = inl h.gives.2 } }
-  unread (ReadFailed who) calls h = record { reading = h.reading; yields = h.gives }
-  unread (PutFailed who) calls h = absurd h.gives
-  unread Memory calls h = record { reading = h.reading; yields = tt }
+  -- of a kind that is read whole before it is judged
+  whole_unreadable : ((bytes : List ℕ) → GoesOn kind bytes) → (view : View) (words : List ℕ) → IsUnreadable view name kind.limit.bytes (λ bytes. Unit {0}) words → IsUnreadable view name kind.limit.bytes (GoesOn kind) words
+  whole_unreadable never view words h = elim h [
+    | inl absent ↦ inl absent
+    | inr longer ↦ inr (record { bytes = longer.0.bytes; seen = longer.0.seen; more = longer.0.more; such = never (take kind.limit.bytes longer.0.bytes) }, longer.1)
+  ]
 
-  pub grew_unread : (refusal : Refusal) → Grew (Reads files name kind.limit (Err refusal)) before last → Grew (Stage {T = T} kind value files name (Err refusal)) before last
-  grew_unread refusal h = record { added = h.added; grown = h.grown; such = unread refusal h.added h.such }
+  unread : ((bytes : List ℕ) → GoesOn kind bytes) → (refusal : Refusal) (calls : List Call) → Reads files name kind.limit (Err refusal) calls → Stage {T = T} kind value files name (Err refusal) calls
+  unread never (Refused number who why) calls h = record {
+    reading = h.reading;
+    yields = record {
+      numbered = h.gives.0;
+      words = phrase_text why;
+      said = ap (λ (n : List ℕ). file_line n (phrase_text why)) h.gives.1;
+      wrong = inl (whole_unreadable never (seen files calls) (phrase_text why) h.gives.2);
+    };
+  }
+  unread never (ReadFailed who) calls h = record { reading = h.reading; yields = h.gives }
+  unread never (PutFailed who) calls h = absurd h.gives
+  unread never Memory calls h = record { reading = h.reading; yields = tt }
+
+  pub grew_unread : ((bytes : List ℕ) → GoesOn kind bytes) → (refusal : Refusal) → Grew (Reads files name kind.limit (Err refusal)) before last → Grew (Stage {T = T} kind value files name (Err refusal)) before last
+  grew_unread never refusal h = record { added = h.added; grown = h.grown; such = unread never refusal h.added h.such }
 
   module _ (bytes : List ℕ) (h : Grew (Reads files name kind.limit (Ok bytes)) before last) where
     pub grew_means : (given : T) → kind.means bytes (value given) → Grew (Stage kind value files name (Ok given)) before last
@@ -152,7 +181,7 @@ module _ {A F T : Type 0} (kind : Kind A F) (value : T → A) (files : Option To
           numbered = numbered;
           words = phrase_text why;
           said = ap (λ (n : List ℕ). file_line n (phrase_text why)) named;
-          wrong = inr (record { bytes = bytes; had = h.such.gives.0; fault = fault; found = found; words_are = words });
+          wrong = inr (inl (record { bytes = bytes; had = h.such.gives.0; fault = fault; found = found; words_are = words }));
         };
       };
     }

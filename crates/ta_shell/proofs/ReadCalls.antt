@@ -1,14 +1,18 @@
 -- what the calls of a reading give is seen in them and in the files
-use Rattle.std.proofs.Common.{List, [], ℕ, Option, None, Some, Result, Ok, Err, sym, inl, inr}
+use Rattle.std.proofs.Common.{List, [], ℕ, Option, None, Some, Result, Ok, Err, refl, sym, subst, inl, inr}
 use Rattle.std.proofs.lemmas.List.{append-nil}
 use Rattle.std.specs.Prelude.{IfSome}
-use Rattle.ta_shelf.specs.Calls.{Call, ReadsBy, Spells}
+use Rattle.ta_shelf.specs.Calls.{Call, ReadsBy, Spells, bytes_given}
 use Rattle.ta_shelf.specs.Put.{Told}
+use Rattle.ta_shelf.specs.ReadPiece.{BeginsWith, GivesFirst}
 use Rattle.ta_shelf.specs.ReadWhole.{ReadsWhole}
 use Rattle.ta_shelf.specs.declared.fault.WholeFault.{WholeFault}
 use Rattle.ta_shelf.specs.declared.fault.WholeFault.TheVariants.{Missing, Failed, TooLong, Memory}
-use Rattle.ta_shell.specs.Reading.{IsReading}
-use Rattle.ta_shell.specs.Sights.{Absent, Longer, Part, Whole, seen}
+use Rattle.ta_shell.specs.declared.answer.Refusal.{Refusal}
+use Rattle.ta_shell.specs.declared.answer.Refusal.TheVariants.{Refused, ReadFailed, PutFailed, Memory as NoMemory}
+use Rattle.ta_shell.specs.declared.reading.Limit.{Limit}
+use Rattle.ta_shell.specs.Reading.{Gives, IsReading, IsUnreadable, SaysOfFile}
+use Rattle.ta_shell.specs.Sights.{Absent, Begins, HasMore, Part, View, Whole, seen, where_told}
 
 -- all calls are part of them
 all_of : (Such : List Call → Type 0) (calls : List Call) → Such calls → Part Such calls
@@ -30,6 +34,22 @@ pub sees_absent : (files : Option Told) (name : List ℕ) (limit : ℕ) (calls :
 sees_absent None name limit calls stops told = (all_of _ calls stops, tt)
 sees_absent (Some m) name limit calls stops told = (all_of _ calls stops, told)
 
-pub sees_longer : (files : Option Told) (name : List ℕ) (limit : ℕ) (calls : List Call) → ReadsBy name limit (Err TooLong) calls → IfSome files (λ m. ReadsWhole (m name) limit (Err TooLong)) → seen files calls name (Longer limit)
-sees_longer None name limit calls longer told = (all_of _ calls longer, tt)
-sees_longer (Some m) name limit calls longer told = (all_of _ calls longer, told)
+-- the file is told to begin with what the calls gave
+begins_there : (files : Option Told) (name : List ℕ) (calls : List Call) → IfSome files (λ m. BeginsWith (m name) (bytes_given calls)) → where_told files name (Begins (bytes_given calls))
+begins_there None name calls told = tt
+begins_there (Some m) name calls told = told
+
+pub sees_more : (files : Option Told) (name : List ℕ) (limit : ℕ) (calls : List Call) → ReadsBy name limit (Err TooLong) calls → IfSome files (λ m. GivesFirst (m name) (Err TooLong) calls) → HasMore (seen files calls) name limit (λ bytes. Unit {0})
+sees_more files name limit calls longer told = record {
+  bytes = bytes_given calls;
+  seen = (all_of _ calls ([], record { in_order = longer.0; given = append-nil (bytes_given calls) }), begins_there files name calls told);
+  more = longer.1;
+  such = tt;
+}
+
+-- a refusal that says why a file is no use
+pub gives_refusal : (view : View) (name : List ℕ) (limit : Limit) (calls : List Call) (words : List ℕ) (refusal : Refusal) → SaysOfFile limit name words refusal → IsUnreadable view name limit.bytes (λ bytes. Unit {0}) words → Gives view name limit calls (Err refusal)
+gives_refusal view name limit calls words (Refused number who why) says unreadable = (says.0, says.1, subst (IsUnreadable view name limit.bytes (λ bytes. Unit {0})) (sym says.2) unreadable)
+gives_refusal view name limit calls words (ReadFailed who) says unreadable = absurd says
+gives_refusal view name limit calls words (PutFailed who) says unreadable = absurd says
+gives_refusal view name limit calls words NoMemory says unreadable = absurd says

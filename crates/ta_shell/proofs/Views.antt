@@ -1,9 +1,9 @@
 -- what is seen in some calls is seen in more, and told files show one thing
-use Rattle.std.proofs.Common.{◌≡◌, ◌∙◌, ◌<◌, List, ◌++◌, ℕ, length, Option, Some, None, sym, arith, append_assoc}
+use Rattle.std.proofs.Common.{◌≡◌, ◌+◌, ◌∙◌, List, ◌++◌, ℕ, length, length-append, Option, Some, None, sym, ap, arith, append_assoc}
 use Rattle.ta_shelf.specs.Calls.{Call}
 use Rattle.ta_shelf.specs.Put.{Told}
 use Rattle.ta_shell.specs.Commands.{Meaning}
-use Rattle.ta_shell.specs.Sights.{Absent, HasBytes, Longer, Part, Sight, View, Whole, in_calls, in_files, seen}
+use Rattle.ta_shell.specs.Sights.{Absent, Begins, HasBytes, HasMore, Part, Sight, View, Whole, in_calls, in_files, seen}
 use Rattle.ta_shell.specs.declared.answer.Answer.{Answer}
 
 -- what is seen in one view is seen in another
@@ -17,7 +17,7 @@ part_within Such first calls later p =
 in_calls_within : (first calls later : List Call) (name : List ℕ) (sight : Sight) → in_calls calls name sight → in_calls (first ++ (calls ++ later)) name sight
 in_calls_within first calls later name (Whole bytes) p = part_within _ first calls later p
 in_calls_within first calls later name Absent p = part_within _ first calls later p
-in_calls_within first calls later name (Longer limit) p = part_within _ first calls later p
+in_calls_within first calls later name (Begins bytes) p = part_within _ first calls later p
 
 pub sub_within : (files : Option Told) (first calls later : List Call) → Sub (seen files calls) (seen files (first ++ (calls ++ later)))
 sub_within files first calls later name sight s = (in_calls_within first calls later name sight s.0, s.1)
@@ -41,9 +41,15 @@ whole_one told name limit bytes other h k = let e : Some bytes ≡ Some other = 
 pub not_absent : (told : Told) (name : List ℕ) (limit : ℕ) (bytes : List ℕ) → HasBytes (in_files told) name limit bytes → in_files told name Absent → ⊥
 not_absent told name limit bytes h absent = let e : Some bytes ≡ None = sym h.seen ∙ absent in cc
 
-pub not_longer : (told : Told) (name : List ℕ) (limit : ℕ) (bytes : List ℕ) → HasBytes (in_files told) name limit bytes → in_files told name (Longer limit) → ⊥
-not_longer told name limit bytes h longer =
-    let e : Some bytes ≡ Some longer.bytes = sym h.seen ∙ longer.held in
-    let same : bytes ≡ longer.bytes = cc in
-    let past : limit < length bytes = rw same longer.longer in
+-- told bytes are what others begin with
+pub begins_some : (told : Told) (name : List ℕ) (limit : ℕ) (bytes first : List ℕ) → HasBytes (in_files told) name limit bytes → in_files told name (Begins first) → (rest : List ℕ) × (bytes ≡ first ++ rest)
+begins_some told name limit bytes first h begins =
+    let e : Some bytes ≡ Some (first ++ begins.rest) = sym h.seen ∙ begins.held in
+    (begins.rest, cc)
+
+pub not_longer : (told : Told) (name : List ℕ) (limit : ℕ) (Such : List ℕ → Type 0) (bytes : List ℕ) → HasBytes (in_files told) name limit bytes → HasMore (in_files told) name limit Such → ⊥
+not_longer told name limit Such bytes h longer =
+    let same = begins_some told name limit bytes longer.bytes h longer.seen in
+    let past = longer.more in
+    let size : length bytes ≡ length longer.bytes + length same.0 = ap length same.1 ∙ length-append longer.bytes same.0 in
     omega (arith, past, h.within)

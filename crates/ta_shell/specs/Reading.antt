@@ -4,15 +4,28 @@ use Rattle.ta_shelf.specs.Calls.{Call, EndsWith, ReadsOn, Spells}
 use Rattle.ta_shelf.specs.Counts.{Faulted}
 use Rattle.ta_shelf.specs.Put.{Told}
 use Rattle.ta_shelf.specs.declared.fault.ShelfFault.{ShelfFault}
+use Rattle.ta_shelf.specs.declared.fault.ShelfFault.TheVariants as shelf
 use Rattle.ta_shell.specs.declared.answer.Refusal.{Refusal}
 use Rattle.ta_shell.specs.declared.answer.Refusal.TheVariants.{Refused, ReadFailed, PutFailed, Memory}
 use Rattle.ta_shell.specs.declared.reading.Limit.{Limit}
 use Rattle.ta_shell.specs.Lines.{longer_than, missing, phrase_text}
-use Rattle.ta_shell.specs.Sights.{Absent, HasBytes, Longer, View, seen}
+use Rattle.ta_shell.specs.Sights.{Absent, HasBytes, HasMore, View, seen}
 
--- a file is missing or too long, and the words say so
-abbrev pub IsUnreadable : View → List ℕ → ℕ → List ℕ → Type 0
-IsUnreadable view name limit words = (view name Absent × (words ≡ missing)) ⊎ (view name (Longer limit) × (words ≡ longer_than limit))
+-- a file is missing, or it is too long and begins with such bytes, as many as it may have; and the words say so
+abbrev pub IsUnreadable : View → List ℕ → ℕ → (List ℕ → Type 0) → List ℕ → Type 0
+IsUnreadable view name limit Such words = (view name Absent × (words ≡ missing)) ⊎ (HasMore view name limit Such × (words ≡ longer_than limit))
+
+-- the refusal says these words of the file of a name, with the number of its limit
+abbrev pub SaysOfFile : Limit → List ℕ → List ℕ → Refusal → Type 0
+SaysOfFile limit name words (Refused number who why) = (number ≡ limit.number) × (who.now ≡ name) × (phrase_text why ≡ words)
+SaysOfFile limit name words _ = ⊥
+
+-- the refusal says of the file of a name why a read of it was refused
+abbrev pub UnreadBy : Limit → List ℕ → ShelfFault → Refusal → Type 0
+UnreadBy limit name shelf.Missing refusal = SaysOfFile limit name missing refusal
+UnreadBy limit name shelf.Failed (ReadFailed who) = who.now ≡ name
+UnreadBy limit name shelf.Failed _ = ⊥
+UnreadBy limit name shelf.Memory refusal = refusal ≡ Memory
 
 -- the calls of one reading of the file of a name, to its end or up to one of them
 abbrev pub IsReading : List ℕ → List Call → Type 0
@@ -21,7 +34,7 @@ IsReading name calls = ReadsOn name 0 calls ⊎ ((read : List ℕ) × (last : Re
 -- the bytes of a file; or it is no use; or it failed to be read
 abbrev pub Gives : View → List ℕ → Limit → List Call → Result (List ℕ) Refusal → Type 0
 Gives view name limit calls (Ok bytes) = HasBytes view name limit.bytes bytes × Spells name calls bytes
-Gives view name limit calls (Err (Refused n who why)) = (n ≡ limit.number) × (who.now ≡ name) × IsUnreadable view name limit.bytes (phrase_text why)
+Gives view name limit calls (Err (Refused n who why)) = (n ≡ limit.number) × (who.now ≡ name) × IsUnreadable view name limit.bytes (λ bytes. Unit {0}) (phrase_text why)
 Gives view name limit calls (Err (ReadFailed who)) = who.now ≡ name
 Gives view name limit calls (Err (PutFailed who)) = ⊥
 Gives view name limit calls (Err Memory) = Unit {0}

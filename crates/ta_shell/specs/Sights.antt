@@ -1,15 +1,15 @@
 -- What is seen of files (this project's profile)
-use Rattle.std.specs.Prelude.{ℕ, ◌≡◌, ◌<◌, ◌≤◌, List, ◌++◌, length, Option, None, Some}
-use Rattle.ta_shelf.specs.Calls.{Call, ReadsOn, Spells, Stops, bytes_given}
+use Rattle.std.specs.Prelude.{ℕ, ◌≡◌, ◌<◌, ◌≤◌, List, ◌++◌, length, take, Option, None, Some}
+use Rattle.ta_shelf.specs.Calls.{Call, ReadsFirst, Spells, Stops}
 use Rattle.ta_shelf.specs.Put.{Told}
-use Rattle.ta_shelf.specs.ReadWhole.{IsLonger}
+use Rattle.ta_shelf.specs.ReadPiece.{BeginsWith}
 use Rattle.ta_shelf.specs.declared.fault.ShelfFault.TheVariants.{Missing}
 
--- of a name: all bytes of its file, or that it has none, or that it has more bytes than a limit
+-- of a name: all bytes of its file, or that it has none, or the first bytes of its file
 pub data Sight : Type 0 where
   Whole : List ℕ → Sight
   Absent : Sight
-  Longer : ℕ → Sight
+  Begins : List ℕ → Sight
 
 -- what is seen of each name
 abbrev pub View : Type 1
@@ -19,7 +19,7 @@ View = List ℕ → Sight → Type 0
 abbrev pub in_files : Told → View
 in_files told name (Whole bytes) = told name ≡ Some bytes
 in_files told name Absent = told name ≡ None
-in_files told name (Longer limit) = IsLonger (told name) limit
+in_files told name (Begins bytes) = BeginsWith (told name) bytes
 
 -- the same, where the files are told
 abbrev pub where_told : Option Told → View
@@ -38,7 +38,7 @@ pub record Part (Such : List Call → Type 0) (calls : List Call) : Type 0 where
 abbrev pub in_calls : List Call → View
 in_calls calls name (Whole bytes) = Part (λ those. Spells name those bytes) calls
 in_calls calls name Absent = Part (λ those. Stops name those Missing) calls
-in_calls calls name (Longer limit) = Part (λ those. ReadsOn name 0 those × (limit < length (bytes_given those))) calls
+in_calls calls name (Begins bytes) = Part (λ those. (more : List ℕ) × ReadsFirst name those (bytes ++ more)) calls
 
 -- in what the calls of a run gave, and in the files, where they are told
 abbrev pub seen : Option Told → List Call → View
@@ -48,3 +48,10 @@ seen files calls name sight = in_calls calls name sight × where_told files name
 pub record HasBytes (view : View) (name : List ℕ) (limit : ℕ) (bytes : List ℕ) : Type 0 where
   pub seen : view name (Whole bytes)
   pub within : length bytes ≤ limit
+
+-- a name has more bytes than a limit, and the first ones, as many as the limit allows, are such
+pub record HasMore (view : View) (name : List ℕ) (limit : ℕ) (Such : List ℕ → Type 0) : Type 0 where
+  pub bytes : List ℕ
+  pub seen : view name (Begins bytes)
+  pub more : limit < length bytes
+  pub such : Such (take limit bytes)

@@ -1,5 +1,5 @@
 -- Commands that read one file after the other (this project's profile)
-use Rattle.std.specs.Prelude.{ℕ, ◌≡◌, ◌⊎◌, List, [], ◌++◌, Option, Result, Ok, Err}
+use Rattle.std.specs.Prelude.{ℕ, ◌≡◌, ◌≤◌, ◌⊎◌, List, [], ◌++◌, length, Option, Result, Ok, Err}
 use Rattle.ta_shelf.specs.Calls.{Call, Spells}
 use Rattle.ta_shelf.specs.Put.{Told}
 use Rattle.ta_shell.specs.declared.answer.Answer.{Answer}
@@ -9,13 +9,15 @@ use Rattle.ta_shell.specs.declared.reading.Limit.{Limit}
 use Rattle.ta_shell.specs.Commands.{Meaning}
 use Rattle.ta_shell.specs.Lines.{file_line, phrase_text}
 use Rattle.ta_shell.specs.Reading.{IsReading, IsUnreadable}
-use Rattle.ta_shell.specs.Sights.{HasBytes, View, seen}
+use Rattle.ta_shell.specs.Sights.{Begins, HasBytes, View, seen}
 
--- what the bytes of a file may be: a value of the one kind, or at a fault of the other, which has words
+-- what the bytes of a file may be: a value of the one kind, or at a fault of the other, which has words; and the faults of first
+-- bytes at which its reading ends, whatever comes behind them
 pub record Kind (A F : Type 0) : Type 1 where
   pub limit : Limit
   pub means : List ℕ → A → Type 0
   pub at_fault : List ℕ → F → Type 0
+  pub broken : List ℕ → F → Type 0
   pub words : F → List ℕ
 
 -- the bytes of a name mean a value
@@ -32,12 +34,27 @@ pub record IsAtFault {A F : Type 0} (kind : Kind A F) (view : View) (name words 
   pub found : kind.at_fault bytes fault
   pub words_are : words ≡ kind.words fault
 
--- the file of a name is no use: the number is that of its kind, and the line says why
+-- the first bytes of a name, no more than its kind allows, are at a fault, and no longer text means a value
+pub record IsBroken {A F : Type 0} (kind : Kind A F) (view : View) (name words : List ℕ) : Type 0 where
+  pub bytes : List ℕ
+  pub seen : view name (Begins bytes)
+  pub within : length bytes ≤ kind.limit.bytes
+  pub fault : F
+  pub found : kind.broken bytes fault
+  pub hopeless : (more : List ℕ) (value : A) → ¬ kind.means (bytes ++ more) value
+  pub words_are : words ≡ kind.words fault
+
+-- reading goes on behind such bytes
+abbrev pub GoesOn : {A F : Type 0} → Kind A F → List ℕ → Type 0
+GoesOn {A} {F} kind bytes = (fault : F) → ¬ kind.broken bytes fault
+
+-- the file of a name is no use: the number is that of its kind, and the line says why. A fault before the limit comes before "too
+-- long"
 pub record Hinders {A F : Type 0} (kind : Kind A F) (view : View) (name : List ℕ) (number : ℕ) (line : List ℕ) : Type 0 where
   pub numbered : number ≡ kind.limit.number
   pub words : List ℕ
   pub said : line ≡ file_line name words
-  pub wrong : IsUnreadable view name kind.limit.bytes words ⊎ IsAtFault kind view name words
+  pub wrong : IsUnreadable view name kind.limit.bytes (GoesOn kind) words ⊎ (IsAtFault kind view name words ⊎ IsBroken kind view name words)
 
 -- the calls read a file whole, and its bytes mean a value, and then come other calls
 pub record Then {A F : Type 0} (kind : Kind A F) (name : List ℕ) (rest : A → List Call → Type 0) (calls : List Call) : Type 0 where

@@ -13,5 +13,5 @@ pub use answer::{Answer, Put, Refusal};
 pub use command::Command;
 pub use performing::perform;
 pub use phrase::Phrase;
-pub use reading::{Limit, read_text};
+pub use reading::{Limit, read_text, too_long, unread};
 pub use telling::tell_line;

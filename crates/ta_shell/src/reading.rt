@@ -3,12 +3,13 @@
 
 ghost use Rattle.std.specs.Prelude.{◌≡◌, ◌≤◌};
 ghost use Rattle.ta_shelf.specs.Calls.{Grew};
-ghost use Rattle.ta_shell.specs.Reading.{ReadCause, Reads};
+ghost use Rattle.ta_shell.specs.Lines.{longer_than, missing as missing_words};
+ghost use Rattle.ta_shell.specs.Reading.{ReadCause, Reads, SaysOfFile, UnreadBy};
 
 use crate::answer::Refusal;
 use crate::phrase::Phrase;
 use std::alloc::Global;
-use ta_shelf::{List, Shelf, WholeFault, read_whole};
+use ta_shelf::{List, Shelf, ShelfFault, WholeFault, read_whole};
 
 /// How many bytes a file may have, and the number that the process ends with where it is no use.
 #[derive(Clone, Copy, Drop)]
@@ -31,21 +32,46 @@ pub fn read_text<'a, S: Shelf>(
 {
     match read_whole(alloc, shelf, name, limit.bytes) {
         Ok(bytes) => Ok(bytes),
-        Err(WholeFault::Missing) => Err(Refusal::Refused {
-            number: limit.number,
-            name,
-            why: Phrase::Plain("missing"),
-        }),
-        Err(WholeFault::TooLong) => Err(Refusal::Refused {
-            number: limit.number,
-            name,
-            why: Phrase::One {
-                head: "longer than ",
-                number: limit.bytes as u128,
-                tail: " bytes",
-            },
-        }),
+        Err(WholeFault::Missing) => Err(missing(name, limit)),
+        Err(WholeFault::TooLong) => Err(too_long(name, limit)),
         Err(WholeFault::Failed) => Err(Refusal::ReadFailed { name }),
         Err(WholeFault::Memory) => Err(Refusal::Memory),
+    }
+}
+
+/// That a file is missing.
+fn missing<'a>(name: &'a str, limit: Limit) -> Refusal<'a>
+    ensures { SaysOfFile limit name.now missing_words result }
+{
+    Refusal::Refused {
+        number: limit.number,
+        name,
+        why: Phrase::Plain("missing"),
+    }
+}
+
+/// That a file is too long.
+pub fn too_long<'a>(name: &'a str, limit: Limit) -> Refusal<'a>
+    ensures { SaysOfFile limit name.now (longer_than limit.bytes) result }
+{
+    Refusal::Refused {
+        number: limit.number,
+        name,
+        why: Phrase::One {
+            head: "longer than ",
+            number: limit.bytes as u128,
+            tail: " bytes",
+        },
+    }
+}
+
+/// Why a read of a file was refused.
+pub fn unread<'a>(name: &'a str, limit: Limit, fault: ShelfFault) -> Refusal<'a>
+    ensures { UnreadBy limit name.now fault result }
+{
+    match fault {
+        ShelfFault::Missing => missing(name, limit),
+        ShelfFault::Failed => Refusal::ReadFailed { name },
+        ShelfFault::Memory => Refusal::Memory,
     }
 }

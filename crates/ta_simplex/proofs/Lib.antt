@@ -3,6 +3,8 @@ pub mod Choose
 pub mod RunLemmas
 pub mod WholeLemmas
 pub mod FewMultipliers
+pub mod MultiplierCoefficients
+pub mod DeterminedEnds
 mod Basic
 mod Search
 mod Bland
@@ -22,3 +24,7 @@ mod RunSteps
 mod BranchLemmas
 mod RunEndings
 mod SystemEnds
+mod DeterminedSteps
+mod DeterminedMultipliers
+mod DeterminedValues
+mod DeterminedTableau

@@ -1,5 +1,5 @@
 -- The end of a system whose run ends: multipliers of a row for which nothing can enter, or the values of a vertex.
-use Rattle.std.proofs.Common.{◌≡◌, ◌≢◌, ◌⊎◌, ℕ, zero, suc, ◌+◌, ◌<◌, ◌≤◌, ℤ, pos, negsuc, ◌<ℤ◌, List, [], ◌∷◌, ◌++◌, length, get_or, set, map, replicate, inl, inr, ⊎_elim, refl, sym, ap, subst, ◌∙◌, arith}
+use Rattle.std.proofs.Common.{◌≡◌, ◌≢◌, ◌⊎◌, ℕ, zero, suc, ◌+◌, ◌<◌, ℤ, pos, negsuc, ◌<ℤ◌, List, [], ◌∷◌, ◌++◌, length, get_or, set, map, replicate, inl, inr, ⊎_elim, refl, sym, subst, ◌∙◌, arith}
 use Rattle.std.proofs.lemmas.Int.{ints}
 use Rattle.std.proofs.lemmas.List.{length-map, length-set}
 use Rattle.std.proofs.lemmas.List.FromFn.{length-range_with_len}
@@ -13,13 +13,11 @@ use Rattle.ta_dense.specs.Slack.{slack_rows, slack_tableau, variables}
 use Rattle.ta_dense.specs.Laws.{DictionaryOf}
 use Rattle.ta_dense.proofs.DenseFacts.{IsProper-slack}
 use Rattle.ta_dense.proofs.ProperFacts.{proper_pivoted}
-use Rattle.ta_simplex.specs.LeastIndex.{Reached, LeastStep, Stuck, NoneLeaves, Ended}
-use Rattle.ta_simplex.specs.Refuted.{IsRefuted, AreLeafMultipliers}
-use Rattle.ta_simplex.specs.Vertex.{AreZeros, GivesValues, IsVertex}
-use Rattle.ta_simplex.specs.Ends.{IsEnd}
-use Rattle.ta_simplex.specs.Inside.Slots.{slot, put, AreNatural, FillSlots, ListsSlots}
+use Rattle.ta_simplex.specs.LeastIndex.{Reached, LeastStep, Stuck, Ended}
+use Rattle.ta_simplex.specs.Refuted.{AreLeafMultipliers}
+use Rattle.ta_simplex.specs.Vertex.{AreZeros, GivesValues}
+use Rattle.ta_simplex.specs.Inside.Slots.{slot, AreNatural, FillSlots, ListsSlots}
 use Rattle.ta_simplex.specs.Answers.{HasEnd}
-use Rattle.ta_simplex.specs.declared.End.{End}
 use Rattle.ta_simplex.specs.declared.End.TheVariants.{Refuted, Vertex}
 use Rattle.ta_simplex.specs.declared.fraction.Fraction.{Fraction}
 use Rattle.ta_simplex.proofs.RunLemmas.{reached_dictionary}

@@ -1,21 +1,49 @@
 -- The laws of the least-index rule
-use Rattle.std.specs.Prelude.{ℕ, suc, ◌+◌, ◌-◌, ◌^◌, ◌<◌, ◌≤◌, ◌≡◌, List, ℤ, pos, ◌*ℤ◌, length, min, slice_get, slice_index, IsSomeAnd}
+use Rattle.std.specs.Prelude.{ℕ, suc, ◌+◌, ◌-◌, ◌^◌, ◌<◌, ◌≤◌, ◌≡◌, List, [], ◌∷◌, ℤ, pos, ◌*ℤ◌, length, min, slice_get, slice_index, IsSomeAnd}
+use Rattle.ta_linear.specs.Terms.{coefficient}
 use Rattle.ta_linear.specs.Values.{Solves}
+use Rattle.ta_linear.specs.declared.row.Row.{Row}
 use Rattle.ta_linear.specs.declared.row.System.{System}
 use Rattle.ta_dense.specs.Tableau.{Tableau}
 use Rattle.ta_dense.specs.Slack.{slack_tableau}
 use Rattle.ta_dense.specs.Kept.{KeptPivot, StayInRange}
 use Rattle.ta_dense.specs.Extending.{extended, new_rows, FirstLeaving}
+use Rattle.ta_simplex.specs.Ends.{IsEnd}
 use Rattle.ta_simplex.specs.Follows.{Begins, Follows}
 use Rattle.ta_simplex.specs.LeastIndex.{Reached, Ended, OverflowsAt}
 use Rattle.ta_simplex.specs.Refuted.{IsRefuted}
 use Rattle.ta_simplex.specs.Vertex.{MeetRows}
+use Rattle.ta_simplex.specs.declared.End.{End}
 use Rattle.ta_simplex.specs.declared.fraction.Fraction.{Fraction}
 
 -- from the slacks on, the rule leads to one tableau for each number of steps, and it ends at one number of steps at most
 pub record RunsAreDetermined : Type 0 where
   pub same : (s : System) (k : ℕ) (t t' : Tableau) → Reached (slack_tableau s) k t → Reached (slack_tableau s) k t' → t ≡ t'
   pub once : (s : System) (j k : ℕ) (t t' : Tableau) → Reached (slack_tableau s) j t → Ended t → Reached (slack_tableau s) k t' → Ended t' → j ≡ k
+
+-- the same constant, and the same coefficient of each unknown
+pub record SameRow (r q : Row) : Type 0 where
+  pub constant : r.form.constant ≡ q.form.constant
+  pub coefficients : (u : ℕ) → coefficient r.form.terms u ≡ coefficient q.form.terms u
+
+-- row for row
+abbrev pub RowsAlike : List Row → List Row → Type 0
+RowsAlike [] [] = Unit {0}
+RowsAlike (r ∷ rs) (q ∷ qs) = SameRow r q × RowsAlike rs qs
+RowsAlike [] (q ∷ qs) = ⊥
+RowsAlike (r ∷ rs) [] = ⊥
+
+-- two systems of the same numbers, however each of them is written
+pub record SameNumbers (s z : System) : Type 0 where
+  pub unknowns : s.unknowns ≡ z.unknowns
+  pub rows : RowsAlike s.rows z.rows
+
+-- such systems have one end, which is one list of multipliers or one of values; none where a pivot leaves the range; and the pivot
+-- that does is of one number
+pub record EndsAreDetermined : Type 0 where
+  pub one : (s z : System) → SameNumbers s z → (e f : End) → IsEnd s e → IsEnd z f → e ≡ f
+  pub none : (s z : System) → SameNumbers s z → (e : End) (k : ℕ) → IsEnd s e → OverflowsAt (slack_tableau z) k → ⊥
+  pub first : (s z : System) → SameNumbers s z → (j k : ℕ) → OverflowsAt (slack_tableau s) j → OverflowsAt (slack_tableau z) k → j ≡ k
 
 -- where each value of a vertex is a natural number, these numbers solve the system
 abbrev pub WholeVerticesSolve : Type 0

@@ -2,11 +2,17 @@
 #![tactic(auto)]
 
 ghost use Rattle.ta_simplex.specs.Answers.{RunsHaveEnds, SystemsHaveEnds};
-ghost use Rattle.ta_simplex.specs.Laws.{MultipliersAreFew, PrefixesGoFirst, RunsAreDetermined, WholeVerticesSolve};
+ghost use Rattle.ta_simplex.specs.Laws.{EndsAreDetermined, MultipliersAreFew, PrefixesGoFirst, RunsAreDetermined, WholeVerticesSolve};
 
 /// The rule leaves no choice: a system has one list of bases and at most one end.
 pub fn runs_are_determined()
     ensures { RunsAreDetermined }
+{}
+
+/// However a system is written, it has one end: one list of multipliers, or one of values. It has none
+/// where a pivot leaves 128 bits, and that pivot has one number.
+pub fn ends_are_determined()
+    ensures { EndsAreDetermined }
 {}
 
 /// A vertex whose values are all whole is a solution.

@@ -14,8 +14,8 @@ pub use branch::{Branch, Standing};
 pub use fault::SolveFault;
 pub use fraction::Fraction;
 pub use laws::{
-    multipliers_are_few, prefixes_go_first, runs_are_determined, runs_have_ends,
-    whole_vertices_solve,
+    ends_are_determined, multipliers_are_few, prefixes_go_first, runs_are_determined,
+    runs_have_ends, whole_vertices_solve,
 };
 pub use solving::{Ended, resume, solve};
 use ta_linear::List;

@@ -44,7 +44,7 @@ fn put_value(values: &mut [Fraction], variable: u32, value: Fraction)
 fn zeros(alloc: Global, unknowns: u32) -> Result<Vec<Fraction>, AllocError>
     ensures { IfOk result (λ values. AreZeros unknowns values.items) }
 {
-    let mut values = Vec::new(alloc);
+    let mut values = Vec::with_capacity(alloc, unknowns as usize)?;
     for _unknown in 0..unknowns {
         values.push(Fraction { top: 0, bottom: 1 })?;
     }

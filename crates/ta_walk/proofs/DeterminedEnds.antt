@@ -1,40 +1,42 @@
--- a walk has one end
+-- a search has one end, and so has a walk
 use Rattle.std.proofs.lemmas.Bool.{cases_order}
 use Rattle.std.proofs.lemmas.List.{reverse-reverse}
-use Rattle.std.proofs.Common.{◌≡◌, inl, inr, ℕ, ◌<◌, List, length, reverse, arith, sym, ap, ◌∙◌, subst}
-use Rattle.ta_automaton.specs.declared.automaton.Automaton.{Automaton}
-use Rattle.ta_automaton.specs.declared.pattern.Pattern.{Pattern}
+use Rattle.std.proofs.Common.{◌≡◌, inl, inr, ℕ, ◌<◌, List, ℤ, length, reverse, arith, refl, sym, ap, ◌∙◌, subst}
 use Rattle.ta_cert.specs.declared.line.Node.{Node}
 use Rattle.ta_words.specs.declared.element.Element.{Element}
-use Rattle.ta_encode.specs.declared.encoded.Solution.{Solution}
-use Rattle.ta_encode.specs.InPreorder.{Pending}
 use Rattle.ta_walk.specs.declared.end.PlaceKind.{PlaceKind}
-use Rattle.ta_walk.specs.declared.end.WalkEnd.TheVariants.{Refuted, Found, Spent, Overflow}
-use Rattle.ta_walk.specs.Visit.{NodeAt, LeavesAt}
-use Rattle.ta_walk.specs.Ends.{TreeIs, NodeOf, SolutionAt, IsSpent, EndsAreDetermined}
+use Rattle.ta_walk.specs.Visit.{NodeAt, WholeAt, LeavesAt}
+use Rattle.ta_walk.specs.Ends.{TreeIs, NodeOf, SolutionAt, IsSpent, Ending, Whole, Solved, Stopped, Left, IsEnding, EndingsAreDetermined, IsEnd, EndsAreDetermined}
 use Rattle.ta_walk.proofs.DeterminedNodes.{whole_once, whole_is_no_node, leaving_is_no_node, leaving_is_not_whole, leaving_once}
 use Rattle.ta_walk.proofs.DeterminedVisits.{tree_once, word_of_tree, word_once, node_at_word}
+use Rattle.ta_automaton.specs.declared.automaton.Automaton.{Automaton}
+use Rattle.ta_automaton.specs.declared.pattern.Pattern.{Pattern}
+use Rattle.ta_encode.specs.declared.encoded.Solution.{Solution}
+use Rattle.ta_encode.specs.Search.{Pending, Search}
+use Rattle.ta_encode.specs.PatternSearch.{pattern_search}
+use Rattle.ta_walk.specs.declared.end.WalkEnd.{WalkEnd}
+use Rattle.ta_walk.specs.declared.end.WalkEnd.TheVariants.{Refuted, Found, Spent, Overflow}
 
 -- where a fact holds of a word, no node stands at it
-abbrev BarsNodes : Automaton → Pattern → (Pending → Type 0) → Type 0
-BarsNodes a p fact = (w : Pending) (n : Node) → fact w → NodeAt a p w n → ⊥
+abbrev BarsNodes : Search → (Pending → Type 0) → Type 0
+BarsNodes s fact = (w : Pending) (n : Node) → fact w → NodeAt s w n → ⊥
 
 -- a whole tree has no node of that number with such a fact
-not_in_tree : (a : Automaton) (p : Pattern) (budget c i : ℕ) (ns : List Node) (F : Pending → Type 0) → BarsNodes a p F → TreeIs a p budget ns c → NodeOf a p budget i F → ⊥
-not_in_tree a p budget c i ns F bars t f =
-    let on = word_of_tree a p budget ns c f.before f.word t f.visited in
+not_in_tree : (s : Search) (budget c i : ℕ) (ns : List Node) (F : Pending → Type 0) → BarsNodes s F → TreeIs s budget ns c → NodeOf s budget i F → ⊥
+not_in_tree s budget c i ns F bars t f =
+    let on = word_of_tree s budget ns c f.before f.word t f.visited in
     bars f.word on.1.0 f.holds on.1.1
 
 -- nor does a spent budget reach past a node with such a fact
-not_before_spent : (a : Automaton) (p : Pattern) (budget c i : ℕ) (F : Pending → Type 0) → BarsNodes a p F → IsSpent a p budget c → NodeOf a p budget i F → ⊥
-not_before_spent a p budget c i F bars s f =
+not_before_spent : (s : Search) (budget c i : ℕ) (F : Pending → Type 0) → BarsNodes s F → IsSpent s budget c → NodeOf s budget i F → ⊥
+not_before_spent s budget c i F bars spent f =
     let less : f.before < budget = (let h = f.within in let e = f.number_is in omega arith) in
-    let on = node_at_word a p f.before budget f.word s.word less f.visited s.visited in
+    let on = node_at_word s f.before budget f.word spent.word less f.visited spent.visited in
     bars f.word on.0 f.holds on.1
 
-tree_is_not_spent : (a : Automaton) (p : Pattern) (budget c d : ℕ) (ns : List Node) → TreeIs a p budget ns c → IsSpent a p budget d → ⊥
-tree_is_not_spent a p budget c d ns t s =
-    let less = (word_of_tree a p budget ns c budget s.word t s.visited).0 in
+tree_is_not_spent : (s : Search) (budget c d : ℕ) (ns : List Node) → TreeIs s budget ns c → IsSpent s budget d → ⊥
+tree_is_not_spent s budget c d ns t spent =
+    let less = (word_of_tree s budget ns c budget spent.word t spent.visited).0 in
     let within = t.within in
     absurd (omega arith)
 
@@ -45,8 +47,8 @@ record SamePlace (i j : ℕ) (F G : Pending → Type 0) : Type 0 where
   pub one : F word
   pub other : G word
 
-place_once : (a : Automaton) (p : Pattern) (budget i j : ℕ) (F G : Pending → Type 0) → BarsNodes a p F → BarsNodes a p G → NodeOf a p budget i F → NodeOf a p budget j G → SamePlace i j F G
-place_once a p budget i j F G bars bar f g =
+place_once : (s : Search) (budget i j : ℕ) (F G : Pending → Type 0) → BarsNodes s F → BarsNodes s G → NodeOf s budget i F → NodeOf s budget j G → SamePlace i j F G
+place_once s budget i j F G bars bar f g =
     let number = f.number_is in
     let numbered = g.number_is in
     elim (cases_order f.before g.before) [
@@ -54,60 +56,107 @@ place_once a p budget i j F G bars bar f g =
         number = omega arith;
         word = f.word;
         one = f.holds;
-        other = subst G (sym (word_once a p f.before g.before f.word g.word same f.visited g.visited)) g.holds;
+        other = subst G (sym (word_once s f.before g.before f.word g.word same f.visited g.visited)) g.holds;
       }
       | inr apart ↦ elim apart [
-        | inl less ↦ (let on = node_at_word a p f.before g.before f.word g.word less f.visited g.visited in absurd (bars f.word on.0 f.holds on.1))
-        | inr more ↦ (let on = node_at_word a p g.before f.before g.word f.word more g.visited f.visited in absurd (bar g.word on.0 g.holds on.1))
+        | inl less ↦ (let on = node_at_word s f.before g.before f.word g.word less f.visited g.visited in absurd (bars f.word on.0 f.holds on.1))
+        | inr more ↦ (let on = node_at_word s g.before f.before g.word f.word more g.visited f.visited in absurd (bar g.word on.0 g.holds on.1))
       ]
     ]
 
-solution_bars : (a : Automaton) (p : Pattern) (number : ℕ) (solution : Solution) → BarsNodes a p (SolutionAt a p number solution)
-solution_bars a p number solution w n h g = whole_is_no_node a p w solution.values n h.whole g
+-- a whole node at this word
+abbrev IsWhole : Search → Pending → List ℤ → Pending → Type 0
+IsWhole s word values w = (w ≡ word) × WholeAt s w values
 
-leaving_bars : (a : Automaton) (p : Pattern) (j : PlaceKind) → BarsNodes a p (λ w. LeavesAt a p w j)
-leaving_bars a p j w n h g = leaving_is_no_node a p w j n h g
+whole_bars : (s : Search) (word : Pending) (values : List ℤ) → BarsNodes s (IsWhole s word values)
+whole_bars s word values w n h g = whole_is_no_node s w values n h.1 g
+
+leaving_bars : (s : Search) (j : PlaceKind) → BarsNodes s (λ w. LeavesAt s w j)
+leaving_bars s j w n h g = leaving_is_no_node s w j n h g
+
+pub endings_once : EndingsAreDetermined
+endings_once s budget (Whole ns c) (Whole ms d) h g =
+    let nodes = tree_once s budget ns ms c d h g in
+    let counts : c ≡ d = h.counted ∙ ap length nodes ∙ sym g.counted in
+    cc
+endings_once s budget (Whole ns c) (Solved j v ks) h g = absurd (not_in_tree s budget c j ns (IsWhole s v ks) (whole_bars s v ks) h g)
+endings_once s budget (Whole ns c) (Stopped d) h g = absurd (tree_is_not_spent s budget c d ns h g)
+endings_once s budget (Whole ns c) (Left j l) h g = absurd (not_in_tree s budget c j ns (λ w. LeavesAt s w l) (leaving_bars s l) h g)
+endings_once s budget (Solved i v ks) (Whole ms d) h g = absurd (not_in_tree s budget d i ms (IsWhole s v ks) (whole_bars s v ks) g h)
+endings_once s budget (Solved i v ks) (Solved j u ns) h g =
+    let same = place_once s budget i j (IsWhole s v ks) (IsWhole s u ns) (whole_bars s v ks) (whole_bars s u ns) h g in
+    let counts = same.number in
+    let words : v ≡ u = sym same.one.0 ∙ same.other.0 in
+    let values = whole_once s same.word ks ns same.one.1 same.other.1 in
+    cc
+endings_once s budget (Solved i v ks) (Stopped d) h g = absurd (not_before_spent s budget d i (IsWhole s v ks) (whole_bars s v ks) g h)
+endings_once s budget (Solved i v ks) (Left j l) h g =
+    let same = place_once s budget i j (IsWhole s v ks) (λ w. LeavesAt s w l) (whole_bars s v ks) (leaving_bars s l) h g in
+    absurd (leaving_is_not_whole s same.word l ks same.other same.one.1)
+endings_once s budget (Stopped c) (Whole ms d) h g = absurd (tree_is_not_spent s budget d c ms g h)
+endings_once s budget (Stopped c) (Solved j u ns) h g = absurd (not_before_spent s budget c j (IsWhole s u ns) (whole_bars s u ns) h g)
+endings_once s budget (Stopped c) (Stopped d) h g = ap Stopped (h.counted ∙ sym g.counted)
+endings_once s budget (Stopped c) (Left j l) h g = absurd (not_before_spent s budget c j (λ w. LeavesAt s w l) (leaving_bars s l) h g)
+endings_once s budget (Left i k) (Whole ms d) h g = absurd (not_in_tree s budget d i ms (λ w. LeavesAt s w k) (leaving_bars s k) g h)
+endings_once s budget (Left i k) (Solved j u ns) h g =
+    let same = place_once s budget i j (λ w. LeavesAt s w k) (IsWhole s u ns) (leaving_bars s k) (whole_bars s u ns) h g in
+    absurd (leaving_is_not_whole s same.word k ns same.one same.other.1)
+endings_once s budget (Left i k) (Stopped d) h g = absurd (not_before_spent s budget d i (λ w. LeavesAt s w k) (leaving_bars s k) g h)
+endings_once s budget (Left i k) (Left j l) h g =
+    let same = place_once s budget i j (λ w. LeavesAt s w k) (λ w. LeavesAt s w l) (leaving_bars s k) (leaving_bars s l) h g in
+    let counts = same.number in
+    let kinds = leaving_once s same.word k l same.one same.other in
+    cc
+
+-- the node of a number has a fact that follows
+pub node_with : (s : Search) (budget number : ℕ) (F G : Pending → Type 0) (n : NodeOf s budget number F) → G n.word → NodeOf s budget number G
+node_with s budget number F G n holds = record { before = n.before; number_is = n.number_is; within = n.within; word = n.word; visited = n.visited; holds = holds }
 
 word_same : (xs ys zs : List Element) → reverse xs ≡ zs → reverse ys ≡ zs → xs ≡ ys
 word_same xs ys zs is are = sym (reverse-reverse xs) ∙ ap reverse (is ∙ sym are) ∙ reverse-reverse ys
 
-solution_once : (a : Automaton) (p : Pattern) (number : ℕ) (x y : Solution) (w : Pending) → SolutionAt a p number x w → SolutionAt a p number y w → x ≡ y
-solution_once a p number x y w h g =
+-- what a walk ended at, as an end of the search of its pattern
+abbrev ending_of : (a : Automaton) (p : Pattern) (number budget : ℕ) (e : WalkEnd) → IsEnd a p number budget e → Ending
+ending_of a p number budget (Refuted ns c) h = Whole ns c
+ending_of a p number budget (Found i x) h = Solved i h.word x.values
+ending_of a p number budget (Spent c) h = Stopped c
+ending_of a p number budget (Overflow i k) h = Left i k
+
+is_ending : (a : Automaton) (p : Pattern) (number budget : ℕ) (e : WalkEnd) (h : IsEnd a p number budget e) → IsEnding (pattern_search a p) budget (ending_of a p number budget e h)
+is_ending a p number budget (Refuted ns c) h = h
+is_ending a p number budget (Found i x) h = node_with (pattern_search a p) budget i (SolutionAt a p number x) (IsWhole (pattern_search a p) h.word x.values) h (refl, h.holds.whole)
+is_ending a p number budget (Spent c) h = h
+is_ending a p number budget (Overflow i k) h = h
+
+solution_once : (a : Automaton) (p : Pattern) (number : ℕ) (x y : Solution) (w v : Pending) → w ≡ v → x.values ≡ y.values → SolutionAt a p number x w → SolutionAt a p number y v → x ≡ y
+solution_once a p number x y w v same values h g =
     let patterns = h.pattern ∙ sym g.pattern in
-    let starts = h.start ∙ sym g.start in
-    let words = word_same x.word y.word w.past h.word g.word in
-    let values = whole_once a p w x.values y.values h.whole g.whole in
+    let starts = h.start ∙ ap (λ (u : Pending). u.start) same ∙ sym g.start in
+    let words = word_same x.word y.word v.past (h.word ∙ ap (λ (u : Pending). u.past) same) g.word in
     λ i. record { pattern = patterns i; start_mask = starts i; word = words i; values = values i }
 
 pub ends_once : EndsAreDetermined
-ends_once a p number budget (Refuted ns c) (Refuted ms d) h g =
-    let nodes = tree_once a p budget ns ms c d h g in
-    let counts : c ≡ d = h.counted ∙ ap length nodes ∙ sym g.counted in
-    cc
-ends_once a p number budget (Refuted ns c) (Found j y) h g = absurd (not_in_tree a p budget c j ns (SolutionAt a p number y) (solution_bars a p number y) h g)
-ends_once a p number budget (Refuted ns c) (Spent d) h g = absurd (tree_is_not_spent a p budget c d ns h g)
-ends_once a p number budget (Refuted ns c) (Overflow j l) h g = absurd (not_in_tree a p budget c j ns (λ w. LeavesAt a p w l) (leaving_bars a p l) h g)
-ends_once a p number budget (Found i x) (Refuted ms d) h g = absurd (not_in_tree a p budget d i ms (SolutionAt a p number x) (solution_bars a p number x) g h)
-ends_once a p number budget (Found i x) (Found j y) h g =
-    let same = place_once a p budget i j (SolutionAt a p number x) (SolutionAt a p number y) (solution_bars a p number x) (solution_bars a p number y) h g in
-    let counts = same.number in
-    let solutions = solution_once a p number x y same.word same.one same.other in
-    cc
-ends_once a p number budget (Found i x) (Spent d) h g = absurd (not_before_spent a p budget d i (SolutionAt a p number x) (solution_bars a p number x) g h)
-ends_once a p number budget (Found i x) (Overflow j l) h g =
-    let same = place_once a p budget i j (SolutionAt a p number x) (λ w. LeavesAt a p w l) (solution_bars a p number x) (leaving_bars a p l) h g in
-    absurd (leaving_is_not_whole a p same.word l x.values same.other same.one.whole)
-ends_once a p number budget (Spent c) (Refuted ms d) h g = absurd (tree_is_not_spent a p budget d c ms g h)
-ends_once a p number budget (Spent c) (Found j y) h g = absurd (not_before_spent a p budget c j (SolutionAt a p number y) (solution_bars a p number y) h g)
-ends_once a p number budget (Spent c) (Spent d) h g = ap Spent (h.counted ∙ sym g.counted)
-ends_once a p number budget (Spent c) (Overflow j l) h g = absurd (not_before_spent a p budget c j (λ w. LeavesAt a p w l) (leaving_bars a p l) h g)
-ends_once a p number budget (Overflow i k) (Refuted ms d) h g = absurd (not_in_tree a p budget d i ms (λ w. LeavesAt a p w k) (leaving_bars a p k) g h)
-ends_once a p number budget (Overflow i k) (Found j y) h g =
-    let same = place_once a p budget i j (λ w. LeavesAt a p w k) (SolutionAt a p number y) (leaving_bars a p k) (solution_bars a p number y) h g in
-    absurd (leaving_is_not_whole a p same.word k y.values same.one same.other.whole)
-ends_once a p number budget (Overflow i k) (Spent d) h g = absurd (not_before_spent a p budget d i (λ w. LeavesAt a p w k) (leaving_bars a p k) g h)
-ends_once a p number budget (Overflow i k) (Overflow j l) h g =
-    let same = place_once a p budget i j (λ w. LeavesAt a p w k) (λ w. LeavesAt a p w l) (leaving_bars a p k) (leaving_bars a p l) h g in
-    let counts = same.number in
-    let kinds = leaving_once a p same.word k l same.one same.other in
-    cc
+ends_once a p number budget e f h g = from e f h g (endings_once (pattern_search a p) budget (ending_of a p number budget e h) (ending_of a p number budget f g) (is_ending a p number budget e h) (is_ending a p number budget f g))
+  where
+    from : (e f : WalkEnd) (h : IsEnd a p number budget e) (g : IsEnd a p number budget f) → ending_of a p number budget e h ≡ ending_of a p number budget f g → e ≡ f
+    from (Refuted ns c) (Refuted ms d) h g same = cc
+    from (Refuted ns c) (Found j y) h g same = absurd (cc)
+    from (Refuted ns c) (Spent d) h g same = absurd (cc)
+    from (Refuted ns c) (Overflow j l) h g same = absurd (cc)
+    from (Found i x) (Refuted ms d) h g same = absurd (cc)
+    from (Found i x) (Found j y) h g same =
+        let counts : i ≡ j = cc in
+        let words : h.word ≡ g.word = cc in
+        let values : x.values ≡ y.values = cc in
+        let solutions = solution_once a p number x y h.word g.word words values h.holds g.holds in
+        cc
+    from (Found i x) (Spent d) h g same = absurd (cc)
+    from (Found i x) (Overflow j l) h g same = absurd (cc)
+    from (Spent c) (Refuted ms d) h g same = absurd (cc)
+    from (Spent c) (Found j y) h g same = absurd (cc)
+    from (Spent c) (Spent d) h g same = cc
+    from (Spent c) (Overflow j l) h g same = absurd (cc)
+    from (Overflow i k) (Refuted ms d) h g same = absurd (cc)
+    from (Overflow i k) (Found j y) h g same = absurd (cc)
+    from (Overflow i k) (Spent d) h g same = absurd (cc)
+    from (Overflow i k) (Overflow j l) h g same = cc

@@ -1,61 +1,13 @@
--- the values of a vertex are one list, and so are its whole numbers, its split and its floor
-use mathlib.Core.HLevel.{is_prop→PathP}
+-- the whole numbers that are values are one list, and so are their split and its floor
 use Rattle.std.proofs.lemmas.Bool.{cases_order}
-use Rattle.std.proofs.Common.{◌≡◌, inl, inr, ℕ, zero, suc, ◌<◌, List, [], ◌∷◌, length, arith, refl, sym, ap, ◌∙◌, subst, ℤ, pos, ◌+ℤ◌, ◌*ℤ◌, ◌-ℤ◌, ◌<ℤ◌, Option, Some, None, slice_get}
+use Rattle.std.proofs.Common.{◌≡◌, inl, inr, ℕ, zero, suc, ◌<◌, List, [], ◌∷◌, arith, refl, sym, ◌∙◌, subst, ℤ, pos, ◌+ℤ◌, ◌*ℤ◌, ◌-ℤ◌, ◌<ℤ◌, Option, Some, None, slice_get}
 use Rattle.std.specs.Prelude.{IsSomeAnd}
 use Rattle.std.proofs.lemmas.Int.{ints}
-use Rattle.std.proofs.Props.{props}
 use Rattle.ta_linear.proofs.Integers.{mul_comm, minus_times}
 use Rattle.ta_linear.proofs.Signs.{lt-zero_of_mul}
-use Rattle.ta_linear.specs.declared.row.System.{System}
-use Rattle.ta_dense.specs.Tableau.{Tableau, row_of, basic_of, non_basic_of}
-use Rattle.ta_dense.specs.Laws.{DictionaryOf}
 use Rattle.ta_dense.proofs.Divide.{cancel_positive}
-use Rattle.ta_simplex.specs.Vertex.{GivesValues}
 use Rattle.ta_simplex.specs.declared.fraction.Fraction.{Fraction}
 use Rattle.ta_walk.specs.Visit.{IsNumber, IsWhole, IsAbove, SplitsAt, AreNumbers}
-
-positive_prop : (z : ℤ) → IsProp (pos 0 <ℤ z)
-positive_prop z = hlevel props
-
--- a fraction is its top and its bottom
-fraction_same : (f g : Fraction) → f.top ≡ g.top → f.bottom ≡ g.bottom → f ≡ g
-fraction_same f g tops bottoms = λ i. record {
-  top = tops i;
-  bottom = bottoms i;
-  positive = is_prop→PathP (λ j. pos 0 <ℤ bottoms j) (λ j. positive_prop (bottoms j)) f.positive g.positive i;
-}
-
--- two values that are one fraction
-value_same : (o q : Option Fraction) (top bottom : ℤ) → IsSomeAnd o (λ f. (f.top ≡ top) × (f.bottom ≡ bottom)) → IsSomeAnd q (λ f. (f.top ≡ top) × (f.bottom ≡ bottom)) → o ≡ q
-value_same None q top bottom is are = absurd is
-value_same (Some f) None top bottom is are = absurd are
-value_same (Some f) (Some g) top bottom is are = ap Some (fraction_same f g (is.0 ∙ sym are.0) (is.1 ∙ sym are.1))
-
--- lists are one that have one value at each place
-places_same : (fs gs : List Fraction) → length fs ≡ length gs → ((x : ℕ) → x < length fs → slice_get fs x ≡ slice_get gs x) → fs ≡ gs
-places_same [] [] e same = refl
-places_same [] (g ∷ gs) e same = absurd (omega arith)
-places_same (f ∷ fs) [] e same = absurd (omega arith)
-places_same (f ∷ fs) (g ∷ gs) e same =
-    let first = same 0 (omega arith) in
-    let rest = places_same fs gs (omega arith) (λ x h. same (suc x) (omega arith)) in
-    cc
-
--- a dictionary gives each unknown one value
-pub values_once : (s : System) (t : Tableau) (fs gs : List Fraction) → DictionaryOf s t → GivesValues t s.unknowns fs → GivesValues t s.unknowns gs → fs ≡ gs
-values_once s t fs gs d is are = places_same fs gs (is.count ∙ sym are.count) (λ x h. place x (let k = is.count in omega arith))
-  where
-    place : (x : ℕ) → x < s.unknowns → slice_get fs x ≡ slice_get gs x
-    place x h =
-        elim (d.basis.cover x (omega arith)) [
-          | inl b ↦
-              let below : basic_of t b.0 < s.unknowns = let e = b.2 in omega arith in
-              subst (λ (u : ℕ). slice_get fs u ≡ slice_get gs u) b.2 (value_same (slice_get fs (basic_of t b.0)) (slice_get gs (basic_of t b.0)) (row_of t b.0).constant (row_of t b.0).denominator (is.basic b.0 b.1 below) (are.basic b.0 b.1 below))
-          | inr j ↦
-              let below : non_basic_of t j.0 < s.unknowns = let e = j.2 in omega arith in
-              subst (λ (u : ℕ). slice_get fs u ≡ slice_get gs u) j.2 (value_same (slice_get fs (non_basic_of t j.0)) (slice_get gs (non_basic_of t j.0)) (pos 0) (pos 1) (is.non_basic j.0 j.1 below) (are.non_basic j.0 j.1 below))
-        ]
 
 -- a product with a positive number is below another only if the other factor is
 factor_below : (b x y : ℤ) → pos 0 <ℤ b → (x *ℤ b) <ℤ (y *ℤ b) → x <ℤ y

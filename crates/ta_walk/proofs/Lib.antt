@@ -3,17 +3,13 @@ pub mod WordsSolved
 pub mod ProofsMade
 pub mod NodesShort
 pub mod DeterminedEnds
-mod RowCounts
-mod WordsVisited
+pub mod WordsVisited
+pub mod SamplesFound
 mod TableausInRange
 mod SplitsFit
-mod MultiplierCoefficients
 mod NodesWritten
-mod DeterminedMultipliers
 mod DeterminedNodes
 mod DeterminedOutcomes
-mod DeterminedSteps
-mod DeterminedTableau
 mod DeterminedValues
 mod DeterminedVisits
 mod Vertices

@@ -11,12 +11,14 @@ use Rattle.ta_cert.specs.declared.line.Node.{Node}
 use Rattle.ta_cert.specs.declared.line.Node.TheVariants as node
 use Rattle.ta_cert.specs.Lines.{pair_text, pairs_text, split_text, IsPair, ArePairs, IsSplit, IsNode}
 use Rattle.ta_cert.proofs.Decimals.{wide}
-use Rattle.ta_encode.specs.InPreorder.{Pending, parts}
 use Rattle.ta_simplex.proofs.FewMultipliers.{few_multipliers}
 use Rattle.ta_walk.specs.Visit.{NodeAt, Visits}
 use Rattle.ta_walk.specs.Ends.{HasFewPairs, IsShort}
 use Rattle.ta_walk.proofs.WordsVisited.{Waits, next_wait}
-use Rattle.ta_walk.proofs.RowCounts.{few_unknowns}
+use Rattle.ta_encode.specs.Search.{Pending, parts}
+use Rattle.ta_encode.specs.PatternSearch.{pattern_search}
+use Rattle.ta_cursor.proofs.PatternWords.{comes_legal}
+use Rattle.ta_cursor.proofs.RowCounts.{few_unknowns}
 
 -- a row or an unknown has at most 10 digits, and a multiplier or a floor at most 39
 pub row_short : (k : ℕ) → k < 2 ^ 32 → length (decimal k) ≤ 10
@@ -60,7 +62,7 @@ nodes_short [] are few = tt
 nodes_short (n ∷ ns) are few = (node_short n are.0 few.0, nodes_short ns are.1 few.1)
 
 -- a node that stands at a legal word of a file's pattern has few pairs
-node_few : (file : File) (number : ℕ) (p : Pattern) (w : Pending) (n : Node) → slice_get file.patterns number ≡ Some p → Legal file.automaton p w.start w.past → NodeAt file.automaton p w n → HasFewPairs n
+node_few : (file : File) (number : ℕ) (p : Pattern) (w : Pending) (n : Node) → slice_get file.patterns number ≡ Some p → Legal file.automaton p w.start w.past → NodeAt (pattern_search file.automaton p) w n → HasFewPairs n
 node_few file number p w (node.Leaf ts) at legal stands =
     let s = stands.refuted.system in
     let unknowns = stands.refuted.is.unknowns in
@@ -69,9 +71,9 @@ node_few file number p w node.Extend at legal stands = tt
 node_few file number p w (node.Split unknown floor) at legal stands = tt
 
 -- each node that is visited has few pairs
-pub nodes_few : (file : File) (number : ℕ) (p : Pattern) → slice_get file.patterns number ≡ Some p → (most : ℕ) (ws : List Pending) (ns : List Node) (rest : List Pending) → Each (Waits file.automaton p most) ws → Visits file.automaton p ws ns rest → Each HasFewPairs ns
+pub nodes_few : (file : File) (number : ℕ) (p : Pattern) → slice_get file.patterns number ≡ Some p → (most : ℕ) (ws : List Pending) (ns : List Node) (rest : List Pending) → Each (Waits (pattern_search file.automaton p) most) ws → Visits (pattern_search file.automaton p) ws ns rest → Each HasFewPairs ns
 nodes_few file number p at most ws [] rest all v = tt
 nodes_few file number p at most [] (n ∷ ns) rest all v = absurd v
 nodes_few file number p at most (w ∷ ws) (n ∷ ns) rest all v =
-    let a = file.automaton in
-    (node_few file number p w n at all.0.legal v.0, nodes_few file number p at (most + 1) (parts a p w n ++ ws) ns rest (next_wait a p most w ws n all) v.1)
+    let s = pattern_search file.automaton p in
+    (node_few file number p w n at (comes_legal file.automaton p w.start w.past all.0.comes).legal v.0, nodes_few file number p at (most + 1) (parts s w n ++ ws) ns rest (next_wait s most w ws n all) v.1)

@@ -6,18 +6,16 @@ use Rattle.ta_linear.specs.Numbers.{InRange}
 use Rattle.ta_linear.specs.Terms.{coefficient}
 use Rattle.ta_linear.specs.Leaf.{AreMultipliers}
 use Rattle.ta_linear.specs.declared.row.System.{System}
-use Rattle.ta_automaton.specs.declared.automaton.Automaton.{Automaton}
-use Rattle.ta_automaton.specs.declared.pattern.Pattern.{Pattern}
 use Rattle.ta_cert.specs.declared.line.Node.{Node}
 use Rattle.ta_cert.specs.declared.line.Node.TheVariants as node
 use Rattle.ta_cert.specs.Lines.{ArePairs, IsNode}
-use Rattle.ta_encode.specs.Code.{SystemOf}
-use Rattle.ta_encode.specs.InPreorder.{Pending}
 use Rattle.ta_dense.specs.Slack.{variables}
 use Rattle.ta_walk.specs.Visit.{NodeAt}
 use Rattle.ta_walk.proofs.TableausInRange.{multipliers_fit}
 use Rattle.ta_walk.proofs.SplitsFit.{split_within, split_fits}
-use Rattle.ta_walk.proofs.MultiplierCoefficients.{coefficient_first, coefficient_after}
+use Rattle.ta_simplex.proofs.MultiplierCoefficients.{coefficient_first, coefficient_after}
+use Rattle.ta_encode.specs.Code.{SystemAt}
+use Rattle.ta_encode.specs.Search.{Pending, Search}
 
 below_limit : (z : ℤ) (limit : ℕ) → pos 1 ≤ℤ z → unsigned_abs z < limit → z <ℤ pos limit
 below_limit (pos n) limit low h = omega (arith, ints, h)
@@ -36,15 +34,15 @@ are_pairs low count (t ∷ ts) few all fits =
     )
 
 -- a node that stands at a word of few variables can be written
-pub node_written : (a : Automaton) (p : Pattern) (w : Pending) (n : Node) → ((s : System) → SystemOf a p w.start w.past w.bounds s → variables s < 2 ^ 32) → NodeAt a p w n → IsNode n
-node_written a p w (node.Leaf ts) few at =
+pub node_written : (search : Search) (w : Pending) (n : Node) → ((s : System) → SystemAt search w s → variables s < 2 ^ 32) → NodeAt search w n → IsNode n
+node_written search w (node.Leaf ts) few at =
     let s = at.refuted.system in
     let is = at.refuted.holds in
     let room = few s at.refuted.is in
     (is.multipliers.some, are_pairs 0 (length s.rows) ts (omega arith) is.multipliers.leaf.multipliers (λ k from inside. multipliers_fit s ts is k inside))
-node_written a p w node.Extend few at = tt
-node_written a p w (node.Split unknown floor) few at =
+node_written search w node.Extend few at = tt
+node_written search w (node.Split unknown floor) few at =
     let room = few at.vertex.system at.vertex.is in
     let unknowns = at.vertex.is.unknowns in
-    let below = split_within a p w unknown floor at in
-    split_fits a p w unknown floor at (omega arith)
+    let below = split_within search w unknown floor at in
+    split_fits search w unknown floor at (omega arith)

@@ -6,17 +6,14 @@ use Rattle.ta_linear.specs.Numbers.{InRange}
 use Rattle.ta_linear.specs.declared.row.System.{System}
 use Rattle.ta_linear.proofs.Integers.{distributes}
 use Rattle.ta_linear.proofs.Signs.{mul-ge-zero, mul-le-zero}
-use Rattle.ta_automaton.specs.declared.automaton.Automaton.{Automaton}
-use Rattle.ta_automaton.specs.declared.pattern.Pattern.{Pattern}
 use Rattle.ta_cert.specs.Lines.{IsSplit}
-use Rattle.ta_encode.specs.InPreorder.{Pending}
-use Rattle.ta_encode.specs.Unknowns.{meanings}
 use Rattle.ta_dense.specs.Tableau.{row_of, basic_of, non_basic_of}
 use Rattle.ta_simplex.specs.Vertex.{IsVertex}
 use Rattle.ta_simplex.specs.declared.fraction.Fraction.{Fraction}
 use Rattle.ta_simplex.proofs.RunLemmas.{reached_dictionary}
 use Rattle.ta_walk.specs.Visit.{IsAbove, SplitVertex}
 use Rattle.ta_walk.proofs.TableausInRange.{reached_proper}
+use Rattle.ta_encode.specs.Search.{Pending, Search}
 
 some_map : {A : Type 0} (o : Option A) (P Q : A → Type 0) → ((x : A) → P x → Q x) → IsSomeAnd o P → IsSomeAnd o Q
 some_map None P Q f p = p
@@ -28,7 +25,7 @@ some_within (x ∷ xs) zero P h = omega arith
 some_within (x ∷ xs) (suc k) P h = let below = some_within xs k P h in omega arith
 
 -- the numerators of a vertex are in range
-vertex_in_range : (s : System) (values : List Fraction) → IsVertex s values → (x : ℕ) → x < s.unknowns → IsSomeAnd (slice_get values x) (λ f. InRange f.top)
+pub vertex_in_range : (s : System) (values : List Fraction) → IsVertex s values → (x : ℕ) → x < s.unknowns → IsSomeAnd (slice_get values x) (λ f. InRange f.top)
 vertex_in_range s values v x below =
     let t = v.tableau in
     let d = reached_dictionary s v.steps t v.reached in
@@ -76,16 +73,16 @@ floor_fits (Some f) floor is natural fits =
     record { low = low; high = floor_small floor f.top f.bottom f.positive low is.above is.below fits }
 
 -- a split is at an unknown of the word
-pub split_within : (a : Automaton) (p : Pattern) (w : Pending) (unknown : ℕ) (floor : ℤ) → SplitVertex a p w unknown floor → unknown < length (meanings a p w.start w.past)
-split_within a p w unknown floor v =
+pub split_within : (search : Search) (w : Pending) (unknown : ℕ) (floor : ℤ) → SplitVertex search w unknown floor → unknown < search.unknowns w.start w.past
+split_within search w unknown floor v =
     let below = some_within v.values unknown (IsAbove floor) v.splits.here in
     let count = v.vertex.holds.gives.count in
     let unknowns = v.vertex.is.unknowns in
     omega arith
 
 -- its floor is at least 0 and below 2^126
-pub split_fits : (a : Automaton) (p : Pattern) (w : Pending) (unknown : ℕ) (floor : ℤ) → SplitVertex a p w unknown floor → unknown < 2 ^ 32 → IsSplit unknown floor
-split_fits a p w unknown floor v number =
+pub split_fits : (search : Search) (w : Pending) (unknown : ℕ) (floor : ℤ) → SplitVertex search w unknown floor → unknown < 2 ^ 32 → IsSplit unknown floor
+split_fits search w unknown floor v number =
     let s = v.vertex.system in
     let vertex = v.vertex.holds in
     let below = some_within v.values unknown (IsAbove floor) v.splits.here in

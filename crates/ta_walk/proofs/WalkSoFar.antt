@@ -1,147 +1,108 @@
--- what is known at each node of a walk
-use Rattle.std.proofs.Common.{◌≡◌, ℕ, ◌+◌, ◌<◌, ◌≤◌, true, false, List, [], ◌∷◌, ◌++◌, length, arith, refl, ap, subst, Some, slice_get, Ok, length-append}
+-- what is known at each node of a visit
+use Rattle.std.proofs.Common.{◌≡◌, ℕ, zero, suc, ◌+◌, ◌≤◌, true, false, List, [], ◌∷◌, ◌++◌, length, arith, refl, sym, ap, subst, Ok, length-append}
 use Rattle.std.specs.Prelude.{reverse}
-use Rattle.ta_automaton.specs.declared.automaton.Automaton.{Automaton}
-use Rattle.ta_automaton.specs.declared.file.File.{File}
-use Rattle.ta_automaton.specs.declared.pattern.Pattern.{Pattern}
+use Rattle.ta_automaton.specs.Lists.{Each}
 use Rattle.ta_cert.specs.declared.line.Node.{Node}
-use Rattle.ta_words.specs.Calls.{OfPattern}
-use Rattle.ta_words.proofs.Lists.{same_pattern}
-use Rattle.ta_encode.specs.InPreorder.{Pending, all_starts, parts}
-use Rattle.ta_encode.specs.declared.encoded.Solution.{Solution}
-use Rattle.ta_encode.proofs.Switch.{some_at}
-use Rattle.ta_cursor.specs.Cursors.{here, IsFirst, Within, GoesOn}
-use Rattle.ta_cursor.specs.declared.cursor.Cursor.{Cursor}
+use Rattle.ta_words.specs.declared.element.Element.{Element}
+use Rattle.ta_encode.specs.Search.{Pending, Search, parts}
+use Rattle.ta_cursor.specs.Cursors.{here}
+use Rattle.ta_cursor.specs.InTrees.{here_at, AllWithin, AllGoOn}
+use Rattle.ta_cursor.specs.declared.place.Place.{Place}
+use Rattle.ta_cursor.proofs.TreesLeft.{here_first, here_is, later_words}
 use Rattle.ta_walk.specs.declared.end.PlaceKind.{PlaceKind}
 use Rattle.ta_walk.specs.Visit.{Visits, NodeAt, WholeAt, LeavesAt}
-use Rattle.ta_walk.specs.Ends.{TreeIs, Visited, NodeOf, SolutionAt}
-use Rattle.ta_cursor.proofs.Beginning.{begins_within}
-use Rattle.ta_walk.proofs.WordsVisited.{starts_wait, left_wait}
+use Rattle.ta_walk.specs.Ends.{TreeIs, Visited, NodeOf, WholeWord, IsUnbounded}
+use Rattle.ta_walk.proofs.WordsVisited.{roots_wait, left_wait}
 
 -- before a node, behind these
-pub record WalkSoFar (file : File) (cursor : Cursor) (number done : ℕ) (found : List Node) : Type 0 where
-  pub pattern : Pattern
+pub record WalkSoFar (s : Search) (place : Place) (done : ℕ) (found : List Node) : Type 0 where
   pub pending : List Pending
-  pub within : Within file cursor number pattern pending
-  pub visits : Visits file.automaton pattern (all_starts file.automaton) found pending
+  pub within : AllWithin s place pending
+  pub visits : Visits s s.roots found pending
   pub counted : length found ≡ done
 
 -- a visit goes on by one node
-visits_more : (a : Automaton) (p : Pattern) (ws : List Pending) (ns : List Node) (w : Pending) (rest : List Pending) (n : Node) → Visits a p ws ns (w ∷ rest) → NodeAt a p w n → Visits a p ws (ns ++ n ∷ []) (parts a p w n ++ rest)
-visits_more a p ws [] w rest n visits stands = subst (λ (us : List Pending). Visits a p us (n ∷ []) (parts a p w n ++ rest)) visits (stands, refl)
-visits_more a p [] (m ∷ ms) w rest n visits stands = absurd visits
-visits_more a p (v ∷ ws) (m ∷ ms) w rest n visits stands = (visits.0, visits_more a p (parts a p v m ++ ws) ms w rest n visits.1 stands)
+visits_more : (s : Search) (ws : List Pending) (ns : List Node) (w : Pending) (rest : List Pending) (n : Node) → Visits s ws ns (w ∷ rest) → NodeAt s w n → Visits s ws (ns ++ n ∷ []) (parts s w n ++ rest)
+visits_more s ws [] w rest n visits stands = subst (λ (us : List Pending). Visits s us (n ∷ []) (parts s w n ++ rest)) visits (stands, refl)
+visits_more s [] (m ∷ ms) w rest n visits stands = absurd visits
+visits_more s (v ∷ ws) (m ∷ ms) w rest n visits stands = (visits.0, visits_more s (parts s v m ++ ws) ms w rest n visits.1 stands)
 
-pub walk_begins : (file : File) (cursor : Cursor) (number : ℕ) → number < length file.patterns → IsFirst cursor → WalkSoFar file cursor number 0 []
-walk_begins file cursor number exists first =
-    let p = some_at file.patterns number exists in
-    record {
-      pattern = p.0;
-      pending = all_starts file.automaton;
-      within = begins_within file cursor number p.0 p.1 first;
-      visits = refl;
-      counted = refl;
-    }
+pub walk_begins : (s : Search) (place : Place) → AllWithin s place s.roots → WalkSoFar s place 0 []
+walk_begins s place within = record { pending = s.roots; within = within; visits = refl; counted = refl }
 
--- the same, at the word of the cursor
-record AtHere (file : File) (cursor : Cursor) (number done : ℕ) (found : List Node) (p : Pattern) : Type 0 where
+-- the same, at the word of the place
+record AtHere (s : Search) (place : Place) (found : List Node) : Type 0 where
   pub words : List Pending
-  pub within : Within file cursor number p (here cursor ∷ words)
-  pub visits : Visits file.automaton p (all_starts file.automaton) found (here cursor ∷ words)
+  pub within : AllWithin s place (here_at place ∷ words)
+  pub visits : Visits s s.roots found (here_at place ∷ words)
 
-at_here : (file : File) (cursor : Cursor) (number done : ℕ) (found : List Node) (so : WalkSoFar file cursor number done found) → AtHere file cursor number done found so.pattern
-at_here file cursor number done found so =
-    let left = so.within.left in
-    record {
-      words = so.within.words;
-      within = subst (λ (ws : List Pending). Within file cursor number so.pattern ws) left so.within;
-      visits = subst (λ (ws : List Pending). Visits file.automaton so.pattern (all_starts file.automaton) found ws) left so.visits;
-    }
+at_here : (s : Search) (place : Place) (done : ℕ) (found : List Node) → WalkSoFar s place done found → AtHere s place found
+at_here s place done found so = record {
+  words = later_words s place so.pending so.within;
+  within = here_first s place so.pending so.within;
+  visits = subst (λ (ws : List Pending). Visits s s.roots found ws) (here_is s place so.pending so.within) so.visits;
+}
 
 -- each node adds at most one bound to a word
-pub walk_few : (file : File) (cursor : Cursor) (number done : ℕ) (found : List Node) → WalkSoFar file cursor number done found → length cursor.bounds.items ≤ done
-walk_few file cursor number done found so =
-    let a = file.automaton in
-    let at = at_here file cursor number done found so in
+pub walk_few : (s : Search) (place : Place) (done : ℕ) (found : List Node) → Each IsUnbounded s.roots → WalkSoFar s place done found → length place.cursor.bounds.items ≤ done
+walk_few s place done found none so =
+    let at = at_here s place done found so in
     let counted = so.counted in
-    let few = (left_wait a so.pattern 0 (all_starts a) found (here cursor ∷ at.words) (starts_wait a so.pattern) at.visits).0.few in
+    let few = (left_wait s 0 s.roots found (here_at place ∷ at.words) (roots_wait s none) at.visits).0.few in
     omega arith
 
-pub walk_visited : (file : File) (cursor : Cursor) (number done : ℕ) (found : List Node) (so : WalkSoFar file cursor number done found) → Visited file.automaton so.pattern done (here cursor)
-walk_visited file cursor number done found so =
-    let at = at_here file cursor number done found so in
+pub walk_visited : (s : Search) (place : Place) (done : ℕ) (found : List Node) → WalkSoFar s place done found → Visited s done (here_at place)
+walk_visited s place done found so =
+    let at = at_here s place done found so in
     record { nodes = found; words = at.words; visits = at.visits; counted = so.counted }
 
--- what holds of the pattern of the walk holds of the pattern of its number
-of_walk : (file : File) (cursor : Cursor) (number done : ℕ) (found : List Node) (so : WalkSoFar file cursor number done found) (P : Pattern → Type 0) → P so.pattern → (p : Pattern) → slice_get file.patterns number ≡ Some p → P p
-of_walk file cursor number done found so P h p named = subst P (same_pattern file number so.pattern p so.within.inside.named named) h
+went_on : (s : Search) (new : Place) (ws : List Pending) → AllGoOn s new ws (Ok true) → AllWithin s new ws
+went_on s new [] goes = absurd (cc)
+went_on s new (w ∷ ws) goes = goes.1
 
-went_on : (file : File) (new : Cursor) (number : ℕ) (p : Pattern) (ws : List Pending) → GoesOn file new number p ws (Ok true) → Within file new number p ws
-went_on file new number p [] goes = absurd (let e = goes.0 in cc)
-went_on file new number p (w ∷ ws) goes = goes.1
-
-ended : (file : File) (new : Cursor) (number : ℕ) (p : Pattern) (ws : List Pending) → GoesOn file new number p ws (Ok false) → ws ≡ []
-ended file new number p [] goes = refl
-ended file new number p (w ∷ ws) goes = absurd (let e = goes.0 in cc)
+ended : (s : Search) (new : Place) (ws : List Pending) → AllGoOn s new ws (Ok false) → ws ≡ []
+ended s new [] goes = refl
+ended s new (w ∷ ws) goes = absurd (let e = goes.0 in cc)
 
 -- it goes on to the next node
-pub walk_goes : (file : File) (cursor new : Cursor) (number done : ℕ) (found : List Node) (m : Node) → WalkSoFar file cursor number done found →
-    ((p : Pattern) (pending : List Pending) → Within file cursor number p pending → NodeAt file.automaton p (here cursor) m) →
-    ((p : Pattern) (w : Pending) (words : List Pending) → Within file cursor number p (w ∷ words) → GoesOn file new number p (parts file.automaton p w m ++ words) (Ok true)) →
-    WalkSoFar file new number (done + 1) (found ++ m ∷ [])
-walk_goes file cursor new number done found m so stands goes =
-    let a = file.automaton in
-    let at = at_here file cursor number done found so in
+pub walk_goes : (s : Search) (place new : Place) (done : ℕ) (found : List Node) (m : Node) → WalkSoFar s place done found → NodeAt s (here_at place) m →
+    ((w : Pending) (words : List Pending) → AllWithin s place (w ∷ words) → AllGoOn s new (parts s w m ++ words) (Ok true)) →
+    WalkSoFar s new (done + 1) (found ++ m ∷ [])
+walk_goes s place new done found m so stands goes =
+    let at = at_here s place done found so in
     let counted = so.counted in
     record {
-      pattern = so.pattern;
-      pending = parts a so.pattern (here cursor) m ++ at.words;
-      within = went_on file new number so.pattern (parts a so.pattern (here cursor) m ++ at.words) (goes so.pattern (here cursor) at.words at.within);
-      visits = visits_more a so.pattern (all_starts a) found (here cursor) at.words m at.visits (stands so.pattern so.pending so.within);
+      pending = parts s (here_at place) m ++ at.words;
+      within = went_on s new (parts s (here_at place) m ++ at.words) (goes (here_at place) at.words at.within);
+      visits = visits_more s s.roots found (here_at place) at.words m at.visits stands;
       counted = omega (arith, length-append found (m ∷ []));
     }
 
 -- no word is left
-pub walk_refutes : (file : File) (cursor new : Cursor) (number done budget : ℕ) (found : List Node) (m : Node) → WalkSoFar file cursor number done found →
-    ((p : Pattern) (pending : List Pending) → Within file cursor number p pending → NodeAt file.automaton p (here cursor) m) →
-    ((p : Pattern) (w : Pending) (words : List Pending) → Within file cursor number p (w ∷ words) → GoesOn file new number p (parts file.automaton p w m ++ words) (Ok false)) →
-    done + 1 ≤ budget → OfPattern file number (λ p. TreeIs file.automaton p budget (found ++ m ∷ []) (done + 1))
-walk_refutes file cursor new number done budget found m so stands goes within =
-    let a = file.automaton in
-    let at = at_here file cursor number done found so in
+pub walk_refutes : (s : Search) (place new : Place) (done budget : ℕ) (found : List Node) (m : Node) → WalkSoFar s place done found → NodeAt s (here_at place) m →
+    ((w : Pending) (words : List Pending) → AllWithin s place (w ∷ words) → AllGoOn s new (parts s w m ++ words) (Ok false)) →
+    done + 1 ≤ budget → TreeIs s budget (found ++ m ∷ []) (done + 1)
+walk_refutes s place new done budget found m so stands goes within =
+    let at = at_here s place done found so in
     let counted = so.counted in
-    let none = ended file new number so.pattern (parts a so.pattern (here cursor) m ++ at.words) (goes so.pattern (here cursor) at.words at.within) in
-    of_walk file cursor number done found so (λ p. TreeIs a p budget (found ++ m ∷ []) (done + 1)) (record {
-      visits = subst (λ (ws : List Pending). Visits a so.pattern (all_starts a) (found ++ m ∷ []) ws) none (visits_more a so.pattern (all_starts a) found (here cursor) at.words m at.visits (stands so.pattern so.pending so.within));
+    let none = ended s new (parts s (here_at place) m ++ at.words) (goes (here_at place) at.words at.within) in
+    record {
+      visits = subst (λ (ws : List Pending). Visits s s.roots (found ++ m ∷ []) ws) none (visits_more s s.roots found (here_at place) at.words m at.visits stands);
       counted = omega (arith, length-append found (m ∷ []));
       within = within;
-    })
+    }
 
--- the node is whole
-pub walk_finds : (file : File) (cursor : Cursor) (number done budget : ℕ) (found : List Node) (solution : Solution) → WalkSoFar file cursor number done found →
-    ((p : Pattern) (pending : List Pending) → Within file cursor number p pending → WholeAt file.automaton p (here cursor) solution.values) →
-    solution.pattern ≡ number → solution.start_mask ≡ cursor.start_mask → solution.word ≡ cursor.word →
-    done + 1 ≤ budget → OfPattern file number (λ p. NodeOf file.automaton p budget (done + 1) (SolutionAt file.automaton p number solution))
-walk_finds file cursor number done budget found solution so whole pattern start word within =
-    of_walk file cursor number done found so (λ p. NodeOf file.automaton p budget (done + 1) (SolutionAt file.automaton p number solution)) (record {
-      before = done;
-      number_is = refl;
-      within = within;
-      word = here cursor;
-      visited = walk_visited file cursor number done found so;
-      holds = record { pattern = pattern; start = start; word = ap reverse word; whole = whole so.pattern so.pending so.within };
-    })
+-- the node of the place has a fact
+pub walk_at : (s : Search) (place : Place) (done budget : ℕ) (found : List Node) (F : Pending → Type 0) → WalkSoFar s place done found → F (here_at place) → done + 1 ≤ budget → NodeOf s budget (done + 1) F
+walk_at s place done budget found F so holds within = record {
+  before = done;
+  number_is = refl;
+  within = within;
+  word = here_at place;
+  visited = walk_visited s place done found so;
+  holds = holds;
+}
 
--- a number of the node leaves the range
-pub walk_leaves : (file : File) (cursor : Cursor) (number done budget : ℕ) (found : List Node) (place : PlaceKind) → WalkSoFar file cursor number done found →
-    ((p : Pattern) (pending : List Pending) → Within file cursor number p pending → LeavesAt file.automaton p (here cursor) place) →
-    done + 1 ≤ budget → OfPattern file number (λ p. NodeOf file.automaton p budget (done + 1) (λ w. LeavesAt file.automaton p w place))
-walk_leaves file cursor number done budget found place so leaves within =
-    of_walk file cursor number done found so (λ p. NodeOf file.automaton p budget (done + 1) (λ w. LeavesAt file.automaton p w place)) (record {
-      before = done;
-      number_is = refl;
-      within = within;
-      word = here cursor;
-      visited = walk_visited file cursor number done found so;
-      holds = leaves so.pattern so.pending so.within;
-    })
+-- nothing is visited where the search begins with no word
+pub none_visited : (s : Search) (budget : ℕ) → s.roots ≡ [] → TreeIs s budget [] 0
+none_visited s budget none = record { visits = sym none; counted = refl; within = omega arith }

@@ -4,18 +4,18 @@ use Rattle.std.specs.Prelude.{IsSomeAnd, slice_index}
 use Rattle.std.proofs.lemmas.Int.{ints}
 use Rattle.ta_linear.proofs.Signs.{ge-zero_of_mul}
 use Rattle.ta_linear.proofs.Integers.{mul_comm}
-use Rattle.ta_automaton.specs.declared.automaton.Automaton.{Automaton}
-use Rattle.ta_automaton.specs.declared.pattern.Pattern.{Pattern}
 use Rattle.ta_words.specs.declared.element.Element.{Element}
 use Rattle.ta_words.specs.Words.{Legal, is_complete}
-use Rattle.ta_encode.specs.InPreorder.{Pending, all_starts}
 use Rattle.ta_encode.specs.System.{SolvesWord}
 use Rattle.ta_encode.proofs.CodeRows.{solution_of, unbounded}
 use Rattle.ta_simplex.specs.declared.fraction.Fraction.{Fraction}
 use Rattle.ta_simplex.proofs.WholeLemmas.{whole_vertex_solves}
-use Rattle.ta_walk.specs.Visit.{IsNumber, AreNumbers, WholeAt}
-use Rattle.ta_walk.specs.Ends.{FoundWordsAreSolved}
 use Rattle.ta_walk.proofs.WordsVisited.{starts_wait, left_wait}
+use Rattle.ta_encode.specs.Search.{Pending, Search}
+use Rattle.ta_encode.specs.PatternSearch.{pattern_search}
+use Rattle.ta_cursor.proofs.PatternWords.{comes_legal}
+use Rattle.ta_walk.specs.Visit.{IsNumber, AreNumbers}
+use Rattle.ta_walk.specs.Ends.{FoundWordsAreSolved, WholeNodesSolve}
 
 -- natural numbers that are the values
 record Naturals (values : List Fraction) (numbers : List ℤ) : Type 0 where
@@ -51,40 +51,34 @@ naturals (f ∷ fs) (k ∷ ks) are low =
     here n ns e more zero h = e
     here n ns e more (suc x) h = more x (omega arith)
 
--- natural values of a word without its bounds
-record Solved (a : Automaton) (p : Pattern) (w : Pending) (numbers : List ℤ) : Type 0 where
-  pub naturals : List ℕ
-  pub same : numbers ≡ map pos naturals
-  pub solves : SolvesWord a p w.start w.past [] naturals
-
-whole_solves : (a : Automaton) (p : Pattern) (w : Pending) (numbers : List ℤ) → WholeAt a p w numbers → Solved a p w numbers
-whole_solves a p w numbers whole =
-    let s = whole.vertex.system in
+pub whole_solves : WholeNodesSolve
+whole_solves s w numbers whole =
+    let z = whole.vertex.system in
     let at = whole.vertex.holds in
     let count = at.gives.count in
-    let n = naturals whole.values numbers whole.whole (λ x h. at.meet.not_negative x (omega arith)) in
-    record {
-      naturals = n.naturals;
-      same = n.same;
-      solves = unbounded a p w.start w.past w.bounds n.naturals
-          (solution_of a p w.start w.past w.bounds s n.naturals whole.vertex.is
-          (whole_vertex_solves s whole.values n.naturals at.meet (n.count ∙ count) (λ x h. n.are x (omega arith))));
-    }
+    let n = naturals whole.values numbers whole.whole (λ x h. at.meet.not_negative x (omega arith)) in (
+      n.naturals,
+      n.same,
+      solution_of s w z n.naturals whole.vertex.is (whole_vertex_solves z whole.values n.naturals at.meet (n.count ∙ count) (λ x h. n.are x (omega arith))),
+    )
 
 pub found_solved : FoundWordsAreSolved
 found_solved a p number budget count solution found =
+    let s = pattern_search a p in
     let w = found.word in
-    let waits = (left_wait a p 0 (all_starts a) found.visited.nodes (w ∷ found.visited.words) (starts_wait a p) found.visited.visits).0 in
+    let waits = (left_wait s 0 s.roots found.visited.nodes (w ∷ found.visited.words) (starts_wait a p) found.visited.visits).0 in
+    let legal = comes_legal a p w.start w.past waits.comes in
     let at = found.holds in
-    let solved = whole_solves a p w solution.values at.whole in
+    let solved = whole_solves s w solution.values at.whole in
+    let solves = unbounded a p w solved.0 solved.2 in
     let start : w.start ≡ solution.start_mask = sym at.start in
     let past : w.past ≡ reverse solution.word = sym at.word in (
-      solved.naturals,
-      solved.same,
-      subst (λ (k : ℕ). k < 2 ^ length a.fall) start waits.is_start,
+      solved.0,
+      solved.1,
+      subst (λ (k : ℕ). k < 2 ^ length a.fall) start legal.start_is,
       record {
-        legal = subst (λ (k : ℕ). Legal a p k (reverse solution.word)) start (subst (Legal a p w.start) past waits.legal);
+        legal = subst (λ (k : ℕ). Legal a p k (reverse solution.word)) start (subst (Legal a p w.start) past legal.legal);
         complete = ap (is_complete p) (sym past) ∙ at.whole.complete;
-        solves = subst (λ (k : ℕ). SolvesWord a p k (reverse solution.word) [] solved.naturals) start (subst (λ (q : List Element). SolvesWord a p w.start q [] solved.naturals) past solved.solves);
+        solves = subst (λ (k : ℕ). SolvesWord a p k (reverse solution.word) [] solved.0) start (subst (λ (q : List Element). SolvesWord a p w.start q [] solved.0) past solves);
       },
     )

@@ -1,5 +1,5 @@
--- How the walk of a pattern ends
-use Rattle.std.specs.Prelude.{ℕ, pos, ◌+◌, ◌≤◌, ◌<◌, ◌^◌, ◌≡◌, List, [], ◌∷◌, length, map, reverse, slice_get, Some}
+-- How a search, a visit and the walk of a pattern end
+use Rattle.std.specs.Prelude.{ℕ, ℤ, pos, ◌+◌, ◌≤◌, ◌<◌, ◌^◌, ◌≡◌, List, [], ◌∷◌, length, map, reverse, slice_get, Some}
 use Rattle.ta_automaton.specs.declared.automaton.Automaton.{Automaton}
 use Rattle.ta_automaton.specs.declared.pattern.Pattern.{Pattern}
 use Rattle.ta_automaton.specs.declared.file.File.{File}
@@ -9,57 +9,90 @@ use Rattle.ta_cert.specs.declared.line.Node.{Node}
 use Rattle.ta_cert.specs.declared.line.Node.TheVariants.{Extend, Split, Leaf}
 use Rattle.ta_cert.specs.Lines.{IsNode, node_text}
 use Rattle.ta_cert.specs.Streams.{line_limit}
+use Rattle.ta_words.specs.declared.element.Element.{Element}
 use Rattle.ta_encode.specs.declared.encoded.Solution.{Solution}
-use Rattle.ta_encode.specs.InPreorder.{Pending, all_starts, RefutedInOrder}
+use Rattle.ta_encode.specs.InPreorder.{Pending, RefutedInOrder}
 use Rattle.ta_encode.specs.Laws.{SolvedWord}
-use Rattle.ta_cursor.specs.Range.{Judged}
+use Rattle.ta_encode.specs.Search.{Search, SolvesAt}
+use Rattle.ta_encode.specs.PatternSearch.{pattern_search}
+use Rattle.ta_cursor.specs.Range.{IsJudged}
+use Rattle.ta_walk.specs.declared.end.PlaceKind.{PlaceKind}
+use Rattle.ta_walk.specs.declared.end.TreeEnd.{TreeEnd}
+use Rattle.ta_walk.specs.declared.end.TreeEnd.TheVariants as tree
 use Rattle.ta_walk.specs.declared.end.VisitEnd.{VisitEnd}
 use Rattle.ta_walk.specs.declared.end.VisitEnd.TheVariants as visit
 use Rattle.ta_walk.specs.declared.end.WalkEnd.{WalkEnd}
 use Rattle.ta_walk.specs.declared.end.WalkEnd.TheVariants.{Refuted, Found, Spent, Overflow}
 use Rattle.ta_walk.specs.Visit.{Visits, WholeAt, LeavesAt}
 
--- the tree has these nodes, within the budget
-pub record TreeIs (a : Automaton) (p : Pattern) (budget : ℕ) (nodes : List Node) (count : ℕ) : Type 0 where
-  pub visits : Visits a p (all_starts a) nodes []
+-- a word without bounds
+abbrev pub IsUnbounded : Pending → Type 0
+IsUnbounded w = w.bounds ≡ []
+
+-- the tree of a search has these nodes, within the budget
+pub record TreeIs (s : Search) (budget : ℕ) (nodes : List Node) (count : ℕ) : Type 0 where
+  pub visits : Visits s s.roots nodes []
   pub counted : count ≡ length nodes
   pub within : count ≤ budget
 
 -- so many nodes were visited, and then a word is left
-pub record Visited (a : Automaton) (p : Pattern) (count : ℕ) (w : Pending) : Type 0 where
+pub record Visited (s : Search) (count : ℕ) (w : Pending) : Type 0 where
   pub nodes : List Node
   pub words : List Pending
-  pub visits : Visits a p (all_starts a) nodes (w ∷ words)
+  pub visits : Visits s s.roots nodes (w ∷ words)
   pub counted : length nodes ≡ count
 
 -- the node of this number
-pub record NodeOf (a : Automaton) (p : Pattern) (budget : ℕ) (number : ℕ) (fact : Pending → Type 0) : Type 0 where
+pub record NodeOf (s : Search) (budget : ℕ) (number : ℕ) (fact : Pending → Type 0) : Type 0 where
   pub before : ℕ
   pub number_is : number ≡ before + 1
   pub within : number ≤ budget
   pub word : Pending
-  pub visited : Visited a p before word
+  pub visited : Visited s before word
   pub holds : fact word
+
+-- some word is left behind the budget
+pub record IsSpent (s : Search) (budget count : ℕ) : Type 0 where
+  pub counted : count ≡ budget
+  pub word : Pending
+  pub visited : Visited s budget word
+
+-- an end of a search: the nodes of its tree and how many these are; the number of the first whole node, its word and its values; a
+-- spent budget; or the number of the first node at which a number leaves the range, and where
+pub data Ending : Type 0 where
+  Whole : List Node → ℕ → Ending
+  Solved : ℕ → Pending → List ℤ → Ending
+  Stopped : ℕ → Ending
+  Left : ℕ → PlaceKind → Ending
+
+-- a search ends so within a budget
+abbrev pub IsEnding : Search → ℕ → Ending → Type 0
+IsEnding s budget (Whole nodes count) = TreeIs s budget nodes count
+IsEnding s budget (Solved number word values) = NodeOf s budget number (λ w. (w ≡ word) × WholeAt s w values)
+IsEnding s budget (Stopped count) = IsSpent s budget count
+IsEnding s budget (Left number kind) = NodeOf s budget number (λ w. LeavesAt s w kind)
+
+-- a search has one end within a budget
+abbrev pub EndingsAreDetermined : Type 0
+EndingsAreDetermined = (s : Search) (budget : ℕ) (e f : Ending) → IsEnding s budget e → IsEnding s budget f → e ≡ f
+
+-- the values of a whole node are natural numbers that solve its word's system
+abbrev pub WholeNodesSolve : Type 0
+WholeNodesSolve = (s : Search) (w : Pending) (numbers : List ℤ) → WholeAt s w numbers → (values : List ℕ) × (numbers ≡ map pos values) × SolvesAt s w values
 
 -- a solution at a word: its values are those of a whole node
 pub record SolutionAt (a : Automaton) (p : Pattern) (number : ℕ) (solution : Solution) (w : Pending) : Type 0 where
   pub pattern : solution.pattern ≡ number
   pub start : solution.start_mask ≡ w.start
   pub word : reverse solution.word ≡ w.past
-  pub whole : WholeAt a p w solution.values
-
--- some word is left behind the budget
-pub record IsSpent (a : Automaton) (p : Pattern) (budget count : ℕ) : Type 0 where
-  pub counted : count ≡ budget
-  pub word : Pending
-  pub visited : Visited a p budget word
+  pub whole : WholeAt (pattern_search a p) w solution.values
 
 -- how the walk of the pattern of a number ends within a budget
 abbrev pub IsEnd : Automaton → Pattern → ℕ → ℕ → WalkEnd → Type 0
-IsEnd a p number budget (Refuted nodes count) = TreeIs a p budget nodes count
-IsEnd a p number budget (Found count solution) = NodeOf a p budget count (SolutionAt a p number solution)
-IsEnd a p number budget (Spent count) = IsSpent a p budget count
-IsEnd a p number budget (Overflow node kind) = NodeOf a p budget node (λ w. LeavesAt a p w kind)
+IsEnd a p number budget (Refuted nodes count) = TreeIs (pattern_search a p) budget nodes count
+IsEnd a p number budget (Found count solution) = NodeOf (pattern_search a p) budget count (SolutionAt a p number solution)
+IsEnd a p number budget (Spent count) = IsSpent (pattern_search a p) budget count
+IsEnd a p number budget (Overflow node kind) = NodeOf (pattern_search a p) budget node (λ w. LeavesAt (pattern_search a p) w kind)
 
 -- how many of some nodes are leaves
 abbrev pub leaf_count : List Node → ℕ
@@ -69,15 +102,28 @@ leaf_count (Extend ∷ ns) = leaf_count ns
 leaf_count (Split unknown floor ∷ ns) = leaf_count ns
 
 -- the tree has so many nodes, within the budget, and so many of them are leaves; what was kept is what they leave
-pub record TreeKept (a : Automaton) (p : Pattern) (budget : ℕ) (Keeps : List Node → Type 0) (count leaves : ℕ) : Type 0 where
+pub record TreeKept (s : Search) (budget : ℕ) (Keeps : List Node → Type 0) (count leaves : ℕ) : Type 0 where
   pub nodes : List Node
-  pub is : TreeIs a p budget nodes count
+  pub is : TreeIs s budget nodes count
   pub counted : leaves ≡ leaf_count nodes
   pub kept : Keeps nodes
 
--- how a visit ends whose nodes were handed on: a walk ends so, and of the nodes of a whole tree the rest is kept
+-- a word of these elements under a start set, with the values of a whole node
+pub record WholeWord (s : Search) (start : ℕ) (word : List Element) (values : List ℤ) (w : Pending) : Type 0 where
+  pub start_is : start ≡ w.start
+  pub word_is : reverse word ≡ w.past
+  pub whole : WholeAt s w values
+
+-- how a visit of a tree ends whose nodes were handed on: of the nodes of a whole tree the rest is kept
+abbrev pub IsTreeEnd : Search → ℕ → (List Node → Type 0) → TreeEnd → Type 0
+IsTreeEnd s budget Keeps (tree.Refuted count leaves) = TreeKept s budget Keeps count leaves
+IsTreeEnd s budget Keeps (tree.Found count start word values) = NodeOf s budget count (WholeWord s start word values)
+IsTreeEnd s budget Keeps (tree.Spent count) = IsSpent s budget count
+IsTreeEnd s budget Keeps (tree.Overflow node kind) = NodeOf s budget node (λ w. LeavesAt s w kind)
+
+-- the same of a pattern's tree: a walk ends so
 abbrev pub IsVisitEnd : Automaton → Pattern → ℕ → ℕ → (List Node → Type 0) → VisitEnd → Type 0
-IsVisitEnd a p number budget Keeps (visit.Refuted count leaves) = TreeKept a p budget Keeps count leaves
+IsVisitEnd a p number budget Keeps (visit.Refuted count leaves) = TreeKept (pattern_search a p) budget Keeps count leaves
 IsVisitEnd a p number budget Keeps (visit.Found count solution) = IsEnd a p number budget (Found count solution)
 IsVisitEnd a p number budget Keeps (visit.Spent count) = IsEnd a p number budget (Spent count)
 IsVisitEnd a p number budget Keeps (visit.Overflow node kind) = IsEnd a p number budget (Overflow node kind)
@@ -98,7 +144,7 @@ IsShort n = length (node_text n) ≤ line_limit
 
 -- the nodes of a walk that refutes a pattern are a proof of it that a judge accepts, and each of them can be written in a line
 pub record IsProof (a : Automaton) (p : Pattern) (nodes : List Node) : Type 0 where
-  pub refutes : RefutedInOrder Judged a p (all_starts a) nodes
+  pub refutes : RefutedInOrder (pattern_search a p) (IsJudged (pattern_search a p)) (pattern_search a p).roots nodes
   pub writable : Each IsNode nodes
   pub few : Each HasFewPairs nodes
   pub short : Each IsShort nodes
@@ -108,11 +154,11 @@ abbrev pub RefutedPatternsAreSafe : Type 0
 RefutedPatternsAreSafe =
     (file : File) (number : ℕ) (p : Pattern) → slice_get file.patterns number ≡ Some p → LoopsPure file.automaton
     → (budget : ℕ) → budget ≤ 1000000000
-    → (nodes : List Node) (count : ℕ) → TreeIs file.automaton p budget nodes count
+    → (nodes : List Node) (count : ℕ) → TreeIs (pattern_search file.automaton p) budget nodes count
     → IsProof file.automaton p nodes × Safe file.automaton p
 
 -- what a walk finds is a complete legal word with natural values that solve its system
 abbrev pub FoundWordsAreSolved : Type 0
 FoundWordsAreSolved =
-    (a : Automaton) (p : Pattern) (number budget count : ℕ) (solution : Solution) → NodeOf a p budget count (SolutionAt a p number solution)
+    (a : Automaton) (p : Pattern) (number budget count : ℕ) (solution : Solution) → NodeOf (pattern_search a p) budget count (SolutionAt a p number solution)
     → (values : List ℕ) × (solution.values ≡ map pos values) × (solution.start_mask < 2 ^ length a.fall) × SolvedWord a p solution.start_mask solution.word values

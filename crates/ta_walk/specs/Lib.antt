@@ -1,3 +1,4 @@
 pub mod Visit
 pub mod Ends
+pub mod Samples
 pub mod Inside

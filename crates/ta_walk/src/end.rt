@@ -3,6 +3,7 @@
 
 use ta_cert::{List, Node};
 use ta_encode::Solution;
+use ta_words::Word;
 
 /// Where a number left 128 bits.
 #[derive(Clone, Copy, Debug, PartialEq, Eq)]
@@ -14,6 +15,34 @@ pub enum PlaceKind {
     Leaf,
     /// In the replay of the node's run.
     Run,
+}
+
+/// How a visit of a tree ends whose nodes were handed on as they came. Nodes are counted from 1, over
+/// all words with which the search begins, in the order of the visit.
+#[derive(Drop)]
+pub enum TreeEnd {
+    /// The tree has so many nodes, of which so many are leaves.
+    Refuted {
+        count: u64,
+        leaves: u64,
+    },
+    /// The node of this number has a complete word, this one under this start set, and whole values
+    /// that solve its system.
+    Found {
+        count: u64,
+        start_mask: u8,
+        word: Word,
+        values: ta_linear::List<i128>,
+    },
+    /// These many nodes were visited, and the tree has more.
+    Spent {
+        count: u64,
+    },
+    /// At the node of this number a number left 128 bits.
+    Overflow {
+        node: u64,
+        kind: PlaceKind,
+    },
 }
 
 /// How a visit of a pattern's tree ends whose nodes were handed on as they came. Nodes are counted as
@@ -38,6 +67,20 @@ pub enum WalkEnd {
     Refuted { nodes: List<Node>, count: u64 },
     /// The node of this number has a complete word and whole values that solve its system.
     Found { count: u64, solution: Solution },
+    /// These many nodes were visited, and the tree has more.
+    Spent { count: u64 },
+    /// At the node of this number a number left 128 bits.
+    Overflow { node: u64, kind: PlaceKind },
+}
+
+/// How the search for a sample of the parameters ends. Nodes are counted from 1.
+#[derive(Drop)]
+pub enum SampleEnd {
+    /// These values, one for each parameter in the order of the file, meet the resilience condition
+    /// and have an initial configuration.
+    Sample(ta_linear::List<i128>),
+    /// No values do.
+    Empty,
     /// These many nodes were visited, and the tree has more.
     Spent { count: u64 },
     /// At the node of this number a number left 128 bits.

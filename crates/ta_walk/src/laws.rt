@@ -1,7 +1,18 @@
 //! What the ends of walks say. The functions do nothing: their contracts state the laws.
 #![tactic(auto)]
 
-ghost use Rattle.ta_walk.specs.Ends.{EndsAreDetermined, FoundWordsAreSolved, RefutedPatternsAreSafe};
+ghost use Rattle.ta_walk.specs.Ends.{EndingsAreDetermined, EndsAreDetermined, FoundWordsAreSolved, RefutedPatternsAreSafe, WholeNodesSolve};
+ghost use Rattle.ta_walk.specs.Samples.{SampleEndsAreDetermined, SamplesAreReal};
+
+/// A search has one tree, and one end within a budget.
+pub fn endings_are_determined()
+    ensures { EndingsAreDetermined }
+{}
+
+/// The values of a whole node of a search solve its word's system.
+pub fn whole_nodes_solve()
+    ensures { WholeNodesSolve }
+{}
 
 /// A pattern has one tree, and its walk within a budget one end.
 pub fn ends_are_determined()
@@ -17,4 +28,14 @@ pub fn refuted_patterns_are_safe()
 /// What a walk finds is a complete word with a solution.
 pub fn found_words_are_solved()
     ensures { FoundWordsAreSolved }
+{}
+
+/// The search for a sample has one end within a budget.
+pub fn sample_ends_are_determined()
+    ensures { SampleEndsAreDetermined }
+{}
+
+/// A sample has an initial configuration, and where there is none, no parameters have one.
+pub fn samples_are_real()
+    ensures { SamplesAreReal }
 {}

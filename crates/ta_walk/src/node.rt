@@ -1,32 +1,27 @@
 //! The node at a cursor.
 #![tactic(auto)]
 
-ghost use Rattle.std.specs.Prelude.{◌≡◌, ◌<◌, ◌≤◌, ◌^◌, IfOk, List, length, reverse};
-ghost use Rattle.ta_automaton.specs.declared.automaton.Automaton.{Automaton};
-ghost use Rattle.ta_automaton.specs.declared.pattern.Pattern.{Pattern};
-ghost use Rattle.ta_words.specs.Calls.{OfPattern};
-ghost use Rattle.ta_encode.specs.Code.{SystemOf};
-ghost use Rattle.ta_encode.specs.InPreorder.{Pending};
-ghost use Rattle.ta_encode.specs.Marks.{IsEncoding, SameRows};
-ghost use Rattle.ta_cursor.specs.Cursors.{IsWithin, Within, here};
+ghost use Rattle.std.specs.Prelude.{◌≡◌, ◌<◌, ◌≤◌, ◌^◌, IfOk, length};
+ghost use Rattle.ta_encode.specs.Code.{SystemAt};
+ghost use Rattle.ta_encode.specs.Marks.{SameRows};
+ghost use Rattle.ta_encode.specs.Search.{Pending, Search};
+ghost use Rattle.ta_cursor.specs.Cursors.{IsWord, here};
+ghost use Rattle.ta_cursor.specs.TreeCalls.{IsSmall};
 ghost use Rattle.ta_dense.specs.Slack.{variables};
 ghost use Rattle.ta_simplex.specs.Branch.{IsBranch, SharesRows};
 ghost use Rattle.ta_simplex.specs.Refuted.{IsRefuted};
-ghost use Rattle.ta_walk.specs.Inside.Solving.{OnInner, SolvedAt, SystemHere};
+ghost use Rattle.ta_walk.specs.Inside.Solving.{OnInner, SolvedAt};
 ghost use Rattle.ta_walk.specs.Visit.{VertexAt};
 
 use crate::end::PlaceKind;
 use crate::vertex::{first_split, whole_values};
 use std::alloc::{AllocError, Global};
-use ta_automaton::File;
 use ta_cert::Node;
-use ta_cursor::Cursor;
+use ta_cursor::{Cursor, Tree, Written};
 use ta_dense::Dictionary;
-use ta_encode::{Encoding, Grown};
 use ta_farkas::check_leaf;
 use ta_linear::{List, System};
 use ta_simplex::{Branch, End, Fraction, SolveFault};
-use ta_words::{Word, is_complete};
 
 /// What solving a node's system comes to.
 #[derive(Drop)]
@@ -40,48 +35,45 @@ pub(crate) enum Solved {
 }
 
 /// The system of the node at a cursor, written on from that of the node before.
-pub(crate) fn grow(
+pub(crate) fn grow<T: Tree>(
     alloc: Global,
-    file: &File,
-    pattern: u32,
+    tree: &T,
     cursor: &Cursor,
-    encoding: Encoding,
-) -> Result<Grown, AllocError>
-    requires within { IsWithin file.now cursor.now pattern }
-    requires encoding { OfPattern file.now pattern (λ p. IsEncoding file.now.automaton p encoding) }
-    ensures encoding { IfOk result (λ grown. OfPattern file.now pattern (λ p. IsEncoding file.now.automaton p grown.encoding)) }
-    ensures system { IfOk result (λ grown. SystemHere file.now cursor.now pattern grown.encoding.system) }
-    ensures same { IfOk result (λ grown. SameRows encoding.system.rows grown.same grown.encoding.system.rows) }
+    kept: T::Kept,
+) -> Result<Written<T::Kept>, AllocError>
+    requires word { IsWord (T.search tree.now) (here cursor.now) }
+    requires kept { T.is_kept tree.now kept }
+    ensures kept { IfOk result (λ written. T.is_kept tree.now written.kept) }
+    ensures system { IfOk result (λ written. SystemAt (T.search tree.now) (here cursor.now) (T.system_of written.kept)) }
+    ensures same { IfOk result (λ written. SameRows (T.system_of kept).rows written.same (T.system_of written.kept).rows) }
+    ensures small { IfOk result (λ written. IsSmall cursor.now.bounds.items (T.system_of written.kept)) }
 {
     let start_mask = cursor.start_mask();
-    let word = cursor.word();
-    encoding.grown(alloc, file, pattern, start_mask, word, cursor.bounds())
+    tree.encode(alloc, start_mask, cursor.word(), cursor.bounds(), kept)
 }
 
 /// Solves the system of the node at a cursor, so many of whose first rows are those of the node
 /// before, along the branch on which it stands.
-pub(crate) fn solve_node<D: Dictionary>(
+pub(crate) fn solve_node<D: Dictionary, T: Tree>(
     alloc: Global,
-    file: &File,
-    pattern: u32,
+    tree: &T,
     cursor: &Cursor,
     system: &System,
     same: usize,
     branch: &mut Branch<D>,
 ) -> Result<Solved, AllocError>
-    requires within { IsWithin file.now cursor.now pattern }
     requires few { length cursor.now.bounds.items ≤ 1000000000 }
-    requires system { SystemHere file.now cursor.now pattern system.now }
+    requires small { IsSmall cursor.now.bounds.items system.now }
+    requires system { SystemAt (T.search tree.now) (here cursor.now) system.now }
     requires branch { SharesRows D.tableau D.pivot_of branch.old same system.now.rows }
     ensures branch { IfOk result (λ solved. OnInner solved (IsBranch D.tableau D.pivot_of system.now.rows branch.new)) }
-    ensures solved { (p : Pattern) (pending : List Pending) → Within file.now cursor.now pattern p pending → IfOk result (SolvedAt file.now.automaton p (here cursor.now)) }
+    ensures solved { IfOk result (SolvedAt (T.search tree.now) (here cursor.now)) }
 {
-    let word = cursor.word();
     match branch.solve(alloc, system, same) {
         Err(SolveFault::Memory) => Err(AllocError),
         Err(SolveFault::Overflow(pivot)) => Ok(Solved::Leaves(PlaceKind::Pivot(pivot))),
         Ok(End::Refuted(multipliers)) => Ok(take_refuted(system, multipliers)),
-        Ok(End::Vertex(values)) => take_vertex(alloc, file, pattern, word, values.as_slice()),
+        Ok(End::Vertex(values)) => take_vertex(alloc, tree, cursor, values.as_slice()),
     }
 }
 
@@ -89,7 +81,7 @@ pub(crate) fn solve_node<D: Dictionary>(
 fn take_refuted(system: &System, multipliers: List<(u32, i128)>) -> Solved
     requires few { variables system.now < 2 ^ 32 }
     requires refuted { IsRefuted system.now multipliers }
-    ensures { (a : Automaton) (p : Pattern) (w : Pending) → SystemOf a p w.start w.past w.bounds system.now → SolvedAt a p w result }
+    ensures { (s : Search) (w : Pending) → SystemAt s w system.now → SolvedAt s w result }
 {
     match check_leaf(system, multipliers.as_slice()) {
         Ok(()) => Solved::Inner(Node::Leaf(ta_cert::List::from_vec(multipliers.into_vec()))),
@@ -99,18 +91,17 @@ fn take_refuted(system: &System, multipliers: List<(u32, i128)>) -> Solved
 
 /// What a vertex of a node's system comes to: the word goes on, or an unknown is split, or all
 /// values are whole.
-fn take_vertex(
+fn take_vertex<T: Tree>(
     alloc: Global,
-    file: &File,
-    pattern: u32,
-    word: &Word,
+    tree: &T,
+    cursor: &Cursor,
     values: &[Fraction],
 ) -> Result<Solved, AllocError>
-    requires exists { pattern < length file.now.patterns }
     requires few { length values.now < 2 ^ 32 }
-    ensures { IfOk result (λ solved. OfPattern file.now pattern (λ p. (w : Pending) → w.past ≡ reverse word.now → VertexAt file.now.automaton p w values.now → SolvedAt file.now.automaton p w solved)) }
+    requires vertex { VertexAt (T.search tree.now) (here cursor.now) values.now }
+    ensures { IfOk result (SolvedAt (T.search tree.now) (here cursor.now)) }
 {
-    if !is_complete(file, pattern, word) {
+    if !tree.is_complete(cursor.start_mask(), cursor.word()) {
         return Ok(Solved::Inner(Node::Extend));
     }
     match first_split(values) {

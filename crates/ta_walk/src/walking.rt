@@ -2,22 +2,21 @@
 #![tactic(auto)]
 
 ghost use Rattle.std.specs.Prelude.{◌+◌, ◌<◌, ◌≤◌, ◌≡◌, [], ◌∷◌, ◌++◌, IfOk, List, length};
-ghost use Rattle.ta_automaton.specs.declared.pattern.Pattern.{Pattern};
+ghost use Rattle.ta_automaton.specs.Lists.{Each};
 ghost use Rattle.ta_words.specs.Calls.{OfPattern};
-ghost use Rattle.ta_encode.specs.InPreorder.{Pending, parts};
-ghost use Rattle.ta_cursor.specs.Cursors.{GoesOn, IsWithin, Within, here};
+ghost use Rattle.ta_encode.specs.Search.{Pending, parts};
+ghost use Rattle.ta_cursor.specs.InTrees.{AllGoOn, AllWithin, IsAllWithin, here_at};
 ghost use Rattle.ta_walk.specs.Visit.{NodeAt};
-ghost use Rattle.ta_walk.specs.Ends.{IsEnd, IsVisitEnd, leaf_count};
+ghost use Rattle.ta_walk.specs.Ends.{IsEnd, IsTreeEnd, IsUnbounded, IsVisitEnd, leaf_count};
 
-use crate::end::{VisitEnd, WalkEnd};
+use crate::end::{TreeEnd, VisitEnd, WalkEnd};
 use crate::keeper::{Keeper, Nodes};
 use crate::node::{Solved, grow, solve_node};
 use std::alloc::{AllocError, Global};
-use ta_automaton::File;
 use ta_cert::{List, Node};
-use ta_cursor::Cursor;
+use ta_cursor::{PatternTree, Place, Tree, Written};
 use ta_dense::Dictionary;
-use ta_encode::{Encoding, Grown, Solution};
+use ta_encode::Solution;
 use ta_scope::ScopedFile;
 use ta_simplex::Branch;
 
@@ -68,36 +67,76 @@ pub fn visit<D: Dictionary, K: Keeper>(
     requires keeps { K.keeps keeper.old keeper.old [] }
     ensures { IfOk result (λ end. OfPattern scoped.now.file pattern (λ p. IsVisitEnd scoped.now.file.automaton p pattern nodes (K.keeps keeper.old keeper.new) end)) }
 {
-    let file = &scoped.file;
-    let mut cursor = Cursor::new(alloc);
-    let mut encoding = Encoding::new(alloc);
+    let tree = PatternTree::new(&scoped.file, pattern);
+    match visit_tree::<D, PatternTree, K>(alloc, &tree, nodes, keeper)? {
+        TreeEnd::Refuted { count, leaves } => Ok(VisitEnd::Refuted { count, leaves }),
+        TreeEnd::Found {
+            count,
+            start_mask,
+            word,
+            values,
+        } => Ok(VisitEnd::Found {
+            count,
+            solution: Solution {
+                pattern,
+                start_mask,
+                word,
+                values,
+            },
+        }),
+        TreeEnd::Spent { count } => Ok(VisitEnd::Spent { count }),
+        TreeEnd::Overflow { node, kind } => Ok(VisitEnd::Overflow { node, kind }),
+    }
+}
+
+/// Visits the trees of a search, one for each word with which it begins, at most so many nodes of
+/// them, and hands each node on as it comes.
+pub fn visit_tree<D: Dictionary, T: Tree, K: Keeper>(
+    alloc: Global,
+    tree: &T,
+    nodes: u64,
+    keeper: &mut K,
+) -> Result<TreeEnd, AllocError>
+    requires roots { Each IsUnbounded (T.search tree.now).roots }
+    requires limit { nodes ≤ 1000000000 }
+    requires keeps { K.keeps keeper.old keeper.old [] }
+    ensures { IfOk result (IsTreeEnd (T.search tree.now) nodes (K.keeps keeper.old keeper.new)) }
+{
+    let Some(mut place) = Place::first(alloc, tree) else {
+        return Ok(TreeEnd::Refuted {
+            count: 0,
+            leaves: 0,
+        });
+    };
+    let mut kept = tree.nothing(alloc);
     let mut branch: Branch<D> = Branch::new(alloc);
     let mut leaves = 0;
     for before in 0..nodes {
         let count = before + 1;
-        let Grown {
-            encoding: next,
-            same,
-        } = grow(alloc, file, pattern, &cursor, encoding)?;
-        encoding = next;
-        let system = &encoding.system;
-        match solve_node(alloc, file, pattern, &cursor, system, same, &mut branch)? {
-            Solved::Leaves(kind) => return Ok(VisitEnd::Overflow { node: count, kind }),
+        let Written { kept: next, same } = grow(alloc, tree, place.cursor(), kept)?;
+        kept = next;
+        let system = tree.system(&kept);
+        match solve_node(alloc, tree, place.cursor(), system, same, &mut branch)? {
+            Solved::Leaves(kind) => return Ok(TreeEnd::Overflow { node: count, kind }),
             Solved::Whole(values) => {
-                let solution = solution_at(pattern, cursor, values);
-                return Ok(VisitEnd::Found { count, solution });
+                return Ok(TreeEnd::Found {
+                    count,
+                    start_mask: place.cursor().start_mask(),
+                    word: place.into_word(),
+                    values,
+                });
             }
             Solved::Inner(node) => {
-                let more = go_on(&mut cursor, file, pattern, &node)?;
+                let more = go_on(alloc, tree, &mut place, &node)?;
                 leaves = leaves_with(leaves, &node);
                 keeper.take(alloc, node)?;
                 if !more {
-                    return Ok(VisitEnd::Refuted { count, leaves });
+                    return Ok(TreeEnd::Refuted { count, leaves });
                 }
             }
         }
     }
-    Ok(VisitEnd::Spent { count: nodes })
+    Ok(TreeEnd::Spent { count: nodes })
 }
 
 /// How many leaves there are with one more node.
@@ -111,33 +150,23 @@ fn leaves_with(leaves: u64, node: &Node) -> u64
     }
 }
 
-/// Goes on behind the node that stands at a cursor, and says whether another comes.
-fn go_on(cursor: &mut Cursor, file: &File, pattern: u32, node: &Node) -> Result<bool, AllocError>
-    requires within { IsWithin file.now cursor.old pattern }
-    requires stands { (p : Pattern) (pending : List Pending) → Within file.now cursor.old pattern p pending → NodeAt file.now.automaton p (here cursor.old) node.now }
-    ensures { (p : Pattern) (w : Pending) (words : List Pending) → Within file.now cursor.old pattern p (w ∷ words) → GoesOn file.now cursor.new pattern p (parts file.now.automaton p w node.now ++ words) result }
+/// Goes on behind the node that stands at a place, and says whether another comes.
+fn go_on<T: Tree>(
+    alloc: Global,
+    tree: &T,
+    place: &mut Place,
+    node: &Node,
+) -> Result<bool, AllocError>
+    requires within { IsAllWithin (T.search tree.now) place.old }
+    requires stands { NodeAt (T.search tree.now) (here_at place.old) node.now }
+    ensures { (w : Pending) (words : List Pending) → AllWithin (T.search tree.now) place.old (w ∷ words) → AllGoOn (T.search tree.now) place.new (parts (T.search tree.now) w node.now ++ words) result }
 {
     match node {
-        Node::Leaf(_) => cursor.leave(file, pattern),
-        Node::Extend => cursor.extend(file, pattern),
+        Node::Leaf(_) => place.leave(alloc, tree),
+        Node::Extend => place.extend(alloc, tree),
         Node::Split { unknown, floor } => {
-            cursor.split(file, pattern, *unknown, *floor)?;
+            place.split(tree, *unknown, *floor)?;
             Ok(true)
         }
-    }
-}
-
-/// The solution at a cursor that these values make.
-fn solution_at(pattern: u32, cursor: Cursor, values: ta_linear::List<i128>) -> Solution
-    ensures pattern { result.pattern ≡ pattern }
-    ensures start { result.start_mask ≡ cursor.start_mask }
-    ensures word { result.word ≡ cursor.word }
-    ensures values { result.values ≡ values }
-{
-    Solution {
-        pattern,
-        start_mask: cursor.start_mask(),
-        word: cursor.into_word(),
-        values,
     }
 }

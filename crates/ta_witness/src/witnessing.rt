@@ -29,10 +29,10 @@ pub fn witness(alloc: Global, scoped: &ScopedFile, solution: &Solution) -> Resul
     ensures fault { IfErr result (WitnessFaultOf scoped.now.file solution.now) }
 {
     let run = run_of(alloc, scoped, solution)?;
-    match replay(alloc, &scoped.file, &run) {
+    match replay(&scoped.file, &run) {
         Ok(_) => Ok(run),
         Err(RunFault::Overflow(_)) => Err(WitnessFault::Overflow),
-        // Since the run shows the pattern, there is no other fault but want of memory.
+        // Since the run shows the pattern, there is no other fault.
         Err(_) => Err(WitnessFault::Memory),
     }
 }

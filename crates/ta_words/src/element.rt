@@ -13,6 +13,10 @@ pub enum Element {
 }
 
 impl Default for Element {
+    ghost use Rattle.ta_words.specs.declared.element.Element.TheVariants.{Event};
+
+    ghost is_default = { λ e. e ≡ Event 0 };
+
     fn default() -> Element {
         Element::Event(0)
     }

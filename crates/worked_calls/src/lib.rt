@@ -9,8 +9,12 @@ mod farkas;
 #[cfg(test)]
 mod linear;
 #[cfg(test)]
+mod maker;
+#[cfg(test)]
 mod report;
 #[cfg(test)]
 mod shelf;
 #[cfg(test)]
 mod simplex;
+#[cfg(test)]
+mod walk;

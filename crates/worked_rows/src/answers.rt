@@ -1,7 +1,7 @@
 //! What each kind of row gives.
 #![tactic(auto)]
 
-use crate::commands::{cut, perform};
+use crate::commands::{cut, grown, perform};
 use crate::files::{Files, unescaped};
 use crate::layers::of_file;
 use crate::lines::lines;
@@ -25,6 +25,7 @@ pub fn answer(
         "run" => perform(alloc, files, rest, false),
         "calls" => perform(alloc, files, rest, true),
         "cuts" => cut(alloc, files, rest),
+        "grown" => grown(alloc, files, rest),
         "means" => meaning(alloc, files, rest),
         "pivots" => pivots(alloc, rest),
         "reads" | "lines" | "tree" | "tree-cuts" | "tree-limit" | "prints" => {
@@ -47,6 +48,7 @@ fn keeps(
         "file" => files.set(alloc, rest, unescaped(alloc, body, "")?)?,
         "text" => files.set(alloc, rest, unescaped(alloc, body, "\n")?)?,
         "spaces" => files.set_spaces(alloc, rest)?,
+        "padded" => files.set_padded(alloc, rest)?,
         _ => return Ok(false),
     }
     Ok(true)

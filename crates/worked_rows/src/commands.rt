@@ -2,6 +2,7 @@
 #![tactic(auto)]
 
 use crate::files::Files;
+use crate::growing::Growing;
 use crate::noting::Noting;
 use std::alloc::{AllocError, Global};
 use ta_program::run;
@@ -69,6 +70,20 @@ fn perform_over(
     let number = run(alloc, words, &mut shelf, &mut out, &mut err);
     let calls = noted.then_some(shelf.noted.as_str());
     told(alloc, out.as_slice(), err.as_slice(), calls, number)
+}
+
+/// What words give where a file goes on with spaces behind its text, up to so many bytes, which are
+/// made as they are asked for.
+pub fn grown(alloc: Global, files: &Files, rest: &str) -> Result<String, AllocError> {
+    let (name, rest) = rest.split_once(" ").unwrap_or((rest, ""));
+    let (length, words) = rest.split_once(" ").unwrap_or((rest, ""));
+    let mut setting = CALM;
+    let words = words_of(alloc, words, &mut setting)?;
+    let mut shelf = Growing::new(files, name, length.parse::<u64>().unwrap_or(0));
+    let mut out = sink_of(alloc, setting.room, setting.piece, setting.out)?;
+    let mut err = sink_of(alloc, 4096, 4096, 0)?;
+    let number = run(alloc, words.as_slice(), &mut shelf, &mut out, &mut err);
+    told(alloc, out.as_slice(), err.as_slice(), None, number)
 }
 
 /// A sink, of which the call with a number fails.

@@ -39,15 +39,28 @@ impl Files {
 
     /// Keeps a file of so many spaces, with the text of another file behind them.
     pub fn set_spaces(&mut self, alloc: Global, rest: &str) -> Result<(), AllocError> {
-        let mut words = rest.split(" ");
-        let name = words.next().unwrap_or("");
-        let count = words.next().unwrap_or("").parse::<u32>().unwrap_or(0);
-        let other = words.next().unwrap_or("");
-        let spaces = vec![in alloc; b' '; count as usize]?;
-        let mut text = String::from_utf8(spaces).unwrap_or(String::new(alloc));
+        let (name, rest) = rest.split_once(" ").unwrap_or((rest, ""));
+        let (count, other) = rest.split_once(" ").unwrap_or((rest, ""));
+        let mut text = spaces(alloc, count)?;
         text.push_str(self.text(other))?;
         self.set(alloc, name, text)
     }
+
+    /// Keeps a file of the text of another file, with so many spaces behind it.
+    pub fn set_padded(&mut self, alloc: Global, rest: &str) -> Result<(), AllocError> {
+        let (name, rest) = rest.split_once(" ").unwrap_or((rest, ""));
+        let (count, other) = rest.split_once(" ").unwrap_or((rest, ""));
+        let mut text = String::from_str(alloc, self.text(other))?;
+        text.push_str(spaces(alloc, count)?.as_str())?;
+        self.set(alloc, name, text)
+    }
+}
+
+/// So many spaces.
+fn spaces(alloc: Global, count: &str) -> Result<String, AllocError> {
+    let count = count.parse::<u32>().unwrap_or(0);
+    let bytes = vec![in alloc; b' '; count as usize]?;
+    Ok(String::from_utf8(bytes).unwrap_or(String::new(alloc)))
 }
 
 /// A text in which `\\n` stands for the end of a line, with an end of its own.

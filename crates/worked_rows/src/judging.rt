@@ -8,8 +8,8 @@ use ta_cert::CertFault;
 use ta_check::{Accepted, Checker, check};
 use ta_scope::ScopedFile;
 
-/// The patterns that a certificate proves, or its first fault. It comes whole, and in pieces of
-/// several sizes, whose answers have to be the same.
+/// The patterns that a certificate proves, or its first fault. It comes whole, in pieces of several
+/// sizes, and in two pieces, cut behind each of its bytes; the answers have to be the same.
 pub fn judgement(alloc: Global, scoped: &ScopedFile, text: &str) -> Result<String, AllocError> {
     let bytes = text.as_bytes();
     let whole = answer_text(alloc, check(alloc, scoped, bytes))?;
@@ -17,6 +17,17 @@ pub fn judgement(alloc: Global, scoped: &ScopedFile, text: &str) -> Result<Strin
         let other = answer_text(alloc, by_pieces(alloc, scoped, bytes, size))?;
         if other.as_str() != whole.as_str() {
             return format!(in alloc; "{}\nbut by {size}: {}", whole.as_str(), other.as_str());
+        }
+    }
+    for place in 0..bytes.len() {
+        let (front, behind) = bytes.split_at(place);
+        let other = answer_text(alloc, in_two(alloc, scoped, front, behind))?;
+        if other.as_str() != whole.as_str() {
+            return format!(in alloc;
+                "{}\nbut cut at {place}: {}",
+                whole.as_str(),
+                other.as_str()
+            );
         }
     }
     Ok(whole)
@@ -47,6 +58,19 @@ fn by_pieces(
         checker.feed(piece)?;
         rest = behind;
     }
+    checker.finish()
+}
+
+/// What is answered to a text that comes in two pieces.
+fn in_two(
+    alloc: Global,
+    scoped: &ScopedFile,
+    front: &[u8],
+    behind: &[u8],
+) -> Result<Accepted, CertFault> {
+    let mut checker = Checker::new(alloc, scoped);
+    checker.feed(front)?;
+    checker.feed(behind)?;
     checker.finish()
 }
 

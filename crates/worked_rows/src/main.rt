@@ -7,6 +7,7 @@ mod commands;
 mod describing;
 mod files;
 mod forms;
+mod growing;
 mod judging;
 mod layers;
 mod lines;

@@ -17,6 +17,8 @@ impl<S: Shelf + Drop> Shelf for Noting<S> {
 
     ghost calls = { λ s. S.calls s.shelf };
 
+    ghost wants_memory = { S.wants_memory };
+
     fn read_at(&mut self, name: &str, at: u64, buf: &mut [u8]) -> Result<usize, ShelfFault> {
         let _ = write!(self.noted, " {name}:{at}");
         self.shelf.read_at(name, at, buf)

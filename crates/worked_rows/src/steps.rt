@@ -18,7 +18,7 @@ pub fn steps(alloc: Global, automaton: &Automaton, rest: &str) -> Result<String,
         return String::from_str(alloc, "one parameter and one start count are wanted");
     }
     let mut text = String::new(alloc);
-    let mut config = match Config::start(alloc, automaton, &parameters, &counts) {
+    let mut config = match Config::start(automaton, &parameters, &counts) {
         Ok(config) => config,
         Err(fault) => return format!(in alloc; "{fault:?}"),
     };

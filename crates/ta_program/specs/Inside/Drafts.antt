@@ -13,6 +13,7 @@ use Rattle.ta_shell.specs.Puts.{texts_joined}
 use Rattle.ta_walk.specs.Ends.{TreeIs}
 use Rattle.ta_program.specs.declared.pieces.Pieces.{Pieces}
 use Rattle.ta_program.specs.declared.draft.Draft.{Draft}
+use Rattle.ta_encode.specs.PatternSearch.{pattern_search}
 use Rattle.ta_program.specs.Certified.{AreTrees, SafeOne, tree_size, with_safe}
 
 -- the pieces, and the one that is still open
@@ -38,7 +39,7 @@ HasProofs draft proofs = HasText draft (ended_line line.Header ++ proofs_text pr
 
 -- the draft has the lines of the pattern's tree where a verdict says that it is safe
 abbrev pub Drafted : File → ℕ → ℕ → Pattern → Verdict → Draft → Draft → Type 0
-Drafted file budget number p verdict first now = (nodes : ℕ) → tree_size verdict ≡ Some nodes → (tree : List Node) × TreeIs file.automaton p budget tree nodes × DraftKeeps first now tree
+Drafted file budget number p verdict first now = (nodes : ℕ) → tree_size verdict ≡ Some nodes → (tree : List Node) × TreeIs (pattern_search file.automaton p) budget tree nodes × DraftKeeps first now tree
 
 -- the draft has the trees of these, and no other proofs
 abbrev pub HasTrees : File → ℕ → List SafeOne → Draft → Type 0

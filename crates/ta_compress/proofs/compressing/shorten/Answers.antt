@@ -41,7 +41,7 @@ loop-number-preserved c =
     let at = line_at lines c.args.run.now c.loop-number.number c.last_mark-number-end.result c.as_slice-lines.ensures c.loop-number-test.true c.last_mark-number-end.ensures in
     going_next c.args.scoped.now.file c.args.run.now c.loop-number.number c.loop-number.draft c.follow.new.self _ c.requires.fits c.loop-number.invariant at c.in_ok-follow.ensures.goes c.in_ok-follow.ensures.keeps c.in_ok-follow.ensures.room
 
-at_end : (c : goal.After-drop-draft-3) → Going c.args.scoped.now.file c.args.run.now c.last_mark-number-end.result c.loop-number.draft
+at_end : (c : goal.After-drop-draft-2) → Going c.args.scoped.now.file c.args.run.now c.last_mark-number-end.result c.loop-number.draft
 at_end c =
     let past = c.loop-number-test.false in
     let end = c.loop-number.auto.number-end in

@@ -1,6 +1,6 @@
 use Rattle.std.proofs.Common.{arith, pos, ℤ, get_or, rules}
 use Rattle.std.specs.Prelude.{int_div}
-use Rattle.std.proofs.lemmas.Int.{to_z-of_z, quot_fits}
+use Rattle.std.proofs.lemmas.Int.{to_z-of_z}
 use Rattle.std.proofs.lemmas.List.Edits.{map_over_more}
 use Rattle.std.proofs.lemmas.List.{get_or_default}
 use mir.Val.{SFits}
@@ -11,6 +11,7 @@ pub loop-cell-preserved : goal.loop-cell-preserved
 loop-cell-preserved c =
     let fd = c.ranges.divisor in
     let fx : SFits w64 (get_or c.loop-cell.cells c.loop-cell.cell-index (pos 0)) = search rules in
-    let fq : SFits w64 (int_div (get_or c.loop-cell.cells c.loop-cell.cell-index (pos 0)) c.args.divisor) = quot_fits w64 _ _ fx c.requires in
+    let fr : SFits w64 c.quotient.result = search rules in
+    let e = simp to_z-of_z at c.quotient.ensures in
     let inv = simp to_z-of_z at c.loop-cell.invariant in
-    simp to_z-of_z (map_over_more (λ (z : ℤ). int_div z c.args.divisor) c.args.cells.now c.loop-cell.cells c.loop-cell.cell-index (get_or c.loop-cell.cells c.loop-cell.cell-index (pos 0)) c.loop-cell-test.true inv (get_or_default c.loop-cell.cells c.loop-cell.cell-index (pos 0) (get_or c.loop-cell.cells c.loop-cell.cell-index (pos 0)) (omega arith)))
+    simp to_z-of_z (rw e (map_over_more (λ (z : ℤ). int_div z c.args.divisor) c.args.cells.now c.loop-cell.cells c.loop-cell.cell-index (get_or c.loop-cell.cells c.loop-cell.cell-index (pos 0)) c.loop-cell-test.true inv (get_or_default c.loop-cell.cells c.loop-cell.cell-index (pos 0) (get_or c.loop-cell.cells c.loop-cell.cell-index (pos 0)) (omega arith))))

@@ -3,8 +3,6 @@ use Rattle.std.proofs.lemmas.Int.{to_z-of_z}
 use Rattle.std.proofs.lemmas.List.{at_drop_more}
 use mir.Val.{SFits}
 use mir.Syntax.{w64}
-use Rattle.ta_linear.proofs.GcdLemmas.{gcd_of_is}
-use Rattle.ta_linear.specs.Gcd.{gcd_of}
 use Rattle.ta_dense.specs.Tableau.{gcd_with}
 use Rattle.ta_dense.proofs.Divide.{gcd_with-one}
 use Rattle.ta_dense.proofs.narrow_cells.gcd_of_narrow.Goals as goal
@@ -12,8 +10,7 @@ use Rattle.ta_dense.proofs.narrow_cells.gcd_of_narrow.Goals as goal
 pub loop-cell-preserved : goal.loop-cell-preserved
 loop-cell-preserved c =
     let fx : SFits w64 (get_or c.args.cells.now c.loop-cell.cell-index (pos 0)) = search rules in
-    let u = simp to_z-of_z at c.unsigned_abs.ensures.value in
-    let v = gcd_of_is _ _ _ c.gcd_narrow-divisor.ensures ∙ ap (gcd_of c.loop-cell.divisor) u in
+    let v = simp to_z-of_z at c.gcd_with_cell-divisor.ensures in
     rw v (sym (at_drop_more (gcd_with c.loop-cell.divisor) c.args.cells.now c.loop-cell.cell-index (pos 0) c.loop-cell-test.true) ∙ c.loop-cell.invariant)
 
 pub returns-then-divisor-eq1 : goal.returns-then-divisor-eq1

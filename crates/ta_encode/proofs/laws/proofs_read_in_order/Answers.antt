@@ -1,9 +1,9 @@
-use Rattle.ta_encode.specs.Refutes.{LeafOfRows}
+use Rattle.ta_encode.specs.Refutes.{IsLeaf}
 use Rattle.ta_encode.proofs.Preorders.{in_order, determined}
 use Rattle.ta_encode.proofs.laws.proofs_read_in_order.Goals as goal
 
 pub returns-clause-in_order : goal.returns-clause-in_order
-returns-clause-in_order c = in_order LeafOfRows
+returns-clause-in_order c = in_order IsLeaf
 
 pub returns-clause-determined : goal.returns-clause-determined
 returns-clause-determined c = determined

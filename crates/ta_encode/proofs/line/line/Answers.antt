@@ -21,8 +21,8 @@ pub loop-unknown-preserved : goal.loop-unknown-preserved
 loop-unknown-preserved c =
     let f = line_coefficient c.args.automaton.now c.args.terms.now c.args.less_starts c.args.sense in
     let n = c.loop-unknown.unknown in
-    let z = c.line_coefficient-coefficient.result in
-    let told = c.line_coefficient-coefficient.ensures in
+    let z = c.coefficient_of-coefficient.result in
+    let told = c.coefficient_of-coefficient.ensures in
     elim c.if-coefficient-ne0.branch [
       | then-coefficient-ne0+in_ok-push w ↦
           sparse_push f c.args.meanings.now n c.loop-unknown.written.items c.if-coefficient-ne0.written.items (Parameter 0) z c.loop-unknown.invariant c.loop-unknown-test.true told.value (not_none z w.if-coefficient-ne0.true) told.fits

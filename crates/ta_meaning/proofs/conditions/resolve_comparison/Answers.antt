@@ -1,7 +1,7 @@
-use Rattle.std.proofs.Common.{◌≡◌, List, sym, ap, subst, ◌∙◌}
+use Rattle.std.proofs.Common.{◌≡◌, inr, List, sym, ap, subst, ◌∙◌}
 use Rattle.std.proofs.lemmas.Result.{err_from_is_err_and}
 use Rattle.ta_syntax.specs.declared.fault.FileFault.{FileFault}
-use Rattle.ta_meaning.specs.Faults.{FirstOrMemory}
+use Rattle.ta_meaning.specs.Faults.{First}
 use Rattle.ta_meaning.specs.Inside.Resolved.{first_places}
 use Rattle.ta_meaning.proofs.ComparedForms.{comparison_answers, last_of_comparison, left_first}
 use Rattle.ta_meaning.proofs.conditions.resolve_comparison.Goals as goal
@@ -17,7 +17,7 @@ returns-in_err-small c =
     let s = first_places c.args.places.now.names c.args.allowed in
     let answers = comparison_answers s c.args.comparison.now c.in_ok-left.left c.in_ok-right.right c.in_ok-rows.rows.items c.in_ok-left.ensures.0 c.in_ok-right.ensures.0 c.in_ok-left.ensures.1 c.in_ok-right.ensures.1 c.in_ok-rows.ensures in
     let last = last_of_comparison s c.args.comparison.now c.in_ok-left.ensures.0 c.in_ok-right.ensures.0 in
-    rw (p.1, p.2) (subst (λ (fs : List FileFault). FirstOrMemory fs c.in_err-small.field-0.0) (answers.0 ∙ sym last) c.in_err-small.ensures)
+    rw (p.1, p.2) (inr (subst (λ (fs : List FileFault). First fs c.in_err-small.field-0.0) (answers.0 ∙ sym last) c.in_err-small.ensures))
 
 pub returns : goal.returns
 returns c =

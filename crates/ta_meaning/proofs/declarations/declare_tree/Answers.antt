@@ -1,3 +1,4 @@
+use Rattle.std.proofs.Common.{inr}
 use Rattle.std.proofs.lemmas.Result.{err_from_is_err_and}
 use Rattle.ta_meaning.proofs.DeclaredTrees.{InitialFits, after_parameters, after_shared, after_all, parameters_fit, shared_fit, all_fit, stops_at_name, stops_at_parameters, stops_at_shared, stops_at_initial, stops_at_locations}
 use Rattle.ta_meaning.proofs.declarations.declare_tree.Goals as goal
@@ -5,7 +6,7 @@ use Rattle.ta_meaning.proofs.declarations.declare_tree.Goals as goal
 pub returns-in_err-check_length : goal.returns-in_err-check_length
 returns-in_err-check_length c =
     let p = err_from_is_err_and c.from_residual.result c.from_residual.ensures.1 in
-    rw (p.1, p.2) (stops_at_name c.args.tree.now c.in_err-check_length.field-0.0 c.in_err-check_length.ensures)
+    rw (p.1, p.2) (stops_at_name c.args.tree.now c.in_err-check_length.field-0.0 (inr c.in_err-check_length.ensures))
 
 pub returns-in_err-declare_names : goal.returns-in_err-declare_names
 returns-in_err-declare_names c =
@@ -28,7 +29,7 @@ returns-in_err-check_initial c =
     let fit = parameters_fit t c.new-names.result c.as_slice.result.now c.in_ok-check_length.ensures.0 c.new-names.ensures c.as_slice.ensures c.in_ok-declare_names.ensures.0 in
     let names = after_parameters t c.new-names.result c.declare_names.new.names c.as_slice.result.now c.new-names.ensures c.as_slice.ensures c.in_ok-declare_names.ensures.1 in
     let shared = shared_fit t c.declare_names.new.names c.as_slice-2.result.now fit names c.as_slice-2.ensures c.in_ok-declare_names-2.ensures.0 in
-    rw (p.1, p.2) (stops_at_initial t c.in_err-check_initial.field-0.0 shared c.in_err-check_initial.ensures)
+    rw (p.1, p.2) (stops_at_initial t c.in_err-check_initial.field-0.0 shared (inr c.in_err-check_initial.ensures))
 
 pub returns-in_err-declare_locations : goal.returns-in_err-declare_locations
 returns-in_err-declare_locations c =

@@ -1,4 +1,4 @@
-use Rattle.std.proofs.Common.{refl}
+use Rattle.std.proofs.Common.{inr, refl}
 use Rattle.std.proofs.lemmas.Result.{err_from_is_err_and}
 use Rattle.ta_meaning.specs.Inside.Resolved.{kinds_of}
 use Rattle.ta_meaning.proofs.Answering.{append-left-first}
@@ -14,7 +14,7 @@ pub returns-in_err-after : goal.returns-in_err-after
 returns-in_err-after c =
     let e = c.args.event.now in
     let p = err_from_is_err_and c.from_residual-in_err-after.result c.from_residual-in_err-after.ensures.1 in
-    rw (p.1, p.2) (event_stops_at_after (kinds_of c.args.places.now) c.args.names.now e c.as_slice.result.now c.as_slice.ensures e.condition refl c.in_err-after.field-0.0 c.in_ok-declare.ensures.faults.0 c.in_err-after.ensures)
+    rw (p.1, p.2) (event_stops_at_after (kinds_of c.args.places.now) c.args.names.now e c.as_slice.result.now c.as_slice.ensures e.condition refl c.in_err-after.field-0.0 c.in_ok-declare.ensures.faults.0 (inr c.in_err-after.ensures))
 
 pub returns-in_err-condition : goal.returns-in_err-condition
 returns-in_err-condition c =

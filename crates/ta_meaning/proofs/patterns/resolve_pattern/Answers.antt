@@ -1,4 +1,4 @@
-use Rattle.std.proofs.Common.{List, map, refl, sym, subst}
+use Rattle.std.proofs.Common.{inr, List, map, refl, sym, subst}
 use Rattle.std.proofs.lemmas.Result.{err_from_is_err_and}
 use Rattle.ta_syntax.specs.PlainTrees.{plain_event}
 use Rattle.ta_automaton.specs.declared.pattern.Event.{Event}
@@ -23,7 +23,7 @@ pub returns-in_err-empty : goal.returns-in_err-empty
 returns-in_err-empty c =
     let t = c.args.pattern.now in
     let p = err_from_is_err_and c.from_residual-in_err-empty.result c.from_residual-in_err-empty.ensures.1 in
-    rw (p.1, p.2) (pattern_stops_at_empty (kinds_of c.args.places.now) c.args.names.now t c.as_slice.result.now c.as_slice.ensures c.as_slice-2.result.now c.as_slice-2.ensures t.events refl c.in_err-empty.field-0.0 c.in_ok-declare.ensures.faults.0 c.in_ok-start.ensures.0 c.in_err-empty.ensures)
+    rw (p.1, p.2) (pattern_stops_at_empty (kinds_of c.args.places.now) c.args.names.now t c.as_slice.result.now c.as_slice.ensures c.as_slice-2.result.now c.as_slice-2.ensures t.events refl c.in_err-empty.field-0.0 c.in_ok-declare.ensures.faults.0 c.in_ok-start.ensures.0 (inr c.in_err-empty.ensures))
 
 pub returns-in_err-events : goal.returns-in_err-events
 returns-in_err-events c =

@@ -1,6 +1,6 @@
 use Rattle.std.proofs.Common.{◌≡◌, ◌+◌, ◌-◌, ℕ, List, Some, slice_get, take, drop, subst}
 use Rattle.ta_meaning.specs.Inside.Resolved.{kinds_of}
-use Rattle.ta_meaning.proofs.Answering.{answers-along, answers-with}
+use Rattle.ta_meaning.proofs.Answering.{judges-along}
 use Rattle.ta_meaning.proofs.ListedPlaces.{locations_part_is, used_in}
 use Rattle.ta_meaning.proofs.rules.location_in.Goals as goal
 
@@ -11,5 +11,5 @@ returns c =
     let first = places.parameters + places.shared in
     let part = take (c.len-count.result - first) (drop first places.names) in
     let same = locations_part_is places c.len-count.result c.len-count.ensures in
-    answers-with _ (λ i. slice_get part i ≡ Some name.name) _ c.number_in.result (λ i e. subst (λ (names : List (List ℕ)). slice_get names i ≡ Some name.name) same e)
-    (answers-along _ _ (λ i. slice_get part i ≡ Some name.name) c.number_in.result (used_in places part (kinds_of places).locations name same) c.number_in.ensures)
+    judges-along _ _ (λ i. slice_get part i ≡ Some name.name) _ c.number_in.result (used_in places part (kinds_of places).locations name same)
+    (λ i e. subst (λ (names : List (List ℕ)). slice_get names i ≡ Some name.name) same e) c.number_in.ensures

@@ -1,4 +1,4 @@
-use Rattle.std.proofs.Common.{◌≡◌, List, [], map, length, subst, refl}
+use Rattle.std.proofs.Common.{◌≡◌, inr, List, [], map, length, subst, refl}
 use Rattle.std.proofs.lemmas.Result.{err_from_is_err_and}
 use Rattle.ta_syntax.specs.PlainTrees.{plain_comparison, plain_update}
 use Rattle.ta_syntax.specs.declared.tree.TreeComparison.{TreeComparison}
@@ -21,13 +21,13 @@ pub returns-in_err-from : goal.returns-in_err-from
 returns-in_err-from c =
     let ns = kinds_of c.args.places.now in
     let g = guards_so_far ns c.args.guards.now in
-    exit-first _ _ _ c.in_err-from.field-0.0 (err_from_is_err_and _ c.from_residual-in_err-from.ensures.1) (first_from ns c.args.names.now g c.args.rule.now c.in_err-from.field-0.0 c.in_ok-declare.ensures.faults.0 c.in_err-from.ensures)
+    exit-first _ _ _ c.in_err-from.field-0.0 (err_from_is_err_and _ c.from_residual-in_err-from.ensures.1) (first_from ns c.args.names.now g c.args.rule.now c.in_err-from.field-0.0 c.in_ok-declare.ensures.faults.0 (inr c.in_err-from.ensures))
 
 pub returns-in_err-to : goal.returns-in_err-to
 returns-in_err-to c =
     let ns = kinds_of c.args.places.now in
     let g = guards_so_far ns c.args.guards.now in
-    exit-first _ _ _ c.in_err-to.field-0.0 (err_from_is_err_and _ c.from_residual-in_err-to.ensures.1) (first_to ns c.args.names.now g c.args.rule.now c.in_err-to.field-0.0 c.in_ok-declare.ensures.faults.0 c.in_ok-from.ensures.0 c.in_err-to.ensures)
+    exit-first _ _ _ c.in_err-to.field-0.0 (err_from_is_err_and _ c.from_residual-in_err-to.ensures.1) (first_to ns c.args.names.now g c.args.rule.now c.in_err-to.field-0.0 c.in_ok-declare.ensures.faults.0 c.in_ok-from.ensures.0 (inr c.in_err-to.ensures))
 
 pub returns-in_err-masks : goal.returns-in_err-masks
 returns-in_err-masks c =

@@ -1,4 +1,4 @@
-use Rattle.std.proofs.Common.{◌≡◌, ◌+◌, ◌^◌, ◌∷◌, List, drop, sym, ap, subst, ◌∙◌, rules, arith}
+use Rattle.std.proofs.Common.{◌≡◌, inr, ◌+◌, ◌^◌, ◌∷◌, List, drop, sym, ap, subst, ◌∙◌, rules, arith}
 use Rattle.std.proofs.Common.{pos, FitsSigned}
 use Rattle.std.specs.Int.{w128}
 use Rattle.std.proofs.lemmas.Int.{to_z-of_z}
@@ -16,6 +16,7 @@ use Rattle.ta_meaning.specs.Linear.{linear_sum}
 use Rattle.ta_meaning.specs.Faults.{FirstOrMemory, sum_faults}
 use Rattle.ta_meaning.specs.Inside.Resolved.{first_places}
 use Rattle.ta_meaning.specs.Inside.SumParts.{PartOf}
+use Rattle.ta_meaning.proofs.Answering.{judges-answer}
 use Rattle.ta_meaning.proofs.TreeSums.{terms_faults, sum_faults_out}
 use Rattle.ta_meaning.proofs.PartForms.{alone_answers, number_first, product_answers, Summing, sum_begins, sum_more, sum_fails, sum_ends, sum_within}
 use Rattle.ta_meaning.proofs.sums.+sums.Goals as goal
@@ -66,7 +67,7 @@ sum_form-returns t c =
 pub term_form-returns-in_err-number-in-Some : goal.term_form-returns-in_err-number-in-Some
 term_form-returns-in_err-number-in-Some t c =
     let p = err_from_is_err_and c.from_residual-in_err-number-in-Some.result c.from_residual-in_err-number-in-Some.ensures.1 in
-    rw (p.1, p.2) (number_first (first_places c.args.places.now.names c.args.allowed) c.args.term.now c.in-Some.body c.in_err-number-in-Some.field-0.0 c.in-Some.is c.in_err-number-in-Some.ensures)
+    rw (p.1, p.2) (number_first (first_places c.args.places.now.names c.args.allowed) c.args.term.now c.in-Some.body c.in_err-number-in-Some.field-0.0 c.in-Some.is (inr c.in_err-number-in-Some.ensures))
 
 pub term_form-returns-in_ok-number-in-None : goal.term_form-returns-in_ok-number-in-None
 term_form-returns-in_ok-number-in-None t c =
@@ -77,4 +78,4 @@ term_form-returns-in_ok-number-in-None t c =
 pub term_form-returns-in_ok-product-in-Some : goal.term_form-returns-in_ok-product-in-Some
 term_form-returns-in_ok-product-in-Some t c =
     product_answers (first_places c.args.places.now.names c.args.allowed) c.args.term.now c.in-Some.body c.in_ok-number-in-Some.number c.in_ok-form-in-Some.form c.in_ok-product-in-Some.product c.small_form.result
-    c.in-Some.is c.in_ok-number-in-Some.ensures.0 c.in_ok-number-in-Some.ensures.1 c.in_ok-form-in-Some.ensures.0 c.in_ok-form-in-Some.ensures.1 c.in_ok-product-in-Some.ensures c.small_form.ensures
+    c.in-Some.is c.in_ok-number-in-Some.ensures.0 c.in_ok-number-in-Some.ensures.1 c.in_ok-form-in-Some.ensures.0 c.in_ok-form-in-Some.ensures.1 c.in_ok-product-in-Some.ensures (judges-answer _ _ c.small_form.result c.small_form.ensures)

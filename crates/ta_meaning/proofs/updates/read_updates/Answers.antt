@@ -1,8 +1,8 @@
-use Rattle.std.proofs.Common.{◌≡◌, ◌+◌, ℕ, List, [], drop, sym, subst}
+use Rattle.std.proofs.Common.{◌≡◌, inr, ◌+◌, ℕ, List, [], drop, sym, subst}
 use Rattle.std.proofs.lemmas.Result.{err_from_is_err_and}
 use Rattle.std.proofs.Math.ListN.{drop_of_length-le}
 use Rattle.ta_syntax.specs.declared.tree.TreeUpdate.{TreeUpdate}
-use Rattle.ta_meaning.specs.Faults.{FirstOrMemory}
+use Rattle.ta_meaning.specs.Faults.{First}
 use Rattle.ta_meaning.specs.Inside.Resolved.{kinds_of}
 use Rattle.ta_meaning.specs.Inside.Updating.{names_at, variable_faults, IsNewVariable}
 use Rattle.ta_meaning.proofs.ListItems.{next_item}
@@ -18,7 +18,7 @@ returns-in_err-variable c =
     let here = subst (λ (us : List TreeUpdate). UpdatesReading ns all us c.loop-update.seen.items c.loop-update.read.items) (next_item all i c.update-item.result c.loop-update-test.true c.update-item.is) c.loop-update.invariant in
     exit-first _ _ _ c.in_err-variable.field-0.0 (err_from_is_err_and _ c.from_residual.ensures.1)
     (variable_stops ns all (drop (i + 1) all) c.update-item.result c.loop-update.seen.items c.loop-update.read.items c.in_err-variable.field-0.0 here
-    (subst (λ (seen : List ℕ). FirstOrMemory (variable_faults ns (names_at ns.shared seen) c.update-item.result.name) c.in_err-variable.field-0.0) c.as_slice.ensures.value c.in_err-variable.ensures))
+    (inr (subst (λ (seen : List ℕ). First (variable_faults ns (names_at ns.shared seen) c.update-item.result.name) c.in_err-variable.field-0.0) c.as_slice.ensures.value c.in_err-variable.ensures)))
 
 pub returns-in_err-amount : goal.returns-in_err-amount
 returns-in_err-amount c =
@@ -28,7 +28,7 @@ returns-in_err-amount c =
     let here = subst (λ (us : List TreeUpdate). UpdatesReading ns all us c.loop-update.seen.items c.loop-update.read.items) (next_item all i c.update-item.result c.loop-update-test.true c.update-item.is) c.loop-update.invariant in
     let told = subst (λ (seen : List ℕ). (variable_faults ns (names_at ns.shared seen) c.update-item.result.name ≡ []) × IsNewVariable ns.shared seen c.update-item.result.name.name c.in_ok-variable.variable) c.as_slice.ensures.value c.in_ok-variable.ensures in
     exit-first _ _ _ c.in_err-amount.field-0.0 (err_from_is_err_and _ c.from_residual-in_err-amount.ensures.1)
-    (amount_stops ns all (drop (i + 1) all) c.update-item.result c.loop-update.seen.items c.loop-update.read.items c.in_err-amount.field-0.0 here told.0 c.in_err-amount.ensures)
+    (amount_stops ns all (drop (i + 1) all) c.update-item.result c.loop-update.seen.items c.loop-update.read.items c.in_err-amount.field-0.0 here told.0 (inr c.in_err-amount.ensures))
 
 pub loop-update-preserved : goal.loop-update-preserved
 loop-update-preserved c =

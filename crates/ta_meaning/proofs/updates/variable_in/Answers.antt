@@ -2,8 +2,8 @@ use Rattle.std.proofs.Common.{◌≡◌, ◌∙◌, sym, ℕ, List, Some, slice_
 use Rattle.std.proofs.lemmas.Result.{err_from_is_err_and}
 use Rattle.std.proofs.lemmas.Bool.{eqb-true, eqb-false}
 use Rattle.ta_syntax.specs.declared.fault.FileFault.{FileFault}
-use Rattle.ta_meaning.specs.Faults.{FirstOrMemory}
-use Rattle.ta_meaning.proofs.Exits.{exit-first}
+use Rattle.ta_meaning.specs.Faults.{First}
+use Rattle.ta_meaning.proofs.Exits.{exit-leads}
 use Rattle.ta_meaning.proofs.ListedPlaces.{shared_part_is, used_in, variable_first, variable_again, variable_new}
 use Rattle.ta_meaning.proofs.updates.variable_in.Goals as goal
 
@@ -12,8 +12,8 @@ returns-in_err-variable c =
     let places = c.args.places.now in
     let name = c.args.name.now in
     let e = c.in_err-variable.field-0.0 in
-    exit-first _ _ _ e (err_from_is_err_and _ c.from_residual.ensures.1)
-    (variable_first places c.args.seen.now name e c.requires (subst (λ (fs : List FileFault). FirstOrMemory fs e) (used_in places _ _ name (shared_part_is places)) c.in_err-variable.ensures))
+    exit-leads _ _ _ e (err_from_is_err_and _ c.from_residual.ensures.1)
+    (variable_first places c.args.seen.now name e c.requires (subst (λ (fs : List FileFault). First fs e) (used_in places _ _ name (shared_part_is places)) c.in_err-variable.ensures))
 
 pub returns-then-contains : goal.returns-then-contains
 returns-then-contains c =

@@ -1,12 +1,18 @@
-use Rattle.std.proofs.Common.{◌≢◌, refl, rules}
-use Rattle.ta_cert.specs.declared.fault.CertFault.TheVariants as fault
-use Rattle.ta_check.specs.declared.accepted.Accepted.{Accepted}
-use Rattle.ta_shell.proofs.Read.{grew_fault}
-use Rattle.ta_program.specs.Kinds.{CertificateFault, certificate_kind}
+use Rattle.std.proofs.Common.{Err, subst}
+use Rattle.ta_automaton.specs.declared.file.File.{File}
+use Rattle.ta_check.specs.Checkers.{Finished, IsExactEnd}
+use Rattle.ta_program.proofs.PiecesJudged.{stage_ended}
 use Rattle.ta_program.proofs.check.read_certificate.Goals as goal
 
-pub returns-in-Ok-clause-stage : goal.returns-in-Ok-clause-stage
-returns-in-Ok-clause-stage g c =
-    let other : c.in-Err-check.fault ≢ fault.Memory = search rules in
-    let found : CertificateFault c.args.scoped.now.file c.as_slice.result.now c.in-Err-check.fault = record { first = c.in-Err-check.ensures.fault other; no_certificate = c.in-Err-check.ensures.refused other } in
-    grew_fault (certificate_kind c.args.scoped.now.file) (λ (a : Accepted). a.patterns) _ _ _ _ c.in-Ok.bytes c.in-Ok.ensures.reads c.args.name c.cert_fault_phrase.result c.in-Err-check.fault refl (rw c.as_slice.ensures at found) c.cert_fault_phrase.ensures _ refl
+pub returns-in-Err-finish-clause-stage : goal.returns-in-Err-finish-clause-stage
+returns-in-Err-finish-clause-stage g c =
+    let judged = c.in-Ok.ensures.judged in
+    let whole = judged.such.0 in
+    let f = c.in-Err-finish.fault in
+    let finished = subst (λ (file : File). Finished file whole.text (Err f)) judged.such.1 (c.in-Err-finish.ensures.answer whole.text whole.stands) in
+    let exact = subst (λ (file : File). IsExactEnd file whole.text (Err f)) judged.such.1 (c.in-Err-finish.ensures.exact whole.text whole.stands) in
+    record {
+      added = judged.added;
+      grown = judged.grown;
+      such = stage_ended c.args.scoped.now.file (g.S.Shelf.files c.args.shelf.now) c.args.name.now c.in-Ok.checker judged.added whole f c.refused.result finished exact c.refused.ensures;
+    }

@@ -1,37 +1,45 @@
-use Rattle.std.proofs.Common.{map}
+use Rattle.std.proofs.Common.{◌≡◌, Bool, true, false, arith, refl, map}
 use Rattle.ta_shell.specs.Ends.{state}
-use Rattle.ta_program.proofs.Clauses.{certificate_written, check_proves, completes, exactly_so, keeps_files, printed_holds, replay_shows, run_shortens, verify_reports, status_tells}
+use Rattle.ta_program.specs.Requests.{request_of}
+use Rattle.ta_program.proofs.Clauses.{number_by, benches, certificate_written, check_proves, completes, exactly_so, keeps_files, printed_holds, quiet, replay_shows, run_shortens, verify_reports, status_tells}
 use Rattle.ta_program.proofs.running.run.Goals as goal
 
-pub returns-clause-runs : goal.returns-clause-runs
-returns-clause-runs g c = rw c.read_words-request.ensures at c.obey.ensures
-
 pub returns-clause-headline : goal.returns-clause-headline
-returns-clause-headline g c = status_tells (map (λ w. w.now) c.args.words.now) c.obey.result (state (g.S.Shelf.files c.args.shelf.now) (g.S.Shelf.calls c.args.shelf.now) (g.S.Shelf.faults c.args.shelf.now) (g.O.Sink.written c.args.out.now) (g.O.Sink.faults c.args.out.now) (g.O.Sink.stalls c.args.out.now) (g.E.Sink.written c.args.err.now) (g.E.Sink.faults c.args.err.now) (g.E.Sink.stalls c.args.err.now)) (state (g.S.Shelf.files c.obey.new.shelf) (g.S.Shelf.calls c.obey.new.shelf) (g.S.Shelf.faults c.obey.new.shelf) (g.O.Sink.written c.obey.new.out) (g.O.Sink.faults c.obey.new.out) (g.O.Sink.stalls c.obey.new.out) (g.E.Sink.written c.obey.new.err) (g.E.Sink.faults c.obey.new.err) (g.E.Sink.stalls c.obey.new.err)) (returns-clause-runs g c)
+returns-clause-headline g c = status_tells (map (λ w. w.now) c.args.words.now) c.obey.result (state (g.S.Shelf.files c.args.shelf.now) (g.S.Shelf.calls c.args.shelf.now) (g.S.Shelf.faults c.args.shelf.now) (g.O.Sink.written c.args.out.now) (g.O.Sink.faults c.args.out.now) (g.O.Sink.stalls c.args.out.now) (g.E.Sink.written c.args.err.now) (g.E.Sink.faults c.args.err.now) (g.E.Sink.stalls c.args.err.now)) (state (g.S.Shelf.files c.obey.new.shelf) (g.S.Shelf.calls c.obey.new.shelf) (g.S.Shelf.faults c.obey.new.shelf) (g.O.Sink.written c.obey.new.out) (g.O.Sink.faults c.obey.new.out) (g.O.Sink.stalls c.obey.new.out) (g.E.Sink.written c.obey.new.err) (g.E.Sink.faults c.obey.new.err) (g.E.Sink.stalls c.obey.new.err)) c.obey.ensures (λ found unknown.
+    elim found as (λ f. number_by f unknown ≡ 0 → (f ≡ false) × (unknown ≡ false)) [
+      | true ↦ λ e. absurd (omega (arith, e))
+      | false ↦ elim unknown as (λ u. number_by false u ≡ 0 → (false ≡ false) × (u ≡ false)) [ true ↦ λ e. absurd (omega (arith, e)) | false ↦ λ e. (refl, refl) ]
+    ])
 
 pub returns-clause-verify : goal.returns-clause-verify
-returns-clause-verify g c = verify_reports (map (λ w. w.now) c.args.words.now) c.obey.result (state (g.S.Shelf.files c.args.shelf.now) (g.S.Shelf.calls c.args.shelf.now) (g.S.Shelf.faults c.args.shelf.now) (g.O.Sink.written c.args.out.now) (g.O.Sink.faults c.args.out.now) (g.O.Sink.stalls c.args.out.now) (g.E.Sink.written c.args.err.now) (g.E.Sink.faults c.args.err.now) (g.E.Sink.stalls c.args.err.now)) (state (g.S.Shelf.files c.obey.new.shelf) (g.S.Shelf.calls c.obey.new.shelf) (g.S.Shelf.faults c.obey.new.shelf) (g.O.Sink.written c.obey.new.out) (g.O.Sink.faults c.obey.new.out) (g.O.Sink.stalls c.obey.new.out) (g.E.Sink.written c.obey.new.err) (g.E.Sink.faults c.obey.new.err) (g.E.Sink.stalls c.obey.new.err)) (returns-clause-runs g c)
+returns-clause-verify g c = verify_reports (map (λ w. w.now) c.args.words.now) c.obey.result (state (g.S.Shelf.files c.args.shelf.now) (g.S.Shelf.calls c.args.shelf.now) (g.S.Shelf.faults c.args.shelf.now) (g.O.Sink.written c.args.out.now) (g.O.Sink.faults c.args.out.now) (g.O.Sink.stalls c.args.out.now) (g.E.Sink.written c.args.err.now) (g.E.Sink.faults c.args.err.now) (g.E.Sink.stalls c.args.err.now)) (state (g.S.Shelf.files c.obey.new.shelf) (g.S.Shelf.calls c.obey.new.shelf) (g.S.Shelf.faults c.obey.new.shelf) (g.O.Sink.written c.obey.new.out) (g.O.Sink.faults c.obey.new.out) (g.O.Sink.stalls c.obey.new.out) (g.E.Sink.written c.obey.new.err) (g.E.Sink.faults c.obey.new.err) (g.E.Sink.stalls c.obey.new.err)) c.obey.ensures
 
 pub returns-clause-certificate : goal.returns-clause-certificate
-returns-clause-certificate g c = certificate_written (map (λ w. w.now) c.args.words.now) c.obey.result (state (g.S.Shelf.files c.args.shelf.now) (g.S.Shelf.calls c.args.shelf.now) (g.S.Shelf.faults c.args.shelf.now) (g.O.Sink.written c.args.out.now) (g.O.Sink.faults c.args.out.now) (g.O.Sink.stalls c.args.out.now) (g.E.Sink.written c.args.err.now) (g.E.Sink.faults c.args.err.now) (g.E.Sink.stalls c.args.err.now)) (state (g.S.Shelf.files c.obey.new.shelf) (g.S.Shelf.calls c.obey.new.shelf) (g.S.Shelf.faults c.obey.new.shelf) (g.O.Sink.written c.obey.new.out) (g.O.Sink.faults c.obey.new.out) (g.O.Sink.stalls c.obey.new.out) (g.E.Sink.written c.obey.new.err) (g.E.Sink.faults c.obey.new.err) (g.E.Sink.stalls c.obey.new.err)) (returns-clause-runs g c)
+returns-clause-certificate g c = certificate_written (map (λ w. w.now) c.args.words.now) c.obey.result (state (g.S.Shelf.files c.args.shelf.now) (g.S.Shelf.calls c.args.shelf.now) (g.S.Shelf.faults c.args.shelf.now) (g.O.Sink.written c.args.out.now) (g.O.Sink.faults c.args.out.now) (g.O.Sink.stalls c.args.out.now) (g.E.Sink.written c.args.err.now) (g.E.Sink.faults c.args.err.now) (g.E.Sink.stalls c.args.err.now)) (state (g.S.Shelf.files c.obey.new.shelf) (g.S.Shelf.calls c.obey.new.shelf) (g.S.Shelf.faults c.obey.new.shelf) (g.O.Sink.written c.obey.new.out) (g.O.Sink.faults c.obey.new.out) (g.O.Sink.stalls c.obey.new.out) (g.E.Sink.written c.obey.new.err) (g.E.Sink.faults c.obey.new.err) (g.E.Sink.stalls c.obey.new.err)) c.obey.ensures
 
 pub returns-clause-kept : goal.returns-clause-kept
-returns-clause-kept g c = keeps_files (map (λ w. w.now) c.args.words.now) c.obey.result (state (g.S.Shelf.files c.args.shelf.now) (g.S.Shelf.calls c.args.shelf.now) (g.S.Shelf.faults c.args.shelf.now) (g.O.Sink.written c.args.out.now) (g.O.Sink.faults c.args.out.now) (g.O.Sink.stalls c.args.out.now) (g.E.Sink.written c.args.err.now) (g.E.Sink.faults c.args.err.now) (g.E.Sink.stalls c.args.err.now)) (state (g.S.Shelf.files c.obey.new.shelf) (g.S.Shelf.calls c.obey.new.shelf) (g.S.Shelf.faults c.obey.new.shelf) (g.O.Sink.written c.obey.new.out) (g.O.Sink.faults c.obey.new.out) (g.O.Sink.stalls c.obey.new.out) (g.E.Sink.written c.obey.new.err) (g.E.Sink.faults c.obey.new.err) (g.E.Sink.stalls c.obey.new.err)) (returns-clause-runs g c)
+returns-clause-kept g c = keeps_files (map (λ w. w.now) c.args.words.now) c.obey.result (state (g.S.Shelf.files c.args.shelf.now) (g.S.Shelf.calls c.args.shelf.now) (g.S.Shelf.faults c.args.shelf.now) (g.O.Sink.written c.args.out.now) (g.O.Sink.faults c.args.out.now) (g.O.Sink.stalls c.args.out.now) (g.E.Sink.written c.args.err.now) (g.E.Sink.faults c.args.err.now) (g.E.Sink.stalls c.args.err.now)) (state (g.S.Shelf.files c.obey.new.shelf) (g.S.Shelf.calls c.obey.new.shelf) (g.S.Shelf.faults c.obey.new.shelf) (g.O.Sink.written c.obey.new.out) (g.O.Sink.faults c.obey.new.out) (g.O.Sink.stalls c.obey.new.out) (g.E.Sink.written c.obey.new.err) (g.E.Sink.faults c.obey.new.err) (g.E.Sink.stalls c.obey.new.err)) c.obey.ensures
+
+pub returns-clause-bench : goal.returns-clause-bench
+returns-clause-bench g c = benches (map (λ w. w.now) c.args.words.now) c.obey.result (state (g.S.Shelf.files c.args.shelf.now) (g.S.Shelf.calls c.args.shelf.now) (g.S.Shelf.faults c.args.shelf.now) (g.O.Sink.written c.args.out.now) (g.O.Sink.faults c.args.out.now) (g.O.Sink.stalls c.args.out.now) (g.E.Sink.written c.args.err.now) (g.E.Sink.faults c.args.err.now) (g.E.Sink.stalls c.args.err.now)) (state (g.S.Shelf.files c.obey.new.shelf) (g.S.Shelf.calls c.obey.new.shelf) (g.S.Shelf.faults c.obey.new.shelf) (g.O.Sink.written c.obey.new.out) (g.O.Sink.faults c.obey.new.out) (g.O.Sink.stalls c.obey.new.out) (g.E.Sink.written c.obey.new.err) (g.E.Sink.faults c.obey.new.err) (g.E.Sink.stalls c.obey.new.err)) c.obey.ensures
 
 pub returns-clause-check : goal.returns-clause-check
-returns-clause-check g c = check_proves (map (λ w. w.now) c.args.words.now) c.obey.result (state (g.S.Shelf.files c.args.shelf.now) (g.S.Shelf.calls c.args.shelf.now) (g.S.Shelf.faults c.args.shelf.now) (g.O.Sink.written c.args.out.now) (g.O.Sink.faults c.args.out.now) (g.O.Sink.stalls c.args.out.now) (g.E.Sink.written c.args.err.now) (g.E.Sink.faults c.args.err.now) (g.E.Sink.stalls c.args.err.now)) (state (g.S.Shelf.files c.obey.new.shelf) (g.S.Shelf.calls c.obey.new.shelf) (g.S.Shelf.faults c.obey.new.shelf) (g.O.Sink.written c.obey.new.out) (g.O.Sink.faults c.obey.new.out) (g.O.Sink.stalls c.obey.new.out) (g.E.Sink.written c.obey.new.err) (g.E.Sink.faults c.obey.new.err) (g.E.Sink.stalls c.obey.new.err)) (returns-clause-runs g c)
+returns-clause-check g c = check_proves (map (λ w. w.now) c.args.words.now) c.obey.result (state (g.S.Shelf.files c.args.shelf.now) (g.S.Shelf.calls c.args.shelf.now) (g.S.Shelf.faults c.args.shelf.now) (g.O.Sink.written c.args.out.now) (g.O.Sink.faults c.args.out.now) (g.O.Sink.stalls c.args.out.now) (g.E.Sink.written c.args.err.now) (g.E.Sink.faults c.args.err.now) (g.E.Sink.stalls c.args.err.now)) (state (g.S.Shelf.files c.obey.new.shelf) (g.S.Shelf.calls c.obey.new.shelf) (g.S.Shelf.faults c.obey.new.shelf) (g.O.Sink.written c.obey.new.out) (g.O.Sink.faults c.obey.new.out) (g.O.Sink.stalls c.obey.new.out) (g.E.Sink.written c.obey.new.err) (g.E.Sink.faults c.obey.new.err) (g.E.Sink.stalls c.obey.new.err)) c.obey.ensures
 
 pub returns-clause-replay : goal.returns-clause-replay
-returns-clause-replay g c = replay_shows (map (λ w. w.now) c.args.words.now) c.obey.result (state (g.S.Shelf.files c.args.shelf.now) (g.S.Shelf.calls c.args.shelf.now) (g.S.Shelf.faults c.args.shelf.now) (g.O.Sink.written c.args.out.now) (g.O.Sink.faults c.args.out.now) (g.O.Sink.stalls c.args.out.now) (g.E.Sink.written c.args.err.now) (g.E.Sink.faults c.args.err.now) (g.E.Sink.stalls c.args.err.now)) (state (g.S.Shelf.files c.obey.new.shelf) (g.S.Shelf.calls c.obey.new.shelf) (g.S.Shelf.faults c.obey.new.shelf) (g.O.Sink.written c.obey.new.out) (g.O.Sink.faults c.obey.new.out) (g.O.Sink.stalls c.obey.new.out) (g.E.Sink.written c.obey.new.err) (g.E.Sink.faults c.obey.new.err) (g.E.Sink.stalls c.obey.new.err)) (returns-clause-runs g c)
+returns-clause-replay g c = replay_shows (map (λ w. w.now) c.args.words.now) c.obey.result (state (g.S.Shelf.files c.args.shelf.now) (g.S.Shelf.calls c.args.shelf.now) (g.S.Shelf.faults c.args.shelf.now) (g.O.Sink.written c.args.out.now) (g.O.Sink.faults c.args.out.now) (g.O.Sink.stalls c.args.out.now) (g.E.Sink.written c.args.err.now) (g.E.Sink.faults c.args.err.now) (g.E.Sink.stalls c.args.err.now)) (state (g.S.Shelf.files c.obey.new.shelf) (g.S.Shelf.calls c.obey.new.shelf) (g.S.Shelf.faults c.obey.new.shelf) (g.O.Sink.written c.obey.new.out) (g.O.Sink.faults c.obey.new.out) (g.O.Sink.stalls c.obey.new.out) (g.E.Sink.written c.obey.new.err) (g.E.Sink.faults c.obey.new.err) (g.E.Sink.stalls c.obey.new.err)) c.obey.ensures
 
 pub returns-clause-compress : goal.returns-clause-compress
-returns-clause-compress g c = run_shortens (map (λ w. w.now) c.args.words.now) c.obey.result (state (g.S.Shelf.files c.args.shelf.now) (g.S.Shelf.calls c.args.shelf.now) (g.S.Shelf.faults c.args.shelf.now) (g.O.Sink.written c.args.out.now) (g.O.Sink.faults c.args.out.now) (g.O.Sink.stalls c.args.out.now) (g.E.Sink.written c.args.err.now) (g.E.Sink.faults c.args.err.now) (g.E.Sink.stalls c.args.err.now)) (state (g.S.Shelf.files c.obey.new.shelf) (g.S.Shelf.calls c.obey.new.shelf) (g.S.Shelf.faults c.obey.new.shelf) (g.O.Sink.written c.obey.new.out) (g.O.Sink.faults c.obey.new.out) (g.O.Sink.stalls c.obey.new.out) (g.E.Sink.written c.obey.new.err) (g.E.Sink.faults c.obey.new.err) (g.E.Sink.stalls c.obey.new.err)) (returns-clause-runs g c)
+returns-clause-compress g c = run_shortens (map (λ w. w.now) c.args.words.now) c.obey.result (state (g.S.Shelf.files c.args.shelf.now) (g.S.Shelf.calls c.args.shelf.now) (g.S.Shelf.faults c.args.shelf.now) (g.O.Sink.written c.args.out.now) (g.O.Sink.faults c.args.out.now) (g.O.Sink.stalls c.args.out.now) (g.E.Sink.written c.args.err.now) (g.E.Sink.faults c.args.err.now) (g.E.Sink.stalls c.args.err.now)) (state (g.S.Shelf.files c.obey.new.shelf) (g.S.Shelf.calls c.obey.new.shelf) (g.S.Shelf.faults c.obey.new.shelf) (g.O.Sink.written c.obey.new.out) (g.O.Sink.faults c.obey.new.out) (g.O.Sink.stalls c.obey.new.out) (g.E.Sink.written c.obey.new.err) (g.E.Sink.faults c.obey.new.err) (g.E.Sink.stalls c.obey.new.err)) c.obey.ensures
 
 pub returns-clause-printed : goal.returns-clause-printed
-returns-clause-printed g c = printed_holds (map (λ w. w.now) c.args.words.now) c.obey.result (state (g.S.Shelf.files c.args.shelf.now) (g.S.Shelf.calls c.args.shelf.now) (g.S.Shelf.faults c.args.shelf.now) (g.O.Sink.written c.args.out.now) (g.O.Sink.faults c.args.out.now) (g.O.Sink.stalls c.args.out.now) (g.E.Sink.written c.args.err.now) (g.E.Sink.faults c.args.err.now) (g.E.Sink.stalls c.args.err.now)) (state (g.S.Shelf.files c.obey.new.shelf) (g.S.Shelf.calls c.obey.new.shelf) (g.S.Shelf.faults c.obey.new.shelf) (g.O.Sink.written c.obey.new.out) (g.O.Sink.faults c.obey.new.out) (g.O.Sink.stalls c.obey.new.out) (g.E.Sink.written c.obey.new.err) (g.E.Sink.faults c.obey.new.err) (g.E.Sink.stalls c.obey.new.err)) (returns-clause-runs g c)
+returns-clause-printed g c = printed_holds (map (λ w. w.now) c.args.words.now) c.obey.result (state (g.S.Shelf.files c.args.shelf.now) (g.S.Shelf.calls c.args.shelf.now) (g.S.Shelf.faults c.args.shelf.now) (g.O.Sink.written c.args.out.now) (g.O.Sink.faults c.args.out.now) (g.O.Sink.stalls c.args.out.now) (g.E.Sink.written c.args.err.now) (g.E.Sink.faults c.args.err.now) (g.E.Sink.stalls c.args.err.now)) (state (g.S.Shelf.files c.obey.new.shelf) (g.S.Shelf.calls c.obey.new.shelf) (g.S.Shelf.faults c.obey.new.shelf) (g.O.Sink.written c.obey.new.out) (g.O.Sink.faults c.obey.new.out) (g.O.Sink.stalls c.obey.new.out) (g.E.Sink.written c.obey.new.err) (g.E.Sink.faults c.obey.new.err) (g.E.Sink.stalls c.obey.new.err)) c.obey.ensures
 
 pub returns-clause-exact : goal.returns-clause-exact
-returns-clause-exact g c = exactly_so (map (λ w. w.now) c.args.words.now) c.obey.result (state (g.S.Shelf.files c.args.shelf.now) (g.S.Shelf.calls c.args.shelf.now) (g.S.Shelf.faults c.args.shelf.now) (g.O.Sink.written c.args.out.now) (g.O.Sink.faults c.args.out.now) (g.O.Sink.stalls c.args.out.now) (g.E.Sink.written c.args.err.now) (g.E.Sink.faults c.args.err.now) (g.E.Sink.stalls c.args.err.now)) (state (g.S.Shelf.files c.obey.new.shelf) (g.S.Shelf.calls c.obey.new.shelf) (g.S.Shelf.faults c.obey.new.shelf) (g.O.Sink.written c.obey.new.out) (g.O.Sink.faults c.obey.new.out) (g.O.Sink.stalls c.obey.new.out) (g.E.Sink.written c.obey.new.err) (g.E.Sink.faults c.obey.new.err) (g.E.Sink.stalls c.obey.new.err)) (returns-clause-runs g c)
+returns-clause-exact g c = exactly_so (request_of (map (λ w. w.now) c.args.words.now)) c.obey.result (state (g.S.Shelf.files c.args.shelf.now) (g.S.Shelf.calls c.args.shelf.now) (g.S.Shelf.faults c.args.shelf.now) (g.O.Sink.written c.args.out.now) (g.O.Sink.faults c.args.out.now) (g.O.Sink.stalls c.args.out.now) (g.E.Sink.written c.args.err.now) (g.E.Sink.faults c.args.err.now) (g.E.Sink.stalls c.args.err.now)) (state (g.S.Shelf.files c.obey.new.shelf) (g.S.Shelf.calls c.obey.new.shelf) (g.S.Shelf.faults c.obey.new.shelf) (g.O.Sink.written c.obey.new.out) (g.O.Sink.faults c.obey.new.out) (g.O.Sink.stalls c.obey.new.out) (g.E.Sink.written c.obey.new.err) (g.E.Sink.faults c.obey.new.err) (g.E.Sink.stalls c.obey.new.err)) c.obey.ensures
+
+pub returns-clause-refused : goal.returns-clause-refused
+returns-clause-refused g c = quiet (request_of (map (λ w. w.now) c.args.words.now)) c.obey.result (state (g.S.Shelf.files c.args.shelf.now) (g.S.Shelf.calls c.args.shelf.now) (g.S.Shelf.faults c.args.shelf.now) (g.O.Sink.written c.args.out.now) (g.O.Sink.faults c.args.out.now) (g.O.Sink.stalls c.args.out.now) (g.E.Sink.written c.args.err.now) (g.E.Sink.faults c.args.err.now) (g.E.Sink.stalls c.args.err.now)) (state (g.S.Shelf.files c.obey.new.shelf) (g.S.Shelf.calls c.obey.new.shelf) (g.S.Shelf.faults c.obey.new.shelf) (g.O.Sink.written c.obey.new.out) (g.O.Sink.faults c.obey.new.out) (g.O.Sink.stalls c.obey.new.out) (g.E.Sink.written c.obey.new.err) (g.E.Sink.faults c.obey.new.err) (g.E.Sink.stalls c.obey.new.err)) c.obey.ensures
 
 pub returns-clause-complete : goal.returns-clause-complete
-returns-clause-complete g c = completes (map (λ w. w.now) c.args.words.now) c.obey.result (state (g.S.Shelf.files c.args.shelf.now) (g.S.Shelf.calls c.args.shelf.now) (g.S.Shelf.faults c.args.shelf.now) (g.O.Sink.written c.args.out.now) (g.O.Sink.faults c.args.out.now) (g.O.Sink.stalls c.args.out.now) (g.E.Sink.written c.args.err.now) (g.E.Sink.faults c.args.err.now) (g.E.Sink.stalls c.args.err.now)) (state (g.S.Shelf.files c.obey.new.shelf) (g.S.Shelf.calls c.obey.new.shelf) (g.S.Shelf.faults c.obey.new.shelf) (g.O.Sink.written c.obey.new.out) (g.O.Sink.faults c.obey.new.out) (g.O.Sink.stalls c.obey.new.out) (g.E.Sink.written c.obey.new.err) (g.E.Sink.faults c.obey.new.err) (g.E.Sink.stalls c.obey.new.err)) (returns-clause-runs g c)
+returns-clause-complete g c = completes (map (λ w. w.now) c.args.words.now) c.obey.result (state (g.S.Shelf.files c.args.shelf.now) (g.S.Shelf.calls c.args.shelf.now) (g.S.Shelf.faults c.args.shelf.now) (g.O.Sink.written c.args.out.now) (g.O.Sink.faults c.args.out.now) (g.O.Sink.stalls c.args.out.now) (g.E.Sink.written c.args.err.now) (g.E.Sink.faults c.args.err.now) (g.E.Sink.stalls c.args.err.now)) (state (g.S.Shelf.files c.obey.new.shelf) (g.S.Shelf.calls c.obey.new.shelf) (g.S.Shelf.faults c.obey.new.shelf) (g.O.Sink.written c.obey.new.out) (g.O.Sink.faults c.obey.new.out) (g.O.Sink.stalls c.obey.new.out) (g.E.Sink.written c.obey.new.err) (g.E.Sink.faults c.obey.new.err) (g.E.Sink.stalls c.obey.new.err)) c.obey.ensures

@@ -11,5 +11,5 @@ pub returns-in-Ok-clause-says : goal.returns-in-Ok-clause-says
 returns-in-Ok-clause-says g c =
     let budget = c.args.budget.now.nodes in
     let out = option_map (λ w. w.now) c.args.out in
-    grew_then file_kind c.args.file.now (may_put out) (λ file. report_meaning file budget out) (λ file. report_monotone file budget out) (λ (s : ScopedFile). s.file) _ c.in-Ok.scoped c.answer_report.result _ _ _ (λ v. refl)
+    grew_then file_kind c.args.file.now (may_put out) (λ file. report_meaning file budget c.args.json out) (λ file. report_monotone file budget c.args.json out) (λ (s : ScopedFile). s.file) _ c.in-Ok.scoped c.answer_report.result _ _ _ (λ v. refl)
     c.in-Ok.ensures.stage (grew_none _ _ c.answer_report.result _ (c.answer_report.ensures.says (g.S.Shelf.files c.args.shelf.now)))

@@ -2,6 +2,7 @@ use Rattle.std.proofs.Common.{◌≡◌, subst, ℕ}
 use Rattle.ta_scope.proofs.Judging.{loops_pure}
 use Rattle.ta_walk.specs.Ends.{TreeIs}
 use Rattle.ta_program.proofs.VerdictsMade.{safe_holds, solution_found}
+use Rattle.ta_encode.specs.PatternSearch.{pattern_search}
 use Rattle.ta_program.proofs.verify.verdict_on.Goals as goal
 
 pub verdict_of-requires : goal.verdict_of-requires
@@ -19,4 +20,4 @@ pub returns-in-Refuted-clause-drafted : goal.returns-in-Refuted-clause-drafted
 returns-in-Refuted-clause-drafted c = λ p at nodes size.
     let tree = (rw c.in-Refuted.is at c.in_ok-count.ensures) p at in
     let same : c.in-Refuted.count ≡ nodes = cc in
-    (tree.nodes, subst (λ (n : ℕ). TreeIs c.args.scoped.now.file.automaton p c.args.budget.now.nodes tree.nodes n) same tree.is, tree.kept)
+    (tree.nodes, subst (λ (n : ℕ). TreeIs (pattern_search c.args.scoped.now.file.automaton p) c.args.budget.now.nodes tree.nodes n) same tree.is, tree.kept)

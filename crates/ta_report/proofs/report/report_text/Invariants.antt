@@ -10,4 +10,4 @@ use Rattle.ta_report.proofs.report.report_text.Given as goal
 abbrev pub invariant-loop-pattern : goal.invariant-loop-pattern
 invariant-loop-pattern l =
     Each (VerdictFits l.file) (iter_rest (zip_second l.pattern-iterator))
-    × (string_bytes l.text ++ verdict_lines l.file (iter_rest (zip_first l.pattern-iterator)) (iter_rest (zip_second l.pattern-iterator)) ≡ report_text l.file l.verdicts)
+    × (string_bytes l.text ++ verdict_lines l.file (iter_rest (zip_first l.pattern-iterator)) (iter_rest (zip_second l.pattern-iterator)) ≡ report_text l.file l.sample l.verdicts)

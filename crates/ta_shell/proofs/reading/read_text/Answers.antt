@@ -1,7 +1,17 @@
-use Rattle.std.proofs.Common.{Err, Ok, inl, inr, refl}
+use Rattle.std.proofs.Common.{◌≡◌, ◌∙◌, ◌++◌, List, Err, Ok, inl, inr, refl, subst, sym}
+use Rattle.std.proofs.lemmas.List.{append_cancel_left}
+use Rattle.std.specs.Option.{IfSome}
+use Rattle.ta_shelf.specs.Calls.{Call}
+use Rattle.ta_shelf.specs.ReadPiece.{GivesFirst}
 use Rattle.ta_shelf.specs.declared.fault.WholeFault.TheVariants.{Missing, TooLong}
-use Rattle.ta_shell.proofs.ReadCalls.{is_reading, sees_absent, sees_longer, sees_whole}
+use Rattle.ta_shell.specs.Lines.{longer_than, missing}
+use Rattle.ta_shell.specs.Sights.{seen}
+use Rattle.ta_shell.proofs.ReadCalls.{gives_refusal, is_reading, sees_absent, sees_more, sees_whole}
 use Rattle.ta_shell.proofs.reading.read_text.Goals as goal
+
+-- a log grew by one list of calls
+same_added : (before after first second : List Call) → after ≡ before ++ first → after ≡ before ++ second → first ≡ second
+same_added before after first second one other = append_cancel_left before first second (sym one ∙ other)
 
 pub returns-in-Ok-clause-reads : goal.returns-in-Ok-clause-reads
 returns-in-Ok-clause-reads g c =
@@ -22,15 +32,16 @@ returns-in-Err-Missing-clause-reads g c =
     record {
       added = log.added;
       grown = log.grown;
-      such = record { reading = is_reading _ c.args.limit.bytes (Err Missing) _ log.such; gives = (refl, refl, inl (sees_absent _ _ c.args.limit.bytes _ log.such told, refl)) };
+      such = record { reading = is_reading _ c.args.limit.bytes (Err Missing) _ log.such; gives = gives_refusal (seen (g.S.Shelf.files c.args.shelf.now) log.added) c.args.name.now c.args.limit log.added missing c.missing.result c.missing.ensures (inl (sees_absent _ _ c.args.limit.bytes _ log.such told, refl)) };
     }
 
 pub returns-in-Err-TooLong-clause-reads : goal.returns-in-Err-TooLong-clause-reads
 returns-in-Err-TooLong-clause-reads g c =
     let log = rw c.in-Err-TooLong.field-0-is at c.in-Err-TooLong.ensures.log in
-    let told = rw c.in-Err-TooLong.field-0-is at c.in-Err-TooLong.ensures.bytes in
+    let begun = rw c.in-Err-TooLong.field-0-is at c.in-Err-TooLong.ensures.begun in
+    let told = subst (λ (calls : List Call). IfSome (g.S.Shelf.files c.args.shelf.now) (λ m. GivesFirst (m c.args.name.now) (Err TooLong) calls)) (same_added _ _ begun.added log.added begun.grown log.grown) begun.such in
     record {
       added = log.added;
       grown = log.grown;
-      such = record { reading = is_reading _ c.args.limit.bytes (Err TooLong) _ log.such; gives = (refl, refl, inr (sees_longer _ _ c.args.limit.bytes _ log.such told, refl)) };
+      such = record { reading = is_reading _ c.args.limit.bytes (Err TooLong) _ log.such; gives = gives_refusal (seen (g.S.Shelf.files c.args.shelf.now) log.added) c.args.name.now c.args.limit log.added (longer_than c.args.limit.bytes) c.too_long.result c.too_long.ensures (inr (sees_more _ _ c.args.limit.bytes _ log.such told, refl)) };
     }

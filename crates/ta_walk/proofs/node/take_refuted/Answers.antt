@@ -11,16 +11,16 @@ check_leaf-requires c =
     (judgeable c.args.system.now c.args.multipliers c.requires.few c.requires.refuted)
 
 pub returns-in-Ok : goal.returns-in-Ok
-returns-in-Ok c = λ a p w is.
+returns-in-Ok c = λ s w is.
     let system = c.args.system.now in
     let ok = c.in-Ok.ensures.ok.0 refl in
     let stays = subst (CheckStays system) c.as_slice.ensures ok.1 in
-    subst (LeafAt a p w) (sym (c.from_vec.ensures ∙ c.into_vec.ensures))
-    (leaf_at a p w system c.args.multipliers is c.requires.refuted stays)
+    subst (LeafAt s w) (sym (c.from_vec.ensures ∙ c.into_vec.ensures))
+    (leaf_at s w system c.args.multipliers is c.requires.refuted stays)
 
 pub returns-in-Err : goal.returns-in-Err
-returns-in-Err c = λ a p w is.
+returns-in-Err c = λ s w is.
     let system = c.args.system.now in
-    leaf_leaves a p w system c.args.multipliers is c.requires.refuted (λ leaf stays.
+    leaf_leaves s w system c.args.multipliers is c.requires.refuted (λ leaf stays.
     let is_ok = c.in-Err.ensures.ok.1 (subst (LeafOf system) (sym c.as_slice.ensures) leaf, subst (CheckStays system) (sym c.as_slice.ensures) stays) in
     cc)

@@ -32,9 +32,7 @@ returns-clause-answer c =
     let factor : FitsSigned w128 c.args.factor = c.ranges.factor in
     let told = simp to_z-of_z at c.in_ok-after.ensures.ok in
     let from = subst (λ vs. Taken a rule c.args.factor vs c.in_ok-after.after.items) c.as_slice-2.ensures.value told in
-    let items : c.copy_from_slice.new.self.items ≡ c.in_ok-after.after.items = c.copy_from_slice.ensures.items ∙ c.as_slice-3.ensures.value in
-    let whole = subst (λ vs. Taken a rule c.args.factor c.args.self.now.values.items vs) (sym items) from in
-    λ other at. subst (λ (q : Rule). Taken a q c.args.factor c.args.self.now.values.items c.copy_from_slice.new.self.items) (same_Some rule other (sym named ∙ at)) whole
+    λ other at. subst (λ (q : Rule). Taken a q c.args.factor c.args.self.now.values.items c.in_ok-after.after.items) (same_Some rule other (sym named ∙ at)) from
 
 pub returns-clause-steps : goal.returns-clause-steps
 returns-clause-steps c =
@@ -46,5 +44,4 @@ returns-clause-steps c =
     let factor : FitsSigned w128 c.args.factor = c.ranges.factor in
     let told = simp to_z-of_z at c.in_ok-after.ensures.ok in
     let from = subst (λ vs. Taken a rule c.args.factor vs c.in_ok-after.after.items) c.as_slice-2.ensures.value told in
-    let items : c.copy_from_slice.new.self.items ≡ c.in_ok-after.after.items = c.copy_from_slice.ensures.items ∙ c.as_slice-3.ensures.value in
-    rw items (taken_fires a c.args.rule rule c.args.factor c.args.self.now.values.items c.in_ok-after.after.items named c.requires.factor c.args.self.now.natural c.requires.is_of c.in_ok-after.ensures.natural from)
+    (taken_fires a c.args.rule rule c.args.factor c.args.self.now.values.items c.in_ok-after.after.items named c.requires.factor c.args.self.now.natural c.requires.is_of c.in_ok-after.ensures.natural from)

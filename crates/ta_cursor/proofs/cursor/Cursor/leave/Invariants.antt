@@ -3,7 +3,7 @@ use Rattle.ta_cursor.proofs.FramesLeft.{Leaving}
 use Rattle.ta_cursor.proofs.cursor.Cursor.leave.Given as goal
 
 abbrev pub invariant-frames : goal.invariant-frames
-invariant-frames l = Leaving l.file l.fn.self l.self l.pattern
+invariant-frames g l = Leaving (g.T.Tree.search l.tree) l.fn.self l.self
 
 abbrev pub decreases-frames : goal.decreases-frames
-decreases-frames l = length l.self.frames.items
+decreases-frames g l = length l.self.frames.items

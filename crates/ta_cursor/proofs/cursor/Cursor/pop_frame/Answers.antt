@@ -4,15 +4,15 @@ use Rattle.ta_cursor.proofs.cursor.Cursor.pop_frame.Goals as goal
 
 pub cut-requires : goal.cut-requires
 cut-requires c =
-    let inside = c.requires.2 in
-    frame_within c.requires.0 c.args.self.now c.requires.1 inside.0 inside.1 c.pop.new.self.items c.in_ok-frame.frame inside.2 c.in_ok-frame.ensures.items
+    let inside = c.requires.1 in
+    frame_within c.requires.0 c.args.self.now inside.0 c.pop.new.self.items c.in_ok-frame.frame inside.1 c.in_ok-frame.ensures.items
 
 pub returns : goal.returns
-returns c = λ file number p words inside.
-    let s = c.args.self.now in
+returns c = λ s words inside.
+    let cursor = c.args.self.now in
     let f = c.in_ok-frame.frame in
-    let frames : s.frames.items ≡ c.pop.new.self.items ++ f ∷ [] = c.in_ok-frame.ensures.items in
-    let back = reopened file s _ number p words f inside (record {
+    let frames : cursor.frames.items ≡ c.pop.new.self.items ++ f ∷ [] = c.in_ok-frame.ensures.items in
+    let back = reopened s cursor _ words f inside (record {
       start = refl;
       frames = frames;
       word = c.cut.ensures;

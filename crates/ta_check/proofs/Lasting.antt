@@ -1,0 +1,62 @@
+-- A fault that lasts
+use Rattle.std.proofs.Common.{◌∙◌, ℕ, List, [], ◌∷◌, ◌++◌, inl, inr, ap, append_assoc}
+use Rattle.ta_automaton.specs.declared.file.File.{File}
+use Rattle.ta_cert.specs.declared.fault.CertFault.{CertFault}
+use Rattle.ta_cert.specs.declared.fault.CertFault.TheVariants as fault
+use Rattle.ta_cert.specs.declared.line.Line.{Line}
+use Rattle.ta_cert.specs.Lines.{lines_text}
+use Rattle.ta_cert.specs.Streams.{AreNoLine, IsMalformed, IsTrailing}
+use Rattle.ta_check.specs.Certificate.{Certificate}
+use Rattle.ta_check.specs.Faults.{IsLasting, LastingFaultsLast, LineAtFault}
+use Rattle.ta_check.proofs.Refusing.{no_certificate}
+
+-- bytes that are no line are none in a longer text
+no_line_more : (ls : List Line) (bytes after more : List ℕ) → AreNoLine ls bytes after → AreNoLine ls bytes (after ++ more)
+no_line_more ls bytes after more h = elim h [ inl long ↦ inl long | inr ended ↦ inr (ended.0 ++ more, ap (λ xs. xs ++ more) ended.1, ended.2) ]
+
+malformed_more : (text more : List ℕ) (n : ℕ) → IsMalformed text n → IsMalformed (text ++ more) n
+malformed_more text more n m = record {
+  ls = m.ls;
+  bytes = m.bytes;
+  after = m.after ++ more;
+  whole = ap (λ xs. xs ++ more) m.whole ∙ append_assoc (lines_text m.ls) (m.bytes ++ m.after) more ∙ ap (λ xs. lines_text m.ls ++ xs) (append_assoc m.bytes m.after more);
+  legal = m.legal;
+  going_on = m.going_on;
+  unbroken = m.unbroken;
+  no_line = no_line_more m.ls m.bytes m.after more m.no_line;
+  place = m.place;
+}
+
+trailing_more : (text more : List ℕ) (n : ℕ) → IsTrailing text n → IsTrailing (text ++ more) n
+trailing_more text more n t = record {
+  ls = t.ls;
+  byte = t.byte;
+  after = t.after ++ more;
+  whole = ap (λ xs. xs ++ more) t.whole ∙ append_assoc (lines_text t.ls) (t.byte ∷ t.after) more;
+  legal = t.legal;
+  ended = t.ended;
+  place = t.place;
+}
+
+line_more : (file : File) (text more : List ℕ) (f : CertFault) → LineAtFault file text f → LineAtFault file (text ++ more) f
+line_more file text more f e = record {
+  ls = e.ls;
+  line = e.line;
+  after = e.after ++ more;
+  whole = ap (λ xs. xs ++ more) e.whole ∙ append_assoc (lines_text (e.ls ++ e.line ∷ [])) e.after more;
+  legal = e.legal;
+  standing = e.standing;
+  leads = e.leads;
+  at_fault = e.at_fault;
+}
+
+pub lasting_faults_last : LastingFaultsLast
+unfolding malformed_more trailing_more
+lasting_faults_last file text more (fault.Truncated n) h = absurd h
+lasting_faults_last file text more (fault.Line n) h = elim h [ inl line ↦ inl (line_more file text more (fault.Line n) line) | inr own ↦ inr (malformed_more text more n own.0, own.1) ]
+lasting_faults_last file text more (fault.Trailing n) h = elim h [ inl line ↦ inl (line_more file text more (fault.Trailing n) line) | inr own ↦ inr (trailing_more text more n own.0, own.1) ]
+lasting_faults_last file text more f h = elim h [ inl line ↦ inl (line_more file text more f line) | inr own ↦ absurd own ]
+
+-- no text that goes on behind a lasting fault is a certificate
+pub no_longer_certificate : (file : File) (text : List ℕ) (f : CertFault) → IsLasting file text f → (more numbers : List ℕ) → ¬ Certificate file (text ++ more) numbers
+no_longer_certificate file text f h more = no_certificate file (text ++ more) f (lasting_faults_last file text more f h)

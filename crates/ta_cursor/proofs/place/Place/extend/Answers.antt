@@ -1,0 +1,22 @@
+use Rattle.std.proofs.Common.{◌+◌, ◌++◌, drop}
+use Rattle.ta_cert.specs.declared.line.Node.TheVariants.{Extend}
+use Rattle.ta_encode.specs.Search.{parts}
+use Rattle.ta_cursor.specs.InTrees.{here_at}
+use Rattle.ta_cursor.proofs.TreesLeft.{at_here, parts_first, tree_goes_on, tree_ends}
+use Rattle.ta_cursor.proofs.place.Place.extend.Goals as goal
+
+pub returns-then-branch : goal.returns-then-branch
+returns-then-branch g c = λ w words all.
+    let s = g.T.Tree.search c.args.tree.now in
+    let old = c.args.self.now in
+    let at = at_here s old w words all in
+    let told = rw c.if-branch.true at (c.in_ok-extend.ensures (here_at old) at.rest at.within) in
+    tree_goes_on s (record { cursor = c.extend.new.self; root = old.root }) (parts s (here_at old) Extend ++ at.rest) (parts s w Extend ++ words) told all.small (parts_first s old w words Extend at)
+
+pub returns-else-branch : goal.returns-else-branch
+returns-else-branch g c = λ w words all.
+    let s = g.T.Tree.search c.args.tree.now in
+    let old = c.args.self.now in
+    let at = at_here s old w words all in
+    let told = rw c.if-branch.false at (c.in_ok-extend.ensures (here_at old) at.rest at.within) in
+    tree_ends s c.extend.new.self c.next_root.new.self (parts s (here_at old) Extend ++ at.rest) (parts s w Extend ++ words) (drop (old.root + 1) s.roots) c.next_root.result told (parts_first s old w words Extend at) c.next_root.ensures

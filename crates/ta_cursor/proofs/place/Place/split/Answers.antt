@@ -1,0 +1,19 @@
+use Rattle.std.proofs.Common.{ℤ, ◌++◌, FitsSigned, refl, rules, subst}
+use Rattle.std.specs.Int.{w128}
+use Rattle.std.proofs.lemmas.Int.{to_z-of_z}
+use Rattle.ta_cert.specs.declared.line.Node.TheVariants.{Split}
+use Rattle.ta_encode.specs.Search.{parts}
+use Rattle.ta_cursor.specs.Cursors.{WentOn}
+use Rattle.ta_cursor.specs.InTrees.{here_at}
+use Rattle.ta_cursor.proofs.TreesLeft.{at_here, sides_left}
+use Rattle.ta_cursor.proofs.place.Place.split.Goals as goal
+
+pub returns : goal.returns
+returns g c = λ w words all.
+    let fits : FitsSigned w128 c.args.floor = search rules in
+    let s = g.T.Tree.search c.args.tree.now in
+    let old = c.args.self.now in
+    let at = at_here s old w words all in
+    let told = λ (z : ℤ). WentOn s c.split.new.self (parts s (here_at old) (Split c.args.unknown z) ++ at.rest) c.split.result in
+    let went = subst told (to_z-of_z w128 c.args.floor fits) (c.split.ensures s (here_at old) at.rest at.within c.requires.unknown) in
+    sides_left s old (record { cursor = c.split.new.self; root = old.root }) w words (Split c.args.unknown c.args.floor) c.split.result at went refl all.small

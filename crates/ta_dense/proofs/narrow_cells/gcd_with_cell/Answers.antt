@@ -1,0 +1,19 @@
+use Rattle.std.proofs.Common.{ap, ◌∙◌, sym, unsigned_abs}
+use Rattle.std.proofs.lemmas.Int.{to_z-of_z}
+use Rattle.std.proofs.lemmas.Nat.Gcd.{IsGcd-swap}
+use mir.Val.{to_z}
+use mir.Syntax.{w64}
+use Rattle.ta_linear.proofs.GcdLemmas.{gcd_of_is, gcd_of-zero}
+use Rattle.ta_linear.specs.Gcd.{gcd_of}
+use Rattle.ta_dense.proofs.narrow_cells.gcd_with_cell.Goals as goal
+
+pub returns-then-cell-eq0 : goal.returns-then-cell-eq0
+returns-then-cell-eq0 c =
+    let zero = sym (to_z-of_z w64 c.args.cell c.ranges.cell) ∙ ap (to_z w64) c.if-cell-eq0.true in
+    sym (gcd_of-zero c.args.divisor (unsigned_abs c.args.cell) (ap unsigned_abs zero))
+
+pub returns-else-cell-eq0 : goal.returns-else-cell-eq0
+returns-else-cell-eq0 c =
+    let fx = c.ranges.cell in
+    let u = simp to_z-of_z at c.unsigned_abs.ensures.value in
+    gcd_of_is _ _ _ (IsGcd-swap _ _ _ c.gcd_narrow.ensures) ∙ ap (gcd_of c.args.divisor) u

@@ -1,0 +1,28 @@
+use Rattle.std.proofs.Common.{◌≡◌, arith, sym, ◌∙◌, ap, ◌+◌, List, ℕ, length, subst, drop}
+use Rattle.std.proofs.lemmas.List.FromFn.{length-range_with_len}
+use Rattle.ta_dense.specs.Slack.{slack_rows}
+use Rattle.ta_dense.specs.Narrow.{narrow_views, AreNarrow}
+use Rattle.ta_dense.proofs.SlackRows.{slack_tableau-is}
+use Rattle.ta_dense.proofs.small.SmallDictionary.from_system.Goals as goal
+
+pub invariant_of-result : goal.invariant_of-result
+invariant_of-result c =
+    let n = length-range_with_len 0 c.args.system.now.unknowns in
+    let e = ap (λ (xs : List ℕ). length xs) c.in_ok-non_basic.ensures in
+    let columns : length c.in_ok-non_basic.non_basic.items ≡ c.args.system.now.unknowns = omega arith in
+    let room = c.requires in
+    let long = rw c.in-Some.is at c.in_ok-rows.ensures.long in
+    let narrow = rw c.in-Some.is at c.in_ok-rows.ensures.narrow in
+    record {
+      narrow = subst (λ (k : ℕ). AreNarrow k c.in-Some.rows.items) (sym columns) narrow;
+      rows_fit = omega arith;
+      columns_fit = omega arith;
+    }
+
+pub returns : goal.returns
+returns c =
+    let u = c.args.system.now.unknowns in
+    let none : c.args.system.now.unknowns + 0 ≡ c.args.system.now.unknowns = omega arith in
+    let value = rw c.in-Some.is at c.in_ok-rows.ensures.value in
+    slack_tableau-is c.args.system.now c.in_ok-non_basic.non_basic.items (narrow_views c.in-Some.rows.items) c.in_ok-non_basic.ensures
+    (value ∙ ap (λ (m : ℕ). slack_rows u m (drop 0 c.args.system.now.rows)) none)

@@ -1,0 +1,144 @@
+-- the sample system is what stands at the start of a pattern that asks for nothing
+use Rattle.std.proofs.Common.{◌≡◌, inl, inr, ℕ, ℤ, ◌+◌, ◌≤◌, List, [], ◌∷◌, ◌++◌, map, take, length, Bool, true, not, arith, sym, ap, ◌∙◌, refl, subst, append-nil, length-append, get_or}
+use Rattle.std.specs.Prelude.{filter, slice_index}
+use Rattle.std.proofs.lemmas.Bool.{false≢true, true≢false}
+use Rattle.std.proofs.lemmas.Int.{ints}
+use Rattle.std.proofs.lemmas.List.{length-map}
+use Rattle.ta_linear.specs.declared.row.Row.{Row}
+use Rattle.ta_automaton.specs.declared.automaton.Automaton.{Automaton}
+use Rattle.ta_automaton.specs.declared.pattern.Pattern.{Pattern}
+use Rattle.ta_automaton.specs.Masks.{In, has_bit, numbers_from}
+use Rattle.ta_automaton.specs.Runs.{Config, Initial}
+use Rattle.ta_automaton.proofs.Fire.{length_numbers}
+use Rattle.ta_automaton.proofs.Moves.{Fits}
+use Rattle.ta_automaton.proofs.Thresholds.{resilience_holds}
+use Rattle.ta_cert.specs.declared.line.Node.{Node}
+use Rattle.ta_cert.specs.declared.line.Node.TheVariants as node
+use Rattle.ta_words.proofs.Bits.{has_none}
+use Rattle.ta_encode.specs.Unknowns.{Meaning, Parameter, Start, start_locations, start_meanings}
+use Rattle.ta_encode.specs.System.{AllHold, Bound, High, LinearRow, Low, bound_row, condition_rows, opposite, processes_row}
+use Rattle.ta_encode.specs.InPreorder.{RefutedInOrder}
+use Rattle.ta_encode.specs.Refutes.{IsLeaf, LeafTest}
+use Rattle.ta_encode.specs.Sample.{HasStart, SamplesStart, StartsAreSampled, sample_meanings, sample_rows, sample_search, sampled}
+use Rattle.ta_encode.specs.Search.{Pending, bound_at, bounded, rows_of}
+use Rattle.ta_encode.specs.Inside.Lines.{Adds, Written}
+use Rattle.ta_encode.proofs.Begin.{FirstRows, first_initial, first_of}
+use Rattle.ta_encode.proofs.Drafts.{filter_same, start_few}
+use Rattle.ta_encode.proofs.Moments.{AllHold-append, AllHold-left, condition_holds, opposite_value}
+use Rattle.ta_encode.proofs.RowSums.{leaf_contradicts}
+use Rattle.ta_encode.proofs.Safety.{bounds_more, sides}
+use Rattle.ta_encode.proofs.Start.{StartsEmpty, parameter_values, processes_value, start_counts, start_moment}
+use Rattle.ta_encode.proofs.Starts.{parameter_picks}
+use Rattle.ta_encode.proofs.Theorems.{each_index}
+use Rattle.ta_encode.proofs.Values.{AllHold-right, left_part}
+
+abbrev plain : Pattern
+plain = record { name = []; start = record { comparisons = []; limit = omega arith }; empty = 0; events = [] }
+
+filter_all : (xs : List ℕ) → filter (λ x. true) xs ≡ xs
+filter_all [] = refl
+filter_all (x ∷ xs) = ap (λ ys. x ∷ ys) (filter_all xs)
+
+-- no location is kept empty
+pub none_kept_empty : (ls : List ℕ) → filter (λ l. not (has_bit 0 l)) ls ≡ ls
+none_kept_empty ls = filter_same (λ l. not (has_bit 0 l)) (λ l. true) ls (λ l. ap not (has_none l)) ∙ filter_all ls
+
+plain_locations : (a : Automaton) → start_locations a plain ≡ a.initial
+plain_locations a = none_kept_empty a.initial
+
+plain_meanings : (a : Automaton) → start_meanings a plain ≡ sample_meanings a
+unfolding start_meanings sample_meanings
+plain_meanings a = ap (λ (ls : List ℕ). map Parameter (numbers_from 0 (length a.parameters)) ++ map Start ls) (plain_locations a)
+
+pub sample_few : (a : Automaton) → length (sample_meanings a) ≤ 48
+sample_few a = omega (arith, ap (λ (ms : List Meaning). length ms) (plain_meanings a), start_few a plain)
+
+-- the rows over some unknowns
+abbrev rows_over : Automaton → List Meaning → List LinearRow
+rows_over a ms = condition_rows a ms a.resilience.comparisons ++ (processes_row a ms ∷ opposite (processes_row a ms) ∷ [])
+
+plain_rows : (a : Automaton) → rows_over a (start_meanings a plain) ≡ sample_rows a
+unfolding sample_rows
+plain_rows a = ap (rows_over a) (plain_meanings a)
+
+pub sample_count : (a : Automaton) → length (sample_meanings a) ≡ length a.parameters + length a.initial
+unfolding sample_meanings
+sample_count a =
+    let nums = numbers_from 0 (length a.parameters) in
+    omega (arith, length-append (map Parameter nums) (map Start a.initial), length-map nums Parameter, length-map a.initial Start, length_numbers 0 (length a.parameters))
+
+pub samples_start : SamplesStart
+samples_start a vs s =
+    let ms = start_meanings a plain in
+    let rows = subst (AllHold vs) (sym (plain_rows a)) (AllHold-left vs (sample_rows a) [] s.rows_hold) in
+    let resilience = condition_rows a ms a.resilience.comparisons in
+    let processes = processes_row a ms ∷ opposite (processes_row a ms) ∷ [] in
+    let first : FirstRows a plain vs = record { resilience = left_part vs resilience processes rows; processes = AllHold-right vs resilience processes rows; start = tt } in
+    record { first = first_of a plain vs; initial = first_initial a plain vs first; are = parameter_picks a plain vs (omega (arith, s.count, sample_count a)) }
+
+none_empty : (c : Config) → StartsEmpty plain c
+none_empty c l h = absurd (false≢true (sym (has_none l) ∙ h))
+
+-- the values of an initial configuration
+start_sample : (a : Automaton) (c : Config) → Initial a c → parameter_values a c ++ start_counts a plain c ≡ c.parameters ++ map (slice_index c.counters) a.initial
+start_sample a c start =
+    let parameters : parameter_values a c ≡ c.parameters = subst (λ (n : ℕ). map (λ j. get_or c.parameters j 0) (numbers_from 0 n) ≡ c.parameters) start.admissible.count (each_index c.parameters) in
+    ap (λ (ps : List ℕ). ps ++ start_counts a plain c) parameters ∙ ap (λ (ls : List ℕ). c.parameters ++ map (slice_index c.counters) ls) (plain_locations a)
+
+pub starts_sampled : StartsAreSampled
+starts_sampled a c start =
+    let fits : Fits a c = record { parameters = start.admissible.count; shared = start.shared_count } in
+    let empty = none_empty c in
+    let moment = start_moment a plain c fits start empty in
+    let ms = start_meanings a plain in
+    let vs = parameter_values a c ++ start_counts a plain c in
+    let value = processes_value a plain c fits start empty [] in
+    let v = vs ++ [] in
+    let pair : AllHold v (processes_row a ms ∷ opposite (processes_row a ms) ∷ []) = (omega (arith, ints, value), (omega (arith, ints, value, opposite_value v (processes_row a ms)), tt)) in
+    let resilience = condition_holds a ms vs c moment [] a.resilience.comparisons (resilience_holds a c start.admissible.count start.admissible.resilience) in
+    let rows = AllHold-append v (condition_rows a ms a.resilience.comparisons) (processes_row a ms ∷ opposite (processes_row a ms) ∷ []) resilience pair in
+    let values : v ≡ c.parameters ++ map (slice_index c.counters) a.initial = append-nil vs ∙ start_sample a c start in
+    record {
+      count = ap (λ (xs : List ℕ). length xs) (sym (start_sample a c start)) ∙ moment.count ∙ ap (λ (us : List Meaning). length us) (plain_meanings a);
+      rows_hold = subst (λ (xs : List ℕ). AllHold xs (rows_of (sample_search a) (sampled []))) values (subst (λ (ls : List LinearRow). AllHold v (ls ++ [])) (plain_rows a) (subst (AllHold v) (sym (append-nil (rows_over a ms))) rows));
+    }
+
+-- the rows of code
+pub sample_written : (a : Automaton) (bounds : List Bound) (ms : List Meaning) (n : ℕ) (before first second third : List Row) → ms ≡ sample_meanings a → n ≡ length ms → before ≡ []
+    → Adds (condition_rows a ms a.resilience.comparisons) (length ms) before first
+    → Adds (processes_row a ms ∷ opposite (processes_row a ms) ∷ []) (length ms) first second
+    → Adds (map bound_row bounds) n second third
+    → Written (rows_of (sample_search a) (sampled bounds)) n third
+unfolding sample_rows
+sample_written a bounds ms n before first second third e count none one two three =
+    let resilience = condition_rows a ms a.resilience.comparisons in
+    let nothing : Written [] (length ms) before = subst (Written [] (length ms)) (sym none) (record { rows_of = tt; below = tt }) in
+    let rows = two.rows resilience (one.rows [] nothing) in
+    let here : Written (sample_rows a) n second = subst (λ (k : ℕ). Written (sample_rows a) k second) (sym count) (subst (λ (us : List Meaning). Written (rows_over a us) (length ms) second) e rows) in
+    three.rows (sample_rows a) here
+
+-- where nodes refute words of the search for a sample, no natural values solve one of them
+pub none_solved : (a : Automaton) (test : LeafTest) → ((w : Pending) (ts : List (ℕ × ℤ)) → test w ts → IsLeaf (sample_search a) w ts) → (ws : List Pending) (nodes : List Node) → RefutedInOrder (sample_search a) test ws nodes → (w : Pending) → In w ws → (vs : List ℕ) → AllHold vs (rows_of (sample_search a) w) → ⊥
+none_solved a test leaf ws [] h w i vs holds = subst (In w) h i
+none_solved a test leaf [] (n ∷ nodes) h w i vs holds = h
+none_solved a test leaf (v ∷ ws) (node.Leaf ts ∷ nodes) h w (inl same) vs holds =
+    leaf_contradicts (rows_of (sample_search a) v) ts vs (leaf v ts h.0) (subst (λ (x : Pending). AllHold vs (rows_of (sample_search a) x)) same holds)
+none_solved a test leaf (v ∷ ws) (node.Leaf ts ∷ nodes) h w (inr i) vs holds = none_solved a test leaf ws nodes h.1 w i vs holds
+none_solved a test leaf (v ∷ ws) (node.Extend ∷ nodes) h w i vs holds = absurd (true≢false h.0)
+none_solved a test leaf (v ∷ ws) (node.Split unknown floor ∷ nodes) h w (inl same) vs holds =
+    let low = bounded v (bound_at unknown floor Low) in
+    let high = bounded v (bound_at unknown floor High) in
+    let here = subst (λ (x : Pending). AllHold vs (rows_of (sample_search a) x)) same holds in
+    let rows = AllHold-left vs (sample_rows a) (map bound_row v.bounds) here in
+    let bounds = AllHold-right vs (sample_rows a) (map bound_row v.bounds) here in
+    elim (sides unknown floor vs) [
+      | inl g ↦ none_solved a test leaf (low ∷ high ∷ ws) nodes h.1 low (inl refl) vs (AllHold-append vs (sample_rows a) (map bound_row low.bounds) rows (bounds_more v.bounds (bound_at unknown floor Low) vs bounds g))
+      | inr g ↦ none_solved a test leaf (low ∷ high ∷ ws) nodes h.1 high (inr (inl refl)) vs (AllHold-append vs (sample_rows a) (map bound_row high.bounds) rows (bounds_more v.bounds (bound_at unknown floor High) vs bounds g))
+    ]
+none_solved a test leaf (v ∷ ws) (node.Split unknown floor ∷ nodes) h w (inr i) vs holds =
+    none_solved a test leaf (bounded v (bound_at unknown floor Low) ∷ bounded v (bound_at unknown floor High) ∷ ws) nodes h.1 w (inr (inr i)) vs holds
+
+-- where nodes refute the sample system, no parameters have an initial configuration
+pub none_starts : (a : Automaton) (test : LeafTest) → ((w : Pending) (ts : List (ℕ × ℤ)) → test w ts → IsLeaf (sample_search a) w ts) → (nodes : List Node) → RefutedInOrder (sample_search a) test (sample_search a).roots nodes → (parameters : List ℕ) → ¬ HasStart a parameters
+none_starts a test leaf nodes h parameters start =
+    none_solved a test leaf (sample_search a).roots nodes h (sampled []) (inl refl) (start.first.parameters ++ map (slice_index start.first.counters) a.initial) (starts_sampled a start.first start.initial).rows_hold

@@ -1,0 +1,13 @@
+use Rattle.std.proofs.Common.{List, ℕ, ◌++◌, map, length, ap, ◌∙◌}
+use Rattle.ta_automaton.specs.Masks.{numbers_from}
+use Rattle.ta_encode.specs.Sample.{sample_meanings}
+use Rattle.ta_encode.specs.Unknowns.{Parameter, Start}
+use Rattle.ta_encode.proofs.Samples.{none_kept_empty}
+use Rattle.ta_encode.proofs.sample.sample_meanings.Goals as goal
+
+pub returns : goal.returns
+unfolding sample_meanings
+returns c =
+    let a = c.args.automaton.now in
+    let items = c.in_ok-push_parameters.ensures ∙ ap (λ ms. ms ++ map Parameter (numbers_from 0 (length c.as_slice.result.now))) c.new-meanings.ensures.items ∙ ap (λ (ps : List (List ℕ)). map Parameter (numbers_from 0 (length ps))) c.as_slice.ensures in
+    c.in_ok-push_starts.ensures ∙ ap (λ (ls : List ℕ). c.push_parameters.new.meanings.items ++ map Start ls) (none_kept_empty a.initial) ∙ ap (λ ms. ms ++ map Start a.initial) items

@@ -1,0 +1,27 @@
+-- The search of a pattern: the words of this project's profile
+use Rattle.std.specs.Prelude.{ℕ, ◌^◌, List, [], length, map}
+use Rattle.ta_automaton.specs.declared.automaton.Automaton.{Automaton}
+use Rattle.ta_automaton.specs.declared.pattern.Pattern.{Pattern}
+use Rattle.ta_automaton.specs.Masks.{numbers_from}
+use Rattle.ta_words.specs.Words.{children, is_complete}
+use Rattle.ta_encode.specs.Unknowns.{meanings}
+use Rattle.ta_encode.specs.System.{word_rows}
+use Rattle.ta_encode.specs.Search.{Pending, Search}
+
+-- the empty word of a start set, without bounds
+abbrev pub empty_word : ℕ → Pending
+empty_word start = record { start = start; past = []; bounds = [] }
+
+-- the empty word for each start set by rising mask
+abbrev pub all_starts : Automaton → List Pending
+all_starts a = map empty_word (numbers_from 0 (2 ^ length a.fall))
+
+-- it begins with the empty word of each start set, and goes on with the children of each word
+abbrev pub pattern_search : Automaton → Pattern → Search
+pattern_search a p = record {
+  roots = all_starts a;
+  following = children a p;
+  complete = λ start past. is_complete p past;
+  unknowns = λ start past. length (meanings a p start past);
+  rows = word_rows a p;
+}

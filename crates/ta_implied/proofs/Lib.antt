@@ -1,0 +1,3 @@
+-- lemmas for the crates above
+pub mod Implying
+mod Copying

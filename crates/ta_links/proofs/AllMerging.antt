@@ -1,0 +1,140 @@
+-- Rows that are merged one after another
+use Rattle.std.proofs.Common.{◌≡◌, ◌≢◌, ◌⊎◌, inl, inr, ℕ, zero, suc, ℤ, pos, ◌+◌, ◌<◌, ◌≤◌, List, [], ◌∷◌, length, map, get_or, arith, sym, ap, ◌∙◌, refl, subst}
+use Rattle.std.specs.List.{range_with_len}
+use Rattle.ta_dense.specs.Tableau.{TableauRow, merged}
+use Rattle.ta_dense.specs.Merge.{MergesInRange}
+use Rattle.ta_dense.proofs.ProperFacts.{merged-zero}
+use Rattle.ta_links.specs.declared.cell.Cell.{Cell}
+use Rattle.ta_links.specs.declared.row_head.RowHead.{RowHead}
+use Rattle.ta_links.specs.declared.linked_cells.LinkedCells.{LinkedCells}
+use Rattle.ta_links.specs.Values.{value_in, row_values, fills, filled, filled_rows}
+use Rattle.ta_links.specs.Gaps.{AreSound}
+use Rattle.ta_links.specs.Linked.{table_row, no_head, AreProperHeads}
+use Rattle.ta_links.specs.Merging.{row_in, RowMerged, RowStepped, StepRefused, MergedBelow}
+use Rattle.ta_links.specs.MergingAll.{RefusedFirst}
+use Rattle.ta_links.proofs.Options.{is_or_not}
+use Rattle.ta_links.proofs.LinkedFacts.{row_value_at}
+use Rattle.ta_links.proofs.ColumnSteps.{filled_same, fills_same}
+
+pub values_same : (cells new : List Cell) (n r : ℕ) → ((c : ℕ) → value_in new r c ≡ value_in cells r c) → row_values new n r ≡ row_values cells n r
+values_same cells new n r same = go (range_with_len 0 n) where
+  go : (xs : List ℕ) → map (value_in new r) xs ≡ map (value_in cells r) xs
+  go [] = refl
+  go (x ∷ xs) = ap (λ (z : ℤ). z ∷ map (value_in new r) xs) (same x) ∙ ap (λ (zs : List ℤ). value_in cells r x ∷ zs) (go xs)
+
+pub row_same_in : (hs hs' : List RowHead) (old new : LinkedCells) (n r : ℕ) → ((c : ℕ) → value_in new.cells.items r c ≡ value_in old.cells.items r c) → get_or hs' r no_head ≡ get_or hs r no_head → row_in hs' new n r ≡ row_in hs old n r
+row_same_in hs hs' old new n r same e =
+    ap (table_row new.cells.items n r) e ∙ ap (λ (zs : List ℤ). record { basic = (get_or hs r no_head).basic; denominator = (get_or hs r no_head).denominator; constant = (get_or hs r no_head).constant; cells = zs }) (values_same old.cells.items new.cells.items n r same)
+
+pub filled_none : (n : ℕ) (f g : ℕ → ℤ) → ((j : ℕ) → g j ≡ f j) → filled n f g ≡ 0
+filled_none zero f g same = refl
+filled_none (suc n) f g same = let a = filled_none n f g same in let b = fills_same (f n) (g n) (sym (same n)) in omega arith
+
+-- nothing is done
+pub step_none : (columns row at column : ℕ) (hs : List RowHead) (old : LinkedCells) → AreSound old → AreProperHeads hs → column < columns → (at ≡ row) ⊎ (value_in old.cells.items at column ≡ pos 0) → RowStepped columns row at column hs old hs old
+step_none columns row at column hs old sound proper inside why = record {
+  sound = sound;
+  row_heads = refl;
+  column_heads = refl;
+  long = refl;
+  proper = proper;
+  others = λ r c w. refl;
+  other_heads = λ i w. refl;
+  row_merged = λ ne. elim why [
+    | inl e ↦ absurd (ne e)
+    | inr z ↦ sym (merged-zero column (row_in hs old columns row) (row_in hs old columns at) (row_value_at old.cells.items columns at column inside ∙ z))
+  ];
+  within = λ ne. elim why [
+    | inl e ↦ absurd (ne e)
+    | inr z ↦ λ apart. absurd (apart (row_value_at old.cells.items columns at column inside ∙ z))
+  ];
+  held = omega arith;
+}
+
+pub step_merged : (columns row at column : ℕ) (hs hs' : List RowHead) (old new : LinkedCells) → at ≢ row → RowMerged columns row at column hs old hs' new → RowStepped columns row at column hs old hs' new
+step_merged columns row at column hs hs' old new ne m = record {
+  sound = m.sound;
+  row_heads = m.row_heads;
+  column_heads = m.column_heads;
+  long = m.long;
+  proper = m.proper;
+  others = λ r c w. m.others r c (elim w [ inl a ↦ a | inr e ↦ λ same. ne (sym same ∙ e) ]);
+  other_heads = λ i w. m.other_heads i (elim w [ inl a ↦ a | inr e ↦ λ same. ne (sym same ∙ e) ]);
+  row_merged = λ _. m.row_merged;
+  within = λ _. m.within;
+  held = m.held;
+}
+
+pub filled_rows_same : (n columns : ℕ) (f g h : ℕ → ℕ → ℤ) → ((i j : ℕ) → i < n → h i j ≡ g i j) → filled_rows n columns f h ≡ filled_rows n columns f g
+filled_rows_same zero columns f g h same = refl
+filled_rows_same (suc n) columns f g h same =
+    let rest = filled_rows_same n columns f g h (λ i j b. same i j (omega arith)) in
+    let last = filled_same columns (f n) (g n) (h n) (λ j b. same n j (omega arith)) in
+    omega arith
+
+pub filled_from : (n : ℕ) (f f' g : ℕ → ℤ) → ((j : ℕ) → f j ≡ f' j) → filled n f g ≡ filled n f' g
+filled_from zero f f' g same = refl
+filled_from (suc n) f f' g same = let a = filled_from n f f' g same in let b = ap (λ (z : ℤ). fills z (g n)) (same n) in omega arith
+
+pub merged_start : (columns row column : ℕ) (hs : List RowHead) (old : LinkedCells) → AreSound old → AreProperHeads hs → MergedBelow columns row column hs old 0 hs old
+merged_start columns row column hs old sound proper = record {
+  sound = sound;
+  row_heads = refl;
+  column_heads = refl;
+  long = refl;
+  proper = proper;
+  rest = λ i c w. refl;
+  rest_heads = λ i w. refl;
+  done = λ i b ne. absurd (omega arith);
+  within = λ i b ne. absurd (omega arith);
+  held = omega arith;
+}
+
+-- a row that wasn't reached is as it was
+pub unreached : (columns row column : ℕ) (hs : List RowHead) (old : LinkedCells) (place : ℕ) (hs1 : List RowHead) (now : LinkedCells) → MergedBelow columns row column hs old place hs1 now → (i : ℕ) → (place ≤ i) ⊎ (i ≡ row) → row_in hs1 now columns i ≡ row_in hs old columns i
+unreached columns row column hs old place hs1 now m i w = row_same_in hs hs1 old now columns i (λ c. m.rest i c w) (m.rest_heads i w)
+
+pub refused_here : (columns row column : ℕ) (hs : List RowHead) (old : LinkedCells) (place rows : ℕ) (hs1 : List RowHead) (now : LinkedCells) → place < rows → MergedBelow columns row column hs old place hs1 now → StepRefused columns row place column hs1 now → RefusedFirst columns row column hs old rows place
+refused_here columns row column hs old place rows hs1 now inside m s = record {
+  inside = inside;
+  refused = record {
+    apart = s.apart;
+    refused = subst (λ (t : TableauRow). ¬ (MergesInRange column t (row_in hs old columns place))) (unreached columns row column hs old place hs1 now m row (inr refl))
+        (subst (λ (t : TableauRow). ¬ (MergesInRange column (row_in hs1 now columns row) t)) (unreached columns row column hs old place hs1 now m place (inl (omega arith))) s.refused);
+  };
+  before = m.within;
+}
+
+pub merged_more : (columns row column : ℕ) (hs : List RowHead) (old : LinkedCells) (place : ℕ) (hs1 : List RowHead) (now : LinkedCells) (hs2 : List RowHead) (new : LinkedCells) → MergedBelow columns row column hs old place hs1 now → RowStepped columns row place column hs1 now hs2 new →
+    MergedBelow columns row column hs old (place + 1) hs2 new
+merged_more columns row column hs old place hs1 now hs2 new m s =
+    let chosen = unreached columns row column hs old place hs1 now m row (inr refl) in
+    let here = unreached columns row column hs old place hs1 now m place (inl (omega arith)) in
+    let apart : (i : ℕ) → (place + 1 ≤ i) ⊎ (i ≡ row) → (i ≢ place) ⊎ (i ≡ row) = λ i w. elim w [ inl b ↦ inl (λ e. omega arith) | inr e ↦ inr e ] in
+    let before : (i : ℕ) → (place + 1 ≤ i) ⊎ (i ≡ row) → (place ≤ i) ⊎ (i ≡ row) = λ i w. elim w [ inl b ↦ inl (omega arith) | inr e ↦ inr e ] in
+    record {
+      sound = s.sound;
+      row_heads = s.row_heads ∙ m.row_heads;
+      column_heads = s.column_heads ∙ m.column_heads;
+      long = s.long ∙ m.long;
+      proper = s.proper;
+      rest = λ i c w. s.others i c (apart i w) ∙ m.rest i c (before i w);
+      rest_heads = λ i w. s.other_heads i (apart i w) ∙ m.rest_heads i (before i w);
+      done = λ i b ne. elim (is_or_not i place) [
+        | inl e ↦ subst (λ (k : ℕ). row_in hs2 new columns k ≡ merged column (row_in hs old columns row) (row_in hs old columns k)) (sym e)
+            (s.row_merged (λ same. ne (e ∙ same)) ∙ ap (λ (t : TableauRow). merged column t (row_in hs1 now columns place)) chosen ∙ ap (merged column (row_in hs old columns row)) here)
+        | inr apart_ ↦ row_same_in hs1 hs2 now new columns i (λ c. s.others i c (inl apart_)) (s.other_heads i (inl apart_)) ∙ m.done i (omega arith) ne
+      ];
+      within = λ i b ne. elim (is_or_not i place) [
+        | inl e ↦ subst (λ (k : ℕ). MergesInRange column (row_in hs old columns row) (row_in hs old columns k)) (sym e)
+            (subst (λ (t : TableauRow). MergesInRange column t (row_in hs old columns place)) chosen (subst (λ (t : TableauRow). MergesInRange column (row_in hs1 now columns row) t) here (s.within (λ same. ne (e ∙ same)))))
+        | inr apart_ ↦ m.within i (omega arith) ne
+      ];
+      held =
+          let more : place + 1 ≡ suc place = omega arith in
+          let rows_ = filled_rows_same place columns (value_in old.cells.items) (value_in now.cells.items) (value_in new.cells.items) (λ i j b. s.others i j (inl (λ e. omega arith))) in
+          let from = filled_from columns (value_in now.cells.items place) (value_in old.cells.items place) (value_in new.cells.items place) (λ j. m.rest place j (inl (omega arith))) in
+          let a = s.held in
+          let b = m.held in
+          subst (λ (k : ℕ). length new.cells.items ≤ length old.cells.items + filled_rows k columns (value_in old.cells.items) (value_in new.cells.items)) (sym more) (omega arith);
+    }

@@ -1,0 +1,73 @@
+-- The cells and heads of a system's rows
+use Rattle.std.proofs.Common.{◌≡◌, ◌≢◌, inl, inr, ℕ, zero, suc, ℤ, pos, ◌+◌, ◌<◌, List, [], ◌∷◌, ◌++◌, length, drop, get_or, append_assoc, arith, sym, ap, ◌∙◌, refl, Option, None}
+use Rattle.std.proofs.lemmas.List.{drop_more}
+use Rattle.ta_linear.specs.Terms.{coefficient}
+use Rattle.ta_linear.specs.declared.row.Row.{Row}
+use Rattle.ta_links.specs.declared.cell.Cell.{Cell}
+use Rattle.ta_links.specs.declared.row_head.RowHead.{RowHead}
+use Rattle.ta_links.specs.Chains.{head_at, IsLive, Direction, IsChained, along_rows, along_columns}
+use Rattle.ta_links.specs.Free.{AreLinked}
+use Rattle.ta_links.specs.Values.{value_in}
+use Rattle.ta_links.specs.Starting.{RowsShow, slack_heads}
+use Rattle.ta_links.proofs.Options.{is_or_not, not_both}
+use Rattle.ta_links.proofs.Cells.{zero_tells}
+
+dead : (cells : List Cell) (i : ℕ) → length cells ≡ 0 → IsLive cells i → ⊥
+dead cells i none live = let h = live.inside in omega arith
+
+empty_chained : (way : Direction) (cells : List Cell) (heads : List (Option ℕ)) → length cells ≡ 0 → ((r : ℕ) → head_at heads r ≡ None) → IsChained way cells heads
+empty_chained way cells heads none empty = record {
+  inside = λ i l. absurd (dead cells i none l);
+  empty = λ q e k l at. dead cells k none l;
+  first = λ q i e. absurd (not_both (head_at heads q) i e (empty q));
+  next = λ i j l e. absurd (dead cells i none l);
+  last = λ i l e k m at. absurd (dead cells i none l);
+  begins = λ i l e. absurd (dead cells i none l);
+  back = λ i h l e. absurd (dead cells i none l);
+}
+
+pub empty_linked : (cells : List Cell) (row_heads column_heads : List (Option ℕ)) → length cells ≡ 0 → ((r : ℕ) → head_at row_heads r ≡ None) → ((r : ℕ) → head_at column_heads r ≡ None) → AreLinked cells row_heads column_heads None
+empty_linked cells row_heads column_heads none rows columns = record {
+  rows = empty_chained along_rows cells row_heads none rows;
+  columns = empty_chained along_columns cells column_heads none columns;
+  one = λ i k l m e f. absurd (dead cells i none l);
+  free = record { visited = []; visits = refl; all = λ i h out. absurd (omega arith) };
+  fits = λ i l. absurd (dead cells i none l);
+}
+
+pub heads_pushed : (heads new : List (Option ℕ)) → new ≡ heads ++ None ∷ [] → ((r : ℕ) → head_at heads r ≡ None) → (r : ℕ) → head_at new r ≡ None
+heads_pushed heads new e all r = ap (λ (hs : List (Option ℕ)). head_at hs r) e ∙ go heads all r where
+  go : (heads : List (Option ℕ)) → ((r : ℕ) → head_at heads r ≡ None) → (r : ℕ) → head_at (heads ++ None ∷ []) r ≡ None
+  go [] all zero = refl
+  go [] all (suc r) = refl
+  go (h ∷ hs) all zero = all 0
+  go (h ∷ hs) all (suc r) = go hs (λ q. all (suc q)) r
+
+pub no_values : (cells : List Cell) → length cells ≡ 0 → (r c : ℕ) → value_in cells r c ≡ pos 0
+no_values [] e r c = refl
+no_values (x ∷ xs) e r c = absurd (omega arith)
+
+pub shows_none : (rows : List Row) (f : ℕ → ℕ → ℤ) → ((r c : ℕ) → f r c ≡ pos 0) → RowsShow rows 0 f
+shows_none rows f zero_ = record { shown = λ i c d h. absurd (omega arith); empty = λ i c h. zero_ i c }
+
+pub shows_more : (rows : List Row) (k : ℕ) (f g : ℕ → ℕ → ℤ) (ts : List (ℕ × ℤ)) → RowsShow rows k f → ((d : Row) → ts ≡ (get_or rows k d).form.terms) → ((r c : ℕ) → r ≢ k → g r c ≡ f r c) →
+    ((c : ℕ) → coefficient ts c ≢ pos 0 → g k c ≡ coefficient ts c) → ((c : ℕ) → coefficient ts c ≡ pos 0 → g k c ≡ f k c) → RowsShow rows (k + 1) g
+shows_more rows k f g ts s is others listed rest = record {
+  shown = λ i c d h. elim (is_or_not i k) [
+    | inl e ↦ ap (λ (m : ℕ). g m c) e ∙ here c ∙ ap (λ (xs : List (ℕ × ℤ)). coefficient xs c) (is d) ∙ ap (λ (m : ℕ). coefficient (get_or rows m d).form.terms c) (sym e)
+    | inr ne ↦ others i c ne ∙ s.shown i c d (omega arith)
+  ];
+  empty = λ i c h. others i c (λ e. omega arith) ∙ s.empty i c (omega arith);
+} where
+  here : (c : ℕ) → g k c ≡ coefficient ts c
+  here c = elim (zero_tells (coefficient ts c)) [ inl e ↦ rest c e ∙ s.empty k c (omega arith) ∙ sym e | inr ne ↦ listed c ne ]
+
+pub heads_more : (u : ℕ) (rows : List Row) (heads new : List RowHead) (slack i : ℕ) (r : Row) → i < length rows → r ≡ get_or rows i r → heads ++ slack_heads slack (drop i rows) ≡ slack_heads u rows →
+    new ≡ heads ++ record { basic = slack; denominator = pos 1; constant = r.form.constant } ∷ [] → new ++ slack_heads (slack + 1) (drop (i + 1) rows) ≡ slack_heads u rows
+heads_more u rows heads new slack i r h e all is =
+    let head : RowHead = record { basic = slack; denominator = pos 1; constant = r.form.constant } in
+    let rest = slack_heads (suc slack) (drop (i + 1) rows) in
+    let split : slack_heads slack (drop i rows) ≡ head ∷ rest =
+    ap (slack_heads slack) (drop_more rows i r h) ∙ ap (λ (z : Row). record { basic = slack; denominator = pos 1; constant = z.form.constant } ∷ rest) (sym e) in
+    let more : slack + 1 ≡ suc slack = omega arith in
+    ap (λ (xs : List RowHead). xs ++ slack_heads (slack + 1) (drop (i + 1) rows)) is ∙ ap (λ (n : ℕ). (heads ++ head ∷ []) ++ slack_heads n (drop (i + 1) rows)) more ∙ append_assoc heads (head ∷ []) rest ∙ ap (λ (xs : List RowHead). heads ++ xs) (sym split) ∙ all

@@ -1,0 +1,103 @@
+-- The dictionary after a pivot
+use Rattle.std.proofs.Common.{◌≡◌, ◌≢◌, inl, inr, ℕ, zero, suc, ℤ, ◌+◌, ◌<◌, ◌≤◌, List, length, map, set, get_or, arith, sym, ap, ◌∙◌, refl, subst}
+use Rattle.std.proofs.lemmas.List.{ext_get_or, length-set, length-map, get_or-map, get_or-set_same, get_or-set_other}
+use Rattle.ta_dense.specs.Tableau.{TableauRow, merged, turned, no_row, pivoted_rows}
+use Rattle.ta_dense.specs.Merge.{MergesInRange, OthersMergeBelow, FirstOtherRefused}
+use Rattle.ta_links.specs.declared.row_head.RowHead.{RowHead}
+use Rattle.ta_links.specs.declared.linked_cells.LinkedCells.{LinkedCells}
+use Rattle.ta_links.specs.Values.{value_in, fills, filled, filled_rows}
+use Rattle.ta_links.specs.Linked.{table_row, table_rows, no_head}
+use Rattle.ta_links.specs.Merging.{row_in, MergedBelow, RowTurned}
+use Rattle.ta_links.specs.MergingAll.{RefusedFirst}
+use Rattle.ta_links.proofs.Options.{is_or_not}
+use Rattle.ta_links.proofs.LinkedFacts.{length-table_rows, table_row_at}
+use Rattle.ta_links.proofs.ColumnSteps.{filled_same}
+use Rattle.ta_links.proofs.AllMerging.{row_same_in, unreached, filled_none, filled_rows_same, filled_from}
+
+-- a row of the table
+pub table_at : (hs : List RowHead) (l : LinkedCells) (n i : ℕ) → i < length hs → get_or (table_rows l.cells.items n 0 hs) i no_row ≡ row_in hs l n i
+table_at hs l n i b = table_row_at l.cells.items n 0 hs i b ∙ ap (λ (r : ℕ). table_row l.cells.items n r (get_or hs i no_head)) (omega arith)
+
+-- the rows are those of the definition
+pub pivoted_is : (n row column entering : ℕ) (hs hs1 hs2 : List RowHead) (l l1 l2 : LinkedCells) → row < length hs → MergedBelow n row column hs l (length hs) hs1 l1 → RowTurned n row column entering hs1 l1 hs2 l2 →
+    table_rows l2.cells.items n 0 hs2 ≡ pivoted_rows (table_rows l.cells.items n 0 hs) row column entering
+pivoted_is n row column entering hs hs1 hs2 l l1 l2 inside m t =
+    let old = table_rows l.cells.items n 0 hs in
+    let new = table_rows l2.cells.items n 0 hs2 in
+    let chosen = get_or old row no_row in
+    let chosen_is = table_at hs l n row inside in
+    let lo = length-table_rows l.cells.items n 0 hs in
+    let ln = length-table_rows l2.cells.items n 0 hs2 in
+    let long = t.long in
+    let long1 = m.long in
+    let lm = length-map old (merged column chosen) in
+    let ls = length-set (map (merged column chosen) old) row (turned entering column chosen) in
+    ext_get_or no_row new (set (map (merged column chosen) old) row (turned entering column chosen)) (omega arith) (λ i b.
+    let below : i < length hs = omega arith in
+    let mine = table_at hs2 l2 n i (omega arith) in
+    elim (is_or_not i row) [
+      | inl e ↦
+          mine ∙ ap (λ (k : ℕ). row_in hs2 l2 n k) e ∙ t.row_turned ∙ ap (turned entering column) (unreached n row column hs l (length hs) hs1 l1 m row (inr refl)) ∙ ap (turned entering column) (sym chosen_is)
+          ∙ sym (ap (λ (k : ℕ). get_or (set (map (merged column chosen) old) row (turned entering column chosen)) k no_row) e ∙ get_or-set_same (map (merged column chosen) old) row (turned entering column chosen) no_row (omega arith))
+      | inr ne ↦
+          mine ∙ row_same_in hs1 hs2 l1 l2 n i (λ c. t.others i c ne) (t.other_heads i ne) ∙ m.done i below ne ∙ ap (λ (r : TableauRow). merged column r (row_in hs l n i)) (sym chosen_is) ∙ ap (merged column chosen) (sym (table_at hs l n i below))
+          ∙ sym (get_or-set_other (map (merged column chosen) old) row i (turned entering column chosen) no_row ne ∙ get_or-map (merged column chosen) old i no_row no_row (omega arith))
+    ])
+
+pub others_merge : (n row column k : ℕ) (hs : List RowHead) (l : LinkedCells) → row < length hs → ((i : ℕ) → i < k → i ≢ row → MergesInRange column (row_in hs l n row) (row_in hs l n i)) →
+    OthersMergeBelow row column (get_or (table_rows l.cells.items n 0 hs) row no_row) (table_rows l.cells.items n 0 hs) k
+others_merge n row column k hs l inside all i b below ne =
+    let lo = length-table_rows l.cells.items n 0 hs in
+    subst (λ (r : TableauRow). MergesInRange column r (get_or (table_rows l.cells.items n 0 hs) i no_row)) (sym (table_at hs l n row inside))
+    (subst (λ (r : TableauRow). MergesInRange column (row_in hs l n row) r) (sym (table_at hs l n i (omega arith))) (all i b ne))
+
+pub first_refused : (n row column k : ℕ) (hs : List RowHead) (l : LinkedCells) → row < length hs → RefusedFirst n row column hs l (length hs) k → FirstOtherRefused row column (get_or (table_rows l.cells.items n 0 hs) row no_row) (table_rows l.cells.items n 0 hs) k
+first_refused n row column k hs l inside r =
+    let lo = length-table_rows l.cells.items n 0 hs in
+    let below = r.inside in
+    record {
+      below = omega arith;
+      apart = r.refused.apart;
+      refused = subst (λ (t : TableauRow). ¬ (MergesInRange column t (get_or (table_rows l.cells.items n 0 hs) k no_row))) (sym (table_at hs l n row inside))
+          (subst (λ (t : TableauRow). ¬ (MergesInRange column (row_in hs l n row) t)) (sym (table_at hs l n k below)) r.refused.refused);
+      first = others_merge n row column k hs l inside r.before;
+    }
+
+-- one row of a table is written that was as before
+filled_rows_step : (m n : ℕ) (f g h : ℕ → ℕ → ℤ) (row : ℕ) → row < m → ((j : ℕ) → g row j ≡ f row j) → ((i j : ℕ) → i ≢ row → h i j ≡ g i j) → filled_rows m n f h ≡ filled_rows m n f g + filled n (f row) (h row)
+filled_rows_step zero n f g h row inside here rest = absurd (omega arith)
+filled_rows_step (suc m) n f g h row inside here rest = elim (is_or_not row m) [
+  | inl e ↦
+      let below = filled_rows_same m n f g h (λ i j b. rest i j (omega arith)) in
+      let old : filled n (f m) (g m) ≡ 0 = filled_none n (f m) (g m) (λ j. ap (λ (k : ℕ). g k j) (sym e) ∙ here j ∙ ap (λ (k : ℕ). f k j) e) in
+      let new : filled n (f m) (h m) ≡ filled n (f row) (h row) = ap (λ (k : ℕ). filled n (f k) (h k)) (sym e) in
+      omega arith
+  | inr ne ↦
+      let below = filled_rows_step m n f g h row (omega arith) here rest in
+      let last = filled_same n (f m) (g m) (h m) (λ j b. rest m j (λ e. ne (sym e))) in
+      omega arith
+]
+
+filled_below : (n : ℕ) (f g f' g' : ℕ → ℤ) → ((j : ℕ) → j < n → f j ≡ f' j) → ((j : ℕ) → j < n → g j ≡ g' j) → filled n f g ≡ filled n f' g'
+filled_below zero f g f' g' e h = refl
+filled_below (suc n) f g f' g' e h =
+    let rest = filled_below n f g f' g' (λ j b. e j (omega arith)) (λ j b. h j (omega arith)) in
+    let last = ap (λ (z : ℤ). fills z (g n)) (e n (omega arith)) ∙ ap (fills (f' n)) (h n (omega arith)) in
+    omega arith
+
+pub filled_rows_below : (m n : ℕ) (f g f' g' : ℕ → ℕ → ℤ) → ((i j : ℕ) → i < m → j < n → f i j ≡ f' i j) → ((i j : ℕ) → i < m → j < n → g i j ≡ g' i j) → filled_rows m n f g ≡ filled_rows m n f' g'
+filled_rows_below zero n f g f' g' e h = refl
+filled_rows_below (suc m) n f g f' g' e h =
+    let rest = filled_rows_below m n f g f' g' (λ i j b c. e i j (omega arith) c) (λ i j b c. h i j (omega arith) c) in
+    let last = filled_below n (f m) (g m) (f' m) (g' m) (λ j c. e m j (omega arith) c) (λ j c. h m j (omega arith) c) in
+    omega arith
+
+pub held_after : (n row column entering : ℕ) (hs hs1 hs2 : List RowHead) (l l1 l2 : LinkedCells) → row < length hs → MergedBelow n row column hs l (length hs) hs1 l1 → RowTurned n row column entering hs1 l1 hs2 l2 →
+    length l2.cells.items ≤ length l.cells.items + filled_rows (length hs) n (value_in l.cells.items) (value_in l2.cells.items)
+held_after n row column entering hs hs1 hs2 l l1 l2 inside m t =
+    let same : (j : ℕ) → value_in l1.cells.items row j ≡ value_in l.cells.items row j = λ j. m.rest row j (inr refl) in
+    let step = filled_rows_step (length hs) n (value_in l.cells.items) (value_in l1.cells.items) (value_in l2.cells.items) row inside same (λ i j ne. t.others i j ne) in
+    let from = filled_from n (value_in l1.cells.items row) (value_in l.cells.items row) (value_in l2.cells.items row) same in
+    let a = m.held in
+    let b = t.held in
+    omega arith

@@ -1,0 +1,11 @@
+use Rattle.std.proofs.Common.{◌≡◌, ℕ, ◌<◌, ◌^◌}
+use Rattle.ta_links.specs.Values.{value_in}
+use Rattle.ta_links.specs.Merging.{merged_cell, MergesAt, gcd_below}
+use Rattle.ta_links.proofs.merging.divisor_of_merged.Given as goal
+
+abbrev pub invariant-loop-place : goal.invariant-loop-place
+invariant-loop-place l = record {
+  value : l.divisor ≡ gcd_below l.first (merged_cell l.p l.q l.column l.turned (value_in l.links.cells.items l.at) (value_in l.links.cells.items l.row)) l.place;
+  bound : l.divisor < 2 ^ 127;
+  within : (j : ℕ) → j < l.place → MergesAt l.p l.q l.column (value_in l.links.cells.items l.at) (value_in l.links.cells.items l.row) j;
+}

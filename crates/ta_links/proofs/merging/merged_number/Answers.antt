@@ -1,0 +1,17 @@
+use Rattle.std.proofs.Common.{rules}
+use Rattle.std.proofs.lemmas.Int.{to_z-of_z}
+use mir.Val.{SFits}
+use mir.Syntax.{w128}
+use Rattle.ta_links.specs.Values.{value_in}
+use Rattle.ta_links.proofs.MergeSteps.{merged_told}
+use Rattle.ta_links.proofs.merging.merged_number.Goals as goal
+
+pub returns : goal.returns
+returns c =
+    let fp = c.ranges.p in
+    let fq = c.ranges.q in
+    let fn : SFits w128 c.number-number_at.result = search rules in
+    let fc : SFits w128 c.number-chosen_at.result = search rules in
+    let t = merged_told c.combined.result c.args.p c.args.q c.args.column c.args.turned (value_in c.args.links.now.cells.items c.args.at) (value_in c.args.links.now.cells.items c.args.row) c.args.place
+    c.number-number_at.result c.number-chosen_at.result c.number-number_at.ensures.value c.number-chosen_at.ensures.value c.if-place-column.false (simp to_z-of_z at c.combined.ensures) in
+    record { value = t.value; fits = t.fits; within = t.within; refused = t.refused }

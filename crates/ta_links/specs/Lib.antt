@@ -1,0 +1,11 @@
+pub mod Chains
+pub mod Free
+pub mod Values
+pub mod Links
+pub mod Gaps
+pub mod Lines
+pub mod Starting
+pub mod Linked
+pub mod Inside
+pub mod Merging
+pub mod MergingAll

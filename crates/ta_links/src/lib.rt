@@ -1,0 +1,22 @@
+//! A dictionary of linked rows.
+#![tactic(auto)]
+
+mod cell;
+mod columns;
+mod lines;
+mod linked;
+mod linked_cells;
+mod linking;
+mod merging;
+mod merging_all;
+mod merging_rows;
+mod putting;
+mod reading;
+mod row_head;
+mod seeking;
+mod starting;
+mod turning;
+mod way;
+
+pub use cell::Cell;
+pub use linked::LinkedDictionary;

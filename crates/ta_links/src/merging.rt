@@ -1,0 +1,130 @@
+//! Rows that are merged with a chosen one.
+
+ghost use Rattle.std.specs.Prelude.{◌≡◌, ◌≢◌, ◌<◌, ◌≤◌, ◌+◌, ◌^◌, ℕ, pos, ◌*ℤ◌, ◌-ℤ◌, ◌<ℤ◌, int_div, length, IfOk, IfSome, IfNone};
+ghost use Rattle.std.specs.Option.{SomeIff};
+ghost use Rattle.ta_linear.specs.Numbers.{InRange};
+ghost use Rattle.ta_dense.specs.Merge.{CombinesInRange};
+ghost use Rattle.ta_links.specs.Values.{value_in, filled};
+ghost use Rattle.ta_links.specs.Gaps.{AreSound};
+ghost use Rattle.ta_links.specs.Merging.{merged_cell, MergesAt, RefusedAt, gcd_below};
+
+use crate::linked_cells::LinkedCells;
+use crate::putting::put;
+use crate::reading::number;
+use std::alloc::AllocError;
+use ta_linear::{gcd_natural, minus, multiply};
+
+// `p * a - q * c`, where each part is in range.
+pub(crate) fn combined(p: i128, a: i128, q: i128, c: i128) -> Option<i128>
+    ensures { SomeIff result (CombinesInRange p a q c) (p *ℤ a -ℤ q *ℤ c) }
+{
+    let left = multiply(p, a)?;
+    let right = multiply(q, c)?;
+    minus(left, right)
+}
+
+// The number at a place of row `at`, merged with `row`, where it is in range.
+fn merged_number(
+    links: &LinkedCells,
+    row: u32,
+    at: u32,
+    p: i128,
+    q: i128,
+    column: u32,
+    turned: i128,
+    place: u32,
+) -> Option<i128>
+    requires sound { AreSound links.now }
+    requires row { row < length links.now.row_heads.items }
+    requires at { at < length links.now.row_heads.items }
+    requires turned { InRange turned }
+    ensures value { IfSome result (λ z. z ≡ merged_cell p q column turned (value_in links.now.cells.items at) (value_in links.now.cells.items row) place) }
+    ensures fits { IfSome result InRange }
+    ensures within { IfSome result (λ _. MergesAt p q column (value_in links.now.cells.items at) (value_in links.now.cells.items row) place) }
+    ensures refused { IfNone result (¬ (MergesAt p q column (value_in links.now.cells.items at) (value_in links.now.cells.items row) place)) }
+{
+    if place == column {
+        return Some(turned);
+    }
+    let number_at = number(links, at, place);
+    let chosen_at = number(links, row, place);
+    combined(p, number_at, q, chosen_at)
+}
+
+// A number divided by a positive one.
+pub(crate) fn quotient(number: i128, divisor: i128) -> i128
+    requires divisor { pos 0 <ℤ divisor }
+    requires number { InRange number }
+    ensures value { result ≡ int_div number divisor }
+    ensures fits { InRange result }
+{
+    number / divisor
+}
+
+// The greatest common divisor of a number and the merged numbers, where all are in range.
+pub(crate) fn divisor_of_merged(
+    links: &LinkedCells,
+    columns: u32,
+    row: u32,
+    at: u32,
+    p: i128,
+    q: i128,
+    column: u32,
+    turned: i128,
+    first: u128,
+) -> Option<u128>
+    requires sound { AreSound links.now }
+    requires row { row < length links.now.row_heads.items }
+    requires at { at < length links.now.row_heads.items }
+    requires turned { InRange turned }
+    requires first { first < 2 ^ 127 }
+    ensures value { IfSome result (λ d. d ≡ gcd_below first (merged_cell p q column turned (value_in links.now.cells.items at) (value_in links.now.cells.items row)) columns) }
+    ensures bound { IfSome result (λ d. d < 2 ^ 127) }
+    ensures within { IfSome result (λ _. (j : ℕ) → j < columns → MergesAt p q column (value_in links.now.cells.items at) (value_in links.now.cells.items row) j) }
+    ensures refused { IfNone result (RefusedAt p q column (value_in links.now.cells.items at) (value_in links.now.cells.items row) columns) }
+{
+    let mut divisor = first;
+    for place in 0..columns {
+        let Some(cell) = merged_number(links, row, at, p, q, column, turned, place) else {
+            return None;
+        };
+        divisor = gcd_natural(divisor, cell.unsigned_abs());
+    }
+    Some(divisor)
+}
+
+// Writes the merged numbers of row `at`, each divided.
+pub(crate) fn write_merged(
+    links: &mut LinkedCells,
+    columns: u32,
+    row: u32,
+    at: u32,
+    p: i128,
+    q: i128,
+    column: u32,
+    turned: i128,
+    divisor: i128,
+) -> Result<(), AllocError>
+    requires sound { AreSound links.old }
+    requires columns { columns ≡ length links.old.column_heads.items }
+    requires row { row < length links.old.row_heads.items }
+    requires at { at < length links.old.row_heads.items }
+    requires turned { InRange turned }
+    requires divisor { pos 0 <ℤ divisor }
+    requires within { (j : ℕ) → j < columns → MergesAt p q column (value_in links.old.cells.items at) (value_in links.old.cells.items row) j }
+    ensures sound { IfOk result (λ _. AreSound links.new) }
+    ensures rows { IfOk result (λ _. length links.new.row_heads.items ≡ length links.old.row_heads.items) }
+    ensures same_columns { IfOk result (λ _. length links.new.column_heads.items ≡ length links.old.column_heads.items) }
+    ensures others { IfOk result (λ _. (r c : ℕ) → r ≢ at → value_in links.new.cells.items r c ≡ value_in links.old.cells.items r c) }
+    ensures values { IfOk result (λ _. (j : ℕ) → j < columns → value_in links.new.cells.items at j ≡ int_div (merged_cell p q column turned (value_in links.old.cells.items at) (value_in links.old.cells.items row) j) divisor) }
+    ensures held { IfOk result (λ _. length links.new.cells.items ≤ length links.old.cells.items + filled columns (value_in links.old.cells.items at) (value_in links.new.cells.items at)) }
+{
+    let mut left = None;
+    for place in 0..columns {
+        let Some(cell) = merged_number(links, row, at, p, q, column, turned, place) else {
+            return Ok(());
+        };
+        left = put(links, left, at, place, quotient(cell, divisor))?;
+    }
+    Ok(())
+}

@@ -1,0 +1,74 @@
+//! All rows but one that are merged with it.
+
+ghost use Rattle.std.specs.Prelude.{◌≡◌, ◌<◌, pos, true, false, ◌<ℤ◌, length, IfOk, IfSome, IfNone};
+ghost use Rattle.ta_links.specs.Values.{value_in};
+ghost use Rattle.ta_links.specs.Gaps.{AreSound};
+ghost use Rattle.ta_links.specs.Linked.{AreProperHeads};
+ghost use Rattle.ta_links.specs.Merging.{MergedBelow, RowStepped, StepRefused};
+ghost use Rattle.ta_links.specs.MergingAll.{RefusedFirst};
+
+use crate::linked_cells::LinkedCells;
+use crate::merging_rows::merge_row;
+use crate::reading::number;
+use crate::row_head::RowHead;
+use std::alloc::AllocError;
+
+// Merges row `row` into row `at`, if that is another row with a cell in the column, or tells that a
+// product or difference leaves the range.
+fn merge_one(
+    heads: &mut Vec<RowHead>,
+    links: &mut LinkedCells,
+    columns: u32,
+    row: u32,
+    at: u32,
+    column: u32,
+) -> Result<bool, AllocError>
+    requires sound { AreSound links.old }
+    requires columns { columns ≡ length links.old.column_heads.items }
+    requires rows { length links.old.row_heads.items ≡ length heads.old.items }
+    requires proper { AreProperHeads heads.old.items }
+    requires row { row < length heads.old.items }
+    requires at { at < length heads.old.items }
+    requires column { column < columns }
+    requires positive { pos 0 <ℤ value_in links.old.cells.items row column }
+    ensures done { IfOk result (λ b. b ≡ true → RowStepped columns row at column heads.old.items links.old heads.new.items links.new) }
+    ensures refused { IfOk result (λ b. b ≡ false → StepRefused columns row at column heads.old.items links.old) }
+{
+    if at == row {
+        return Ok(true);
+    }
+    if number(links, at, column) == 0 {
+        return Ok(true);
+    }
+    let merged = merge_row(heads, links, columns, row, at, column)?;
+    Ok(merged)
+}
+
+// Merges row `row` into the others, or gives the first in which a product or difference leaves the
+// range.
+pub(crate) fn merge_others(
+    heads: &mut Vec<RowHead>,
+    links: &mut LinkedCells,
+    columns: u32,
+    rows: u32,
+    row: u32,
+    column: u32,
+) -> Result<Option<u32>, AllocError>
+    requires sound { AreSound links.old }
+    requires columns { columns ≡ length links.old.column_heads.items }
+    requires rows { length links.old.row_heads.items ≡ length heads.old.items }
+    requires all { rows ≡ length heads.old.items }
+    requires proper { AreProperHeads heads.old.items }
+    requires row { row < length heads.old.items }
+    requires column { column < columns }
+    requires positive { pos 0 <ℤ value_in links.old.cells.items row column }
+    ensures done { IfOk result (λ o. IfNone o (MergedBelow columns row column heads.old.items links.old rows heads.new.items links.new)) }
+    ensures refused { IfOk result (λ o. IfSome o (RefusedFirst columns row column heads.old.items links.old rows)) }
+{
+    for at in 0..rows {
+        if !merge_one(heads, links, columns, row, at, column)? {
+            return Ok(Some(at));
+        }
+    }
+    Ok(None)
+}

@@ -1,0 +1,22 @@
+use Rattle.std.proofs.Common.{arith}
+use Rattle.std.specs.Prelude.{codes}
+use Rattle.ta_syntax.specs.PlainTrees.{plain_name}
+use Rattle.ta_maker.specs.Family.{numbered}
+use Rattle.ta_maker.proofs.Counting.{more_items}
+use Rattle.ta_maker.proofs.Naming.{name_x}
+use Rattle.ta_maker.proofs.family.shared.Goals as goal
+
+pub numbered-requires : goal.numbered-requires
+numbered-requires c =
+    let low = c.loop-index.invariant.low in
+    let below = c.loop-index-test.true in
+    let high = c.requires.high in
+    name_x c.loop-index.index (record { low = low; high = omega (arith, below, high) })
+
+pub loop-index-preserved : goal.loop-index-preserved
+loop-index-preserved c =
+    let below = c.loop-index-test.true in
+    record {
+      low = omega arith;
+      all = rw c.in_ok-push.ensures.items (more_items plain_name (numbered (codes "x")) c.loop-index.names.items c.in_ok-numbered.field-0 c.loop-index.index c.args.k _ (omega (arith, below)) c.in_ok-numbered.ensures c.loop-index.invariant.all);
+    }

@@ -1,0 +1,148 @@
+//! The family.
+#![tactic(auto)]
+
+ghost use Rattle.std.specs.Prelude.{◌≡◌, ◌≤◌, ◌∷◌, [], IfOk, codes, map};
+ghost use Rattle.ta_syntax.specs.PlainTrees.{plain_comparison, plain_event, plain_location, plain_name, plain_pattern, plain_rule, plain_tree, plain_update};
+ghost use Rattle.ta_maker.specs.Family.{family, lost, numbered, numbers_on, rules_of, sender, waiter};
+ghost use Rattle.ta_maker.specs.Made.{IsNumber, Makes};
+
+use crate::fault::MakerFault;
+use crate::names::{numbered, one, spelled};
+use crate::sums::{at_least_one, lone, name_term, one_too_many};
+use std::alloc::{AllocError, Global};
+use ta_syntax::{
+    List, Spelled, Tree, TreeComparison, TreeEvent, TreeLocation, TreePattern, TreeRule, TreeUpdate,
+};
+
+/// The automaton of a number from 1 to 7. It has twice as many rules as the number says, and the walk
+/// of its one pattern has an inner node for each sequence of distinct guards.
+pub fn make_family(alloc: Global, k: u32) -> Result<Tree, MakerFault>
+    ensures { Makes k result }
+{
+    if k < 1 || k > 7 {
+        return Err(MakerFault::Range);
+    }
+    match family(alloc, k) {
+        Ok(tree) => Ok(tree),
+        Err(AllocError) => Err(MakerFault::Memory),
+    }
+}
+
+/// The automaton of a number.
+fn family(alloc: Global, k: u32) -> Result<Tree, AllocError>
+    requires { IsNumber k }
+    ensures { IfOk result (λ tree. plain_tree tree ≡ family k) }
+{
+    Ok(Tree {
+        name: numbered(alloc, "family", k)?,
+        parameters: list_of(alloc, spelled(alloc, "n")?)?,
+        shared: shared(alloc, k)?,
+        locations_at: 0,
+        locations: locations(alloc)?,
+        processes_at: 0,
+        processes: lone(alloc, name_term(spelled(alloc, "n")?))?,
+        resilience: list_of(alloc, at_least_one(alloc, spelled(alloc, "n")?)?)?,
+        rules: rules(alloc, k)?,
+        patterns: list_of(alloc, lost(alloc)?)?,
+    })
+}
+
+/// The list of one item.
+fn list_of<T: Drop>(alloc: Global, item: T) -> Result<List<T>, AllocError>
+    ensures { IfOk result (λ list. list ≡ item ∷ []) }
+{
+    let mut items = Vec::new(alloc);
+    items.push(item)?;
+    Ok(List::from_vec(items))
+}
+
+/// The shared variables.
+fn shared(alloc: Global, k: u32) -> Result<List<Spelled>, AllocError>
+    requires { IsNumber k }
+    ensures { IfOk result (λ list. map plain_name list ≡ map (numbered (codes "x")) (numbers_on 1 k)) }
+{
+    let mut names = Vec::new(alloc);
+    for index in 1..k + 1 {
+        names.push(numbered(alloc, "x", index)?)?;
+    }
+    Ok(List::from_vec(names))
+}
+
+/// The locations.
+fn locations(alloc: Global) -> Result<List<TreeLocation>, AllocError>
+    ensures { IfOk result (λ list. map plain_location list ≡ (family 1).locations) }
+{
+    let mut locations = Vec::new(alloc);
+    locations.push(TreeLocation {
+        name: spelled(alloc, "A")?,
+        initial: true,
+    })?;
+    locations.push(TreeLocation {
+        name: spelled(alloc, "B")?,
+        initial: false,
+    })?;
+    Ok(List::from_vec(locations))
+}
+
+/// The rules.
+fn rules(alloc: Global, k: u32) -> Result<List<TreeRule>, AllocError>
+    requires { IsNumber k }
+    ensures { IfOk result (λ list. map plain_rule list ≡ rules_of (numbers_on 1 k)) }
+{
+    let mut rules = Vec::new(alloc);
+    for index in 1..k + 1 {
+        rules.push(sender(alloc, index)?)?;
+        rules.push(waiter(alloc, index)?)?;
+    }
+    Ok(List::from_vec(rules))
+}
+
+/// The rule that raises a shared variable.
+fn sender(alloc: Global, index: u32) -> Result<TreeRule, AllocError>
+    requires { IsNumber index }
+    ensures { IfOk result (λ rule. plain_rule rule ≡ sender index) }
+{
+    let update = TreeUpdate {
+        name: numbered(alloc, "x", index)?,
+        amount: one(alloc)?,
+    };
+    Ok(TreeRule {
+        name: numbered(alloc, "s", index)?,
+        from: spelled(alloc, "A")?,
+        to: spelled(alloc, "B")?,
+        guards: List::from_vec(Vec::new(alloc)),
+        updates: list_of(alloc, update)?,
+    })
+}
+
+/// The rule that waits for a shared variable.
+fn waiter(alloc: Global, index: u32) -> Result<TreeRule, AllocError>
+    requires { IsNumber index }
+    ensures { IfOk result (λ rule. plain_rule rule ≡ waiter index) }
+{
+    let guard = at_least_one(alloc, numbered(alloc, "x", index)?)?;
+    Ok(TreeRule {
+        name: numbered(alloc, "g", index)?,
+        from: spelled(alloc, "A")?,
+        to: spelled(alloc, "B")?,
+        guards: list_of(alloc, guard)?,
+        updates: List::from_vec(Vec::new(alloc)),
+    })
+}
+
+/// The pattern.
+fn lost(alloc: Global) -> Result<TreePattern, AllocError>
+    ensures { IfOk result (λ pattern. plain_pattern pattern ≡ lost) }
+{
+    let event = TreeEvent {
+        name: spelled(alloc, "lost")?,
+        after: List::from_vec(Vec::new(alloc)),
+        condition: list_of(alloc, one_too_many(alloc)?)?,
+    };
+    Ok(TreePattern {
+        name: spelled(alloc, "lost")?,
+        start: List::from_vec(Vec::new(alloc)),
+        empty: List::from_vec(Vec::new(alloc)),
+        events: list_of(alloc, event)?,
+    })
+}

@@ -1,0 +1,11 @@
+use Rattle.std.proofs.Common.{◌≡◌, take}
+use Rattle.ta_check.specs.Checkers.{StandsFor}
+use Rattle.ta_shell.specs.Puts.{texts_joined}
+use Rattle.ta_program.proofs.bench.accept.Given as goal
+
+-- the checker stands for the pieces so far
+abbrev pub invariant-loop-piece : goal.invariant-loop-piece
+invariant-loop-piece l = record {
+  stands : StandsFor l.checker (texts_joined (take l.piece-index l.pieces));
+  file : l.checker.scoped.now ≡ l.scoped;
+}

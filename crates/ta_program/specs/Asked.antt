@@ -1,0 +1,68 @@
+-- What words ask for, and what a run is that does it (this project's profile)
+use Rattle.std.specs.Prelude.{ℕ, ◌≡◌, Bool, true, false, List, codes, Option, None, Some}
+use Rattle.std.specs.Str.{bytes_eq}
+use Rattle.ta_automaton.specs.declared.file.File.{File}
+use Rattle.ta_shelf.specs.Put.{Told}
+use Rattle.ta_shell.specs.Commands.{Decides, Meaning}
+use Rattle.ta_shell.specs.Ends.{Performs, State, Tells}
+use Rattle.ta_shell.specs.Sights.{in_files}
+use Rattle.ta_program.specs.Kinds.{IsFile}
+
+-- what words ask for: nothing that there is, or a command, of which is known the name of FILE, if it reads one, and what it says
+pub data Asked : Type 1 where
+  NoCommand : Asked
+  Command : Option (List ℕ) → Meaning → Asked
+
+-- a command whose words were read, where they are its words
+abbrev pub ask : {W : Type 0} → (W → Option (List ℕ)) → (W → Meaning) → Option W → Asked
+ask file says None = NoCommand
+ask file says (Some words) = Command (file words) (says words)
+
+-- this where a test passes, or else that
+abbrev pub choose : Bool → Asked → Asked → Asked
+choose true asked others = asked
+choose false asked others = others
+
+-- a row of the table of commands: where a word is its name, what it asks for, or else what the other rows say
+abbrev pub row : List ℕ → List ℕ → Asked → Asked → Asked
+row name word asked others = choose (bytes_eq word name) asked others
+
+abbrev pub IsNoCommand : Asked → Type 0
+IsNoCommand NoCommand = Unit {0}
+IsNoCommand (Command file m) = ⊥
+
+-- FILE, if one is read, is legal
+abbrev pub LegalFile : Told → Option (List ℕ) → Type 0
+LegalFile told None = Unit {0}
+LegalFile told (Some name) = (file : File) × IsFile (in_files told) name file
+
+-- a legal FILE is never refused with 3
+abbrev pub Passes : Option (List ℕ) → Meaning → Type 0
+Passes file m = (told : Told) (line : List ℕ) → LegalFile told file → ¬ m.refuses (in_files told) 3 line
+
+abbrev pub usage_line : List ℕ
+usage_line = codes "tav: usage: verify FILE [--nodes N] [--certificate OUT] [--json], check FILE CERT, replay FILE RUN, compress FILE RUN, bench K\n"
+
+-- the words are no command's: nothing is read or written, and the line says so
+pub record OfNoCommand (number : ℕ) (before after : State) : Type 0 where
+  pub five : number ≡ 5
+  pub shelf : after.shelf ≡ before.shelf
+  pub out : after.out ≡ before.out
+  pub told : Tells usage_line before.err after.err
+
+-- the command is done; told files leave it one answer, and a legal FILE passes
+pub record Obeyed (file : Option (List ℕ)) (m : Meaning) (number : ℕ) (before after : State) : Type 0 where
+  pub performs : Performs m number before after
+  pub decides : Decides m
+  pub passes : Passes file m
+
+-- what is asked for is done
+abbrev pub Runs : Asked → ℕ → State → State → Type 0
+Runs NoCommand number before after = OfNoCommand number before after
+Runs (Command file m) number before after = Obeyed file m number before after
+
+-- the command that was read of words is the one that they ask for: who does it does what is asked for; and where none was, they are
+-- no command's
+abbrev pub IsAskedFor : {C : Type 0} → (C → Meaning) → Asked → Option C → Type 0
+IsAskedFor says asked None = (number : ℕ) (before after : State) → OfNoCommand number before after → Runs asked number before after
+IsAskedFor says asked (Some command) = (number : ℕ) (before after : State) → Performs (says command) number before after → Runs asked number before after

@@ -1,0 +1,39 @@
+-- What plain words and values of options may be (this project's profile)
+use Rattle.std.specs.Prelude.{ℕ, ◌&&◌, nat_lt, nat_le, Bool, List, [], length, not, Option, None, Some, if◌then◌else◌, option_and_then, option_map}
+use Rattle.std.specs.Char.{is_ascii_digit}
+use Rattle.std.specs.List.{list_all}
+use Rattle.std.specs.Str.{bytes_eq}
+use Rattle.std.specs.Str.Parse.{digits_value}
+use Rattle.ta_program.specs.Words.{Taken, plain_of, taken_by}
+
+-- the name of a file, which isn't empty
+abbrev pub name_of : List ℕ → Option (List ℕ)
+name_of name = if nat_lt 0 (length name) then Some name else None
+
+-- whether a text is a budget of nodes: 1 to 10 digits, and its value within the limits
+abbrev pub is_budget : List ℕ → Bool
+is_budget text =
+    nat_lt 0 (length text) && nat_le (length text) 10 && list_all is_ascii_digit text && nat_le 1 (digits_value 10 text) && nat_le (digits_value 10 text) 1000000000
+
+-- the budget that is asked for: 1,000,000 where none is given
+abbrev pub budget_of : Option (List ℕ) → Option ℕ
+budget_of None = Some 1000000
+budget_of (Some text) = if is_budget text then Some (digits_value 10 text) else None
+
+-- the name of the file OUT, where it is given: it isn't empty, and differs from that of FILE
+abbrev pub out_of : List ℕ → Option (List ℕ) → Option (Option (List ℕ))
+out_of file None = Some None
+out_of file (Some out) = if nat_lt 0 (length out) && not (bytes_eq out file) then Some (Some out) else None
+
+-- the names of two files: FILE, and one that belongs to it
+pub record TwoNames : Type 0 where
+  pub file : List ℕ
+  pub other : List ℕ
+
+-- two plain words that are names of files
+abbrev pub names_of : Taken → Option TwoNames
+names_of taken = option_and_then (λ file. option_map (λ other. record { file = file; other = other }) (name_of (plain_of taken 1))) (name_of (plain_of taken 0))
+
+-- and no option
+abbrev pub two_names : List (List ℕ) → Option TwoNames
+two_names words = option_and_then names_of (taken_by (record { plain = 2; options = [] }) words)

@@ -1,0 +1,84 @@
+//! What plain words and values of options may be.
+#![tactic(auto)]
+
+ghost use Rattle.std.specs.Prelude.{◌≡◌, ◌≤◌, map, option_map, IfSome, Some};
+ghost use Rattle.std.specs.Char.{is_ascii_digit};
+ghost use Rattle.std.specs.List.{list_all};
+ghost use Rattle.ta_program.specs.Taken.{names_seen};
+ghost use Rattle.ta_program.specs.Values.{budget_of, name_of, out_of, two_names};
+
+use crate::words::take_words;
+
+/// The names of two files: FILE, and one that belongs to it.
+#[derive(Clone, Copy, Drop)]
+pub(crate) struct TwoNames<'a> {
+    pub file: &'a str,
+    pub other: &'a str,
+}
+
+/// The names that words give: two plain words, and no option.
+pub(crate) fn two_names<'a>(words: &[&'a str]) -> Option<TwoNames<'a>>
+    ensures { option_map names_seen result ≡ two_names (map (λ w. w.now) words.now) }
+{
+    let Some(taken) = take_words(2, &[], words) else {
+        return None;
+    };
+    let Some(file) = name_of(taken.plain(0)) else {
+        return None;
+    };
+    match name_of(taken.plain(1)) {
+        Some(other) => Some(TwoNames { file, other }),
+        None => None,
+    }
+}
+
+/// The name of a file, which isn't empty.
+pub(crate) fn name_of(name: &str) -> Option<&str>
+    ensures { option_map (λ w. w.now) result ≡ name_of name.now }
+{
+    if name.is_empty() { None } else { Some(name) }
+}
+
+/// The name of the file OUT, where it is given: it isn't empty, and differs from that of FILE.
+pub(crate) fn out_of<'a>(file: &str, out: Option<&'a str>) -> Option<Option<&'a str>>
+    ensures { option_map (λ o. option_map (λ w. w.now) o) result ≡ out_of file.now (option_map (λ w. w.now) out.entry) }
+{
+    match out {
+        None => Some(None),
+        Some(name) if !name.is_empty() && name != file => Some(Some(name)),
+        Some(_) => None,
+    }
+}
+
+/// The budget of nodes that is asked for: 1,000,000 where none is given.
+pub(crate) fn budget_of(nodes: Option<&str>) -> Option<u64>
+    ensures asked { result ≡ budget_of (option_map (λ w. w.now) nodes.entry) }
+    ensures limits { IfSome result (λ n. (1 ≤ n) × (n ≤ 1000000000)) }
+{
+    match nodes {
+        Some(text) => read_budget(text),
+        None => Some(1_000_000),
+    }
+}
+
+/// The budget of nodes that a text is: 1 to 10 digits, with a value within the limits.
+fn read_budget(text: &str) -> Option<u64>
+    ensures asked { result ≡ budget_of (Some text.now) }
+    ensures limits { IfSome result (λ n. (1 ≤ n) × (n ≤ 1000000000)) }
+{
+    let digits = text.as_bytes();
+    if digits.is_empty() || digits.len() > 10 || !are_digits(digits) {
+        return None;
+    }
+    match text.parse::<u64>() {
+        Ok(value) if 1 <= value && value <= 1_000_000_000 => Some(value),
+        _ => None,
+    }
+}
+
+/// Whether all bytes are digits.
+fn are_digits(bytes: &[u8]) -> bool
+    ensures { result ≡ list_all is_ascii_digit bytes.now }
+{
+    bytes.iter().all(|byte| byte.is_ascii_digit())
+}

@@ -1,0 +1,145 @@
+-- The items of an array of JSON, as they are pushed.
+use Rattle.std.proofs.Common.{ℕ, ℤ, zero, suc, ◌+◌, ◌-◌, ◌<◌, ◌≤◌, ◌≡◌, inl, inr, false, ◌||◌, List, [], ◌∷◌, ◌++◌, map, length, take, get_or, refl, sym, ap, ◌∙◌, arith, length-append}
+use Rattle.std.specs.Prelude.{◌==◌}
+use Rattle.std.specs.List.{onto_first, slice_split, take-map}
+use Rattle.std.proofs.Math.Seq.{take-length}
+use Rattle.std.proofs.lemmas.Bool.Decides.{eqb_tells}
+use Rattle.std.proofs.lemmas.List.{map-append, length-map, take_all, take_more, take-append-le}
+use Rattle.std.proofs.lemmas.List.Splits.{slice_split-cons_no, slice_split-cons_yes}
+use Rattle.serde_json.specs.Data as json
+use Rattle.serde_json.specs.View.{items_of, items_view, view}
+use Rattle.serde_json.specs.Written.{has_float, items_have_float}
+use Rattle.serde_json.specs.declared.value.Value.{Value}
+use Rattle.ta_automaton.specs.declared.file.File.{File}
+use Rattle.ta_automaton.specs.declared.pattern.Pattern.{Pattern}
+use Rattle.ta_automaton.specs.Lists.{Each}
+use Rattle.ta_replay.specs.RunText.{lines_text, run_lines}
+use Rattle.ta_replay.specs.TextFaults.{Avoids}
+use Rattle.ta_report.specs.declared.verdict.ReportSample.{ReportSample}
+use Rattle.ta_report.specs.declared.verdict.ReportSample.TheVariants as sample
+use Rattle.ta_report.specs.declared.verdict.Verdict.{Verdict}
+use Rattle.ta_report.specs.declared.verdict.Verdict.TheVariants.{Safe, Unsafe, Spent, Overflow}
+use Rattle.ta_report.specs.Json.{report_data, sample_data, texts_data, value_data, values_data, verdict_data, verdicts_data}
+
+-- the items of lists
+pub texts_listed : (texts : List (List ℕ)) → items_of (map json.string texts) ≡ texts_data texts
+texts_listed [] = refl
+texts_listed (text ∷ texts) = ap (json.item (json.string text)) (texts_listed texts)
+
+abbrev pub values_list : List (List ℕ) → List ℤ → List json.Data
+values_list [] vs = []
+values_list (n ∷ ns) [] = []
+values_list (n ∷ ns) (v ∷ vs) = value_data n v ∷ values_list ns vs
+
+pub values_listed : (ns : List (List ℕ)) (vs : List ℤ) → items_of (values_list ns vs) ≡ values_data ns vs
+values_listed [] vs = refl
+values_listed (n ∷ ns) [] = refl
+values_listed (n ∷ ns) (v ∷ vs) = ap (json.item (value_data n v)) (values_listed ns vs)
+
+abbrev pub verdicts_list : File → List Pattern → List Verdict → List json.Data
+verdicts_list file [] vs = []
+verdicts_list file (p ∷ ps) [] = []
+verdicts_list file (p ∷ ps) (v ∷ vs) = verdict_data file p v ∷ verdicts_list file ps vs
+
+pub verdicts_listed : (file : File) (ps : List Pattern) (vs : List Verdict) → items_of (verdicts_list file ps vs) ≡ verdicts_data file ps vs
+verdicts_listed file [] vs = refl
+verdicts_listed file (p ∷ ps) [] = refl
+verdicts_listed file (p ∷ ps) (v ∷ vs) = ap (json.item (verdict_data file p v)) (verdicts_listed file ps vs)
+
+-- the item at a place
+pub value_at : (ns : List (List ℕ)) (vs : List ℤ) (i : ℕ) (d : json.Data) (n : List ℕ) (v : ℤ) → length vs ≡ length ns → i < length vs → n ≡ get_or ns i n → v ≡ get_or vs i v → (i < length (values_list ns vs)) × (value_data n v ≡ get_or (values_list ns vs) i d)
+value_at [] [] i d n v count within is are = absurd (omega arith)
+value_at [] (w ∷ vs) i d n v count within is are = absurd (omega arith)
+value_at (m ∷ ns) [] i d n v count within is are = absurd (omega arith)
+value_at (m ∷ ns) (w ∷ vs) zero d n v count within is are = (omega arith, ap (λ k. value_data k v) is ∙ ap (value_data m) are)
+value_at (m ∷ ns) (w ∷ vs) (suc i) d n v count within is are = let more = value_at ns vs i d n v (omega arith) (omega arith) is are in let low = more.0 in (omega arith, more.1)
+
+pub verdict_at : (file : File) (ps : List Pattern) (vs : List Verdict) (i : ℕ) (d : json.Data) (p : Pattern) (v : Verdict) → length vs ≡ length ps → i < length vs → p ≡ get_or ps i p → v ≡ get_or vs i v → (i < length (verdicts_list file ps vs)) × (verdict_data file p v ≡ get_or (verdicts_list file ps vs) i d)
+verdict_at file [] [] i d p v count within is are = absurd (omega arith)
+verdict_at file [] (w ∷ vs) i d p v count within is are = absurd (omega arith)
+verdict_at file (m ∷ ps) [] i d p v count within is are = absurd (omega arith)
+verdict_at file (m ∷ ps) (w ∷ vs) zero d p v count within is are = (omega arith, ap (λ k. verdict_data file k v) is ∙ ap (verdict_data file m) are)
+verdict_at file (m ∷ ps) (w ∷ vs) (suc i) d p v count within is are = let more = verdict_at file ps vs i d p v (omega arith) (omega arith) is are in let low = more.0 in (omega arith, more.1)
+
+pub values_count : (ns : List (List ℕ)) (vs : List ℤ) → length (values_list ns vs) ≤ length vs
+values_count [] vs = omega arith
+values_count (n ∷ ns) [] = omega arith
+values_count (n ∷ ns) (v ∷ vs) = omega (arith, values_count ns vs)
+
+pub verdicts_count : (file : File) (ps : List Pattern) (vs : List Verdict) → length (verdicts_list file ps vs) ≤ length vs
+verdicts_count file [] vs = omega arith
+verdicts_count file (p ∷ ps) [] = omega arith
+verdicts_count file (p ∷ ps) (v ∷ vs) = omega (arith, verdicts_count file ps vs)
+
+-- one item more is pushed
+pub pushed : (all : List json.Data) (i : ℕ) (before after : List Value) (v : Value) (d : json.Data) → map view before ≡ take i all → after ≡ before ++ v ∷ [] → i < length all → view v ≡ get_or all i d → map view after ≡ take (i + 1) all
+pushed all i before after v d so_far is within here =
+    ap (map view) is ∙ map-append view before (v ∷ []) ∙ ap (λ ds. ds ++ view v ∷ []) so_far ∙ ap (λ e. take i all ++ e ∷ []) here ∙ sym (take_more all i d within)
+
+-- all are pushed
+pub all_pushed : (all : List json.Data) (i : ℕ) (vs : List Value) → map view vs ≡ take i all → length all ≤ i → items_view vs ≡ items_of all
+all_pushed all i vs is most = ap items_of (is ∙ take_all i all most)
+
+-- lines, cut at their line feeds: behind the last one nothing stands
+split_line : (line rest : List ℕ) → Avoids 10 line → slice_split (λ b. b == 10) (line ++ (10 ∷ rest)) ≡ line ∷ slice_split (λ b. b == 10) rest
+split_line [] rest free = slice_split-cons_yes (λ b. b == 10) 10 rest refl
+split_line (x ∷ xs) rest free =
+    let other : (x == 10) ≡ false = elim (eqb_tells x 10) [ inl e ↦ absurd (free.0 e.1) | inr ne ↦ ne.0 ] in
+    slice_split-cons_no (λ b. b == 10) x (xs ++ (10 ∷ rest)) other ∙ ap (λ parts. onto_first x parts) (split_line xs rest free.1)
+
+pub split_lines : (ls : List (List ℕ)) → Each (Avoids 10) ls → slice_split (λ b. b == 10) (lines_text ls) ≡ ls ++ ([] ∷ [])
+split_lines [] free = refl
+split_lines (l ∷ ls) free = split_line l (lines_text ls) free.0 ∙ ap (λ parts. l ∷ parts) (split_lines ls free.1)
+
+-- the last item is taken off
+pub last_off : (ls : List (List ℕ)) (vs rest : List Value) → map view vs ≡ map json.string (ls ++ ([] ∷ [])) → rest ≡ take (length vs - 1) vs → map view rest ≡ map json.string ls
+last_off ls vs rest is cut =
+    let last : List (List ℕ) = [] ∷ [] in
+    let count : length vs ≡ length ls + 1 = omega (arith, length-map vs view, ap (λ (ds : List json.Data). length ds) is, length-map (ls ++ last) json.string, length-append ls last) in
+    let place : length vs - 1 ≡ length (map json.string ls) = omega (arith, length-map ls json.string) in
+    ap (map view) cut ∙ sym (take-map view (length vs - 1) vs) ∙ ap (take (length vs - 1)) (is ∙ map-append json.string ls last)
+    ∙ ap (λ n. take n (map json.string ls ++ map json.string last)) place ∙ take-append-le (length (map json.string ls)) (map json.string ls) (map json.string last) (omega arith) ∙ take-length (map json.string ls)
+
+-- the texts that were yielded so far are pushed
+pub text_pushed : {A : Type 0} (text : A → List ℕ) (yielded : List A) (x : A) (before after : List Value) (v : Value) → map view before ≡ map (λ y. json.string (text y)) yielded → after ≡ before ++ v ∷ [] → view v ≡ json.string (text x) → map view after ≡ map (λ y. json.string (text y)) (yielded ++ x ∷ [])
+text_pushed text yielded x before after v so_far is here =
+    ap (map view) is ∙ map-append view before (v ∷ []) ∙ ap (λ ds. ds ++ view v ∷ []) so_far ∙ ap (λ e. map (λ y. json.string (text y)) yielded ++ e ∷ []) here ∙ sym (map-append (λ y. json.string (text y)) yielded (x ∷ []))
+
+-- items with the views of these data
+pub items_of_views : (vs : List Value) (ds : List json.Data) → map view vs ≡ ds → items_view vs ≡ items_of ds
+items_of_views vs ds is = ap items_of is
+
+-- no number stands in a report, so no number with a point
+no_text_floats : (texts : List (List ℕ)) → items_have_float (texts_data texts) ≡ false
+no_text_floats [] = refl
+no_text_floats (text ∷ texts) = no_text_floats texts
+
+no_value_floats : (ns : List (List ℕ)) (vs : List ℤ) → items_have_float (values_data ns vs) ≡ false
+no_value_floats [] vs = refl
+no_value_floats (n ∷ ns) [] = refl
+no_value_floats (n ∷ ns) (v ∷ vs) = no_value_floats ns vs
+
+no_sample_floats : (file : File) (s : ReportSample) → has_float (sample_data file s) ≡ false
+no_sample_floats file (sample.Sample values) = ap (λ b. b || false) (no_value_floats file.automaton.parameters values)
+no_sample_floats file sample.Empty = refl
+no_sample_floats file (sample.Spent count) = refl
+no_sample_floats file (sample.Overflow node kind) = refl
+
+no_verdict_float : (file : File) (p : Pattern) (v : Verdict) → has_float (verdict_data file p v) ≡ false
+no_verdict_float file p (Safe nodes leaves) = refl
+no_verdict_float file p (Unsafe nodes run) = ap (λ b. b || false) (no_text_floats (run_lines file run))
+no_verdict_float file p (Spent nodes) = refl
+no_verdict_float file p (Overflow node kind) = refl
+
+no_verdict_floats : (file : File) (ps : List Pattern) (vs : List Verdict) → items_have_float (verdicts_data file ps vs) ≡ false
+no_verdict_floats file [] vs = refl
+no_verdict_floats file (p ∷ ps) [] = refl
+no_verdict_floats file (p ∷ ps) (v ∷ vs) = ap (λ b. b || items_have_float (verdicts_data file ps vs)) (no_verdict_float file p v) ∙ no_verdict_floats file ps vs
+
+pub no_floats : (file : File) (s : ReportSample) (vs : List Verdict) → has_float (report_data file s vs) ≡ false
+no_floats file s vs = ap (λ b. b || (items_have_float (verdicts_data file file.patterns vs) || false)) (no_sample_floats file s) ∙ ap (λ b. b || false) (no_verdict_floats file file.patterns vs)
+
+-- the strings of texts
+pub strings_of : {A : Type 0} (text : A → List ℕ) (xs : List A) → map (λ y. json.string (text y)) xs ≡ map json.string (map text xs)
+strings_of text [] = refl
+strings_of text (x ∷ xs) = ap (λ ds. json.string (text x) ∷ ds) (strings_of text xs)

@@ -1,0 +1,27 @@
+use Rattle.std.proofs.Common.{◌≡◌, ◌∙◌, ◌<◌, ap, arith, length, rules}
+use Rattle.serde_json.specs.Data.{array}
+use Rattle.serde_json.specs.View.{view}
+use Rattle.serde_json.proofs.Views.{view-Array}
+use Rattle.ta_report.specs.Json.{verdict_data}
+use Rattle.ta_report.proofs.JsonItems.{verdicts_list, verdicts_listed, verdicts_count, verdict_at, pushed, all_pushed}
+use Rattle.ta_report.proofs.object.verdict_values.Goals as goal
+
+pub loop-number-preserved : goal.loop-number-preserved
+loop-number-preserved c =
+    let l = c.loop-number in
+    let file = c.args.file.now in
+    let verdicts = c.args.verdicts.now in
+    let v = c.index-verdicts-number.result in
+    let p = c.index-patterns-number.result in
+    let within : l.number < length verdicts = c.loop-number-test.true in
+    let d = view c.in_ok-verdict_value.field-0 in
+    let here = verdict_at file file.patterns verdicts l.number d p v c.requires.all within (search rules) (search rules) in
+    let is : d ≡ verdict_data file p v = search rules in
+    pushed (verdicts_list file file.patterns verdicts) l.number l.items.items c.push.new.self.items c.in_ok-verdict_value.field-0 d l.invariant c.in_ok-push.ensures.items here.0 (is ∙ here.1)
+
+pub returns : goal.returns
+returns c =
+    let l = c.loop-number in
+    let file = c.args.file.now in
+    let verdicts = c.args.verdicts.now in
+    view-Array l.items ∙ ap array (all_pushed (verdicts_list file file.patterns verdicts) l.number l.items.items l.invariant (omega (arith, verdicts_count file file.patterns verdicts, c.loop-number-test.false)) ∙ verdicts_listed file file.patterns verdicts)

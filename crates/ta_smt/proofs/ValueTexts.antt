@@ -1,0 +1,80 @@
+-- The text of values determines them, and has then no bad line.
+use Rattle.std.proofs.Common.{ℕ, ℤ, ◌+◌, ◌≡◌, ◌⊎◌, inl, inr, List, [], ◌∷◌, ◌++◌, length, map, refl, sym, ap, ◌∙◌, append_assoc, append-nil, arith}
+use Rattle.std.specs.Fmt.{signed_decimal}
+use Rattle.std.proofs.lemmas.List.{map-append}
+use Rattle.ta_automaton.specs.Lists.{Each}
+use Rattle.ta_counter.specs.Values.{Value}
+use Rattle.ta_replay.specs.RunText.{lines_text}
+use Rattle.ta_replay.proofs.Bytes.{first_byte, not_parted}
+use Rattle.ta_replay.proofs.Decimals.{number_avoids, number_same}
+use Rattle.ta_replay.proofs.ListSteps.{each_push, lines_text-append}
+use Rattle.ta_smt.specs.Values.{FirstBadLine, IsNoNumber, IsUnfinished, IsValuesText, values_text}
+use Rattle.ta_smt.specs.Inside.Reading.{LineFault, NextValue, ValueFault}
+use Rattle.ta_smt.specs.declared.fault.AdmitFault.{AdmitFault}
+use Rattle.ta_smt.specs.declared.fault.AdmitFault.TheVariants as fault
+
+not_empty : (xs ys : List ℕ) → xs ++ (10 ∷ ys) ≡ [] → ⊥
+not_empty [] ys e = cc
+not_empty (x ∷ xs) ys e = cc
+
+-- the first value and the text behind it
+firsts_same : (v w : ℤ) (x y : List ℕ) → Value v → Value w → signed_decimal v ++ (10 ∷ x) ≡ signed_decimal w ++ (10 ∷ y) → (v ≡ w) × (x ≡ y)
+firsts_same v w x y is are e =
+    let parts = first_byte 10 (signed_decimal v) (signed_decimal w) x y (number_avoids 10 v (omega arith) is) (number_avoids 10 w (omega arith) are) e in
+    (number_same v w is are parts.0, parts.1)
+
+-- values are determined by their text
+texts_same : (vs ws : List ℤ) → Each Value vs → Each Value ws → values_text vs ≡ values_text ws → vs ≡ ws
+texts_same [] [] is are e = refl
+texts_same [] (w ∷ ws) is are e = absurd (not_empty (signed_decimal w) (values_text ws) (sym e))
+texts_same (v ∷ vs) [] is are e = absurd (not_empty (signed_decimal v) (values_text vs) e)
+texts_same (v ∷ vs) (w ∷ ws) is are e =
+    let first = firsts_same v w (values_text vs) (values_text ws) is.0 are.0 e in
+    let head = first.0 in
+    let tail = texts_same vs ws is.1 are.1 first.1 in
+    cc
+
+pub values_once : (vs ws : List ℤ) (bytes : List ℕ) → IsValuesText vs bytes → IsValuesText ws bytes → vs ≡ ws
+values_once vs ws bytes is are = texts_same vs ws is.numbers are.numbers (sym is.text ∙ are.text)
+
+-- behind values that are a text's first ones come values
+no_bad_line : (ws vs : List ℤ) (rest : List ℕ) → Each Value ws → Each Value vs → IsUnfinished rest ⊎ IsNoNumber rest → values_text ws ++ rest ≡ values_text vs → ⊥
+no_bad_line [] [] rest are is (inl unfinished) e = unfinished.some e
+no_bad_line [] [] rest are is (inr bad) e = not_empty bad.line bad.behind (sym bad.next ∙ e)
+no_bad_line [] (v ∷ vs) rest are is (inl unfinished) e = not_parted 10 (signed_decimal v) (values_text vs) rest unfinished.no_feed e
+no_bad_line [] (v ∷ vs) rest are is (inr bad) e =
+    let parts = first_byte 10 bad.line (signed_decimal v) bad.behind (values_text vs) bad.no_feed (number_avoids 10 v (omega arith) is.0) (sym bad.next ∙ e) in
+    bad.other v record { number = is.0; text = parts.0 }
+no_bad_line (w ∷ ws) [] rest are is bad e = not_empty (signed_decimal w) (values_text ws ++ rest) (sym (append_assoc (signed_decimal w) (10 ∷ values_text ws) rest) ∙ e)
+no_bad_line (w ∷ ws) (v ∷ vs) rest are is bad e =
+    let parts = firsts_same w v (values_text ws ++ rest) (values_text vs) are.0 is.0 (sym (append_assoc (signed_decimal w) (10 ∷ values_text ws) rest) ∙ e) in
+    no_bad_line ws vs rest are.1 is.1 bad parts.1
+
+pub not_both : (vs : List ℤ) (bytes : List ℕ) (n : ℕ) → IsValuesText vs bytes → FirstBadLine bytes n → ⊥
+not_both vs bytes n is bad = no_bad_line bad.values vs bad.rest bad.numbers is.numbers bad.bad (sym bad.text ∙ is.text)
+
+-- what the reader has read, and what is left
+pub record Read (bytes : List ℕ) (values : List ℤ) (rest : List ℕ) : Type 0 where
+  pub numbers : Each Value values
+  pub text : bytes ≡ values_text values ++ rest
+
+pub read_none : (bytes : List ℕ) → Read bytes [] bytes
+read_none bytes = record { numbers = tt; text = refl }
+
+pub read_more : (bytes rest behind : List ℕ) (values : List ℤ) (v : ℤ) → Read bytes values rest → NextValue rest v behind → Read bytes (values ++ v ∷ []) behind
+read_more bytes rest behind values v read next = record {
+  numbers = each_push Value values v read.numbers next.number;
+  text = read.text
+      ∙ ap (λ xs. values_text values ++ xs) (next.read ∙ sym (append_assoc (signed_decimal v) (10 ∷ []) behind))
+      ∙ sym (append_assoc (values_text values) (signed_decimal v ++ (10 ∷ [])) behind)
+      ∙ ap (λ xs. xs ++ behind) (sym (lines_text-append (map signed_decimal values) (signed_decimal v ∷ [])))
+      ∙ ap (λ ls. lines_text ls ++ behind) (sym (map-append signed_decimal values (v ∷ [])));
+}
+
+pub read_all : (bytes rest : List ℕ) (values : List ℤ) → Read bytes values rest → rest ≡ [] → IsValuesText values bytes
+read_all bytes rest values read none = record { numbers = read.numbers; text = read.text ∙ ap (λ xs. values_text values ++ xs) none ∙ append-nil (values_text values) }
+
+pub read_stops : (bytes rest : List ℕ) (values : List ℤ) (before : ℕ) (found : AdmitFault) → before ≡ length values → Read bytes values rest → ValueFault rest before found → LineFault bytes found
+read_stops bytes rest values before (fault.Line n) counted read bad = record { values = values; rest = rest; numbers = read.numbers; text = read.text; bad = bad.1; place = bad.0 ∙ ap (λ m. m + 1) counted }
+read_stops bytes rest values before fault.Memory counted read bad = tt
+read_stops bytes rest values before _ counted read bad = absurd bad

@@ -1,0 +1,8 @@
+use Rattle.std.proofs.Common.{◌≡◌, ◌-◌, ◌++◌, map, string_bytes}
+use Rattle.ta_automaton.specs.Masks.{numbers_from}
+use Rattle.ta_replay.specs.RunText.{lines_text}
+use Rattle.ta_smt.proofs.Written.{natural_line}
+use Rattle.ta_smt.proofs.export.push_naturals.Given as goal
+
+abbrev pub invariant-loop-number : goal.invariant-loop-number
+invariant-loop-number l = string_bytes l.text ++ lines_text (map natural_line (numbers_from l.number-counter (l.unknowns - l.number-counter))) ≡ string_bytes l.initial.text ++ lines_text (map natural_line (numbers_from 0 l.unknowns))

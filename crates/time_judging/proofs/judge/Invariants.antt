@@ -1,5 +1,0 @@
-use Rattle.ta_check.specs.Checkers.{IsSound}
-use Rattle.time_judging.proofs.judge.Given as goal
-
-abbrev pub invariant-pieces : goal.invariant-pieces
-invariant-pieces g l = IsSound l.checker

@@ -1,0 +1,57 @@
+//! How long the walk of a file's pattern takes.
+#![tactic(auto)]
+
+use std::alloc::{AllocError, Global};
+use std::rt::Clock;
+use std::time::Instant;
+use std::{fs, io};
+use ta_dense::NarrowDictionary;
+use ta_meaning::read_file;
+use ta_scope::ScopedFile;
+use ta_walk::{WalkEnd, walk};
+
+/// How many bytes a file has at most.
+const LIMIT: usize = 1_048_576;
+
+/// How many nodes a walk visits at most.
+const MOST: u64 = 1_000_000_000;
+
+/// Walks the pattern of a number, from 0, of a file, and visits so many nodes at most: the words say which.
+pub(crate) fn print(rt: &HostRuntime, words: &[String]) -> io::Result<()> {
+    if words.len() != 3 {
+        return println!(rt; "timings: walk FILE PATTERN NODES");
+    }
+    let bytes = fs::read(rt, words[0].as_str())?;
+    let pattern = words[1].as_str().parse::<u32>().unwrap_or(0);
+    let nodes = words[2].as_str().parse::<u64>().unwrap_or(1);
+    if bytes.len() > LIMIT || nodes == 0 || nodes > MOST {
+        return println!(rt; "timings: too long");
+    }
+    match read_file(rt.alloc(), bytes.as_slice()) {
+        Ok(scoped) => time(rt, rt.alloc(), &scoped, pattern, nodes),
+        Err(_) => println!(rt; "timings: the file is refused"),
+    }
+}
+
+/// Walks the tree of a pattern and prints how it ends, and the time.
+fn time<R: Clock + Print>(
+    rt: &R,
+    alloc: Global,
+    scoped: &ScopedFile,
+    pattern: u32,
+    nodes: u64,
+) -> io::Result<()> {
+    if pattern as usize >= scoped.file().patterns.as_slice().len() || nodes == 0 || nodes > MOST {
+        return println!(rt; "timings: no such pattern");
+    }
+    let start = Instant::now(rt)?;
+    let end = walk::<NarrowDictionary>(alloc, scoped, pattern, nodes);
+    let taken = start.elapsed(rt)?.as_micros();
+    match end {
+        Ok(WalkEnd::Refuted { count, .. }) => println!(rt; "refuted: {count} nodes in {taken} us"),
+        Ok(WalkEnd::Found { count, .. }) => println!(rt; "found: {count} nodes in {taken} us"),
+        Ok(WalkEnd::Spent { count }) => println!(rt; "spent: {count} nodes in {taken} us"),
+        Ok(WalkEnd::Overflow { node, .. }) => println!(rt; "overflow: {node} nodes in {taken} us"),
+        Err(AllocError) => println!(rt; "memory ran out"),
+    }
+}

@@ -1,0 +1,102 @@
+//! A walk over a dictionary for which there is never memory.
+
+use std::alloc::{AllocError, Global};
+use std::test::Fail;
+use ta_dense::{DenseDictionary, DensePivot, Dictionary, ExtendFault, PivotFault};
+use ta_linear::System;
+use ta_meaning::read_file;
+use ta_walk::walk;
+
+const FILE: &[u8] =
+    b"automaton first; parameters n; shared; locations A initial, B; processes n; resilience n >= 1; rule r: A -> B; pattern reached { event done: B >= 1; }";
+
+/// Dense rows that are never made of a system.
+#[derive(Drop)]
+struct NoRoom {
+    dense: DenseDictionary,
+}
+
+impl Dictionary for NoRoom {
+    type Kept = DensePivot;
+
+    ghost tableau = { λ d. d.dense };
+
+    ghost pivot_of = { λ k. k };
+
+    fn from_system(alloc: Global, system: &System) -> Result<Self, AllocError> {
+        let (_alloc, _system) = (alloc, system);
+        Err(AllocError)
+    }
+
+    fn rows(&self) -> u32 {
+        self.dense.rows()
+    }
+
+    fn columns(&self) -> u32 {
+        self.dense.columns()
+    }
+
+    fn basic(&self, row: u32) -> u32 {
+        self.dense.basic(row)
+    }
+
+    fn non_basic(&self, column: u32) -> u32 {
+        self.dense.non_basic(column)
+    }
+
+    fn denominator(&self, row: u32) -> i128 {
+        self.dense.denominator(row)
+    }
+
+    fn constant(&self, row: u32) -> i128 {
+        self.dense.constant(row)
+    }
+
+    fn cell(&self, row: u32, column: u32) -> i128 {
+        self.dense.cell(row, column)
+    }
+
+    fn bytes(&self) -> usize {
+        self.dense.bytes()
+    }
+
+    fn leaving(&self) -> Option<u32> {
+        self.dense.leaving()
+    }
+
+    fn entering(&self, row: u32) -> Option<u32> {
+        self.dense.entering(row)
+    }
+
+    fn keep(&self, alloc: Global, row: u32, column: u32) -> Result<DensePivot, AllocError> {
+        self.dense.keep(alloc, row, column)
+    }
+
+    fn pivot(self, alloc: Global, row: u32, column: u32) -> Result<Self, PivotFault> {
+        match self.dense.pivot(alloc, row, column) {
+            Ok(dense) => Ok(NoRoom { dense }),
+            Err(fault) => Err(fault),
+        }
+    }
+
+    fn extend(
+        &self,
+        alloc: Global,
+        longer: &System,
+        kept: &[DensePivot],
+    ) -> Result<Self, ExtendFault> {
+        match self.dense.extend(alloc, longer, kept) {
+            Ok(dense) => Ok(NoRoom { dense }),
+            Err(fault) => Err(fault),
+        }
+    }
+}
+
+#[test]
+fn walks_without_room(rt: HostRuntime) -> Result<(), Fail> {
+    let scoped = read_file(rt.alloc(), FILE)?;
+    assert!(rt; !scoped.file().patterns.as_slice().is_empty());
+    assert!(rt; walk::<NoRoom>(rt.alloc(), &scoped, 0, 10).is_err());
+    assert!(rt; walk::<DenseDictionary>(rt.alloc(), &scoped, 0, 10).is_ok());
+    Ok(())
+}

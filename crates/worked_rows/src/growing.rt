@@ -1,0 +1,80 @@
+//! A shelf that makes the bytes of a long file as they are asked for.
+#![tactic(auto)]
+
+ghost use Rattle.std.specs.Prelude.{◌≤◌, None, length};
+
+use crate::files::Files;
+use ta_shelf::{Entry, Log, PutFault, Shelf, ShelfFault};
+
+/// Files, one of which goes on with spaces behind its text, up to so many bytes. None can be changed.
+#[derive(Drop)]
+pub struct Growing<'a> {
+    files: &'a Files,
+    name: &'a str,
+    length: u64,
+    log: Log,
+}
+
+impl<'a> Growing<'a> {
+    pub fn new(files: &'a Files, name: &'a str, length: u64) -> Growing<'a> {
+        Growing {
+            files,
+            name,
+            length,
+            log: Log::new(),
+        }
+    }
+
+    /// How many bytes the file of a name has.
+    fn length_of(&self, name: &str) -> u64 {
+        if name == self.name {
+            self.length
+        } else {
+            self.files.text(name).len() as u64
+        }
+    }
+}
+
+/// Fills a buffer with so many bytes of a text from an offset on, behind which spaces follow.
+fn fill(text: &[u8], at: u64, left: u64, buf: &mut [u8]) -> usize
+    ensures { result ≤ length buf.new }
+{
+    let count = (buf.len() as u64).min(left) as usize;
+    buf[..count].fill(b' ');
+    if at < text.len() as u64 {
+        let rest = &text[at as usize..];
+        let known = rest.len().min(count);
+        buf[..known].copy_from_slice(&rest[..known]);
+    }
+    count
+}
+
+impl Shelf for Growing<'_> {
+    ghost files = { λ s. None };
+
+    ghost faults = { λ s. 0 };
+
+    ghost calls = { λ s. s.log.calls };
+
+    ghost wants_memory = { Unit {0} };
+
+    fn read_at(&mut self, name: &str, at: u64, buf: &mut [u8]) -> Result<usize, ShelfFault> {
+        let left = self.length_of(name).saturating_sub(at);
+        let answer = Ok(fill(self.files.text(name).as_bytes(), at, left, buf));
+        self.log = self.log.then(&Entry {
+            name,
+            at,
+            buffer: buf,
+            answer,
+        });
+        answer
+    }
+
+    fn create(&mut self, _name: &str) -> Result<(), PutFault> {
+        Err(PutFault::Memory)
+    }
+
+    fn append(&mut self, _name: &str, _bytes: &[u8]) -> Result<(), PutFault> {
+        Err(PutFault::Memory)
+    }
+}
