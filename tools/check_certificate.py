@@ -10,7 +10,8 @@ a FILE with several faults another one may be told.
 
 A certificate is a tree of cases. A leaf multiplies some rows (each says `row >= 0`) and adds them; where the sum
 has no positive coefficient and a negative constant, no natural numbers meet the rows, and the case can't come
-about. So read `judge_leaf`, then `System` (which rows), `follow` (which cases), and last `Automaton`, the reader.
+about. So read `judge_leaf`, then `System` (which rows), `follow` (which cases), `order` (which guard may be asked for
+before another), and last `Automaton`, the reader.
 """
 
 import copy
@@ -226,9 +227,10 @@ class System:
     """The unknowns and rows of a word, but for its bounds. `moment` has the value of each place at the word's end, as
     a form over the numbers of the unknowns."""
 
-    def __init__(self, automaton, pattern, start):
-        """The empty word, with a start set of fall guards."""
-        self.automaton, self.pattern, self.events, self.rises, self.fallen = automaton, pattern, set(), set(), start
+    def __init__(self, automaton, pattern, start, before):
+        """The empty word, with a start set of fall guards; `before` has for each rise guard those that come first."""
+        self.automaton, self.pattern, self.before = automaton, pattern, before
+        self.events, self.rises, self.fallen = set(), set(), start
         begins = [name for name in automaton.initial if name not in pattern.empty]
         self.unknowns = len(automaton.parameters + begins)
         self.moment = {name: {} for name in automaton.kind_of}
@@ -250,7 +252,7 @@ class System:
         if len(self.events) == len(events):
             return []
         ready = [("event", e) for e, it in enumerate(events) if it.name not in self.events and it.after <= self.events]
-        rises = [("rise", i) for i in range(len(self.automaton.rise)) if i not in self.rises]
+        rises = [("rise", i) for i, first in enumerate(self.before) if i not in self.rises and first <= self.rises]
         falls = [("fall", those) for those in subsets(len(self.automaton.fall)) if those and not those & self.fallen]
         return ready + rises + falls
 
@@ -304,13 +306,13 @@ def judge_leaf(system, bounds, pairs):
         need(key != ONE or total < 0, "C6 constant not negative")
 
 
-FORMS = {"pattern": b"pattern N", "e": b"e", "s": b"s N N", "f": b"f( N:N)+", "end": b"end"}
+FORMS = {"o": b"o N N", "pattern": b"pattern N", "e": b"e", "s": b"s N N", "f": b"f( N:N)+", "end": b"end"}
 N = b"(0|[1-9][0-9]{0,38})"
 
 
 def fits(kind, numbers):
     if kind != "f":
-        return all(number < limit for number, limit in zip(numbers, (2**32, 2**126)))
+        return all(number < limit for number, limit in zip(numbers, (2**32, 2**32 if kind == "o" else 2**126)))
     rows = numbers[::2] + [2**32]
     return all(one < other for one, other in zip(rows, rows[1:])) and all(0 < it < 2**127 for it in numbers[1::2])
 
@@ -338,9 +340,28 @@ class Lines:
         raise Fault("C1 malformed")
 
 
-def follow(automaton, pattern, lines):
+PairSystem = namedtuple("PairSystem", "unknowns rows")
+
+
+def order(automaton, before, lines, one, other):
+    """Puts guard one before guard other. The leaf says that no numbers meet the resilience condition and the row of the
+    other, and not that of the one: so in a run the one is true from the same moment on, or earlier."""
+    guards, first = automaton.rise, [one]
+    need(max(one, other) < len(guards), "C14 no such order")
+    for guard in first:
+        first += before[guard] - set(first)
+    need(other not in first and one not in before[other], "C14 no such order")
+    places = automaton.parameters + [name for name, kind in automaton.kind_of.items() if kind == "shared"]
+    rows = automaton.resilience + [guards[other], negated(guards[one])]
+    numbered = [{ONE if key == ONE else places.index(key): it for key, it in row.items()} for row in rows]
+    numbers = lines.take("f")[1]
+    judge_leaf(PairSystem(len(places), numbered), (), list(zip(numbers[::2], numbers[1::2])))
+    before[other].add(one)
+
+
+def follow(automaton, pattern, before, lines):
     """Reads a tree for each start set, its nodes in preorder: in place of a node come the cases that it makes."""
-    todo = [(System(automaton, pattern, start), (), ()) for start in reversed(subsets(len(automaton.fall)))]
+    todo = [(System(automaton, pattern, start, before), (), ()) for start in reversed(subsets(len(automaton.fall)))]
     while todo:
         system, element, bounds = todo.pop()
         system = system.longer(*element) if element else system
@@ -359,14 +380,19 @@ def follow(automaton, pattern, lines):
 
 def judge(automaton, lines):
     """The numbers of the patterns that a certificate proves."""
-    proved = set()
-    need(lines.line() == b"threshold-certificate 1", "C1 malformed")
-    while (line := lines.take("pattern", "end"))[0] == "pattern":
-        number = line[1][0]
+    proved, before, first = set(), [set() for _ in automaton.rise], lines.line()
+    need(first in (b"threshold-certificate 1", b"threshold-certificate 2"), "C1 malformed")
+    kind, numbers = lines.take(*("pattern", "end") if first.endswith(b"1") else ("o",))
+    while kind == "o":
+        order(automaton, before, lines, *numbers)
+        kind, numbers = lines.take("o", "pattern", "end")
+    while kind == "pattern":
+        number = numbers[0]
         need(number < len(automaton.patterns), "C3 unknown pattern")
         need(number not in proved, "C11 repeated pattern")
-        follow(automaton, automaton.patterns[number], lines)
+        follow(automaton, automaton.patterns[number], before, lines)
         proved.add(number)
+        kind, numbers = lines.take("pattern", "end")
     lines.number += 1
     need(not lines.file.read(1), "C10 trailing text")
     return proved

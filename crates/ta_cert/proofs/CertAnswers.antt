@@ -1,10 +1,9 @@
 -- A text is the lines of a certificate, or has a first fault at a line.
-use Rattle.std.proofs.Common.{◌≡◌, ◌≢◌, ◌⊎◌, ℕ, zero, suc, ◌+◌, ◌<◌, ◌≤◌, Bool, true, false, List, [], ◌∷◌, ◌++◌, length, inl, inr, ⊎_elim, refl, sym, ap, subst, ◌∙◌, append_assoc, length-append, arith}
+use Rattle.std.proofs.Common.{◌≡◌, ◌≢◌, ◌⊎◌, ℕ, zero, suc, ◌<◌, ◌≤◌, Bool, true, false, List, [], ◌∷◌, ◌++◌, length, inl, inr, ⊎_elim, refl, sym, ap, ◌∙◌, append_assoc, length-append, arith}
 use Rattle.std.proofs.lemmas.List.{append-nil}
 use Rattle.std.proofs.lemmas.Bool.{cases_lt, cases_eq}
-use Rattle.std.specs.List.{AllByRecursion}
 use Rattle.ta_cert.specs.Lines.{line_text, lines_text, has_end}
-use Rattle.ta_cert.specs.Streams.{line_limit, AreLines, IsUnbroken, Reads, line_number, AreNoLine}
+use Rattle.ta_cert.specs.Streams.{line_limit, AreLines, IsUnbroken, line_number, AreNoLine}
 use Rattle.ta_cert.specs.Answers.{HasLines, HasFault}
 use Rattle.ta_cert.specs.declared.line.Line.{Line}
 use Rattle.ta_cert.specs.declared.fault.CertFault.TheVariants as fault

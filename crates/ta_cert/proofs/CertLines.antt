@@ -1,14 +1,15 @@
 -- The lines of a certificate.
-use Rattle.std.proofs.Common.{◌≡◌, true, List, [], ◌∷◌, ◌++◌, map, refl, sym, ap, ◌∙◌, append-nil, arith}
+use Rattle.std.proofs.Common.{◌≡◌, true, List, [], ◌∷◌, ◌++◌, map, refl, sym, ap, ◌∙◌, append-nil, inl, inr, arith}
 use Rattle.std.specs.List.{AllByRecursion}
 use Rattle.std.proofs.lemmas.Bool.{false≢true}
-use Rattle.ta_cert.specs.Lines.{IsLine, IsNode, has_end}
+use Rattle.ta_cert.specs.Lines.{IsLine, IsNode, IsVersion, has_end}
 use Rattle.ta_cert.specs.Streams.{AreLater, IsComplete}
-use Rattle.ta_cert.specs.Certificates.{AreWritable, proof_lines, cert_lines, cert_text}
+use Rattle.ta_cert.specs.Certificates.{AreOrders, AreWritable, order_lines, version_of, proof_lines, cert_lines, cert_text}
 use Rattle.ta_cert.specs.Laws.{AreShort}
 use Rattle.ta_cert.specs.declared.line.Node.{Node}
 use Rattle.ta_cert.specs.declared.line.Line.{Line}
 use Rattle.ta_cert.specs.declared.line.Line.TheVariants as line
+use Rattle.ta_cert.specs.declared.line.Order.{Order}
 use Rattle.ta_cert.specs.declared.line.Proof.{Proof}
 use Rattle.ta_cert.proofs.Unique.{lines_unique}
 
@@ -21,6 +22,40 @@ node_forms (n ∷ ns) ls nodes forms = (nodes.0, node_forms ns ls nodes.1 forms)
 proof_forms : (ps : List Proof) → AreWritable ps → AllByRecursion IsLine (proof_lines ps)
 proof_forms [] writable = (tt, tt)
 proof_forms (p ∷ ps) writable = (writable.0.pattern, node_forms p.nodes (proof_lines ps) writable.0.nodes (proof_forms ps writable.1))
+
+-- the lines of orders have texts
+order_forms : (os : List Order) (ls : List Line) → AreOrders os → AllByRecursion IsLine ls → AllByRecursion IsLine (order_lines os ++ ls)
+order_forms [] ls orders forms = forms
+order_forms (o ∷ os) ls orders forms = ((orders.0.before, orders.0.after), (orders.0.leaf, order_forms os ls orders.1 forms))
+
+-- there are two versions
+version_is : (os : List Order) → IsVersion (version_of os)
+version_is [] = inl refl
+version_is (o ∷ os) = inr refl
+
+-- an order is its guards and its multipliers
+same_order : (o r : Order) → o.before ≡ r.before → o.after ≡ r.after → o.multipliers ≡ r.multipliers → o ≡ r
+same_order o r e f g =
+    ap (λ n. record o { before = n }) e
+    ∙ ap (λ n. record o { before = r.before; after = n }) f
+    ∙ ap (λ ts. record o { before = r.before; after = r.after; multipliers = ts }) g
+
+-- the orders end where no order stands
+orders_unique : (os rs : List Order) (ps qs : List Proof) → order_lines os ++ proof_lines ps ≡ order_lines rs ++ proof_lines qs → (os ≡ rs) × (proof_lines ps ≡ proof_lines qs)
+orders_unique [] [] ps qs e = (refl, e)
+orders_unique [] (r ∷ rs) [] qs e = cc
+orders_unique [] (r ∷ rs) (p ∷ ps) qs e = cc
+orders_unique (o ∷ os) [] ps [] e = cc
+orders_unique (o ∷ os) [] ps (q ∷ qs) e = cc
+orders_unique (o ∷ os) (r ∷ rs) ps qs e =
+    let before : o.before ≡ r.before = cc in
+    let after : o.after ≡ r.after = cc in
+    let multipliers : o.multipliers ≡ r.multipliers = cc in
+    let tail : order_lines os ++ proof_lines ps ≡ order_lines rs ++ proof_lines qs = cc in
+    let more = orders_unique os rs ps qs tail in
+    let same = more.0 in
+    let first = same_order o r before after multipliers in
+    (cc, more.1)
 
 -- the nodes of a proof end where no node stands
 nodes_unique : (ns ms : List Node) (ps qs : List Proof) → map line.Tree ns ++ proof_lines ps ≡ map line.Tree ms ++ proof_lines qs → (ns ≡ ms) × (proof_lines ps ≡ proof_lines qs)
@@ -52,12 +87,13 @@ proofs_unique (p ∷ ps) (q ∷ qs) e =
     let rest = proofs_unique ps qs parts.1 in
     cc
 
--- a text is that of one list of proofs
-pub one_certificate : (ps qs : List Proof) → AreWritable ps → AreWritable qs → cert_text ps ≡ cert_text qs → ps ≡ qs
-one_certificate ps qs f g e =
-    let lines = lines_unique (cert_lines ps) (cert_lines qs) (tt, proof_forms ps f) (tt, proof_forms qs g) e in
-    let rest : proof_lines ps ≡ proof_lines qs = cc in
-    proofs_unique ps qs rest
+-- a text is that of one list of orders and one list of proofs
+pub one_certificate : (os rs : List Order) (ps qs : List Proof) → AreOrders os → AreOrders rs → AreWritable ps → AreWritable qs → cert_text os ps ≡ cert_text rs qs → (os ≡ rs) × (ps ≡ qs)
+one_certificate os rs ps qs f g h k e =
+    let lines = lines_unique (cert_lines os ps) (cert_lines rs qs) (version_is os, order_forms os (proof_lines ps) f (proof_forms ps h)) (version_is rs, order_forms rs (proof_lines qs) g (proof_forms qs k)) e in
+    let rest : order_lines os ++ proof_lines ps ≡ order_lines rs ++ proof_lines qs = cc in
+    let parts = orders_unique os rs ps qs rest in
+    (parts.0, proofs_unique ps qs parts.1)
 
 -- the lines may stand where they stand
 node_later : (ns : List Node) (ls : List Line) → AllByRecursion IsNode ns → AreShort (map line.Tree ns ++ ls) → (AreShort ls → AreLater ls) → AreLater (map line.Tree ns ++ ls)
@@ -69,6 +105,17 @@ proof_later : (ps : List Proof) → AreWritable ps → AreShort (proof_lines ps)
 proof_later [] writable short = (tt, short.0, refl, λ e. refl, tt)
 proof_later (p ∷ ps) writable short = (writable.0.pattern, short.0, refl, λ e. absurd (false≢true e), node_later p.nodes (proof_lines ps) writable.0.nodes short.1 (proof_later ps writable.1))
 
+-- the lines of orders may stand behind the header
+order_later : (os : List Order) (ls : List Line) → AreOrders os → AreShort (order_lines os ++ ls) → (AreShort ls → AreLater ls) → AreLater (order_lines os ++ ls)
+order_later [] ls orders short later = later short
+order_later (o ∷ os) ls orders short later = (
+  (orders.0.before, orders.0.after),
+  short.0,
+  refl,
+  λ e. absurd (false≢true e),
+  (orders.0.leaf, short.1.0, refl, λ e. absurd (false≢true e), order_later os ls orders.1 short.1.1 later),
+)
+
 -- nodes are no end
 nodes_end : (ns : List Node) (ls : List Line) → has_end (map line.Tree ns ++ ls) ≡ has_end ls
 nodes_end [] ls = refl
@@ -79,15 +126,20 @@ proofs_end : (ps : List Proof) → has_end (proof_lines ps) ≡ true
 proofs_end [] = refl
 proofs_end (p ∷ ps) = nodes_end p.nodes (proof_lines ps) ∙ proofs_end ps
 
--- the text of proofs is complete, and its lines are theirs
-pub cert_complete : (ps : List Proof) → AreWritable ps → AreShort (cert_lines ps) → IsComplete (cert_text ps) (cert_lines ps)
-cert_complete ps writable short = record {
+-- orders are no end
+orders_end : (os : List Order) (ls : List Line) → has_end (order_lines os ++ ls) ≡ has_end ls
+orders_end [] ls = refl
+orders_end (o ∷ os) ls = orders_end os ls
+
+-- the text of orders and proofs is complete, and its lines are theirs
+pub cert_complete : (os : List Order) (ps : List Proof) → AreOrders os → AreWritable ps → AreShort (cert_lines os ps) → IsComplete (cert_text os ps) (cert_lines os ps)
+cert_complete os ps orders writable short = record {
   reads = record {
-    whole = sym (append-nil (cert_text ps));
-    legal = (refl, proof_later ps writable short.1);
+    whole = sym (append-nil (cert_text os ps));
+    legal = ((version_is os, refl), order_later os (proof_lines ps) orders short.1 (proof_later ps writable));
     unbroken = tt;
     short = omega arith;
     ended = λ e. refl;
   };
-  ended = proofs_end ps;
+  ended = orders_end os (proof_lines ps) ∙ proofs_end ps;
 }

@@ -3,7 +3,7 @@ use Rattle.std.proofs.Common.{ℕ, ℤ, pos, negsuc, ◌<◌, ◌^◌, ◌≡◌
 use Rattle.std.specs.Fmt.{signed_decimal}
 use Rattle.std.proofs.lemmas.Int.{ints}
 use Rattle.ta_cert.specs.Numbers.{NumberAt, NoNumberAt}
-use Rattle.ta_cert.specs.Inside.Numbers.{IsNumber, IsSplitText, PairAt}
+use Rattle.ta_cert.specs.Inside.Numbers.{IsNumber, IsSplitText, AreGuardsText, PairAt}
 use Rattle.ta_cert.proofs.Decimals.{number_is}
 
 -- what stands behind the unknown
@@ -23,6 +23,18 @@ no_floor m bytes r x at e none u f is =
     let tail : x ≡ signed_decimal f = cc in
     let found = floor_number f x is.is.low is.is.high tail in
     none found.0 found.1
+
+-- what stands behind the first guard
+pub guards_rest : (m before after : ℕ) (bytes r : List ℕ) → NumberAt (2 ^ 32) bytes m r → AreGuardsText bytes before after → r ≡ 32 ∷ decimal after
+guards_rest m before after bytes r at are =
+    (number_is (2 ^ 32) m before bytes r (32 ∷ decimal after) (lit≤ tt) at record { split = are.text; below = are.first; ends = refl }).1
+
+-- no guard stands behind the first
+pub no_second : (m : ℕ) (bytes r x : List ℕ) → NumberAt (2 ^ 32) bytes m r → r ≡ 32 ∷ x → ((k : ℕ) → IsNumber (2 ^ 32) x k → ⊥) → (before after : ℕ) → AreGuardsText bytes before after → ⊥
+no_second m bytes r x at e none before after are =
+    let same = guards_rest m before after bytes r at are in
+    let tail : x ≡ decimal after = cc in
+    none after record { text = tail; below = are.second }
 
 -- what stands behind the row number
 pub pair_rest : (m : ℕ) (t : ℕ × ℤ) (bytes b r rest : List ℕ) → bytes ≡ 32 ∷ b → NumberAt (2 ^ 32) b m r → PairAt bytes t rest → r ≡ 58 ∷ (signed_decimal t.1 ++ rest)

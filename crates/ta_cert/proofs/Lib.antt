@@ -5,6 +5,7 @@ pub mod Unique
 pub mod CertLines
 pub mod Writing
 mod Fields
+mod Meanings
 mod Pairs
 mod Exact
 mod Reading

@@ -2,7 +2,7 @@
 use Rattle.std.proofs.Common.{ℕ, ◌+◌, ◌≡◌, List, [], ◌∷◌, ◌++◌, length, Result, Ok, Err, refl, sym, ap, subst, ◌∙◌, append_assoc, append-nil, arith, MatchResult}
 use Rattle.std.proofs.lemmas.Bool.{false≢true}
 use Rattle.ta_cert.specs.Lines.{has_end}
-use Rattle.ta_cert.specs.Streams.{Reads, Completes, IsRefused, IsComplete, line_number, numbered, StandsAt, StandsFor, Fed, Finished}
+use Rattle.ta_cert.specs.Streams.{Reads, IsRefused, IsComplete, line_number, numbered, StandsAt, StandsFor, Fed, Finished}
 use Rattle.ta_cert.specs.Laws.{WasRead, AreGiven, joined, OneReadingByPieces}
 use Rattle.ta_cert.specs.declared.line.Line.{Line}
 use Rattle.ta_cert.specs.declared.fault.CertFault.{CertFault}

@@ -49,7 +49,8 @@ has_line_push (m ∷ ls) l = refl
 
 -- the header alone is a text that begins so
 header_text : (l : Line) → is_header l ≡ eqb (get_or (line_text l) 0 0) 116
-header_text line.Header = refl
+header_text (line.Header version) = refl
+header_text (line.Order before after) = refl
 header_text (line.Pattern k) = refl
 header_text (line.Tree node.Extend) = refl
 header_text (line.Tree (node.Split unknown floor)) = refl
@@ -65,7 +66,7 @@ later_push (m ∷ ls) l later going_on form short other =
 
 -- one more line behind the header or in front
 legal_push : (ls : List Line) (l : Line) → AreLines ls → has_end ls ≡ false → IsLine l → length (line_text l) ≤ line_limit → is_header l ≡ not (has_line ls) → AreLines (ls ++ (l ∷ []))
-legal_push [] l legal going_on form short header = (header, tt)
+legal_push [] l legal going_on form short header = ((form, header), tt)
 legal_push (m ∷ ls) l legal going_on form short header = (legal.0, later_push ls l legal.1 (or_parts (is_end m) (has_end ls) going_on).1 form short header)
 
 -- what the last of legal lines is
@@ -73,16 +74,9 @@ later_last : (ls : List Line) (l : Line) → AreLater (ls ++ (l ∷ [])) → IsL
 later_last [] l later = (later.0, later.2)
 later_last (m ∷ ls) l later = later_last ls l later.4
 
--- the header has a text
-pub header_line : (l : Line) → is_header l ≡ true → IsLine l
-header_line line.Header e = tt
-header_line (line.Pattern k) e = absurd (false≢true e)
-header_line (line.Tree n) e = absurd (false≢true e)
-header_line line.End e = tt
-
 -- what the last of legal lines is, the header or another
 pub legal_last : (ls : List Line) (l : Line) → AreLines (ls ++ (l ∷ [])) → IsLine l × (is_header l ≡ not (has_line ls))
-legal_last [] l legal = (header_line l legal.0, legal.0)
+legal_last [] l legal = (legal.0.0, legal.0.1)
 legal_last (m ∷ ls) l legal = later_last ls l legal.1
 
 -- the text, its lines and what comes behind it

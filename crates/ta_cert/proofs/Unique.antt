@@ -7,7 +7,7 @@ use Rattle.std.proofs.lemmas.Bool.{false≢true}
 use Rattle.std.proofs.lemmas.Int.{ints}
 use Rattle.std.proofs.lemmas.Str.Parse.{digit_from_value}
 use Rattle.std.proofs.lemmas.List.{append_cancel_left}
-use Rattle.ta_cert.specs.Lines.{line_text, lines_text, ArePairs, IsSplit, pair_text, pairs_text, split_text, IsLine, is_header, is_end, has_end}
+use Rattle.ta_cert.specs.Lines.{line_text, lines_text, ArePairs, IsSplit, pair_text, pairs_text, split_text, guards_text, IsVersion, IsLine, is_header, is_end, has_end}
 use Rattle.ta_cert.specs.Streams.{line_limit, AreLater, AreLines, IsUnbroken, Reads, line_number, IsMalformed, IsTrailing}
 use Rattle.ta_cert.specs.declared.line.Node.TheVariants as node
 use Rattle.ta_cert.specs.declared.line.Line.{Line}
@@ -15,7 +15,8 @@ use Rattle.ta_cert.specs.declared.line.Line.TheVariants as line
 use Rattle.ta_cert.proofs.Decimals.{number_is, decimal_digits, wide}
 use Rattle.ta_cert.proofs.Fields.{pair_unique, multiplier_number}
 use Rattle.ta_cert.proofs.Pairs.{pairs_begin}
-use Rattle.ta_cert.proofs.Standing.{header_line, unbroken-append, legal_last}
+use Rattle.ta_cert.proofs.Meanings.{header_one, header_two}
+use Rattle.ta_cert.proofs.Standing.{unbroken-append, legal_last}
 
 -- a number is determined by its text
 number_same : (limit m n : ℕ) → limit ≤ 2 ^ 127 → m < limit → n < limit → decimal m ≡ decimal n → m ≡ n
@@ -43,6 +44,19 @@ split_same u v f g is are e =
     let floors : signed_decimal f ≡ signed_decimal g = cc in
     (parts.0, floor_same f g is.low is.high are.low are.high floors)
 
+-- two guards are determined by their text
+guards_same : (j h i g : ℕ) → j < 2 ^ 32 → h < 2 ^ 32 → i < 2 ^ 32 → g < 2 ^ 32 → decimal j ++ (32 ∷ decimal i) ≡ decimal h ++ (32 ∷ decimal g) → (j ≡ h) × (i ≡ g)
+guards_same j h i g low least high most e =
+    let parts = number_is (2 ^ 32) j h (decimal j ++ (32 ∷ decimal i)) (32 ∷ decimal i) (32 ∷ decimal g) (lit≤ tt) record { split = refl; below = low; ends = refl } record { split = e; below = least; ends = refl } in
+    let rest = parts.1 in
+    let seconds : decimal i ≡ decimal g = cc in
+    (parts.0, number_same (2 ^ 32) i g (lit≤ tt) high most seconds)
+
+-- versions are small
+version_small : (v : ℕ) → IsVersion v → v < 2 ^ 32
+version_small v (inl e) = omega arith
+version_small v (inr e) = omega arith
+
 -- pairs are determined by their text
 pairs_same : (low least : ℕ) (ts us : List (ℕ × ℤ)) → ArePairs low ts → ArePairs least us → pairs_text ts ≡ pairs_text us → ts ≡ us
 pairs_same low least [] [] is are e = refl
@@ -60,37 +74,50 @@ differ k xs ys apart e = let at = ap (λ zs. get_or zs k 0) e in let other = fal
 
 -- a text is that of one line
 pub line_unique : (a b : Line) → IsLine a → IsLine b → line_text a ≡ line_text b → a ≡ b
-line_unique line.Header line.Header x y e = refl
-line_unique line.Header (line.Pattern m) x y e = absurd (differ 0 (line_text line.Header) (line_text (line.Pattern m)) refl e)
-line_unique line.Header (line.Tree node.Extend) x y e = absurd (differ 0 (line_text line.Header) (line_text (line.Tree node.Extend)) refl e)
-line_unique line.Header (line.Tree (node.Split v g)) x y e = absurd (differ 0 (line_text line.Header) (line_text (line.Tree (node.Split v g))) refl e)
-line_unique line.Header (line.Tree (node.Leaf us)) x y e = absurd (differ 0 (line_text line.Header) (line_text (line.Tree (node.Leaf us))) refl e)
-line_unique line.Header line.End x y e = absurd (differ 0 (line_text line.Header) (line_text line.End) refl e)
-line_unique (line.Pattern k) line.Header x y e = absurd (differ 0 (line_text (line.Pattern k)) (line_text line.Header) refl e)
+line_unique (line.Header n) (line.Header o) x y e = let texts = append_cancel_left (codes "threshold-certificate ") (decimal n) (decimal o) e in ap line.Header (number_same (2 ^ 32) n o (lit≤ tt) (version_small n x) (version_small o y) texts)
+line_unique (line.Header n) (line.Order h g) x y e = absurd (differ 0 (line_text (line.Header n)) (line_text (line.Order h g)) refl e)
+line_unique (line.Header n) (line.Pattern m) x y e = absurd (differ 0 (line_text (line.Header n)) (line_text (line.Pattern m)) refl e)
+line_unique (line.Header n) (line.Tree node.Extend) x y e = absurd (differ 0 (line_text (line.Header n)) (line_text (line.Tree node.Extend)) refl e)
+line_unique (line.Header n) (line.Tree (node.Split v g)) x y e = absurd (differ 0 (line_text (line.Header n)) (line_text (line.Tree (node.Split v g))) refl e)
+line_unique (line.Header n) (line.Tree (node.Leaf us)) x y e = absurd (differ 0 (line_text (line.Header n)) (line_text (line.Tree (node.Leaf us))) refl e)
+line_unique (line.Header n) line.End x y e = absurd (differ 0 (line_text (line.Header n)) (line_text line.End) refl e)
+line_unique (line.Order j i) (line.Header o) x y e = absurd (differ 0 (line_text (line.Order j i)) (line_text (line.Header o)) refl e)
+line_unique (line.Order j i) (line.Order h g) x y e = let texts = append_cancel_left (codes "o ") (guards_text j i) (guards_text h g) e in let same = guards_same j h i g x.0 y.0 x.1 y.1 texts in ap (λ n. line.Order n i) same.0 ∙ ap (λ n. line.Order h n) same.1
+line_unique (line.Order j i) (line.Pattern m) x y e = absurd (differ 0 (line_text (line.Order j i)) (line_text (line.Pattern m)) refl e)
+line_unique (line.Order j i) (line.Tree node.Extend) x y e = absurd (differ 0 (line_text (line.Order j i)) (line_text (line.Tree node.Extend)) refl e)
+line_unique (line.Order j i) (line.Tree (node.Split v g)) x y e = absurd (differ 0 (line_text (line.Order j i)) (line_text (line.Tree (node.Split v g))) refl e)
+line_unique (line.Order j i) (line.Tree (node.Leaf us)) x y e = absurd (differ 0 (line_text (line.Order j i)) (line_text (line.Tree (node.Leaf us))) refl e)
+line_unique (line.Order j i) line.End x y e = absurd (differ 0 (line_text (line.Order j i)) (line_text line.End) refl e)
+line_unique (line.Pattern k) (line.Header o) x y e = absurd (differ 0 (line_text (line.Pattern k)) (line_text (line.Header o)) refl e)
+line_unique (line.Pattern k) (line.Order h g) x y e = absurd (differ 0 (line_text (line.Pattern k)) (line_text (line.Order h g)) refl e)
 line_unique (line.Pattern k) (line.Pattern m) x y e = let texts = append_cancel_left (codes "pattern ") (decimal k) (decimal m) e in ap line.Pattern (number_same (2 ^ 32) k m (lit≤ tt) x y texts)
 line_unique (line.Pattern k) (line.Tree node.Extend) x y e = absurd (differ 0 (line_text (line.Pattern k)) (line_text (line.Tree node.Extend)) refl e)
 line_unique (line.Pattern k) (line.Tree (node.Split v g)) x y e = absurd (differ 0 (line_text (line.Pattern k)) (line_text (line.Tree (node.Split v g))) refl e)
 line_unique (line.Pattern k) (line.Tree (node.Leaf us)) x y e = absurd (differ 0 (line_text (line.Pattern k)) (line_text (line.Tree (node.Leaf us))) refl e)
 line_unique (line.Pattern k) line.End x y e = absurd (differ 0 (line_text (line.Pattern k)) (line_text line.End) refl e)
-line_unique (line.Tree node.Extend) line.Header x y e = absurd (differ 0 (line_text (line.Tree node.Extend)) (line_text line.Header) refl e)
+line_unique (line.Tree node.Extend) (line.Header o) x y e = absurd (differ 0 (line_text (line.Tree node.Extend)) (line_text (line.Header o)) refl e)
+line_unique (line.Tree node.Extend) (line.Order h g) x y e = absurd (differ 0 (line_text (line.Tree node.Extend)) (line_text (line.Order h g)) refl e)
 line_unique (line.Tree node.Extend) (line.Pattern m) x y e = absurd (differ 0 (line_text (line.Tree node.Extend)) (line_text (line.Pattern m)) refl e)
 line_unique (line.Tree node.Extend) (line.Tree node.Extend) x y e = refl
 line_unique (line.Tree node.Extend) (line.Tree (node.Split v g)) x y e = absurd (differ 0 (line_text (line.Tree node.Extend)) (line_text (line.Tree (node.Split v g))) refl e)
 line_unique (line.Tree node.Extend) (line.Tree (node.Leaf us)) x y e = absurd (differ 0 (line_text (line.Tree node.Extend)) (line_text (line.Tree (node.Leaf us))) refl e)
 line_unique (line.Tree node.Extend) line.End x y e = absurd (differ 1 (line_text (line.Tree node.Extend)) (line_text line.End) refl e)
-line_unique (line.Tree (node.Split u f)) line.Header x y e = absurd (differ 0 (line_text (line.Tree (node.Split u f))) (line_text line.Header) refl e)
+line_unique (line.Tree (node.Split u f)) (line.Header o) x y e = absurd (differ 0 (line_text (line.Tree (node.Split u f))) (line_text (line.Header o)) refl e)
+line_unique (line.Tree (node.Split u f)) (line.Order h g) x y e = absurd (differ 0 (line_text (line.Tree (node.Split u f))) (line_text (line.Order h g)) refl e)
 line_unique (line.Tree (node.Split u f)) (line.Pattern m) x y e = absurd (differ 0 (line_text (line.Tree (node.Split u f))) (line_text (line.Pattern m)) refl e)
 line_unique (line.Tree (node.Split u f)) (line.Tree node.Extend) x y e = absurd (differ 0 (line_text (line.Tree (node.Split u f))) (line_text (line.Tree node.Extend)) refl e)
 line_unique (line.Tree (node.Split u f)) (line.Tree (node.Split v g)) x y e = let texts = append_cancel_left (codes "s ") (split_text u f) (split_text v g) e in let same = split_same u v f g x y texts in ap (λ n. line.Tree (node.Split n f)) same.0 ∙ ap (λ z. line.Tree (node.Split v z)) same.1
 line_unique (line.Tree (node.Split u f)) (line.Tree (node.Leaf us)) x y e = absurd (differ 0 (line_text (line.Tree (node.Split u f))) (line_text (line.Tree (node.Leaf us))) refl e)
 line_unique (line.Tree (node.Split u f)) line.End x y e = absurd (differ 0 (line_text (line.Tree (node.Split u f))) (line_text line.End) refl e)
-line_unique (line.Tree (node.Leaf ts)) line.Header x y e = absurd (differ 0 (line_text (line.Tree (node.Leaf ts))) (line_text line.Header) refl e)
+line_unique (line.Tree (node.Leaf ts)) (line.Header o) x y e = absurd (differ 0 (line_text (line.Tree (node.Leaf ts))) (line_text (line.Header o)) refl e)
+line_unique (line.Tree (node.Leaf ts)) (line.Order h g) x y e = absurd (differ 0 (line_text (line.Tree (node.Leaf ts))) (line_text (line.Order h g)) refl e)
 line_unique (line.Tree (node.Leaf ts)) (line.Pattern m) x y e = absurd (differ 0 (line_text (line.Tree (node.Leaf ts))) (line_text (line.Pattern m)) refl e)
 line_unique (line.Tree (node.Leaf ts)) (line.Tree node.Extend) x y e = absurd (differ 0 (line_text (line.Tree (node.Leaf ts))) (line_text (line.Tree node.Extend)) refl e)
 line_unique (line.Tree (node.Leaf ts)) (line.Tree (node.Split v g)) x y e = absurd (differ 0 (line_text (line.Tree (node.Leaf ts))) (line_text (line.Tree (node.Split v g))) refl e)
 line_unique (line.Tree (node.Leaf ts)) (line.Tree (node.Leaf us)) x y e = let texts = append_cancel_left (codes "f") (pairs_text ts) (pairs_text us) e in ap (λ z. line.Tree (node.Leaf z)) (pairs_same 0 0 ts us x.1 y.1 texts)
 line_unique (line.Tree (node.Leaf ts)) line.End x y e = absurd (differ 0 (line_text (line.Tree (node.Leaf ts))) (line_text line.End) refl e)
-line_unique line.End line.Header x y e = absurd (differ 0 (line_text line.End) (line_text line.Header) refl e)
+line_unique line.End (line.Header o) x y e = absurd (differ 0 (line_text line.End) (line_text (line.Header o)) refl e)
+line_unique line.End (line.Order h g) x y e = absurd (differ 0 (line_text line.End) (line_text (line.Order h g)) refl e)
 line_unique line.End (line.Pattern m) x y e = absurd (differ 0 (line_text line.End) (line_text (line.Pattern m)) refl e)
 line_unique line.End (line.Tree node.Extend) x y e = absurd (differ 1 (line_text line.End) (line_text (line.Tree node.Extend)) refl e)
 line_unique line.End (line.Tree (node.Split v g)) x y e = absurd (differ 0 (line_text line.End) (line_text (line.Tree (node.Split v g))) refl e)
@@ -141,7 +168,8 @@ pairs_unbroken low (t ∷ ts) are =
 -- no line has a line feed in its text
 pub line_unbroken : (l : Line) → IsLine l → IsUnbroken (line_text l)
 unfolding plain
-line_unbroken line.Header form = plain_unbroken (line_text line.Header) refl
+line_unbroken (line.Header v) form = unbroken-append (codes "threshold-certificate ") (decimal v) (plain_unbroken (codes "threshold-certificate ") refl) (decimal_unbroken (2 ^ 32) v (version_small v form) (lit≤ tt))
+line_unbroken (line.Order j i) form = unbroken-append (codes "o ") (guards_text j i) (plain_unbroken (codes "o ") refl) (unbroken-append (decimal j) (32 ∷ decimal i) (decimal_unbroken (2 ^ 32) j form.0 (lit≤ tt)) ((λ e. omega arith), decimal_unbroken (2 ^ 32) i form.1 (lit≤ tt)))
 line_unbroken (line.Pattern k) form = unbroken-append (codes "pattern ") (decimal k) (plain_unbroken (codes "pattern ") refl) (decimal_unbroken (2 ^ 32) k form (lit≤ tt))
 line_unbroken (line.Tree node.Extend) form = plain_unbroken (codes "e") refl
 line_unbroken (line.Tree (node.Split u f)) form =
@@ -192,7 +220,7 @@ later_forms (l ∷ ls) later = (later.0, later_forms ls later.4)
 pub legal_forms : (ls : List Line) → AreLines ls → Forms ls
 unfolding Forms
 legal_forms [] legal = tt
-legal_forms (l ∷ ls) legal = (header_line l legal.0, later_forms ls legal.1)
+legal_forms (l ∷ ls) legal = (legal.0.0, later_forms ls legal.1)
 
 -- of two lists of lines at the front of one text, one begins with the other
 unfoldable pub GoesOn : List Line → List Line → List ℕ → List ℕ → Type 0
@@ -248,13 +276,18 @@ reads_stuck text rest ls r l more legal e = no_feed (line_text l) more rest r.un
 
 -- the last of legal lines is short
 last_short : (ls : List Line) (l : Line) → AreLines (ls ++ (l ∷ [])) → length (line_text l) ≤ line_limit
-last_short [] l legal = header_short l legal.0
+last_short [] l legal = header_short l legal.0.0 legal.0.1
   where
-    header_short : (l : Line) → is_header l ≡ true → length (line_text l) ≤ line_limit
-    header_short line.Header e = omega arith
-    header_short (line.Pattern k) e = absurd (false≢true e)
-    header_short (line.Tree n) e = absurd (false≢true e)
-    header_short line.End e = absurd (false≢true e)
+    version_short : (v : ℕ) → IsVersion v → length (line_text (line.Header v)) ≤ line_limit
+    version_short v (inl e) = subst (λ (t : List ℕ). length t ≤ line_limit) (sym (ap (λ (n : ℕ). line_text (line.Header n)) e ∙ header_one)) (omega arith)
+    version_short v (inr e) = subst (λ (t : List ℕ). length t ≤ line_limit) (sym (ap (λ (n : ℕ). line_text (line.Header n)) e ∙ header_two)) (omega arith)
+
+    header_short : (l : Line) → IsLine l → is_header l ≡ true → length (line_text l) ≤ line_limit
+    header_short (line.Header v) form e = version_short v form
+    header_short (line.Order j i) form e = absurd (false≢true e)
+    header_short (line.Pattern k) form e = absurd (false≢true e)
+    header_short (line.Tree n) form e = absurd (false≢true e)
+    header_short line.End form e = absurd (false≢true e)
 last_short (m ∷ ls) l legal = later_short ls l legal.1
   where
     later_short : (ls : List Line) (l : Line) → AreLater (ls ++ (l ∷ [])) → length (line_text l) ≤ line_limit
@@ -286,7 +319,8 @@ end_later (m ∷ ls) l later = or_none (is_end m) (has_end ls) (no_end (is_end m
 
 -- the header isn't the end
 header_end : (l : Line) → is_header l ≡ true → is_end l ≡ false
-header_end line.Header e = refl
+header_end (line.Header v) e = refl
+header_end (line.Order j i) e = refl
 header_end (line.Pattern k) e = refl
 header_end (line.Tree n) e = refl
 header_end line.End e = absurd (false≢true e)
@@ -294,7 +328,7 @@ header_end line.End e = absurd (false≢true e)
 -- no line before the last of legal lines is the end
 end_last : (ls : List Line) (l : Line) → AreLines (ls ++ (l ∷ [])) → has_end ls ≡ false
 end_last [] l legal = refl
-end_last (m ∷ ls) l legal = or_none (is_end m) (has_end ls) (header_end m legal.0) (end_later ls l legal.1)
+end_last (m ∷ ls) l legal = or_none (is_end m) (has_end ls) (header_end m legal.0.1) (end_later ls l legal.1)
 
 -- no line stands behind the end
 pub trailing_stuck : (text : List ℕ) (n : ℕ) (t : IsTrailing text n) → Stuck t.ls (t.byte ∷ t.after)

@@ -1,9 +1,12 @@
 -- The text of proofs, line by line.
 use Rattle.std.proofs.Common.{◌≡◌, ℕ, List, [], ◌∷◌, ◌++◌, map, codes, refl, sym, ap, ◌∙◌, append_assoc, append-nil}
 use Rattle.ta_cert.specs.Lines.{line_text, lines_text, node_text}
-use Rattle.ta_cert.specs.Certificates.{proof_lines, nodes_text, proof_text, proofs_text}
+use Rattle.ta_cert.specs.Certificates.{order_lines, version_of, proof_lines, nodes_text, order_text, orders_text, head_text, proof_text, proofs_text, cert_text}
 use Rattle.ta_cert.specs.declared.line.Node.{Node}
+use Rattle.ta_cert.specs.declared.line.Node.TheVariants as node
+use Rattle.ta_cert.specs.declared.line.Line.{Line}
 use Rattle.ta_cert.specs.declared.line.Line.TheVariants as line
+use Rattle.ta_cert.specs.declared.line.Order.{Order}
 use Rattle.ta_cert.specs.declared.line.Proof.{Proof}
 use Rattle.ta_cert.proofs.Standing.{lines_text-append}
 
@@ -21,8 +24,31 @@ lines_text-proofs (p ∷ ps) =
     let rest = lines_text-append (map line.Tree p.nodes) (proof_lines ps) ∙ ap (λ xs. xs ++ lines_text (proof_lines ps)) (lines_text-nodes p.nodes) ∙ ap (λ xs. nodes_text p.nodes ++ xs) (lines_text-proofs ps) in
     ap (λ xs. first ++ (10 ∷ xs)) rest ∙ sym (append_assoc first (10 ∷ nodes_text p.nodes) (proofs_text ps ++ last)) ∙ sym (append_assoc (proof_text p) (proofs_text ps) last)
 
+-- the text of orders
+lines_text-orders : (os : List Order) (ls : List Line) → lines_text (order_lines os ++ ls) ≡ orders_text os ++ lines_text ls
+lines_text-orders [] ls = refl
+lines_text-orders (o ∷ os) ls =
+    let guards = line_text (line.Order o.before o.after) in
+    let leaf = node_text (node.Leaf o.multipliers) in
+    let rest = orders_text os ++ lines_text ls in
+    ap (λ (xs : List ℕ). guards ++ (10 ∷ (leaf ++ (10 ∷ xs)))) (lines_text-orders os ls)
+    ∙ ap (λ (xs : List ℕ). guards ++ (10 ∷ xs)) (sym (append_assoc leaf (10 ∷ []) rest))
+    ∙ sym (append_assoc guards (10 ∷ (leaf ++ (10 ∷ []))) rest)
+    ∙ sym (append_assoc (order_text o) (orders_text os) (lines_text ls))
+
+-- the text of a certificate, part by part
+pub cert_parts : (os : List Order) (ps : List Proof) → head_text os ++ (proofs_text ps ++ (codes "end" ++ (10 ∷ []))) ≡ cert_text os ps
+cert_parts os ps =
+    let header = line_text (line.Header (version_of os)) in
+    let last : List ℕ = codes "end" ++ (10 ∷ []) in
+    append_assoc header (10 ∷ orders_text os) (proofs_text ps ++ last)
+    ∙ ap (λ (xs : List ℕ). header ++ (10 ∷ (orders_text os ++ xs))) (sym (lines_text-proofs ps))
+    ∙ ap (λ (xs : List ℕ). header ++ (10 ∷ xs)) (sym (lines_text-orders os (proof_lines ps)))
+
 -- what is written when nothing is left
+pub written_whole : (text begun all rest : List ℕ) → text ++ rest ≡ begun ++ all → rest ≡ [] → text ≡ begun ++ all
+written_whole text begun all rest e none = sym (append-nil text) ∙ ap (λ xs. text ++ xs) (sym none) ∙ e
+
+-- the same, and something more
 pub all_written : (text begun all rest last : List ℕ) → text ++ rest ≡ begun ++ all → rest ≡ [] → text ++ last ≡ begun ++ (all ++ last)
-all_written text begun all rest last e none =
-    let whole : text ≡ begun ++ all = sym (append-nil text) ∙ ap (λ xs. text ++ xs) (sym none) ∙ e in
-    ap (λ xs. xs ++ last) whole ∙ append_assoc begun all last
+all_written text begun all rest last e none = ap (λ xs. xs ++ last) (written_whole text begun all rest e none) ∙ append_assoc begun all last

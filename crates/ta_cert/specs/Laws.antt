@@ -3,8 +3,9 @@ use Rattle.std.specs.Prelude.{ℕ, ◌≤◌, ◌≡◌, ◌⊎◌, List, [], �
 use Rattle.std.specs.List.{AllByRecursion}
 use Rattle.ta_cert.specs.Lines.{line_text}
 use Rattle.ta_cert.specs.Streams.{line_limit, Reads, IsMalformed, IsTrailing, IsTruncated, IsComplete, IsRefused, Completes, numbered}
-use Rattle.ta_cert.specs.Certificates.{AreWritable, cert_text}
+use Rattle.ta_cert.specs.Certificates.{AreOrders, AreWritable, cert_text}
 use Rattle.ta_cert.specs.declared.line.Line.{Line}
+use Rattle.ta_cert.specs.declared.line.Order.{Order}
 use Rattle.ta_cert.specs.declared.line.Proof.{Proof}
 use Rattle.ta_cert.specs.declared.fault.CertFault.{CertFault}
 use Rattle.ta_cert.specs.declared.fault.CertFault.TheVariants as fault
@@ -47,9 +48,11 @@ OneReadingByPieces = (pieces : List (List ℕ)) (ls : List Line) (lines : List (
 abbrev pub AreShort : List Line → Type 0
 AreShort ls = AllByRecursion (λ l. length (line_text l) ≤ line_limit) ls
 
--- a text is that of at most one list of proofs
+-- a text is that of at most one list of orders and one list of proofs
 abbrev pub OneCertificate : Type 0
-OneCertificate = (ps qs : List Proof) → AreWritable ps → AreWritable qs → cert_text ps ≡ cert_text qs → ps ≡ qs
+OneCertificate =
+    (os rs : List Order) (ps qs : List Proof) → AreOrders os → AreOrders rs → AreWritable ps → AreWritable qs
+    → cert_text os ps ≡ cert_text rs qs → (os ≡ rs) × (ps ≡ qs)
 
 -- what reading a whole text answers
 abbrev pub WasRead : List ℕ → Result (List (ℕ × Line)) CertFault → Type 0

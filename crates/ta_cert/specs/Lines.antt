@@ -1,5 +1,5 @@
 -- The lines of a certificate and their texts.
-use Rattle.std.specs.Prelude.{ℕ, ℤ, pos, ◌+◌, ◌^◌, ◌<◌, ◌≤◌, ◌≤ℤ◌, ◌<ℤ◌, ◌≡◌, ◌≢◌, Bool, true, false, ◌||◌, List, [], ◌∷◌, ◌++◌, length, codes, decimal, Option, None, Some}
+use Rattle.std.specs.Prelude.{ℕ, ℤ, pos, ◌+◌, ◌^◌, ◌<◌, ◌≤◌, ◌≤ℤ◌, ◌<ℤ◌, ◌≡◌, ◌≢◌, ◌⊎◌, Bool, true, false, ◌||◌, List, [], ◌∷◌, ◌++◌, length, codes, decimal, Option, None, Some}
 use Rattle.std.specs.Fmt.{signed_decimal}
 use Rattle.ta_cert.specs.declared.line.Node.{Node}
 use Rattle.ta_cert.specs.declared.line.Node.TheVariants as node
@@ -19,6 +19,10 @@ pairs_text (t ∷ ts) = pair_text t ++ pairs_text ts
 abbrev pub split_text : ℕ → ℤ → List ℕ
 split_text unknown floor = decimal unknown ++ (codes " " ++ signed_decimal floor)
 
+-- the guard that comes before and the one that comes after
+abbrev pub guards_text : ℕ → ℕ → List ℕ
+guards_text before after = decimal before ++ (codes " " ++ decimal after)
+
 abbrev pub node_text : Node → List ℕ
 node_text node.Extend = codes "e"
 node_text (node.Split unknown floor) = codes "s " ++ split_text unknown floor
@@ -26,7 +30,8 @@ node_text (node.Leaf ts) = codes "f" ++ pairs_text ts
 
 -- the text of a line, without its line feed
 abbrev pub line_text : Line → List ℕ
-line_text line.Header = codes "threshold-certificate 1"
+line_text (line.Header version) = codes "threshold-certificate " ++ decimal version
+line_text (line.Order before after) = codes "o " ++ guards_text before after
 line_text (line.Pattern k) = codes "pattern " ++ decimal k
 line_text (line.Tree n) = node_text n
 line_text line.End = codes "end"
@@ -54,9 +59,14 @@ IsNode node.Extend = Unit {0}
 IsNode (node.Split unknown floor) = IsSplit unknown floor
 IsNode (node.Leaf ts) = (0 < length ts) × ArePairs 0 ts
 
+-- the versions of the text: 1 without orders of guards, 2 with them
+abbrev pub IsVersion : ℕ → Type 0
+IsVersion version = (version ≡ 1) ⊎ (version ≡ 2)
+
 -- what has a text
 abbrev pub IsLine : Line → Type 0
-IsLine line.Header = Unit {0}
+IsLine (line.Header version) = IsVersion version
+IsLine (line.Order before after) = (before < 2 ^ 32) × (after < 2 ^ 32)
 IsLine (line.Pattern k) = k < 2 ^ 32
 IsLine (line.Tree n) = IsNode n
 IsLine line.End = Unit {0}
@@ -75,7 +85,8 @@ IsMeaning bytes (Some l) = Says bytes l
 pub record IsNoFixed (bytes : List ℕ) : Type 0 where
   pub extend : bytes ≢ codes "e"
   pub end : bytes ≢ codes "end"
-  pub header : bytes ≢ codes "threshold-certificate 1"
+  pub first : bytes ≢ codes "threshold-certificate 1"
+  pub second : bytes ≢ codes "threshold-certificate 2"
 
 -- lines, each with its line feed
 abbrev pub lines_text : List Line → List ℕ
@@ -83,13 +94,15 @@ lines_text [] = []
 lines_text (l ∷ ls) = line_text l ++ (10 ∷ lines_text ls)
 
 abbrev pub is_header : Line → Bool
-is_header line.Header = true
+is_header (line.Header version) = true
+is_header (line.Order before after) = false
 is_header (line.Pattern k) = false
 is_header (line.Tree n) = false
 is_header line.End = false
 
 abbrev pub is_end : Line → Bool
-is_end line.Header = false
+is_end (line.Header version) = false
+is_end (line.Order before after) = false
 is_end (line.Pattern k) = false
 is_end (line.Tree n) = false
 is_end line.End = true

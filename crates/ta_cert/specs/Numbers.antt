@@ -1,8 +1,6 @@
 -- Numbers and pairs at the front of a text.
-use Rattle.std.specs.Prelude.{ℕ, ℤ, ◌<◌, ◌≡◌, ◌==◌, Bool, true, false, List, [], ◌∷◌, ◌++◌, length, decimal}
+use Rattle.std.specs.Prelude.{ℕ, ◌<◌, ◌≡◌, false, List, [], ◌∷◌, ◌++◌, decimal}
 use Rattle.std.specs.Char.{is_ascii_digit}
-use Rattle.std.specs.Str.Parse.{AllDigits}
-use Rattle.ta_cert.specs.Lines.{IsPair, ArePairs, IsSplit, pair_text, pairs_text, split_text}
 
 -- no digit stands first
 abbrev pub BeginsNoDigit : List ℕ → Type 0

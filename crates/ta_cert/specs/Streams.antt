@@ -17,10 +17,14 @@ abbrev pub AreLater : List Line → Type 0
 AreLater [] = Unit {0}
 AreLater (l ∷ ls) = IsLine l × (length (line_text l) ≤ line_limit) × (is_header l ≡ false) × (is_end l ≡ true → ls ≡ []) × AreLater ls
 
+-- the first line, of its form
+abbrev pub IsFirst : Line → Type 0
+IsFirst l = IsLine l × (is_header l ≡ true)
+
 -- the header and lines behind it, or nothing
 abbrev pub AreLines : List Line → Type 0
 AreLines [] = Unit {0}
-AreLines (l ∷ ls) = (is_header l ≡ true) × AreLater ls
+AreLines (l ∷ ls) = IsFirst l × AreLater ls
 
 -- no line feed
 abbrev pub IsUnbroken : List ℕ → Type 0

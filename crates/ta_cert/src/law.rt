@@ -2,19 +2,19 @@
 #![tactic(auto)]
 
 ghost use Rattle.std.specs.Prelude.{◌≡◌, ◌<◌, ◌++◌, OnOk, MatchResult};
-ghost use Rattle.ta_cert.specs.Certificates.{AreWritable, cert_lines};
+ghost use Rattle.ta_cert.specs.Certificates.{AreOrders, AreWritable, cert_lines};
 ghost use Rattle.ta_cert.specs.Laws.{OneReading, OneReadingByPieces, OneCertificate, AreShort, WasRead};
 ghost use Rattle.ta_cert.specs.Streams.{numbered};
 
 use crate::fault::CertFault;
-use crate::line::{Line, Proof};
+use crate::line::{Line, Order, Proof};
 use crate::list::List;
 use crate::reader::Reader;
 use crate::write::write_cert;
 use std::alloc::Global;
 
-/// A text is that of at most one list of lines, and of at most one list of proofs; and however a whole
-/// text is cut into pieces, they give its lines.
+/// A text is that of at most one list of lines, and of at most one list of orders and of proofs; and
+/// however a whole text is cut into pieces, they give its lines.
 pub fn texts_determine()
     ensures lines { OneReading }
     ensures proofs { OneCertificate }
@@ -25,13 +25,14 @@ pub fn texts_determine()
 /// whatever the size, as `texts_determine` says of all pieces.
 pub fn read_again(
     alloc: Global,
+    orders: &[Order],
     proofs: &[Proof],
     size: usize,
 ) -> Result<List<(u64, Line)>, CertFault>
     requires { 0 < size }
-    ensures { AreWritable proofs.now → AreShort (cert_lines proofs.now) → MatchResult result (λ lines. lines ≡ numbered 0 (cert_lines proofs.now)) (λ e. e ≡ CertFault.Memory) }
+    ensures { AreOrders orders.now → AreWritable proofs.now → AreShort (cert_lines orders.now proofs.now) → MatchResult result (λ lines. lines ≡ numbered 0 (cert_lines orders.now proofs.now)) (λ e. e ≡ CertFault.Memory) }
 {
-    let text = write_cert(alloc, proofs)?;
+    let text = write_cert(alloc, orders, proofs)?;
     read_text(alloc, text.as_str().as_bytes(), size)
 }
 

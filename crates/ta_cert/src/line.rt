@@ -20,7 +20,10 @@ pub enum Node {
 /// A line of a certificate.
 #[derive(Drop)]
 pub enum Line {
-    Header,
+    /// The first line, with the version: 1 without orders of guards, 2 with at least one.
+    Header(u8),
+    /// Of these rise guards the first comes before the second; its leaf follows.
+    Order { before: u32, after: u32 },
     /// The proof of the pattern with this number follows.
     Pattern(u32),
     Tree(Node),
@@ -32,7 +35,7 @@ impl Line {
     pub fn is_header(&self) -> bool
         ensures { result ≡ is_header self.now }
     {
-        matches!(self, Line::Header)
+        matches!(self, Line::Header(_))
     }
 
     /// Whether this is the last line.
@@ -41,6 +44,15 @@ impl Line {
     {
         matches!(self, Line::End)
     }
+}
+
+/// An order of two rise guards, by number: the first comes before the second. The multipliers are of
+/// rows of the pair's system, whose sum shows it.
+#[derive(Drop)]
+pub struct Order {
+    pub before: u32,
+    pub after: u32,
+    pub multipliers: List<(u32, i128)>,
 }
 
 /// The trees of a pattern's proof, one for each start set by rising mask, all nodes in preorder.

@@ -3,7 +3,7 @@
 
 ghost use Rattle.std.specs.Prelude.{◌≡◌, ◌++◌, codes, MatchOption, IfOk};
 ghost use Rattle.ta_cert.specs.Lines.{IsMeaning, Says, IsNoFixed};
-ghost use Rattle.ta_cert.specs.Inside.Numbers.{BeginsOtherwise, IsSplitText, NoSplitText, PairAt, NoPairAt, ArePairsText, NoPairsText};
+ghost use Rattle.ta_cert.specs.Inside.Numbers.{BeginsOtherwise, IsSplitText, NoSplitText, AreGuardsText, NoGuardsText, PairAt, NoPairAt, ArePairsText, NoPairsText};
 
 use crate::line::{Line, Node};
 use crate::list::List;
@@ -67,6 +67,23 @@ fn read_split(bytes: &[u8]) -> Option<(u32, i128)>
     Some((unknown as u32, floor as i128))
 }
 
+/// The two guards whose numbers the bytes are.
+fn read_guards(bytes: &[u8]) -> Option<(u32, u32)>
+    ensures { MatchOption result (NoGuardsText bytes.now) (λ x. AreGuardsText bytes.now x.0 x.1) }
+{
+    let (first, rest) = read_number(bytes, NUMBERS)?;
+    let second = whole_number(after(rest, b" ")?, NUMBERS)?;
+    Some((first as u32, second as u32))
+}
+
+/// The line of an order of two guards, of which the bytes are the numbers.
+fn order_line(bytes: &[u8]) -> Option<Line>
+    ensures { IsMeaning (codes "o " ++ bytes.now) result }
+{
+    let (before, after) = read_guards(bytes)?;
+    Some(Line::Order { before, after })
+}
+
 /// The line of a pattern with this number.
 fn pattern_line(number: &[u8]) -> Option<Line>
     ensures { IsMeaning (codes "pattern " ++ number.now) result }
@@ -104,7 +121,10 @@ fn fixed_line(bytes: &[u8]) -> Option<Line>
         return Some(Line::End);
     }
     if bytes == b"threshold-certificate 1".as_slice() {
-        return Some(Line::Header);
+        return Some(Line::Header(1));
+    }
+    if bytes == b"threshold-certificate 2".as_slice() {
+        return Some(Line::Header(2));
     }
     None
 }
@@ -121,6 +141,9 @@ pub fn read_line(alloc: Global, bytes: &[u8]) -> Result<Option<Line>, AllocError
     }
     if let Some(number) = after(bytes, b"pattern ") {
         return Ok(pattern_line(number));
+    }
+    if let Some(guards) = after(bytes, b"o ") {
+        return Ok(order_line(guards));
     }
     Ok(fixed_line(bytes))
 }

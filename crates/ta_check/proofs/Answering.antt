@@ -2,7 +2,7 @@
 use Rattle.std.proofs.Common.{ℕ, ◌≡◌, ◌≢◌, ◌⊎◌, inl, inr, true, false, List, [], ◌++◌, Result, Ok, Err, IfOk, IfErr, IsErrOf, is_err, refl, sym, ap, ◌∙◌, subst}
 use Rattle.std.proofs.lemmas.Bool.{false≢true}
 use Rattle.ta_automaton.specs.declared.file.File.{File}
-use Rattle.ta_automaton.specs.Runs.{LoopsPure}
+use Rattle.ta_automaton.specs.Runs.{InScope, LoopsPure}
 use Rattle.ta_cert.specs.declared.fault.CertFault.{CertFault}
 use Rattle.ta_cert.specs.declared.fault.CertFault.TheVariants as fault
 use Rattle.ta_cert.specs.Laws.{IsErrOrMemory}
@@ -47,6 +47,7 @@ memory_or_not (fault.ExtendComplete n) = inr (λ e. absurd (cc))
 memory_or_not (fault.SplitVariable n) = inr (λ e. absurd (cc))
 memory_or_not (fault.Trailing n) = inr (λ e. absurd (cc))
 memory_or_not (fault.RepeatedPattern n) = inr (λ e. absurd (cc))
+memory_or_not (fault.Pair n) = inr (λ e. absurd (cc))
 memory_or_not fault.Failed = inr (λ e. absurd (cc))
 
 -- the first fault is the answer, unless memory ran out
@@ -79,6 +80,7 @@ none_lasting file reader position text (fault.Overflow n column) h lasting = eli
 none_lasting file reader position text (fault.ExtendComplete n) h lasting = elim lasting [ inl line ↦ no_line_fault file reader position text (fault.ExtendComplete n) h line | inr own ↦ own ]
 none_lasting file reader position text (fault.SplitVariable n) h lasting = elim lasting [ inl line ↦ no_line_fault file reader position text (fault.SplitVariable n) h line | inr own ↦ own ]
 none_lasting file reader position text (fault.RepeatedPattern n) h lasting = elim lasting [ inl line ↦ no_line_fault file reader position text (fault.RepeatedPattern n) h line | inr own ↦ own ]
+none_lasting file reader position text (fault.Pair n) h lasting = elim lasting [ inl line ↦ no_line_fault file reader position text (fault.Pair n) h line | inr own ↦ own ]
 none_lasting file reader position text fault.Failed h lasting = elim lasting [ inl line ↦ no_line_fault file reader position text fault.Failed h line | inr own ↦ own ]
 none_lasting file reader position text fault.Memory h lasting = elim lasting [ inl line ↦ no_line_fault file reader position text fault.Memory h line | inr own ↦ own ]
 
@@ -120,9 +122,9 @@ exact_end file text (Err (fault.Truncated k)) is = record {
 exact_end file text (Err _) is = absurd is
 
 -- the words of what is accepted have no solution
-pub unsolved_answer : (file : File) (text : List ℕ) (answer : Result Accepted CertFault) → Accepts file text answer → IfOk answer (λ accepted. AllUnsolved file accepted.patterns)
-unsolved_answer file text (Ok accepted) a = certificate_unsolved file text accepted.patterns a
-unsolved_answer file text (Err f) a = tt
+pub unsolved_answer : (file : File) (text : List ℕ) (answer : Result Accepted CertFault) → LoopsPure file.automaton → InScope file.automaton → Accepts file text answer → IfOk answer (λ accepted. AllUnsolved file accepted.patterns)
+unsolved_answer file text (Ok accepted) loops scope a = certificate_unsolved file text accepted.patterns loops scope a
+unsolved_answer file text (Err f) loops scope a = tt
 
 -- what a finished checker accepted is a certificate
 pub finished_accepts : (file : File) (text : List ℕ) (answer : Result Accepted CertFault) → Finished file text answer → Accepts file text answer

@@ -1,14 +1,16 @@
 -- A leaf has one first fault
-use Rattle.std.proofs.Common.{◌≡◌, ℕ, ◌<◌, ◌≤◌, ◌⊎◌, List, length, cond, nat_lt, ℤ, pos, ◌≤ℤ◌, ◌<ℤ◌, slice_get, inl, inr, refl, sym, ap, subst, ◌∙◌, arith}
+use Rattle.std.proofs.Common.{◌≡◌, ℕ, ◌<◌, ◌≤◌, ◌⊎◌, List, cond, nat_lt, ℤ, pos, ◌≤ℤ◌, ◌<ℤ◌, slice_get, inl, inr, refl, sym, ap, subst, ◌∙◌, arith}
 use Rattle.std.proofs.lemmas.Bool.{cases_lt}
 use Rattle.std.proofs.lemmas.Int.{ints}
 use Rattle.ta_linear.specs.Leaf.{coefficient_in, constant_in}
 use Rattle.ta_linear.specs.declared.row.System.{System}
 use Rattle.ta_automaton.specs.declared.automaton.Automaton.{Automaton}
-use Rattle.ta_automaton.specs.declared.pattern.Pattern.{Pattern}
-use Rattle.ta_encode.specs.System.{system_rows}
-use Rattle.ta_encode.specs.InPreorder.{Pending}
-use Rattle.ta_encode.specs.Code.{SystemOf}
+use Rattle.ta_implied.specs.Refused.{FailsToShow}
+use Rattle.ta_implied.specs.Orders.{IsShown}
+use Rattle.ta_farkas.proofs.Judging.{no_fault}
+use Rattle.ta_check.proofs.PairSystems.{SameColumns, imply_columns}
+use Rattle.ta_encode.specs.Search.{Pending, Search, rows_of}
+use Rattle.ta_encode.specs.Code.{SystemAt}
 use Rattle.ta_encode.proofs.CodeRows.{coefficient_same, constant_same, rows_count, weighted_same}
 use Rattle.ta_farkas.specs.Columns.{part_in, entry, column_sum, ColumnStays}
 use Rattle.ta_farkas.specs.Faults.{row_at, FirstMissing, FineBefore, IsFirstFault}
@@ -17,16 +19,10 @@ use Rattle.ta_farkas.specs.declared.LeafFault.TheVariants.{RowNumber, Overflow, 
 use Rattle.ta_check.specs.Faults.{FirstLeafFault}
 use Rattle.ta_cursor.proofs.Ranges.{stays_same}
 
--- as many unknowns, as many rows, and the same numbers in each column
-record SameColumns (s z : System) : Type 0 where
-  unknowns : s.unknowns ≡ z.unknowns
-  rows : length s.rows ≡ length z.rows
-  entries : (column k : ℕ) → entry s column k ≡ entry z column k
-
 -- systems of one word are the same column by column
-same_columns : (a : Automaton) (p : Pattern) (w : Pending) (s z : System) → SystemOf a p w.start w.past w.bounds s → SystemOf a p w.start w.past w.bounds z → SameColumns s z
-same_columns a p w s z is other =
-    let ls = system_rows a p w.start w.past w.bounds in
+same_columns : (search : Search) (w : Pending) (s z : System) → SystemAt search w s → SystemAt search w z → SameColumns s z
+same_columns search w s z is other =
+    let ls = rows_of search w in
     let unknowns : s.unknowns ≡ z.unknowns = is.unknowns ∙ sym other.unknowns in
     record {
       unknowns = unknowns;
@@ -153,5 +149,15 @@ fault_once s ts NotNegative (Positive d) a b = absurd (none_bad s ts d s.unknown
 fault_once s ts NotNegative NotNegative a b = refl
 
 -- and over a word
-pub leaf_fault_once : (a : Automaton) (p : Pattern) (w : Pending) (ts : List (ℕ × ℤ)) (f g : LeafFault) → FirstLeafFault a p w ts f → FirstLeafFault a p w ts g → f ≡ g
-leaf_fault_once a p w ts f g this that = fault_once that.system ts f g (same_fault this.system that.system ts f (same_columns a p w this.system that.system this.is that.is) this.first) that.first
+pub leaf_fault_once : (search : Search) (w : Pending) (ts : List (ℕ × ℤ)) (f g : LeafFault) → FirstLeafFault search w ts f → FirstLeafFault search w ts g → f ≡ g
+leaf_fault_once search w ts f g this that = fault_once that.system ts f g (same_fault this.system that.system ts f (same_columns search w this.system that.system this.is that.is) this.first) that.first
+
+-- and over the system of a pair
+pub pair_fault_once : (a : Automaton) (pair : ℕ × ℕ) (ts : List (ℕ × ℤ)) (f g : LeafFault) → FailsToShow a pair ts f → FailsToShow a pair ts g → f ≡ g
+pair_fault_once a pair ts f g this that =
+    fault_once that.system ts f g (same_fault this.system that.system ts f (imply_columns a pair.0 pair.1 this.system that.system this.is that.is) this.first) that.first
+
+-- multipliers that show a pair don't fail
+pub shows_or_fails : (a : Automaton) (pair : ℕ × ℕ) (ts : List (ℕ × ℤ)) (f : LeafFault) → IsShown a pair ts → FailsToShow a pair ts f → ⊥
+shows_or_fails a pair ts f shown fails =
+    no_fault shown.system ts f (same_fault fails.system shown.system ts f (imply_columns a pair.0 pair.1 fails.system shown.system fails.is shown.is) fails.first) (shown.leaf, shown.stays)

@@ -1,8 +1,12 @@
 -- lemmas for the crates above
 pub mod Lasting
 mod Following
+pub mod Searches
+mod Behind
+mod Heads
 mod Accepting
 mod Stopping
+mod PairSystems
 mod LeafFaults
 mod Reasons
 mod Refusing
@@ -14,3 +18,5 @@ mod Picking
 mod JudgingMembers
 mod JudgingNodes
 mod JudgingProofs
+mod JudgingFields
+mod JudgingHeads

@@ -20,8 +20,8 @@ use Rattle.ta_encode.proofs.Whole.{whole_system}
 use Rattle.ta_words.proofs.Counts.{legal_length}
 use Rattle.ta_words.proofs.Lists.{events_named}
 use Rattle.ta_cursor.specs.declared.cursor.Cursor.{Cursor}
-use Rattle.ta_cursor.specs.Cursors.{IsWord, here}
-use Rattle.ta_cursor.proofs.PatternWords.{comes_legal}
+use Rattle.ta_words.specs.Words.{Legal}
+use Rattle.ta_encode.specs.Unknowns.{meanings}
 use Rattle.ta_encode.specs.PatternSearch.{pattern_search}
 use Rattle.ta_farkas.specs.Columns.{part_in, column_sum, ColumnStays, CheckStays}
 use Rattle.ta_farkas.specs.Faults.{row_at, FirstMissing, FineBefore, IsFirstFault}
@@ -213,9 +213,9 @@ picked_check s z ts p stays = λ column most. picked_stays s z ts column p (stay
 pub judged_picked : (a : Automaton) (p : Pattern) (w : Pending) (s z : System) (ts : List (ℕ × ℤ)) → SystemOf a p w.start w.past w.bounds s → ArePairs 0 ts → z.unknowns ≡ s.unknowns → RowsOf (rows_named (system_rows a p w.start w.past w.bounds) ts) z.rows → AreThere (length (system_rows a p w.start w.past w.bounds)) ts → LeafOf z (renumbered 0 ts) → CheckStays z (renumbered 0 ts) → Judged (system_rows a p w.start w.past w.bounds) ts
 judged_picked a p w s z ts is are unknowns named there leaf stays =
     let q = picked (system_rows a p w.start w.past w.bounds) s z ts is.rows unknowns named there in
-    judged (pattern_search a p) w s ts is (picked_leaf s z ts are q leaf) (picked_check s z ts q stays)
+    judged (pattern_search a p []) w s ts is (picked_leaf s z ts are q leaf) (picked_check s z ts q stays)
 
-pub fault_picked : (a : Automaton) (p : Pattern) (w : Pending) (s z : System) (ts : List (ℕ × ℤ)) (f : LeafFault) → SystemOf a p w.start w.past w.bounds s → z.unknowns ≡ s.unknowns → RowsOf (rows_named (system_rows a p w.start w.past w.bounds) ts) z.rows → AreThere (length (system_rows a p w.start w.past w.bounds)) ts → IsFirstFault z (renumbered 0 ts) f → FirstLeafFault a p w ts f
+pub fault_picked : (a : Automaton) (p : Pattern) (w : Pending) (s z : System) (ts : List (ℕ × ℤ)) (f : LeafFault) → SystemOf a p w.start w.past w.bounds s → z.unknowns ≡ s.unknowns → RowsOf (rows_named (system_rows a p w.start w.past w.bounds) ts) z.rows → AreThere (length (system_rows a p w.start w.past w.bounds)) ts → IsFirstFault z (renumbered 0 ts) f → FirstLeafFault (pattern_search a p []) w ts f
 fault_picked a p w s z ts f is unknowns named there first = record {
   system = s;
   is = is;
@@ -223,7 +223,7 @@ fault_picked a p w s z ts f is unknowns named there first = record {
 }
 
 -- the first number that no row has
-pub fault_absent : (a : Automaton) (p : Pattern) (w : Pending) (s : System) (ts : List (ℕ × ℤ)) (row : ℕ) → SystemOf a p w.start w.past w.bounds s → FirstAbsent (length (system_rows a p w.start w.past w.bounds)) ts row → FirstLeafFault a p w ts (RowNumber row)
+pub fault_absent : (a : Automaton) (p : Pattern) (w : Pending) (s : System) (ts : List (ℕ × ℤ)) (row : ℕ) → SystemOf a p w.start w.past w.bounds s → FirstAbsent (length (system_rows a p w.start w.past w.bounds)) ts row → FirstLeafFault (pattern_search a p []) w ts (RowNumber row)
 fault_absent a p w s ts row is first =
     let count = rows_count (system_rows a p w.start w.past w.bounds) s.rows is.rows in
     record {
@@ -239,11 +239,11 @@ fault_absent a p w s ts row is first =
     }
 
 -- the cursor's word has a system with its bounds
-pub whole_here : (file : File) (s : Cursor) (number : ℕ) (p : Pattern) (z : System) → slice_get file.patterns number ≡ Some p → IsWord (pattern_search file.automaton p) (here s) → SystemOf file.automaton p s.start_mask (reverse s.word) [] z → (w : System) × SystemOf file.automaton p s.start_mask (reverse s.word) s.bounds.items w
-whole_here file s number p z named word is =
+pub whole_here : (file : File) (s : Cursor) (number : ℕ) (p : Pattern) (z : System) → slice_get file.patterns number ≡ Some p → Legal file.automaton p s.start_mask (reverse s.word) → BoundsWithin (length (meanings file.automaton p s.start_mask (reverse s.word))) s.bounds.items → SystemOf file.automaton p s.start_mask (reverse s.word) [] z → (w : System) × SystemOf file.automaton p s.start_mask (reverse s.word) s.bounds.items w
+whole_here file s number p z named legal bounds is =
     let a = file.automaton in
     let past = reverse s.word in
-    let short : length past ≤ 30 = legal_length a p s.start_mask past (events_named file number p named).limit (comes_legal a p s.start_mask past word.comes).legal in
+    let short : length past ≤ 30 = legal_length a p s.start_mask past (events_named file number p named).limit legal in
     let few = meanings_few a p s.start_mask past in
     let count = is.unknowns in
-    whole_system a p s.start_mask past s.bounds.items z (omega arith) is (subst (λ n. BoundsWithin n s.bounds.items) (sym is.unknowns) word.bounds)
+    whole_system a p s.start_mask past s.bounds.items z (omega arith) is (subst (λ n. BoundsWithin n s.bounds.items) (sym is.unknowns) bounds)

@@ -59,6 +59,7 @@ next_taken file text bytes reader position (fault.ExtendComplete n) h = elim h [
 next_taken file text bytes reader position (fault.SplitVariable n) h = elim h [ inl memory ↦ absurd (cc) | inr lasting ↦ lasting ]
 next_taken file text bytes reader position (fault.Trailing n) h = elim h [ inl memory ↦ absurd (cc) | inr lasting ↦ lasting ]
 next_taken file text bytes reader position (fault.RepeatedPattern n) h = elim h [ inl memory ↦ absurd (cc) | inr lasting ↦ lasting ]
+next_taken file text bytes reader position (fault.Pair n) h = elim h [ inl memory ↦ absurd (cc) | inr lasting ↦ lasting ]
 next_taken file text bytes reader position fault.Failed h = elim h [ inl memory ↦ absurd (cc) | inr lasting ↦ lasting ]
 
 -- what a reader answers to the bytes of a piece up to its first line feed, wherever it stands

@@ -1,72 +1,104 @@
 -- The first fault of a text that is no certificate of a file
-use Rattle.std.specs.Prelude.{ℕ, ◌≡◌, ◌≢◌, ◌≤◌, ◌⊎◌, true, List, [], ◌∷◌, ◌++◌, length, ℤ}
+use Rattle.std.specs.Prelude.{ℕ, ◌≡◌, ◌≤◌, ◌⊎◌, true, List, [], ◌∷◌, ◌++◌, length, ℤ, Some, None}
 use Rattle.ta_linear.specs.declared.row.System.{System}
-use Rattle.ta_automaton.specs.declared.automaton.Automaton.{Automaton}
 use Rattle.ta_automaton.specs.declared.file.File.{File}
-use Rattle.ta_automaton.specs.declared.pattern.Pattern.{Pattern}
 use Rattle.ta_automaton.specs.Masks.{In}
 use Rattle.ta_cert.specs.declared.line.Line.{Line}
 use Rattle.ta_cert.specs.declared.line.Line.TheVariants as line
+use Rattle.ta_cert.specs.declared.line.Node.{Node}
 use Rattle.ta_cert.specs.declared.line.Node.TheVariants as node
 use Rattle.ta_cert.specs.declared.fault.CertFault.{CertFault}
 use Rattle.ta_cert.specs.declared.fault.CertFault.TheVariants as fault
 use Rattle.ta_cert.specs.Lines.{lines_text}
 use Rattle.ta_cert.specs.Streams.{AreLines, IsMalformed, IsTrailing, IsTruncated, line_number}
-use Rattle.ta_words.specs.Words.{is_complete}
-use Rattle.ta_encode.specs.Unknowns.{meanings}
-use Rattle.ta_encode.specs.Code.{SystemOf}
-use Rattle.ta_encode.specs.InPreorder.{Pending}
+use Rattle.ta_implied.specs.Orders.{MayJoin}
+use Rattle.ta_implied.specs.Refused.{FailsToShow}
+use Rattle.ta_encode.specs.Code.{SystemAt}
+use Rattle.ta_encode.specs.InPreorder.{Pending, Search}
 use Rattle.ta_farkas.specs.Faults.{IsFirstFault as IsFirstLeafFault}
 use Rattle.ta_farkas.specs.declared.LeafFault.{LeafFault}
 use Rattle.ta_farkas.specs.declared.LeafFault.TheVariants as leaf
-use Rattle.ta_check.specs.Lines.{Standing, AtWord, at_first, LeadThrough, MayFollow}
+use Rattle.ta_check.specs.Lines.{Standing, AtWord, IsFree, TakesOrder, at_first, LeadThrough, MayFollow}
 
--- a line of a form that can't follow: a node where no word is left, or anything else where one is
+-- a node that is no leaf
+abbrev pub IsNoLeaf : Node → Type 0
+IsNoLeaf node.Extend = Unit {0}
+IsNoLeaf (node.Split unknown floor) = Unit {0}
+IsNoLeaf (node.Leaf multipliers) = ⊥
+
+-- a pair waits for its leaf
+pub record IsWaiting (s : Standing) : Type 0 where
+  pub pair : ℕ × ℕ
+  pub waits : s.waiting ≡ Some pair
+
+-- no pair waits, and no word is left
+pub record IsIdle (s : Standing) : Type 0 where
+  pub none : s.waiting ≡ None
+  pub done : s.pending ≡ []
+
+-- a line of a form that can't follow: a pair where none may come, a proof or the end where it isn't free to come, a node where no word and no
+-- pair waits for one, or one that is no leaf where a pair waits
 abbrev pub IsMisplaced : Standing → Line → Type 0
-IsMisplaced s line.Header = ⊥
-IsMisplaced s (line.Pattern number) = s.pending ≢ []
-IsMisplaced s (line.Tree node) = s.pending ≡ []
-IsMisplaced s line.End = s.pending ≢ []
+IsMisplaced s (line.Header version) = ⊥
+IsMisplaced s (line.Order before later) = ¬ TakesOrder s
+IsMisplaced s (line.Pattern number) = ¬ IsFree s
+IsMisplaced s (line.Tree node) = IsIdle s ⊎ (IsWaiting s × IsNoLeaf node)
+IsMisplaced s line.End = ¬ IsFree s
+
+-- a pair's line where one may come, and the pair may not join those before it
+pub record IsBadOrder (file : File) (s : Standing) (l : Line) : Type 0 where
+  pub before : ℕ
+  pub later : ℕ
+  pub is : l ≡ line.Order before later
+  pub takes : TakesOrder s
+  pub bad : ¬ MayJoin file.automaton s.pairs (before, later)
 
 -- a pattern's line where one may follow
 pub record IsPatternLine (s : Standing) (l : Line) (number : ℕ) : Type 0 where
   pub is : l ≡ line.Pattern number
-  pub done : s.pending ≡ []
+  pub free : IsFree s
 
 -- at the first word that is left
-pub record AtSomeWord (file : File) (s : Standing) (fact : Pattern → Pending → Type 0) : Type 0 where
-  pub pattern : Pattern
+pub record AtSomeWord (file : File) (s : Standing) (fact : Search → Pending → Type 0) : Type 0 where
+  pub search : Search
   pub word : Pending
   pub words : List Pending
-  pub at : AtWord file s pattern word words
-  pub holds : fact pattern word
+  pub at : AtWord file s search word words
+  pub holds : fact search word
 
 -- the split of an unknown that the word's system doesn't have
 pub record SplitsUnknown (file : File) (s : Standing) (l : Line) : Type 0 where
   pub unknown : ℕ
   pub floor : ℤ
   pub is : l ≡ line.Tree (node.Split unknown floor)
-  pub at : AtSomeWord file s (λ p w. length (meanings file.automaton p w.start w.past) ≤ unknown)
+  pub at : AtSomeWord file s (λ search w. search.unknowns w.start w.past ≤ unknown)
 
 -- the first fault of multipliers over the system of a word: rows before columns, the columns by rising unknown and the
 -- constants last, and a column's range before its sign
-pub record FirstLeafFault (a : Automaton) (p : Pattern) (w : Pending) (ts : List (ℕ × ℤ)) (f : LeafFault) : Type 0 where
+pub record FirstLeafFault (search : Search) (w : Pending) (ts : List (ℕ × ℤ)) (f : LeafFault) : Type 0 where
   pub system : System
-  pub is : SystemOf a p w.start w.past w.bounds system
+  pub is : SystemAt search w system
   pub first : IsFirstLeafFault system ts f
 
--- a leaf with this first fault
+-- the first fault of multipliers over the system of the pair that waits
+pub record PairFails (file : File) (s : Standing) (ts : List (ℕ × ℤ)) (f : LeafFault) : Type 0 where
+  pub pair : ℕ × ℕ
+  pub waits : s.waiting ≡ Some pair
+  pub fails : FailsToShow file.automaton pair ts f
+
+-- a leaf with this first fault, at the first word that is left or of the pair that waits
 pub record LeafFails (file : File) (s : Standing) (l : Line) (f : LeafFault) : Type 0 where
   pub multipliers : List (ℕ × ℤ)
   pub is : l ≡ line.Tree (node.Leaf multipliers)
-  pub at : AtSomeWord file s (λ p w. FirstLeafFault file.automaton p w multipliers f)
+  pub at : AtSomeWord file s (λ search w. FirstLeafFault search w multipliers f) ⊎ PairFails file s multipliers f
 
 -- why a line of this number can't follow
 abbrev pub IsAtFault : File → Standing → ℕ → Line → CertFault → Type 0
 IsAtFault file s number l (fault.Line n) = (n ≡ number) × IsMisplaced s l
 IsAtFault file s number l (fault.UnknownPattern n) = (n ≡ number) × (k : ℕ) × IsPatternLine s l k × (length file.patterns ≤ k)
 IsAtFault file s number l (fault.RepeatedPattern n) = (n ≡ number) × (k : ℕ) × IsPatternLine s l k × In k s.begun
-IsAtFault file s number l (fault.ExtendComplete n) = (n ≡ number) × (l ≡ line.Tree node.Extend) × AtSomeWord file s (λ p w. is_complete p w.past ≡ true)
+IsAtFault file s number l (fault.Pair n) = (n ≡ number) × IsBadOrder file s l
+IsAtFault file s number l (fault.ExtendComplete n) = (n ≡ number) × (l ≡ line.Tree node.Extend) × AtSomeWord file s (λ search w. search.complete w.start w.past ≡ true)
 IsAtFault file s number l (fault.SplitVariable n) = (n ≡ number) × SplitsUnknown file s l
 IsAtFault file s number l (fault.Row n row) = (n ≡ number) × LeafFails file s l (leaf.RowNumber row)
 IsAtFault file s number l (fault.Overflow n column) = (n ≡ number) × LeafFails file s l (leaf.Overflow column)

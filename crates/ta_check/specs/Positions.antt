@@ -1,14 +1,17 @@
 -- What the fields of a position stand for
-use Rattle.std.specs.Prelude.{ℕ, ◌≡◌, ◌⊎◌, List, [], ◌∷◌, reverse, slice_get, ℤ, Some, None, Result, Ok, Err}
+use Rattle.std.specs.Prelude.{ℕ, ◌≡◌, ◌⊎◌, ◌↔◌, List, [], ◌∷◌, reverse, slice_get, ℤ, Some, None, Result, Ok, Err}
 use Rattle.ta_automaton.specs.declared.file.File.{File}
 use Rattle.ta_automaton.specs.declared.pattern.Pattern.{Pattern}
+use Rattle.ta_automaton.specs.Masks.{In}
 use Rattle.ta_cert.specs.declared.line.Line.{Line}
 use Rattle.ta_cert.specs.declared.fault.CertFault.{CertFault}
 use Rattle.ta_cert.specs.declared.fault.CertFault.TheVariants as fault
-use Rattle.ta_encode.specs.InPreorder.{Pending, pattern_search}
+use Rattle.ta_encode.specs.InPreorder.{Pending, Search, pattern_search}
 use Rattle.ta_encode.specs.Marks.{IsEncoding}
 use Rattle.ta_cursor.specs.InTrees.{AllWithin}
+use Rattle.ta_farkas.specs.declared.LeafFault.{LeafFault}
 use Rattle.ta_farkas.specs.declared.LeafFault.TheVariants as leaf
+use Rattle.ta_implied.specs.Orders.{MayJoin}
 use Rattle.ta_check.specs.declared.position.Position.{Position}
 use Rattle.ta_check.specs.Lines.{Standing, Leads}
 use Rattle.ta_cursor.specs.Range.{IsJudged}
@@ -27,11 +30,24 @@ pub record InNewest (file : File) (s : Position) (at : Standing) : Type 0 where
   pub begun : at.begun ≡ number ∷ older
   pub pattern : Pattern
   pub named : slice_get file.patterns number ≡ Some pattern
-  pub within : AllWithin (pattern_search file.automaton pattern) s.place at.pending
+  pub within : AllWithin (pattern_search file.automaton pattern s.orders) s.place at.pending
   pub kept : IsEncoding file.automaton pattern s.encoding
+
+-- the same pairs, in whatever order
+abbrev pub SamePairs : List (ℕ × ℕ) → List (ℕ × ℕ) → Type 0
+SamePairs xs ys = (pair : ℕ × ℕ) → In pair xs ↔ In pair ys
+
+-- a pair that waits may join those before it, and no proof began
+pub record MayWait (file : File) (at : Standing) (pair : ℕ × ℕ) : Type 0 where
+  pub join : MayJoin file.automaton at.pairs pair
+  pub early : at.begun ≡ []
 
 -- the position's fields are those of a standing
 pub record IsAt (file : File) (s : Position) (at : Standing) : Type 0 where
+  pub version : at.version ≡ s.version
+  pub pairs : SamePairs at.pairs s.orders
+  pub waiting : at.waiting ≡ s.waiting
+  pub may : (pair : ℕ × ℕ) → at.waiting ≡ Some pair → MayWait file at pair
   pub begun : at.begun ≡ reverse s.proved.items
   pub place : Between s at.pending ⊎ InNewest file s at
 
@@ -45,12 +61,20 @@ Taken file at number l new (Ok _) = (after : Standing) × Leads file at l after 
 Taken file at number l new (Err fault.Memory) = Unit {0}
 Taken file at number l new (Err f) = IsAtFault file at number l f
 
+-- a leaf's fault in a line of a number
+abbrev pub fault_at : ℕ → LeafFault → CertFault
+fault_at number (leaf.RowNumber row) = fault.Row number row
+fault_at number (leaf.Overflow column) = fault.Overflow number column
+fault_at number (leaf.Positive unknown) = fault.Positive number unknown
+fault_at number leaf.NotNegative = fault.NotNegative number
+
+-- the first fault of a leaf at a word, told in a line of a number
+pub record LeafTold (search : Search) (w : Pending) (number : ℕ) (ts : List (ℕ × ℤ)) (told : CertFault) : Type 0 where
+  pub fault : LeafFault
+  pub is : told ≡ fault_at number fault
+  pub first : FirstLeafFault search w ts fault
+
 -- what the judge of a leaf answers at a word; want of memory is free
-abbrev pub LeafTaken : File → Pattern → Pending → ℕ → List (ℕ × ℤ) → Result (Unit {0}) CertFault → Type 0
-LeafTaken file p w number ts (Ok _) = IsJudged (pattern_search file.automaton p) w ts
-LeafTaken file p w number ts (Err fault.Memory) = Unit {0}
-LeafTaken file p w number ts (Err (fault.Row n row)) = (n ≡ number) × FirstLeafFault file.automaton p w ts (leaf.RowNumber row)
-LeafTaken file p w number ts (Err (fault.Overflow n column)) = (n ≡ number) × FirstLeafFault file.automaton p w ts (leaf.Overflow column)
-LeafTaken file p w number ts (Err (fault.Positive n unknown)) = (n ≡ number) × FirstLeafFault file.automaton p w ts (leaf.Positive unknown)
-LeafTaken file p w number ts (Err (fault.NotNegative n)) = (n ≡ number) × FirstLeafFault file.automaton p w ts leaf.NotNegative
-LeafTaken file p w number ts (Err _) = ⊥
+abbrev pub LeafTaken : Search → Pending → ℕ → List (ℕ × ℤ) → Result (Unit {0}) CertFault → Type 0
+LeafTaken search w number ts (Ok _) = IsJudged search w ts
+LeafTaken search w number ts (Err told) = (told ≡ fault.Memory) ⊎ LeafTold search w number ts told

@@ -1,21 +1,23 @@
 //! Judging a certificate line by line.
 #![tactic(auto)]
 
-ghost use Rattle.std.specs.Prelude.{◌≡◌, ◌↔◌, IsTrue, Some, reverse, ◌≢◌, IfErr};
+ghost use Rattle.std.specs.Prelude.{ℕ, ◌≡◌, ◌↔◌, IsTrue, None, Some, reverse, ◌≢◌, IfErr};
 ghost use Rattle.ta_automaton.specs.Masks.{In};
 ghost use Rattle.ta_cert.specs.Lines.{ArePairs, IsLine, IsNode, IsSplit};
-ghost use Rattle.ta_cert.specs.declared.line.Line.TheVariants.{End, Pattern, Tree};
+ghost use Rattle.ta_automaton.specs.declared.file.File.{File as FileValue};
+ghost use Rattle.ta_cert.specs.declared.line.Line.TheVariants.{End, Header, Order, Pattern, Tree};
 ghost use Rattle.ta_cert.specs.declared.line.Node.TheVariants.{Extend, Leaf, Split};
-ghost use Rattle.ta_check.specs.Lines.{Standing};
+ghost use Rattle.ta_check.specs.Lines.{IsFree, Standing, TakesOrder};
 ghost use Rattle.ta_check.specs.Positions.{IsAt, IsSomewhere, Taken};
 
-use crate::leaf::judge_leaf;
+use crate::leaf::{fault_in, judge_leaf};
 use crate::position::Position;
 use std::alloc::Global;
 use ta_automaton::File;
 use ta_cert::{CertFault, Line, Node};
 use ta_cursor::{PatternTree, Place, Tree};
 use ta_encode::Encoding;
+use ta_implied::OrderFault;
 
 impl Position {
     /// Takes the line of a number, where it may follow the lines before it.
@@ -31,10 +33,116 @@ impl Position {
         ensures { (at : Standing) → IsAt file.now self.old at → Taken file.now at number line.now self.new result }
     {
         match line {
-            Line::Header => Ok(()),
+            Line::Header(version) => self.take_header(*version),
+            Line::Order { before, after } => self.take_order(file, number, *before, *after),
             Line::Pattern(pattern) => self.begin(alloc, file, number, *pattern),
-            Line::Tree(node) => self.take_node(alloc, file, number, node),
+            Line::Tree(node) => self.take_tree(alloc, file, number, node),
             Line::End => self.end(file, number),
+        }
+    }
+
+    /// Takes the first line.
+    fn take_header(&mut self, version: u8) -> Result<(), CertFault>
+        ensures { (file : FileValue) (number : ℕ) (at : Standing) → IsAt file self.old at → Taken file at number (Header version) self.new result }
+    {
+        self.version = version;
+        Ok(())
+    }
+
+    /// Whether a pair may come: in version 2, where none waits and no proof began.
+    fn takes_order(&self) -> bool
+        ensures { (file : FileValue) (at : Standing) → IsAt file self.now at → IsTrue result ↔ TakesOrder at }
+    {
+        self.version == 2 && self.waiting.is_none() && self.proved.is_empty()
+    }
+
+    /// Whether a proof or the end may come: no pair waits, no proof is being read, and version 2
+    /// has a pair.
+    fn is_free(&self) -> bool
+        ensures { (file : FileValue) (at : Standing) → IsAt file self.now at → IsTrue result ↔ IsFree at }
+    {
+        if self.waiting.is_some() || self.current.is_some() {
+            return false;
+        }
+        self.version != 2 || !self.orders.is_empty()
+    }
+
+    /// Takes the line of a pair.
+    fn take_order(
+        &mut self,
+        file: &File,
+        number: u64,
+        before: u32,
+        after: u32,
+    ) -> Result<(), CertFault>
+        ensures { (at : Standing) → IsAt file.now self.old at → Taken file.now at number (Order before after) self.new result }
+    {
+        if !self.takes_order() {
+            return Err(CertFault::Line(number));
+        }
+        if !self.orders.takes(&file.automaton, before, after) {
+            return Err(CertFault::Pair(number));
+        }
+        self.waiting = Some((before, after));
+        Ok(())
+    }
+
+    /// Takes the line of a node: the leaf of the pair that waits, or a node of the proof that is
+    /// being read.
+    fn take_tree(
+        &mut self,
+        alloc: Global,
+        file: &File,
+        number: u64,
+        node: &Node,
+    ) -> Result<(), CertFault>
+        requires somewhere { IsSomewhere file.now self.old }
+        requires form { IsNode node.now }
+        ensures { (at : Standing) → IsAt file.now self.old at → Taken file.now at number (Tree node.now) self.new result }
+    {
+        let Some((before, after)) = self.waiting else {
+            return self.take_node(alloc, file, number, node);
+        };
+        match node {
+            Node::Leaf(multipliers) => self.take_shown(
+                alloc,
+                file,
+                number,
+                before,
+                after,
+                multipliers.as_slice(),
+            ),
+            Node::Extend | Node::Split { .. } => Err(CertFault::Line(number)),
+        }
+    }
+
+    /// Takes the leaf of the pair that waits.
+    fn take_shown(
+        &mut self,
+        alloc: Global,
+        file: &File,
+        number: u64,
+        before: u32,
+        after: u32,
+        multipliers: &[(u32, i128)],
+    ) -> Result<(), CertFault>
+        requires somewhere { IsSomewhere file.now self.old }
+        requires waits { self.old.waiting ≡ Some (before, after) }
+        requires form { ArePairs 0 multipliers.now }
+        ensures { (at : Standing) → IsAt file.now self.old at → Taken file.now at number (Tree (Leaf multipliers.now)) self.new result }
+    {
+        match self
+            .orders
+            .push(alloc, &file.automaton, before, after, multipliers)
+        {
+            Ok(()) => {
+                self.waiting = None;
+                Ok(())
+            }
+            Err(OrderFault::Leaf(fault)) => Err(fault_in(number, fault)),
+            Err(OrderFault::Memory) => Err(CertFault::Memory),
+            // (the pair's own line was taken, so this doesn't come)
+            Err(OrderFault::Pair) => Err(CertFault::Pair(number)),
         }
     }
 
@@ -49,7 +157,7 @@ impl Position {
         requires { IsSomewhere file.now self.old }
         ensures { (at : Standing) → IsAt file.now self.old at → Taken file.now at number (Pattern pattern) self.new result }
     {
-        if self.current.is_some() {
+        if !self.is_free() {
             return Err(CertFault::Line(number));
         }
         if pattern as usize >= file.patterns.as_slice().len() {
@@ -59,7 +167,7 @@ impl Position {
             return Err(CertFault::RepeatedPattern(number));
         }
         self.proved.push(pattern)?;
-        match Place::first(alloc, &PatternTree::new(file, pattern)) {
+        match Place::first(alloc, &PatternTree::new(file, pattern, &self.orders)) {
             None => Ok(()),
             Some(place) => {
                 self.current = Some(pattern);
@@ -83,14 +191,14 @@ impl Position {
         ensures no_memory { IfErr result (λ fault. fault ≢ CertFault.Memory) }
     {
         let _file = file;
-        if self.current.is_some() {
-            Err(CertFault::Line(number))
-        } else {
+        if self.is_free() {
             Ok(())
+        } else {
+            Err(CertFault::Line(number))
         }
     }
 
-    /// Takes the line of a node.
+    /// Takes the line of a node, where no pair waits.
     fn take_node(
         &mut self,
         alloc: Global,
@@ -99,6 +207,7 @@ impl Position {
         node: &Node,
     ) -> Result<(), CertFault>
         requires somewhere { IsSomewhere file.now self.old }
+        requires none { self.old.waiting ≡ None }
         requires form { IsNode node.now }
         ensures { (at : Standing) → IsAt file.now self.old at → Taken file.now at number (Tree node.now) self.new result }
     {
@@ -125,10 +234,11 @@ impl Position {
         pattern: u32,
     ) -> Result<(), CertFault>
         requires somewhere { IsSomewhere file.now self.old }
+        requires none { self.old.waiting ≡ None }
         requires current { self.old.current ≡ Some pattern }
         ensures { (at : Standing) → IsAt file.now self.old at → Taken file.now at number (Tree Extend) self.new result }
     {
-        let tree = PatternTree::new(file, pattern);
+        let tree = PatternTree::new(file, pattern, &self.orders);
         let start_mask = self.place.cursor().start_mask();
         if tree.is_complete(start_mask, self.place.cursor().word()) {
             return Err(CertFault::ExtendComplete(number));
@@ -149,11 +259,12 @@ impl Position {
         floor: i128,
     ) -> Result<(), CertFault>
         requires somewhere { IsSomewhere file.now self.old }
+        requires none { self.old.waiting ≡ None }
         requires current { self.old.current ≡ Some pattern }
         requires form { IsSplit unknown floor }
         ensures { (at : Standing) → IsAt file.now self.old at → Taken file.now at number (Tree (Split unknown floor)) self.new result }
     {
-        let tree = PatternTree::new(file, pattern);
+        let tree = PatternTree::new(file, pattern, &self.orders);
         let start_mask = self.place.cursor().start_mask();
         if unknown >= tree.unknown_count(start_mask, self.place.cursor().word()) {
             return Err(CertFault::SplitVariable(number));
@@ -172,6 +283,7 @@ impl Position {
         multipliers: &[(u32, i128)],
     ) -> Result<(), CertFault>
         requires somewhere { IsSomewhere file.now self.old }
+        requires none { self.old.waiting ≡ None }
         requires current { self.old.current ≡ Some pattern }
         requires form { ArePairs 0 multipliers.now }
         ensures { (at : Standing) → IsAt file.now self.old at → Taken file.now at number (Tree (Leaf multipliers.now)) self.new result }
@@ -185,7 +297,7 @@ impl Position {
             number,
             multipliers,
         )?;
-        let tree = PatternTree::new(file, pattern);
+        let tree = PatternTree::new(file, pattern, &self.orders);
         if !self.place.leave(alloc, &tree)? {
             self.current = None;
         }

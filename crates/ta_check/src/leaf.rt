@@ -1,17 +1,17 @@
 //! The leaves of a certificate.
 #![tactic(auto)]
 
-ghost use Rattle.std.specs.Prelude.{ℕ, ℤ, ◌≡◌, ◌<◌, ◌≤◌, ◌^◌, List, IfOk, OnOk, Err, length};
-ghost use Rattle.ta_automaton.specs.declared.file.File.{File as FileValue};
-ghost use Rattle.ta_automaton.specs.declared.pattern.Pattern.{Pattern};
+ghost use Rattle.std.specs.Prelude.{ℕ, ℤ, ◌≡◌, ◌<◌, ◌≤◌, ◌^◌, List, [], IfOk, OnOk, length, reverse};
 ghost use Rattle.ta_cert.specs.Lines.{ArePairs};
-ghost use Rattle.ta_encode.specs.InPreorder.{Pending, pattern_search};
+ghost use Rattle.ta_encode.specs.InPreorder.{pattern_search};
+ghost use Rattle.ta_encode.specs.Lines.{BoundsWithin};
+ghost use Rattle.ta_encode.specs.Unknowns.{meanings};
 ghost use Rattle.ta_encode.specs.Marks.{IsEncoding};
 ghost use Rattle.ta_words.specs.Calls.{OfPattern};
-ghost use Rattle.ta_cursor.specs.Cursors.{IsWord, here};
-ghost use Rattle.ta_check.specs.Faults.{FirstLeafFault};
+ghost use Rattle.ta_words.specs.Words.{Legal};
+ghost use Rattle.ta_cursor.specs.Cursors.{here};
 ghost use Rattle.ta_check.specs.Inside.Leaves.{WithoutBounds, renumbered};
-ghost use Rattle.ta_check.specs.Positions.{LeafTaken};
+ghost use Rattle.ta_check.specs.Positions.{LeafTaken, fault_at};
 
 use std::alloc::{AllocError, Global};
 use std::mem;
@@ -34,11 +34,12 @@ pub(crate) fn judge_leaf(
     multipliers: &[(u32, i128)],
 ) -> Result<(), CertFault>
     requires exists { pattern < length file.now.patterns }
-    requires word { OfPattern file.now pattern (λ p. IsWord (pattern_search file.now.automaton p) (here cursor.now)) }
+    requires legal { OfPattern file.now pattern (λ p. Legal file.now.automaton p cursor.now.start_mask (reverse cursor.now.word)) }
+    requires bounds { OfPattern file.now pattern (λ p. BoundsWithin (length (meanings file.now.automaton p cursor.now.start_mask (reverse cursor.now.word))) cursor.now.bounds.items) }
     requires kept { OfPattern file.now pattern (λ p. IsEncoding file.now.automaton p encoding.old) }
     requires pairs { ArePairs 0 multipliers.now }
     ensures kept { OnOk result (OfPattern file.now pattern (λ p. IsEncoding file.now.automaton p encoding.new)) }
-    ensures taken { OfPattern file.now pattern (λ p. LeafTaken file.now p (here cursor.now) number multipliers.now result) }
+    ensures taken { OfPattern file.now pattern (λ p. LeafTaken (pattern_search file.now.automaton p []) (here cursor.now) number multipliers.now result) }
 {
     grow(alloc, file, pattern, cursor, encoding)?;
     let system = &encoding.system;
@@ -63,7 +64,7 @@ fn grow(
     encoding: &mut Encoding,
 ) -> Result<(), AllocError>
     requires exists { pattern < length file.now.patterns }
-    requires word { OfPattern file.now pattern (λ p. IsWord (pattern_search file.now.automaton p) (here cursor.now)) }
+    requires legal { OfPattern file.now pattern (λ p. Legal file.now.automaton p cursor.now.start_mask (reverse cursor.now.word)) }
     requires kept { OfPattern file.now pattern (λ p. IsEncoding file.now.automaton p encoding.old) }
     ensures kept { OnOk result (OfPattern file.now pattern (λ p. IsEncoding file.now.automaton p encoding.new)) }
     ensures system { OnOk result (OfPattern file.now pattern (λ p. WithoutBounds file.now.automaton p (here cursor.now) encoding.new.system)) }
@@ -91,8 +92,8 @@ fn renumbered(alloc: Global, multipliers: &[(u32, i128)]) -> Result<Vec<(u32, i1
 }
 
 /// The fault of a leaf in the line of this number.
-fn fault_in(line: u64, fault: LeafFault) -> CertFault
-    ensures { (file : FileValue) (p : Pattern) (w : Pending) (ts : List (ℕ × ℤ)) → FirstLeafFault file.automaton p w ts fault → LeafTaken file p w line ts (Err result) }
+pub(crate) fn fault_in(line: u64, fault: LeafFault) -> CertFault
+    ensures { result ≡ fault_at line fault }
 {
     match fault {
         LeafFault::RowNumber(row) => CertFault::Row { line, row },

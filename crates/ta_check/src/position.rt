@@ -8,10 +8,17 @@ use std::alloc::Global;
 use ta_automaton::File;
 use ta_cursor::Place;
 use ta_encode::Encoding;
+use ta_implied::Orders;
 
 /// Where a certificate is being read.
 #[derive(Drop)]
 pub(crate) struct Position {
+    /// The version in the first line, or 0 before it.
+    pub version: u8,
+    /// The pairs of rise guards that were shown.
+    pub orders: Orders,
+    /// The pair, the guard before and the one after, whose leaf is still to come.
+    pub waiting: Option<(u32, u32)>,
     /// The patterns whose proofs began, in the certificate's order.
     pub proved: Vec<u32>,
     /// The pattern whose proof is being read.
@@ -24,12 +31,15 @@ pub(crate) struct Position {
 }
 
 impl Position {
-    /// The position before any proof. It takes no memory.
+    /// The position before the first line. It takes no memory.
     pub fn new(alloc: Global, file: &File) -> Position
         ensures { IsAt file.now result at_first }
     {
         let _file = file;
         Position {
+            version: 0,
+            orders: Orders::new(),
+            waiting: None,
             proved: Vec::new(alloc),
             current: None,
             place: Place::new(alloc),

@@ -12,7 +12,7 @@ comes_first s start [] b = b
 comes_first s start (e ∷ past) b = inl b
 
 -- where no node is open, no word comes behind
-at_word : (s : Search) (c : Cursor) (w : Pending) → IsFirst c w → IsWord s w → Within s c (w ∷ [])
+pub at_word : (s : Search) (c : Cursor) (w : Pending) → IsFirst c w → IsWord s w → Within s c (w ∷ [])
 at_word s c w is word =
     let none : [] ≡ reverse c.frames.items = sym (ap reverse is.frames) in
     record {

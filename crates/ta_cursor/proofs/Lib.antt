@@ -3,7 +3,7 @@ pub mod Beginning
 pub mod Ranges
 pub mod PatternWords
 pub mod RowCounts
-mod FramesKept
-mod FramesParts
+pub mod FramesKept
+pub mod FramesParts
 mod FramesLeft
 pub mod TreesLeft

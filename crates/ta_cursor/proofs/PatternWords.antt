@@ -1,5 +1,5 @@
 -- the words of a pattern
-use Rattle.std.proofs.Common.{◌≡◌, inl, inr, ℕ, zero, suc, ◌+◌, ◌-◌, ◌*◌, ◌%◌, ◌^◌, ◌<◌, ◌≤◌, List, [], ◌∷◌, ◌++◌, length, map, reverse, slice_get, Some, None, cond, Bool, true, false, not, arith, sym, ap, ◌∙◌, refl, subst, length-append, lit<}
+use Rattle.std.proofs.Common.{◌≡◌, inl, inr, ℕ, zero, suc, ◌+◌, ◌-◌, ◌*◌, ◌%◌, ◌^◌, ◌<◌, ◌≤◌, List, [], ◌∷◌, ◌++◌, length, map, reverse, slice_get, Some, None, cond, Bool, true, false, arith, sym, ap, ◌∙◌, refl, subst, length-append, lit<}
 use Rattle.std.specs.Prelude.{filter, if◌then◌else◌}
 use Rattle.std.proofs.Math.Nat.{pow-le-pow_right}
 use Rattle.std.proofs.lemmas.Nat.{one_shl, pow_pos}
@@ -10,7 +10,8 @@ use Rattle.ta_automaton.specs.declared.file.File.{File}
 use Rattle.ta_automaton.specs.declared.pattern.Pattern.{Pattern}
 use Rattle.ta_words.specs.declared.element.Element.{Element}
 use Rattle.ta_words.specs.declared.element.Element.TheVariants.{Event, Rise, Fall}
-use Rattle.ta_words.specs.Words.{Legal, children, is_complete, is_ready, is_standing, has_rise}
+use Rattle.ta_words.specs.Words.{Legal, LegalUnder, children, is_complete, is_ready, is_standing, may_rise}
+use Rattle.ta_words.proofs.Counts.{under_none}
 use Rattle.ta_words.proofs.Lists.{events_named, passed_length}
 use Rattle.ta_encode.specs.Search.{Pending, BeginsWith, Comes}
 use Rattle.ta_encode.specs.PatternSearch.{all_starts, empty_word, pattern_search}
@@ -22,18 +23,18 @@ either_most true xs h = omega arith
 either_most false xs h = h
 
 -- a word has few children
-pub children_most : (file : File) (number : ℕ) (p : Pattern) (start : ℕ) (past : List Element) → slice_get file.patterns number ≡ Some p → length (children file.automaton p start past) ≤ 87
+pub children_most : (file : File) (number : ℕ) (p : Pattern) (pairs : List (ℕ × ℕ)) (start : ℕ) (past : List Element) → slice_get file.patterns number ≡ Some p → length (children file.automaton p pairs start past) ≤ 87
 unfolding children
-children_most file number p start past named =
+children_most file number p pairs start past named =
     let a = file.automaton in
     let events = map Event (filter (is_ready p past) (numbers_from 0 (length p.events))) in
-    let rises = map Rise (filter (λ i. not (has_rise past i)) (numbers_from 0 (length a.rise))) in
+    let rises = map Rise (filter (may_rise pairs past) (numbers_from 0 (length a.rise))) in
     let falls = map Fall (filter (is_standing a start past) (numbers_from 1 (2 ^ length a.fall - 1))) in
     let limit = events_named file number p named in
     let two : 0 < 2 = omega arith in
     let power : 2 ^ length a.fall ≤ 2 ^ 6 = pow-le-pow_right two a.shape.limits.fall_limit in
     let first = passed_length Event (is_ready p past) 0 (length p.events) in
-    let second = passed_length Rise (λ i. not (has_rise past i)) 0 (length a.rise) in
+    let second = passed_length Rise (may_rise pairs past) 0 (length a.rise) in
     let third = passed_length Fall (is_standing a start past) 1 (2 ^ length a.fall - 1) in
     let most : length events ≤ 8 = omega (arith, limit.limit) in
     let more : length rises ≤ 16 = omega (arith, a.shape.limits.rise_limit) in
@@ -41,8 +42,8 @@ children_most file number p start past named =
     either_most (is_complete p past) (events ++ (rises ++ falls)) (omega (arith, length-append events (rises ++ falls), length-append rises falls))
 
 -- the number of a child is small
-pub child_below : (file : File) (number : ℕ) (p : Pattern) (start : ℕ) (past : List Element) (k : ℕ) (e : Element) → slice_get file.patterns number ≡ Some p → slice_get (children file.automaton p start past) k ≡ Some e → k < 87
-child_below file number p start past k e named at = omega (arith, children_most file number p start past named, slice_get_within (children file.automaton p start past) k e at)
+pub child_below : (file : File) (number : ℕ) (p : Pattern) (pairs : List (ℕ × ℕ)) (start : ℕ) (past : List Element) (k : ℕ) (e : Element) → slice_get file.patterns number ≡ Some p → slice_get (children file.automaton p pairs start past) k ≡ Some e → k < 87
+child_below file number p pairs start past k e named at = omega (arith, children_most file number p pairs start past named, slice_get_within (children file.automaton p pairs start past) k e at)
 
 slice_numbers : (k n i : ℕ) → i < n → slice_get (numbers_from k n) i ≡ Some (k + i)
 slice_numbers k zero i h = absurd (omega arith)
@@ -73,32 +74,34 @@ starts_are a k zero w h is = absurd is
 starts_are a k (suc n) w h (inl same) = record { start = subst (λ (v : Pending). v.start < 2 ^ length a.fall) (sym same) (let below : k < 2 ^ length a.fall = omega arith in below); past = ap (λ (v : Pending). v.past) same }
 starts_are a k (suc n) w h (inr is) = starts_are a (k + 1) n w (omega arith) is
 
--- a word to which the search of a pattern comes is legal, and its start set is one of fall guards
-pub record IsLegal (a : Automaton) (p : Pattern) (start : ℕ) (past : List Element) : Type 0 where
+-- a word to which the search of a pattern comes under pairs is legal under them, and legal, and its start set is one of fall guards
+pub record IsLegal (a : Automaton) (p : Pattern) (pairs : List (ℕ × ℕ)) (start : ℕ) (past : List Element) : Type 0 where
   pub start_is : start < 2 ^ length a.fall
+  pub under : LegalUnder a p pairs start past
   pub legal : Legal a p start past
 
-began : (a : Automaton) (p : Pattern) (start : ℕ) (past : List Element) → BeginsWith (pattern_search a p) start past → IsLegal a p start past
-began a p start past b =
+began : (a : Automaton) (p : Pattern) (pairs : List (ℕ × ℕ)) (start : ℕ) (past : List Element) → BeginsWith (pattern_search a p pairs) start past → IsLegal a p pairs start past
+began a p pairs start past b =
     let is = starts_are a 0 (2 ^ length a.fall) b.0 (omega arith) b.1 in
     let none : [] ≡ past = sym is.past ∙ b.3 in
     record {
       start_is = subst (λ (k : ℕ). k < 2 ^ length a.fall) b.2 is.start;
+      under = subst (LegalUnder a p pairs start) none tt;
       legal = subst (Legal a p start) none tt;
     }
 
-pub comes_legal : (a : Automaton) (p : Pattern) (start : ℕ) (past : List Element) → Comes (pattern_search a p) start past → IsLegal a p start past
-comes_legal a p start [] c = began a p start [] c
-comes_legal a p start (e ∷ past) (inl b) = began a p start (e ∷ past) b
-comes_legal a p start (e ∷ past) (inr c) = (let before = comes_legal a p start past c.1 in record { start_is = before.start_is; legal = (c.0, before.legal) })
+pub comes_legal : (a : Automaton) (p : Pattern) (pairs : List (ℕ × ℕ)) (start : ℕ) (past : List Element) → Comes (pattern_search a p pairs) start past → IsLegal a p pairs start past
+comes_legal a p pairs start [] c = began a p pairs start [] c
+comes_legal a p pairs start (e ∷ past) (inl b) = began a p pairs start (e ∷ past) b
+comes_legal a p pairs start (e ∷ past) (inr c) = (let before = comes_legal a p pairs start past c.1 in record { start_is = before.start_is; under = (c.0, before.under); legal = (under_none a p pairs start past e c.0, before.legal) })
 
 -- a word that is pushed a child
-pub child_pushed : (file : File) (number : ℕ) (p : Pattern) (start : ℕ) (old new : List Element) (k : ℕ) (e : Element) (r : Bool) → slice_get file.patterns number ≡ Some p
-    → slice_get (children file.automaton p start (reverse old)) k ≡ Some e → r ≡ true → new ≡ (if r then old ++ e ∷ [] else old)
-    → Pushed (pattern_search file.automaton p) start old new k r
-child_pushed file number p start old new k e r named at yea word =
-    let s = pattern_search file.automaton p in
-    let few = child_below file number p start (reverse old) k e named at in
+pub child_pushed : (file : File) (number : ℕ) (p : Pattern) (pairs : List (ℕ × ℕ)) (start : ℕ) (old new : List Element) (k : ℕ) (e : Element) (r : Bool) → slice_get file.patterns number ≡ Some p
+    → slice_get (children file.automaton p pairs start (reverse old)) k ≡ Some e → r ≡ true → new ≡ (if r then old ++ e ∷ [] else old)
+    → Pushed (pattern_search file.automaton p pairs) start old new k r
+child_pushed file number p pairs start old new k e r named at yea word =
+    let s = pattern_search file.automaton p pairs in
+    let few = child_below file number p pairs start (reverse old) k e named at in
     let large : 87 < 2 ^ 31 = lit< tt in
     let longer : new ≡ old ++ e ∷ [] = word ∙ ap (λ (b : Bool). if b then old ++ e ∷ [] else old) yea in
     let is : IsPushed s start old new k = record {

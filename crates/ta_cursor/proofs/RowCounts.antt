@@ -164,7 +164,7 @@ unknowns_few : (a : Automaton) (p : Pattern) (start : ℕ) (past : List Element)
 unknowns_few a p start [] legal = omega (arith, none_adds a p start)
 unknowns_few a p start (e ∷ past) legal =
     let rest = unknowns_few a p start past legal.1 in
-    elim (in_children a p start past e legal.0) [
+    elim (in_children a p [] start past e legal.0) [
       | inl c ↦ (
           let below : c.0 < length p.events = (let q = c.4 in omega arith) in
           let same = ap (λ x. length (meanings a p start (x ∷ past))) c.1 in
@@ -210,7 +210,7 @@ pub few_rows : (file : File) (number : ℕ) (p : Pattern) (start : ℕ) (past : 
 few_rows file number p start past at legal = omega (arith, word_few file.automaton p start past, short file number p start past at legal)
 
 -- the unknowns and the rows of its system
-pub is_small : (file : File) (number : ℕ) (p : Pattern) (w : Pending) (s : System) → slice_get file.patterns number ≡ Some p → Legal file.automaton p w.start w.past → SystemAt (pattern_search file.automaton p) w s → IsSmall w.bounds s
+pub is_small : (file : File) (number : ℕ) (p : Pattern) (w : Pending) (s : System) → slice_get file.patterns number ≡ Some p → Legal file.automaton p w.start w.past → SystemAt (pattern_search file.automaton p []) w s → IsSmall w.bounds s
 is_small file number p w s at legal is =
     let a = file.automaton in
     let words = word_rows a p w.start w.past in

@@ -10,21 +10,24 @@ use crate::tree::{Tree, Written};
 use std::alloc::{AllocError, Global};
 use ta_automaton::File;
 use ta_encode::{Bound, Encoding, Grown, unknown_count};
+use ta_implied::Orders;
 use ta_linear::System;
 use ta_words::{Word, is_complete};
 
 impl<'a> PatternTree<'a> {
-    /// The tree of the pattern of this number, from 0.
-    pub fn new(file: &'a File, number: u32) -> PatternTree<'a>
+    /// The tree of the pattern of this number, from 0, under pairs of rise guards.
+    pub fn new(file: &'a File, number: u32, orders: &'a Orders) -> PatternTree<'a>
         requires { number < length file.now.patterns }
         ensures file { result.file.now ≡ file.now }
         ensures number { result.number ≡ number }
+        ensures orders { result.orders.now ≡ orders.now }
         ensures pattern { slice_get file.now.patterns number ≡ Some result.pattern.now }
     {
         PatternTree {
             file,
             number,
             pattern: &file.patterns.as_slice()[number as usize],
+            orders,
         }
     }
 }
@@ -35,7 +38,7 @@ impl<'a> Tree for PatternTree<'a> {
 
     type Kept = Encoding;
 
-    ghost search = { λ t. pattern_search t.file.now.automaton t.pattern.now };
+    ghost search = { λ t. pattern_search t.file.now.automaton t.pattern.now t.orders.now };
 
     ghost is_kept = { λ t kept. IsEncoding t.file.now.automaton t.pattern.now kept };
 
@@ -53,9 +56,16 @@ impl<'a> Tree for PatternTree<'a> {
     }
 
     fn push_child(&self, start_mask: u8, word: &mut Word, number: usize) -> bool {
-        match child(self.file, self.number, start_mask, word, number) {
+        match child(
+            self.file,
+            self.number,
+            start_mask,
+            self.orders,
+            word,
+            number,
+        ) {
             None => false,
-            Some(element) => word.push(self.file, self.number, start_mask, element),
+            Some(element) => { word.push(self.file, self.number, start_mask, self.orders, element) }
         }
     }
 

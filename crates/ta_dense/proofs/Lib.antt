@@ -24,3 +24,6 @@ mod Primitive
 mod Bounded
 mod NarrowFacts
 mod ExtendFacts
+mod Halves
+mod EqualRows
+mod KeptSteps

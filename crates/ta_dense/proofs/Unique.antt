@@ -49,7 +49,7 @@ cross A n t r r' d p p' same q want =
     let k = rw (← same) at h' in
     mul_cancel f.0 _ _ f.2 (cross_arith r.denominator r'.denominator (f.1 r.basic) (pos f.0) q r.constant r'.constant (dot r.cells t.non_basic want) (dot r'.cells t.non_basic want) h k)
 
-dot-nothing : (cs : List ℤ) (us : List ℕ) → dot cs us (λ _. pos 0) ≡ pos 0
+pub dot-nothing : (cs : List ℤ) (us : List ℕ) → dot cs us (λ _. pos 0) ≡ pos 0
 dot-nothing [] us = refl
 dot-nothing (c ∷ cs) [] = refl
 dot-nothing (c ∷ cs) (u ∷ us) = omega (arith, ints, dot-nothing cs us)

@@ -13,6 +13,7 @@ pub mod Bounds
 pub mod Narrow
 pub mod Small
 pub mod KeptRows
+pub mod KeptCells
 pub mod SmallPivots
 pub mod GrownPivots
 pub mod Laws

@@ -1,12 +1,21 @@
-use Rattle.std.specs.Prelude.{length}
+use Rattle.std.specs.Prelude.{◌<◌, ◌^◌, length}
+use Rattle.ta_dense.specs.Tableau.{TableauRow}
 use Rattle.ta_dense.specs.Kept.{KeptPivot}
-use Rattle.ta_dense.specs.Narrow.{IsNarrow}
+use Rattle.ta_dense.specs.Merge.{IsProper}
+use Rattle.ta_dense.specs.Bounds.{IsBound}
+use Rattle.ta_dense.specs.KeptCells.{kept_cells}
 use Rattle.ta_dense.specs.declared.small_pivot.SmallPivot.TheInside.{Inside}
 
 -- what the fields of a kept pivot of 64-bit numbers mean
 abbrev pub small_pivot_view : Inside → KeptPivot
-small_pivot_view k = record { row = k.row; column = k.column; denominator = k.chosen.denominator; constant = k.chosen.constant; cells = k.chosen.cells.items }
+small_pivot_view k = record { row = k.row; column = k.column; denominator = k.denominator; constant = k.constant; cells = kept_cells k.cells }
+
+-- its chosen row
+abbrev pub chosen_view : Inside → TableauRow
+chosen_view k = record { basic = 0; denominator = k.denominator; constant = k.constant; cells = kept_cells k.cells }
 
 -- what they keep
-abbrev pub IsSoundSmallPivot : Inside → Type 0
-IsSoundSmallPivot k = IsNarrow (length k.chosen.cells.items) k.chosen
+pub record IsSoundSmallPivot (k : Inside) : Type 0 where
+  pub proper : IsProper (length (kept_cells k.cells)) (chosen_view k)
+  pub bounded : IsBound k.bound (chosen_view k)
+  pub fits : k.bound < 2 ^ 63

@@ -6,6 +6,7 @@ mod dense;
 mod dictionary;
 mod extending;
 mod kept;
+mod kept_cells;
 mod laws;
 mod narrow;
 mod narrow_cells;
@@ -19,6 +20,8 @@ mod small_pivot;
 pub use dense::DenseDictionary;
 pub use dictionary::{Dictionary, ExtendFault, PivotFault};
 pub use kept::DensePivot;
-pub use laws::{pivots_keep_dictionaries, rows_are_unique, slacks_are_a_dictionary};
+pub use laws::{
+    equal_rows_never_leave, pivots_keep_dictionaries, rows_are_unique, slacks_are_a_dictionary,
+};
 pub use narrow::NarrowDictionary;
 pub use small_pivot::NarrowPivot;

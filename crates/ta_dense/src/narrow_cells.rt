@@ -36,14 +36,17 @@ pub(crate) fn combine_narrow(p: i64, q: i64, cells: &mut [i64], chosen: &[i64])
     requires fit { AllCombineIn64 p q cells.old chosen.now }
     ensures { cells.new ≡ combine p q cells.old chosen.now }
 {
-    if p == 1 && q == 1 {
-        combine_by(1, 1, cells, chosen)
-    } else if p == 1 && q == -1 {
-        combine_by(1, -1, cells, chosen)
-    } else if p == 1 {
-        combine_by(1, q, cells, chosen)
-    } else {
-        combine_by(p, q, cells, chosen)
+    match (p, q) {
+        (1, 1) => combine_by(1, 1, cells, chosen),
+        (1, -1) => combine_by(1, -1, cells, chosen),
+        (1, 2) => combine_by(1, 2, cells, chosen),
+        (1, -2) => combine_by(1, -2, cells, chosen),
+        (1, _) => combine_by(1, q, cells, chosen),
+        (2, 1) => combine_by(2, 1, cells, chosen),
+        (2, -1) => combine_by(2, -1, cells, chosen),
+        (_, 1) => combine_by(p, 1, cells, chosen),
+        (_, -1) => combine_by(p, -1, cells, chosen),
+        _ => combine_by(p, q, cells, chosen),
     }
 }
 
@@ -76,6 +79,17 @@ pub(crate) fn gcd_narrow(a: u64, b: u64) -> u64
     x
 }
 
+// The greatest common divisor of a divisor and a number, which is often 1.
+fn gcd_with_size(divisor: u64, size: u64) -> u64
+    ensures { result ≡ gcd_of divisor size }
+{
+    if size == 1 {
+        1
+    } else {
+        gcd_narrow(size, divisor)
+    }
+}
+
 // The greatest common divisor of a divisor and a cell; most cells are 0, and few are less than it.
 fn gcd_with_cell(divisor: u64, cell: i64) -> u64
     ensures { result ≡ gcd_of divisor (unsigned_abs cell) }
@@ -83,12 +97,50 @@ fn gcd_with_cell(divisor: u64, cell: i64) -> u64
     if cell == 0 {
         divisor
     } else {
-        gcd_narrow(cell.unsigned_abs(), divisor)
+        gcd_with_size(divisor, cell.unsigned_abs())
     }
 }
 
-// The greatest common divisor of a natural number and cells.
+// The greatest common divisor of 1 or 2 and a cell.
+#[inline(always)]
+fn halved(divisor: u64, cell: i64) -> u64
+    requires some { 0 < divisor }
+    requires few { divisor < 3 }
+    ensures value { result ≡ gcd_of divisor (unsigned_abs cell) }
+    ensures some { 0 < result }
+    ensures few { result < 3 }
+{
+    if cell.unsigned_abs() % 2 == 1 {
+        1
+    } else {
+        divisor
+    }
+}
+
+// The greatest common divisor of 2 and cells, without a division.
+fn gcd_with_two(cells: &[i64]) -> u64
+    ensures { result ≡ gcd_with 2 cells.now }
+{
+    let mut divisor = 2;
+    for cell in cells {
+        divisor = halved(divisor, *cell);
+    }
+    divisor
+}
+
+// The greatest common divisor of a natural number and cells; it is 2 that comes most often.
 pub(crate) fn gcd_of_narrow(start: u64, cells: &[i64]) -> u64
+    ensures { result ≡ gcd_with start cells.now }
+{
+    if start == 2 {
+        gcd_with_two(cells)
+    } else {
+        gcd_by_cells(start, cells)
+    }
+}
+
+// The same, cell by cell.
+fn gcd_by_cells(start: u64, cells: &[i64]) -> u64
     ensures { result ≡ gcd_with start cells.now }
 {
     let mut divisor = start;
@@ -102,6 +154,7 @@ pub(crate) fn gcd_of_narrow(start: u64, cells: &[i64]) -> u64
 }
 
 // The quotient; many cells are 0, and a division takes long.
+#[inline(always)]
 fn quotient(cell: i64, divisor: i64) -> i64
     requires { pos 0 <ℤ divisor }
     ensures { result ≡ int_div cell divisor }
@@ -110,12 +163,27 @@ fn quotient(cell: i64, divisor: i64) -> i64
 }
 
 // Divides each cell.
-pub(crate) fn divide_narrow(cells: &mut [i64], divisor: i64)
+#[inline(always)]
+fn divide_by(cells: &mut [i64], divisor: i64)
     requires { pos 0 <ℤ divisor }
     ensures { cells.new ≡ map (λ z. int_div z divisor) cells.old }
 {
     for cell in cells.iter_mut() {
         *cell = quotient(*cell, divisor);
+    }
+}
+
+// The same, by a loop of its own for each divisor that comes often: it needs no division.
+pub(crate) fn divide_narrow(cells: &mut [i64], divisor: i64)
+    requires { pos 0 <ℤ divisor }
+    ensures { cells.new ≡ map (λ z. int_div z divisor) cells.old }
+{
+    match divisor {
+        2 => divide_by(cells, 2),
+        3 => divide_by(cells, 3),
+        4 => divide_by(cells, 4),
+        5 => divide_by(cells, 5),
+        _ => divide_by(cells, divisor),
     }
 }
 

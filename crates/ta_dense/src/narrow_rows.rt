@@ -150,6 +150,9 @@ fn narrow_factors(c: i64, a: i64) -> (i64, i64)
         return (1, a);
     }
     let divisor = gcd_narrow(c.unsigned_abs(), a.unsigned_abs()) as i64;
+    if divisor == 1 {
+        return (c, a);
+    }
     (c / divisor, a / divisor)
 }
 

@@ -69,7 +69,11 @@ pub(crate) fn widened_row(alloc: Global, row: &NarrowRow) -> Result<DenseRow, Al
 }
 
 // The cells with zeros up to a number of columns.
-fn padded_narrow_cells(alloc: Global, cells: &[i64], columns: usize) -> Result<Vec<i64>, AllocError>
+pub(crate) fn padded_narrow_cells(
+    alloc: Global,
+    cells: &[i64],
+    columns: usize,
+) -> Result<Vec<i64>, AllocError>
     requires { length cells.now ≤ columns }
     ensures { IfOk result (λ v. v.items ≡ cells.now ++ replicate (columns - length cells.now) (pos 0)) }
 {
@@ -228,9 +232,7 @@ impl SmallDictionary {
         requires column { column < length self.now.non_basic }
         ensures { IfOk result (λ k. k ≡ pivot_in self.now row column) }
     {
-        let chosen = self.row_at(row);
-        let copy = padded_narrow(alloc, chosen, chosen.basic, chosen.cells.len())?;
-        Ok(SmallPivot::of_row(row, column, copy))
+        SmallPivot::of_row(alloc, row, column, self.row_at(row))
     }
 
     /// The dictionary of a longer system, where kept pivots are of 64-bit numbers and bounds show

@@ -6,8 +6,9 @@ ghost use Rattle.ta_dense.specs.Narrow.{narrow_view, IsNarrow};
 ghost use Rattle.ta_dense.specs.GrownPivots.{pivots_of};
 
 use crate::kept::DensePivot;
+use crate::kept_cells::KeptCells;
 use crate::narrow_rows::NarrowRow;
-use crate::small::{padded_narrow, widened_row};
+use crate::small::widened_row;
 use std::alloc::{AllocError, Global};
 use std::marker::Model;
 
@@ -16,7 +17,10 @@ use std::marker::Model;
 pub(crate) struct SmallPivot {
     row: u32,
     column: u32,
-    chosen: NarrowRow,
+    denominator: i64,
+    constant: i64,
+    cells: KeptCells,
+    bound: u64,
 }
 
 impl Model for SmallPivot {
@@ -32,15 +36,23 @@ impl Model for SmallPivot {
 }
 
 impl SmallPivot {
-    pub(crate) fn of_row(row: u32, column: u32, chosen: NarrowRow) -> SmallPivot
-        requires { IsNarrow (length chosen.cells.items) chosen }
-        ensures { result ≡ record { row = row; column = column; denominator = chosen.denominator; constant = chosen.constant; cells = chosen.cells.items } }
+    pub(crate) fn of_row(
+        alloc: Global,
+        row: u32,
+        column: u32,
+        chosen: &NarrowRow,
+    ) -> Result<SmallPivot, AllocError>
+        requires { IsNarrow (length chosen.now.cells.items) chosen.now }
+        ensures { IfOk result (λ k. k ≡ record { row = row; column = column; denominator = chosen.now.denominator; constant = chosen.now.constant; cells = chosen.now.cells.items }) }
     {
-        SmallPivot {
+        Ok(SmallPivot {
             row,
             column,
-            chosen,
-        }
+            denominator: chosen.denominator,
+            constant: chosen.constant,
+            cells: KeptCells::of(alloc, &chosen.cells)?,
+            bound: chosen.bound,
+        })
     }
 
     pub(crate) fn column(&self) -> u32
@@ -55,15 +67,34 @@ impl SmallPivot {
         ensures value { IfOk result (λ r. narrow_view r ≡ chosen_row columns self.now) }
         ensures narrow { IfOk result (λ r. IsNarrow columns r) }
     {
-        padded_narrow(alloc, &self.chosen, 0, columns as usize)
+        Ok(NarrowRow {
+            basic: 0,
+            denominator: self.denominator,
+            constant: self.constant,
+            cells: self.cells.padded(alloc, columns as usize)?,
+            bound: self.bound,
+        })
+    }
+
+    // The chosen row.
+    fn chosen(&self, alloc: Global) -> Result<NarrowRow, AllocError>
+        ensures { IfOk result (λ r. narrow_view r ≡ record { basic = 0; denominator = self.now.denominator; constant = self.now.constant; cells = self.now.cells }) }
+    {
+        Ok(NarrowRow {
+            basic: 0,
+            denominator: self.denominator,
+            constant: self.constant,
+            cells: self.cells.padded(alloc, self.cells.count())?,
+            bound: self.bound,
+        })
     }
 
     /// The pivot in 128 bits.
     pub(crate) fn widened(&self, alloc: Global) -> Result<DensePivot, AllocError>
         ensures { IfOk result (λ k. k ≡ self.now) }
     {
-        let chosen = widened_row(alloc, &self.chosen)?;
-        Ok(DensePivot::of_row(self.row, self.column, chosen))
+        let chosen = self.chosen(alloc)?;
+        Ok(DensePivot::of_row(self.row, self.column, widened_row(alloc, &chosen)?))
     }
 }
 

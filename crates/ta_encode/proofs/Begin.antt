@@ -13,6 +13,7 @@ use Rattle.ta_automaton.specs.declared.pattern.Pattern.{Pattern}
 use Rattle.ta_automaton.specs.Runs.{Config, value_at, Initial}
 use Rattle.ta_automaton.specs.Lists.{Rises}
 use Rattle.ta_automaton.specs.Masks.{has_bit, numbers_from, In}
+use Rattle.ta_implied.proofs.Members.{in_append, in_map, in_numbers}
 use Rattle.ta_words.specs.declared.element.Element.{Element}
 use Rattle.ta_words.specs.Words.{has_event, has_rise}
 use Rattle.ta_encode.specs.Unknowns.{Meaning, Parameter, Start, start_locations, start_meanings, meanings, place_coefficient}
@@ -31,7 +32,7 @@ use Rattle.ta_automaton.proofs.Fire.{natural, pos_natural, length_numbers, at_in
 use Rattle.ta_automaton.proofs.Thresholds.{processes_value as processes_at, resilience_at}
 use Rattle.ta_encode.proofs.Appending.{trail_begun}
 use Rattle.ta_encode.proofs.Segment.{fits_whole}
-use Rattle.ta_encode.proofs.Values.{place_value, AllHold-right, left_part, condition_back, in_append, in_filter}
+use Rattle.ta_encode.proofs.Values.{place_value, AllHold-right, left_part, condition_back, in_filter}
 use Rattle.ta_encode.proofs.Safety.{prefix_rows, take_apart}
 use Rattle.ta_encode.proofs.Unwind.{At}
 
@@ -58,16 +59,6 @@ unfolding total
 total-combine f [] ms vs = sym (combine-zero ms vs)
 total-combine f (l ∷ ls) ms vs = omega (arith, ints, total-combine f ls ms vs, combine-add (λ m. f m l) (λ m. total (λ k. f m k) ls) ms vs)
 
-in_map : {X Y : Type 0} (f : X → Y) (y : Y) (xs : List X) → In y (map f xs) → (x : X) × In x xs × (y ≡ f x)
-in_map f y [] h = absurd h
-in_map f y (x ∷ xs) (inl e) = (x, inl refl, e)
-in_map f y (x ∷ xs) (inr i) = let w = in_map f y xs i in (w.0, inr w.1, w.2)
-
-pub in_numbers : (i k n : ℕ) → In i (numbers_from k n) → i < k + n
-in_numbers i k zero h = absurd h
-in_numbers i k (suc n) (inl e) = omega arith
-in_numbers i k (suc n) (inr h) = omega (arith, in_numbers i (k + 1) n h)
-
 rises_below : (low high : ℕ) (xs : List ℕ) (l : ℕ) → Rises low high xs → In l xs → l < high
 rises_below low high [] l r h = absurd h
 rises_below low high (x ∷ xs) l r (inl e) = (let b : x < high = r.1 in omega arith)
@@ -91,7 +82,7 @@ contains_of (x ∷ xs) l (inr h) = let w = contains_of xs l h in (suc w.0, (let 
 in_start : (a : Automaton) (p : Pattern) (m : Meaning) → In m (start_meanings a p) → ((i : ℕ) × (i < length a.parameters) × (m ≡ Parameter i)) ⊎ ((l : ℕ) × In l (start_locations a p) × (m ≡ Start l))
 unfolding start_meanings
 in_start a p m h = elim (in_append m (map Parameter (numbers_from 0 (length a.parameters))) (map Start (start_locations a p)) h) [
-  | inl i ↦ (let w = in_map Parameter m (numbers_from 0 (length a.parameters)) i in inl (w.0, omega (arith, in_numbers w.0 0 (length a.parameters) w.1), w.2))
+  | inl i ↦ (let w = in_map Parameter m (numbers_from 0 (length a.parameters)) i in inl (w.0, (let high = (in_numbers w.0 0 (length a.parameters) w.1).1 in omega arith), w.2))
   | inr i ↦ (let w = in_map Start m (start_locations a p) i in inr (w.0, w.1, w.2))
 ]
 

@@ -104,8 +104,8 @@ solution_back s w system vs is solves = record {
 }
 
 -- a solution with bounds is one without
-pub unbounded : (a : Automaton) (p : Pattern) (w : Pending) (vs : List ℕ) → SolvesAt (pattern_search a p) w vs → SolvesWord a p w.start w.past [] vs
-unbounded a p w vs s = record {
+pub unbounded : (a : Automaton) (p : Pattern) (pairs : List (ℕ × ℕ)) (w : Pending) (vs : List ℕ) → SolvesAt (pattern_search a p pairs) w vs → SolvesWord a p w.start w.past [] vs
+unbounded a p pairs w vs s = record {
   count = s.count;
   rows_hold = AllHold-append vs (word_rows a p w.start w.past) [] (AllHold-left vs (word_rows a p w.start w.past) (map bound_row w.bounds) s.rows_hold) tt;
 }

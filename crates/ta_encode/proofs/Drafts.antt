@@ -22,7 +22,7 @@ use Rattle.ta_encode.specs.Inside.Lines.{Written, Adds, SmallEvents, block_row, 
 use Rattle.ta_encode.specs.Inside.Firings.{firing}
 use Rattle.ta_encode.specs.Inside.Draft.{Drafted}
 use Rattle.ta_encode.specs.declared.line.Sense.TheVariants.{Same, Opposite}
-use Rattle.ta_words.proofs.Bits.{has_or}
+use Rattle.ta_implied.proofs.Bits.{has_or}
 use Rattle.ta_encode.proofs.Adding.{guards_same, map_twice}
 use Rattle.ta_encode.proofs.Smallness.{small_condition, places_most}
 

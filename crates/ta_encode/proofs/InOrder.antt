@@ -25,4 +25,4 @@ prefix_solved a p start word vs h k = prefix_rows a p start (reverse (take k wor
 
 -- each prefix of a legal word is legal
 pub prefix_is_legal : (a : Automaton) (p : Pattern) (start : ℕ) (word : List Element) → Legal a p start (reverse word) → (k : ℕ) → Legal a p start (reverse (take k word))
-prefix_is_legal a p start word h k = prefix_legal a p start (reverse (take k word)) (drop k word) (subst (Legal a p start) (sym (cut_at word k)) h)
+prefix_is_legal a p start word h k = prefix_legal a p [] start (reverse (take k word)) (drop k word) (subst (Legal a p start) (sym (cut_at word k)) h)

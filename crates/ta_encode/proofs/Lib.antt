@@ -22,10 +22,10 @@ mod Blocks
 mod Combine
 pub mod Moments
 mod State
-mod Start
+pub mod Start
 mod RowSums
 mod Reorder
-mod Safety
+pub mod Safety
 pub mod Segment
 pub mod Values
 mod Unwind
@@ -34,3 +34,4 @@ mod Starts
 mod Realize
 mod Naming
 pub mod Samples
+pub mod SystemsExist

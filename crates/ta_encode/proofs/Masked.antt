@@ -11,7 +11,7 @@ use Rattle.std.proofs.lemmas.List.Elements.{filter-append}
 use Rattle.ta_automaton.specs.Lists.{Rises}
 use Rattle.ta_automaton.specs.declared.automaton.Automaton.{Automaton}
 use Rattle.ta_automaton.specs.Masks.{has_bit, numbers_from}
-use Rattle.ta_words.proofs.Bits.{set_test, has_none, has_pow}
+use Rattle.ta_implied.proofs.Bits.{set_test, has_none, has_pow}
 use Rattle.ta_words.proofs.Pushes.{filter_more}
 
 pub bit_on : (w mask k : ℕ) → k < w → bit_and mask ((1 * 2 ^ k) % 2 ^ w) ≢ 0 → has_bit mask k ≡ true

@@ -8,12 +8,13 @@ use Rattle.ta_automaton.specs.declared.automaton.Automaton.{Automaton}
 use Rattle.ta_automaton.specs.declared.pattern.Pattern.{Pattern}
 use Rattle.ta_automaton.specs.Runs.{LoopsPure, Safe}
 use Rattle.ta_automaton.specs.Masks.{In, numbers_from}
+use Rattle.ta_implied.specs.Implied.{Good}
 use Rattle.ta_words.specs.declared.element.Element.{Element}
 use Rattle.ta_words.specs.declared.element.Element.TheVariants.{Event, Rise, Fall}
-use Rattle.ta_words.specs.Words.{children, Legal, is_complete}
-use Rattle.ta_encode.specs.System.{Bound, Low, High, only_at, side_row, bound_row, word_rows, system_rows, combine, row_value, AllHold}
+use Rattle.ta_words.specs.Words.{LegalUnder, is_complete}
+use Rattle.ta_encode.specs.System.{Bound, Low, High, only_at, side_row, bound_row, word_rows, combine, row_value, AllHold}
 use Rattle.ta_cert.specs.Tree.{Tree, Forest, Leaf, Extend, Split, Done, More}
-use Rattle.ta_encode.specs.Search.{Pending, bound_at, bounded, longer}
+use Rattle.ta_encode.specs.Search.{Pending, Search, bound_at, bounded, longer, rows_of}
 use Rattle.ta_encode.specs.PatternSearch.{empty_word, pattern_search}
 use Rattle.ta_encode.specs.Refutes.{IsLeaf, RefutesBy, RefuteEach, RefuteAll, ProofOf}
 use Rattle.ta_automaton.proofs.Sums.{one_times}
@@ -38,9 +39,9 @@ pub prefix_rows : (a : Automaton) (p : Pattern) (start : ℕ) (past future : Lis
 prefix_rows a p start past [] vs h = h
 prefix_rows a p start past (e ∷ future) vs h = first_rows a p start e past vs (prefix_rows a p start (e ∷ past) future vs h)
 
-pub prefix_legal : (a : Automaton) (p : Pattern) (start : ℕ) (past future : List Element) → Legal a p start (extend past future) → Legal a p start past
-prefix_legal a p start past [] h = h
-prefix_legal a p start past (e ∷ future) h = (prefix_legal a p start (e ∷ past) future h).1
+pub prefix_legal : (a : Automaton) (p : Pattern) (pairs : List (ℕ × ℕ)) (start : ℕ) (past future : List Element) → LegalUnder a p pairs start (extend past future) → LegalUnder a p pairs start past
+prefix_legal a p pairs start past [] h = h
+prefix_legal a p pairs start past (e ∷ future) h = (prefix_legal a p pairs start (e ∷ past) future h).1
 
 pub take_apart : (past acc : List Element) → (future : List Element) × (extend [] future ≡ extend past acc)
 take_apart [] acc = (acc, refl)
@@ -71,54 +72,73 @@ pub bounds_more : (bounds : List Bound) (b : Bound) (vs : List ℕ) → AllHold 
 bounds_more [] b vs h g = (g, tt)
 bounds_more (c ∷ bounds) b vs h g = (h.0, bounds_more bounds b vs h.1 g)
 
+-- values that solve the rows of a word and of each that is longer by these elements, each of which may follow, up to a complete word
+abbrev pub SolvesAlong : Search → ℕ → List ℕ → List Element → List Element → Type 0
+SolvesAlong s start vs past [] = AllHold vs (s.rows start past) × (s.complete start past ≡ true)
+SolvesAlong s start vs past (e ∷ future) = AllHold vs (s.rows start past) × In e (s.following start past) × SolvesAlong s start vs (e ∷ past) future
+
+rows_here : (s : Search) (start : ℕ) (vs : List ℕ) (past future : List Element) → SolvesAlong s start vs past future → AllHold vs (s.rows start past)
+rows_here s start vs past [] h = h.0
+rows_here s start vs past (e ∷ future) h = h.0
+
 mutual
   unfolding RefutesBy
 
-  no_tree : (tree : Tree) (a : Automaton) (p : Pattern) (w : Pending) (future : List Element) (vs : List ℕ) → Legal a p w.start (extend w.past future) → is_complete p (extend w.past future) ≡ true → AllHold vs (word_rows a p w.start (extend w.past future)) → AllHold vs (map bound_row w.bounds) → RefutesBy (pattern_search a p) (IsLeaf (pattern_search a p)) w tree → ⊥
-  no_tree (Leaf ts) a p w future vs legal complete rows held h =
-      leaf_contradicts (system_rows a p w.start w.past w.bounds) ts vs h (AllHold-append vs (word_rows a p w.start w.past) (map bound_row w.bounds) (prefix_rows a p w.start w.past future vs rows) held)
-  no_tree (Extend trees) a p w [] vs legal complete rows held h = false≢true (sym h.0 ∙ complete)
-  no_tree (Extend trees) a p w (e ∷ future) vs legal complete rows held h =
-      no_forest trees a p w e future vs legal complete rows held (children a p w.start w.past) (prefix_legal a p w.start (e ∷ w.past) future legal).0 h.1
-  no_tree (Split unknown floor low high) a p w future vs legal complete rows held h =
+  no_tree : (tree : Tree) (s : Search) (w : Pending) (future : List Element) (vs : List ℕ) → SolvesAlong s w.start vs w.past future → AllHold vs (map bound_row w.bounds) → RefutesBy s (IsLeaf s) w tree → ⊥
+  no_tree (Leaf ts) s w future vs along held h =
+      leaf_contradicts (rows_of s w) ts vs h (AllHold-append vs (s.rows w.start w.past) (map bound_row w.bounds) (rows_here s w.start vs w.past future along) held)
+  no_tree (Extend trees) s w [] vs along held h = false≢true (sym h.0 ∙ along.1)
+  no_tree (Extend trees) s w (e ∷ future) vs along held h =
+      no_forest trees s w e future vs along.2 held (s.following w.start w.past) along.1 h.1
+  no_tree (Split unknown floor low high) s w future vs along held h =
       elim (sides unknown floor vs) [
-        | inl g ↦ no_tree low a p (bounded w (bound_at unknown floor Low)) future vs legal complete rows (bounds_more w.bounds (bound_at unknown floor Low) vs held g) h.1
-        | inr g ↦ no_tree high a p (bounded w (bound_at unknown floor High)) future vs legal complete rows (bounds_more w.bounds (bound_at unknown floor High) vs held g) h.2
+        | inl g ↦ no_tree low s (bounded w (bound_at unknown floor Low)) future vs along (bounds_more w.bounds (bound_at unknown floor Low) vs held g) h.1
+        | inr g ↦ no_tree high s (bounded w (bound_at unknown floor High)) future vs along (bounds_more w.bounds (bound_at unknown floor High) vs held g) h.2
       ]
 
-  no_forest : (trees : Forest) (a : Automaton) (p : Pattern) (w : Pending) (e : Element) (future : List Element) (vs : List ℕ) → Legal a p w.start (extend (e ∷ w.past) future) → is_complete p (extend (e ∷ w.past) future) ≡ true → AllHold vs (word_rows a p w.start (extend (e ∷ w.past) future)) → AllHold vs (map bound_row w.bounds) → (es : List Element) → In e es → RefuteEach (pattern_search a p) (IsLeaf (pattern_search a p)) (map (longer w) es) trees → ⊥
-  no_forest Done a p w e future vs legal complete rows held [] i h = i
-  no_forest Done a p w e future vs legal complete rows held (x ∷ es) i h = h
-  no_forest (More tree trees) a p w e future vs legal complete rows held [] i h = i
-  no_forest (More tree trees) a p w e future vs legal complete rows held (x ∷ es) (inl same) h =
-      no_tree tree a p (longer w e) future vs legal complete rows held (subst (λ (y : Element). RefutesBy (pattern_search a p) (IsLeaf (pattern_search a p)) (longer w y) tree) (sym same) h.0)
-  no_forest (More tree trees) a p w e future vs legal complete rows held (x ∷ es) (inr i) h =
-      no_forest trees a p w e future vs legal complete rows held es i h.1
+  no_forest : (trees : Forest) (s : Search) (w : Pending) (e : Element) (future : List Element) (vs : List ℕ) → SolvesAlong s w.start vs (e ∷ w.past) future → AllHold vs (map bound_row w.bounds) → (es : List Element) → In e es → RefuteEach s (IsLeaf s) (map (longer w) es) trees → ⊥
+  no_forest Done s w e future vs along held [] i h = i
+  no_forest Done s w e future vs along held (x ∷ es) i h = h
+  no_forest (More tree trees) s w e future vs along held [] i h = i
+  no_forest (More tree trees) s w e future vs along held (x ∷ es) (inl same) h =
+      no_tree tree s (longer w e) future vs along held (subst (λ (y : Element). RefutesBy s (IsLeaf s) (longer w y) tree) (sym same) h.0)
+  no_forest (More tree trees) s w e future vs along held (x ∷ es) (inr i) h =
+      no_forest trees s w e future vs along held es i h.1
 
 cases_start : (first start : ℕ) → first ≤ start → (first ≡ start) ⊎ (first + 1 ≤ start)
 cases_start first start h = elim (eqb_tells first start) [ inl e ↦ inl e.1 | inr ne ↦ inr (let q = ne.1 in omega arith) ]
 
-pick_tree : (a : Automaton) (p : Pattern) (first start count : ℕ) (trees : List Tree) → RefuteAll (pattern_search a p) (IsLeaf (pattern_search a p)) (map empty_word (numbers_from first count)) trees → first ≤ start → start < first + count → (tree : Tree) × RefutesBy (pattern_search a p) (IsLeaf (pattern_search a p)) (empty_word start) tree
-pick_tree a p first start zero trees h low high = absurd (omega arith)
-pick_tree a p first start (suc count) [] h low high = absurd h
-pick_tree a p first start (suc count) (tree ∷ trees) h low high = elim (cases_start first start low) [
-  | inl e ↦ (tree, subst (λ (x : ℕ). RefutesBy (pattern_search a p) (IsLeaf (pattern_search a p)) (empty_word x) tree) e h.0)
-  | inr g ↦ pick_tree a p (first + 1) start count trees h.1 g (omega arith)
+pick_tree : (s : Search) (first start count : ℕ) (trees : List Tree) → RefuteAll s (IsLeaf s) (map empty_word (numbers_from first count)) trees → first ≤ start → start < first + count → (tree : Tree) × RefutesBy s (IsLeaf s) (empty_word start) tree
+pick_tree s first start zero trees h low high = absurd (omega arith)
+pick_tree s first start (suc count) [] h low high = absurd h
+pick_tree s first start (suc count) (tree ∷ trees) h low high = elim (cases_start first start low) [
+  | inl e ↦ (tree, subst (λ (x : ℕ). RefutesBy s (IsLeaf s) (empty_word x) tree) e h.0)
+  | inr g ↦ pick_tree s (first + 1) start count trees h.1 g (omega arith)
 ]
 
+-- where a search of words from each start set is refuted, no values solve along the elements of a complete word
+pub none_along : (s : Search) (n : ℕ) (trees : List Tree) → RefuteAll s (IsLeaf s) (map empty_word (numbers_from 0 n)) trees → (start : ℕ) → start < n → (future : List Element) (vs : List ℕ) → SolvesAlong s start vs [] future → ⊥
+none_along s n trees proof start b future vs along =
+    let w = pick_tree s 0 start n trees proof (omega arith) (omega arith) in
+    no_tree w.0 s (empty_word start) future vs along tt w.1
+
+pattern_along : (a : Automaton) (p : Pattern) (pairs : List (ℕ × ℕ)) (start : ℕ) (vs : List ℕ) (past future : List Element) → LegalUnder a p pairs start (extend past future) → is_complete p (extend past future) ≡ true → AllHold vs (word_rows a p start (extend past future)) → SolvesAlong (pattern_search a p pairs) start vs past future
+pattern_along a p pairs start vs past [] legal complete rows = (rows, complete)
+pattern_along a p pairs start vs past (e ∷ future) legal complete rows =
+    (prefix_rows a p start past (e ∷ future) vs rows, (prefix_legal a p pairs start (e ∷ past) future legal).0, pattern_along a p pairs start vs (e ∷ past) future legal complete rows)
+
 -- no start set and no complete word has a system with a natural solution
-pub none_solves : (a : Automaton) (p : Pattern) (trees : List Tree) → ProofOf a p trees → (start : ℕ) → start < 2 ^ length a.fall → (past : List Element) (vs : List ℕ) → Legal a p start past → is_complete p past ≡ true → AllHold vs (word_rows a p start past) → ⊥
-none_solves a p trees proof start b past vs legal complete rows =
-    let w = pick_tree a p 0 start (2 ^ length a.fall) trees proof (omega arith) (omega arith) in
+pub none_solves : (a : Automaton) (p : Pattern) (pairs : List (ℕ × ℕ)) (trees : List Tree) → ProofOf a p pairs trees → (start : ℕ) → start < 2 ^ length a.fall → (past : List Element) (vs : List ℕ) → LegalUnder a p pairs start past → is_complete p past ≡ true → AllHold vs (word_rows a p start past) → ⊥
+none_solves a p pairs trees proof start b past vs legal complete rows =
     let f = take_apart past [] in
-    no_tree w.0 a p (empty_word start) f.0 vs
-    (subst (Legal a p start) (sym f.1) legal)
+    none_along (pattern_search a p pairs) (2 ^ length a.fall) trees proof start b f.0 vs
+    (pattern_along a p pairs start vs [] f.0
+    (subst (LegalUnder a p pairs start) (sym f.1) legal)
     (ap (is_complete p) f.1 ∙ complete)
-    (subst (λ (q : List Element). AllHold vs (word_rows a p start q)) (sym f.1) rows)
-    tt w.1
+    (subst (λ (q : List Element). AllHold vs (word_rows a p start q)) (sym f.1) rows))
 
 -- a proof of a pattern shows that it is safe
-pub proof_safe : (a : Automaton) (p : Pattern) → LoopsPure a → AfterEarlier p → (trees : List Tree) → ProofOf a p trees → Safe a p
-proof_safe a p loops earlier trees proof first rules o =
-    let d = describe a p loops earlier first rules o in
-    none_solves a p trees proof d.start d.is_start d.past d.values d.legal d.complete (AllHold-left d.values (word_rows a p d.start d.past) [] d.solves.rows_hold)
+pub proof_safe : (a : Automaton) (p : Pattern) (pairs : List (ℕ × ℕ)) → Good a pairs → LoopsPure a → AfterEarlier p → (trees : List Tree) → ProofOf a p pairs trees → Safe a p
+proof_safe a p pairs good loops earlier trees proof first rules o =
+    let d = describe a p pairs good loops earlier first rules o in
+    none_solves a p pairs trees proof d.start d.is_start d.past d.values d.legal d.complete (AllHold-left d.values (word_rows a p d.start d.past) [] d.solves.rows_hold)

@@ -14,7 +14,7 @@ use Rattle.ta_automaton.proofs.Moves.{Fits}
 use Rattle.ta_automaton.proofs.Thresholds.{resilience_holds}
 use Rattle.ta_cert.specs.declared.line.Node.{Node}
 use Rattle.ta_cert.specs.declared.line.Node.TheVariants as node
-use Rattle.ta_words.proofs.Bits.{has_none}
+use Rattle.ta_implied.proofs.Bits.{has_none}
 use Rattle.ta_encode.specs.Unknowns.{Meaning, Parameter, Start, start_locations, start_meanings}
 use Rattle.ta_encode.specs.System.{AllHold, Bound, High, LinearRow, Low, bound_row, condition_rows, opposite, processes_row}
 use Rattle.ta_encode.specs.InPreorder.{RefutedInOrder}

@@ -197,9 +197,9 @@ start_set a c = mask_of (λ j. row_fails c (slice_get a.fall j)) (length a.fall)
 start_bit : (a : Automaton) (c : Config) (j : ℕ) (row : Row) → slice_get a.fall j ≡ Some row → has_bit (start_set a c) j ≡ is_negative (value_of (value_at c) row.form)
 start_bit a c j row at = mask_of-bit (λ k. row_fails c (slice_get a.fall k)) (length a.fall) j (slice_get_within _ _ _ at) ∙ ap (row_fails c) at
 
-pub start_state : (a : Automaton) (p : Pattern) (c : Config) → Fits a c → Initial a c → StartsEmpty p c → Holds p.start c → State a p (start_set a c) [] (parameter_values a c ++ start_counts a p c) [] c
+pub start_state : (a : Automaton) (p : Pattern) (pairs : List (ℕ × ℕ)) (c : Config) → Fits a c → Initial a c → StartsEmpty p c → Holds p.start c → State a p pairs (start_set a c) [] (parameter_values a c ++ start_counts a p c) [] c
 unfolding meanings total word_rows start_rows has_fallen
-start_state a p c fits start empty holds =
+start_state a p pairs c fits start empty holds =
     let m = start_moment a p c fits start empty in
     let vs = parameter_values a c ++ start_counts a p c in
     let ms = start_meanings a p in

@@ -18,7 +18,8 @@ use Rattle.ta_encode.specs.System.{combine}
 use Rattle.ta_encode.specs.Laws.{start_values}
 use Rattle.ta_encode.proofs.Start.{start_rises}
 use Rattle.ta_encode.proofs.Values.{place_value, combine-split}
-use Rattle.ta_encode.proofs.Begin.{combine-on_zero, combine-on_same, in_numbers, first_of}
+use Rattle.ta_implied.proofs.Members.{in_numbers}
+use Rattle.ta_encode.proofs.Begin.{combine-on_zero, combine-on_same, first_of}
 
 map_rising : (f g : ℕ → ℕ) (low high : ℕ) (xs : List ℕ) → Rises low high xs → ((x : ℕ) → low ≤ x → x < high → f x ≡ g x) → map f xs ≡ map g xs
 map_rising f g low high [] r h = refl
@@ -88,7 +89,7 @@ count_picks a p vs b =
     let rest = drop n vs in
     let rises = start_rises a p in
     let same = map_rising (λ l. get_or (first_of a p vs).counters l 0) (λ l. natural (combine (map (λ k. one_if k l) locs) rest)) 0 (length a.locations) locs rises (λ l _ c.
-    let none = combine-on_zero (λ j. one_if j (location_place a l)) nums vs (λ j h. one_if-ne j (location_place a l) (λ e. let q = in_numbers j 0 n h in omega arith)) in
+    let none = combine-on_zero (λ j. one_if j (location_place a l)) nums vs (λ j h. one_if-ne j (location_place a l) (λ e. let q = (in_numbers j 0 n h).1 in omega arith)) in
     let shifted = combine-on_same (λ k. one_if (location_place a k) (location_place a l)) (λ k. one_if k l) locs rest (λ k _. one_if-shift (length a.parameters + length a.shared) k l) in
     let here : place_value a (start_meanings a p) vs (location_place a l) ≡ combine (map (λ k. one_if k l) locs) rest = omega (arith, ints, parts a p vs (location_place a l), none, shifted) in
     at_index (λ k. natural (place_value a (start_meanings a p) vs (location_place a k))) (length a.locations) l c ∙ ap natural here) in

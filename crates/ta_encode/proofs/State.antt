@@ -3,7 +3,7 @@ use Rattle.std.proofs.Common.{◌≡◌, inl, inr, ℕ, ◌+◌, ◌^◌, ◌<�
 use Rattle.std.proofs.lemmas.List.{length-map}
 use Rattle.std.specs.List.{filter}
 use Rattle.std.proofs.lemmas.Int.{ints}
-use Rattle.std.proofs.lemmas.Bool.{true≢false, eqb-true, or_cases}
+use Rattle.std.proofs.lemmas.Bool.{true≢false, eqb-true, or_cases, and_from}
 use Rattle.std.proofs.lemmas.Option.{slice_get_within}
 use Rattle.ta_linear.specs.Values.{value_of, RowHolds}
 use Rattle.ta_linear.specs.declared.row.Row.{Row}
@@ -16,7 +16,7 @@ use Rattle.ta_automaton.specs.Runs.{Config, value_at, Holds}
 use Rattle.ta_automaton.specs.Masks.{has_bit, implies, numbers_from}
 use Rattle.ta_words.specs.declared.element.Element.{Element}
 use Rattle.ta_words.specs.declared.element.Element.TheVariants.{Event, Rise, Fall}
-use Rattle.ta_words.specs.Words.{has_rise, has_fallen, is_complete, is_ready, is_standing, Legal, allowed_rules}
+use Rattle.ta_words.specs.Words.{has_rise, has_fallen, is_complete, is_due, is_ready, is_standing, LegalUnder, allowed_rules}
 use Rattle.ta_encode.specs.Unknowns.{Meaning, Count, Single, meanings, counts_after, singles_after, place_coefficient}
 use Rattle.ta_encode.specs.System.{LinearRow, opposite, negated, counter_rows, guard_rows, standing_rows, singles_row, event_rows, rise_rows, happening_rows, fall_rows, word_rows, combine, row_value, AllHold}
 use Rattle.ta_automaton.specs.Sums.{total, times_in}
@@ -24,11 +24,11 @@ use Rattle.ta_encode.proofs.Combine.{combine-append, combine-extra, combine-map,
 use Rattle.ta_automaton.proofs.Fired.{EachOnce, firings}
 use Rattle.ta_encode.proofs.Moments.{Moment, RowFails, AllHold-append, counters_hold, condition_holds, guards_hold, guards_fail, opposite_value}
 use Rattle.ta_automaton.proofs.Moves.{Fits}
-use Rattle.ta_automaton.proofs.MaskTests.{true_not, implies-at, all_below-at}
+use Rattle.ta_automaton.proofs.MaskTests.{true_not, not_true, implies-at, all_below-at}
 use Rattle.ta_words.proofs.Listed.{event_child, rise_child, fall_child}
 
-pub record State (a : Automaton) (p : Pattern) (start : ℕ) (past : List Element) (vs : List ℕ) (fired : List ℕ) (d : Config) : Type 0 where
-  pub legal : Legal a p start past
+pub record State (a : Automaton) (p : Pattern) (pairs : List (ℕ × ℕ)) (start : ℕ) (past : List Element) (vs : List ℕ) (fired : List ℕ) (d : Config) : Type 0 where
+  pub legal : LegalUnder a p pairs start past
   pub fits : Fits a d
   pub count : length vs ≡ length (meanings a p start past)
   pub places : (i : ℕ) → (combine (map (λ m. place_coefficient a m i) (meanings a p start past)) vs +ℤ total (change_of a i) fired) ≡ value_at d i
@@ -41,8 +41,8 @@ pub record State (a : Automaton) (p : Pattern) (start : ℕ) (past : List Elemen
 abbrev pub counts_of : Automaton → Pattern → ℕ → List Element → List ℕ → List ℕ
 counts_of a p start past fired = map (λ r. times_in r fired) (allowed_rules a p start past)
 
-pub closed : (a : Automaton) (p : Pattern) (start : ℕ) (past : List Element) (vs fired : List ℕ) (d : Config) → State a p start past vs fired d → Moment a (meanings a p start past ++ counts_after a p start past) (vs ++ counts_of a p start past fired) d
-closed a p start past vs fired d s =
+pub closed : (a : Automaton) (p : Pattern) (pairs : List (ℕ × ℕ)) (start : ℕ) (past : List Element) (vs fired : List ℕ) (d : Config) → State a p pairs start past vs fired d → Moment a (meanings a p start past ++ counts_after a p start past) (vs ++ counts_of a p start past fired) d
+closed a p pairs start past vs fired d s =
     let ms = meanings a p start past in
     let al = allowed_rules a p start past in
     record {
@@ -57,13 +57,13 @@ standing_hold : (a : Automaton) (start : ℕ) (past : List Element) (ms : List M
 standing_hold a start past ms vs d m more h =
     guards_hold a ms vs d m more (λ j. not (has_fallen start past j)) 0 a.fall (λ j row at t. h j row at (ap (has_fallen start past) (sym (zero-add j)) ∙ true_not _ t))
 
-pub push_rise : (a : Automaton) (p : Pattern) (start : ℕ) (past : List Element) (vs fired : List ℕ) (d : Config) → State a p start past vs fired d → (i : ℕ) (row : Row) → is_complete p past ≡ false → has_rise past i ≡ false → slice_get a.rise i ≡ Some row → RowHolds (value_at d) row → State a p start (Rise i ∷ past) (vs ++ counts_of a p start past fired) [] d
+pub push_rise : (a : Automaton) (p : Pattern) (pairs : List (ℕ × ℕ)) (start : ℕ) (past : List Element) (vs fired : List ℕ) (d : Config) → State a p pairs start past vs fired d → (i : ℕ) (row : Row) → is_complete p past ≡ false → is_due pairs past i ≡ true → has_rise past i ≡ false → slice_get a.rise i ≡ Some row → RowHolds (value_at d) row → State a p pairs start (Rise i ∷ past) (vs ++ counts_of a p start past fired) [] d
 unfolding meanings total word_rows rise_rows has_fallen
-push_rise a p start past vs fired d s i row more new named holds =
-    let m = closed a p start past vs fired d s in
+push_rise a p pairs start past vs fired d s i row more due new named holds =
+    let m = closed a p pairs start past vs fired d s in
     let some : Some row ≡ Some row = refl in
     record {
-      legal = (rise_child a p start past i more (slice_get_within _ _ _ named) new, s.legal);
+      legal = (rise_child a p pairs start past i more (slice_get_within _ _ _ named) (and_from (is_due pairs past i) (not (has_rise past i)) due (not_true (has_rise past i) new)), s.legal);
       fits = s.fits;
       count = m.count;
       places = λ k. omega (arith, ints, m.places k);
@@ -81,12 +81,12 @@ push_rise a p start past vs fired d s i row more new named holds =
       standing = s.standing;
     }
 
-pub push_event : (a : Automaton) (p : Pattern) (start : ℕ) (past : List Element) (vs fired : List ℕ) (d : Config) → State a p start past vs fired d → (e : ℕ) (event : PatternEvent) → is_complete p past ≡ false → is_ready p past e ≡ true → slice_get p.events e ≡ Some event → Holds event.condition d → State a p start (Event e ∷ past) (vs ++ counts_of a p start past fired) [] d
+pub push_event : (a : Automaton) (p : Pattern) (pairs : List (ℕ × ℕ)) (start : ℕ) (past : List Element) (vs fired : List ℕ) (d : Config) → State a p pairs start past vs fired d → (e : ℕ) (event : PatternEvent) → is_complete p past ≡ false → is_ready p past e ≡ true → slice_get p.events e ≡ Some event → Holds event.condition d → State a p pairs start (Event e ∷ past) (vs ++ counts_of a p start past fired) [] d
 unfolding meanings total word_rows happening_rows has_fallen
-push_event a p start past vs fired d s e event more ready named holds =
-    let m = closed a p start past vs fired d s in
+push_event a p pairs start past vs fired d s e event more ready named holds =
+    let m = closed a p pairs start past vs fired d s in
     record {
-      legal = (event_child a p start past e more (slice_get_within _ _ _ named) ready, s.legal);
+      legal = (event_child a p pairs start past e more (slice_get_within _ _ _ named) ready, s.legal);
       fits = s.fits;
       count = m.count;
       places = λ k. omega (arith, ints, m.places k);
@@ -121,10 +121,10 @@ single_sum before al vs extra r e one =
     let inner = combine-extra (λ (x : ℕ). pos 1) al (map t al) extra (length-map al t) in
     rw (append_assoc vs (map t al) extra) (omega (arith, ints, sums, inner, combine-zero before vs, combine-own (λ (x : ℕ). pos 1) t al, own))
 
-pub push_fall : (a : Automaton) (p : Pattern) (start : ℕ) (past : List Element) (vs fired : List ℕ) (d : Config) → State a p start past vs fired d → (r : ℕ) (next : Config) (mask : ℕ) → is_complete p past ≡ false → 1 ≤ mask → mask < 2 ^ length a.fall → is_standing a start past mask ≡ true → times_in r (allowed_rules a p start past) ≡ 1 → Fits a next → ((i : ℕ) → value_at next i ≡ (value_at d i +ℤ change_of a i r)) → Falls a start past mask next → State a p start (Fall mask ∷ past) ((vs ++ counts_of a p start past fired) ++ counts_of a p start past (r ∷ [])) [] next
+pub push_fall : (a : Automaton) (p : Pattern) (pairs : List (ℕ × ℕ)) (start : ℕ) (past : List Element) (vs fired : List ℕ) (d : Config) → State a p pairs start past vs fired d → (r : ℕ) (next : Config) (mask : ℕ) → is_complete p past ≡ false → 1 ≤ mask → mask < 2 ^ length a.fall → is_standing a start past mask ≡ true → times_in r (allowed_rules a p start past) ≡ 1 → Fits a next → ((i : ℕ) → value_at next i ≡ (value_at d i +ℤ change_of a i r)) → Falls a start past mask next → State a p pairs start (Fall mask ∷ past) ((vs ++ counts_of a p start past fired) ++ counts_of a p start past (r ∷ [])) [] next
 unfolding meanings total word_rows fall_rows has_fallen
-push_fall a p start past vs fired d s r next mask more low high stands one fits moved falls =
-    let m = closed a p start past vs fired d s in
+push_fall a p pairs start past vs fired d s r next mask more low high stands one fits moved falls =
+    let m = closed a p pairs start past vs fired d s in
     let al = allowed_rules a p start past in
     let n = length past in
     let before = meanings a p start past ++ counts_after a p start past in
@@ -135,7 +135,7 @@ push_fall a p start past vs fired d s r next mask more low high stands one fits 
     } in
     let stand : (j : ℕ) (row : Row) → slice_get a.fall j ≡ Some row → has_fallen start (Fall mask ∷ past) j ≡ false → RowHolds (value_at next) row = (λ j row at f. let q = or_false (has_bit mask j) (has_fallen start past j) f in falls.rest j row at q.0 q.1) in
     record {
-      legal = (fall_child a p start past mask more low high stands, s.legal);
+      legal = (fall_child a p pairs start past mask more low high stands, s.legal);
       fits = fits;
       count = end.count;
       places = λ k. omega (arith, ints, end.places k);
@@ -163,9 +163,9 @@ push_fall a p start past vs fired d s r next mask more low high stands one fits 
     }
 
 -- a step that turns no guard false
-pub add_step : (a : Automaton) (p : Pattern) (start : ℕ) (past : List Element) (vs fired : List ℕ) (d : Config) → State a p start past vs fired d → (r : ℕ) (next : Config) → times_in r (allowed_rules a p start past) ≡ 1 → Fits a next → ((i : ℕ) → value_at next i ≡ (value_at d i +ℤ change_of a i r)) → ((j : ℕ) (row : Row) → slice_get a.fall j ≡ Some row → (has_fallen start past j ≡ true → RowFails (value_at next) row) × (has_fallen start past j ≡ false → RowHolds (value_at next) row)) → State a p start past vs (r ∷ fired) next
+pub add_step : (a : Automaton) (p : Pattern) (pairs : List (ℕ × ℕ)) (start : ℕ) (past : List Element) (vs fired : List ℕ) (d : Config) → State a p pairs start past vs fired d → (r : ℕ) (next : Config) → times_in r (allowed_rules a p start past) ≡ 1 → Fits a next → ((i : ℕ) → value_at next i ≡ (value_at d i +ℤ change_of a i r)) → ((j : ℕ) (row : Row) → slice_get a.fall j ≡ Some row → (has_fallen start past j ≡ true → RowFails (value_at next) row) × (has_fallen start past j ≡ false → RowHolds (value_at next) row)) → State a p pairs start past vs (r ∷ fired) next
 unfolding total
-add_step a p start past vs fired d s r next one fits moved guards = record {
+add_step a p pairs start past vs fired d s r next one fits moved guards = record {
   legal = s.legal;
   fits = fits;
   count = s.count;
@@ -177,8 +177,8 @@ add_step a p start past vs fired d s r next one fits moved guards = record {
 }
 
 -- a step that changes no value
-pub skip_step : (a : Automaton) (p : Pattern) (start : ℕ) (past : List Element) (vs fired : List ℕ) (d : Config) → State a p start past vs fired d → (next : Config) → Fits a next → ((i : ℕ) → value_at next i ≡ value_at d i) → State a p start past vs fired next
-skip_step a p start past vs fired d s next fits same = record {
+pub skip_step : (a : Automaton) (p : Pattern) (pairs : List (ℕ × ℕ)) (start : ℕ) (past : List Element) (vs fired : List ℕ) (d : Config) → State a p pairs start past vs fired d → (next : Config) → Fits a next → ((i : ℕ) → value_at next i ≡ value_at d i) → State a p pairs start past vs fired next
+skip_step a p pairs start past vs fired d s next fits same = record {
   legal = s.legal;
   fits = fits;
   count = s.count;

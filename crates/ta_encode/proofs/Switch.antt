@@ -1,15 +1,16 @@
 -- one step of a run: a self-loop, a step that switches no fall guard, or one that does
-use Rattle.std.proofs.Common.{◌≡◌, ◌≢◌, inl, inr, ℕ, zero, suc, ◌+◌, ◌<◌, ◌≤◌, pos, ◌≤ℤ◌, ◌<ℤ◌, List, [], ◌∷◌, ◌++◌, map, length, eqb, cond, Bool, true, false, not, ◌&&◌, arith, sym, ap, ◌∙◌, refl, slice_get, get_or, Some, append_assoc}
+use Rattle.std.proofs.Common.{◌≡◌, ◌≢◌, inl, inr, ℕ, zero, suc, ◌+◌, ◌<◌, ◌≤◌, pos, ◌≤ℤ◌, ◌<ℤ◌, List, [], ◌∷◌, ◌++◌, map, length, eqb, cond, Bool, true, false, not, ◌&&◌, arith, sym, ap, ◌∙◌, refl, subst, slice_get, get_or, Some, append_assoc, ◌⊎◌}
 use Rattle.std.proofs.lemmas.Int.{ints}
 use Rattle.std.proofs.lemmas.Bool.{false≢true, true≢false, cases_Bool, and_parts, and_from, and_cases, ne_eqb}
 use Rattle.std.proofs.lemmas.Bool.Decides.{nat_tests, eqb_tells}
 use Rattle.std.proofs.lemmas.Option.{slice_get_within}
-use Rattle.ta_linear.specs.Values.{value_of, RowHolds}
+use Rattle.ta_linear.specs.Values.{value_of}
 use Rattle.ta_linear.specs.declared.row.Row.{Row}
 use Rattle.ta_automaton.specs.declared.automaton.Automaton.{Automaton}
 use Rattle.ta_automaton.specs.declared.pattern.Pattern.{Pattern}
-use Rattle.ta_automaton.specs.Runs.{Config, value_at, Step, LoopsPure}
-use Rattle.ta_automaton.specs.Masks.{has_bit, all_below, implies}
+use Rattle.ta_automaton.specs.Runs.{Admissible, Config, value_at, Step, LoopsPure}
+use Rattle.ta_automaton.specs.Masks.{has_bit, all_below, implies, In}
+use Rattle.ta_implied.specs.Implied.{RiseHolds}
 use Rattle.ta_words.specs.declared.element.Element.{Element}
 use Rattle.ta_words.specs.declared.element.Element.TheVariants.{Fall}
 use Rattle.ta_words.specs.Words.{has_event, has_rise, has_fallen, is_complete, may_fire, allowed_rules}
@@ -17,7 +18,7 @@ use Rattle.ta_automaton.specs.Sums.{times_in}
 use Rattle.ta_automaton.proofs.Fired.{once}
 use Rattle.ta_encode.proofs.Moments.{RowFails}
 use Rattle.ta_automaton.proofs.Moves.{Fits, move_at, fits_after, loop_at, step_later}
-use Rattle.ta_automaton.proofs.Thresholds.{stays_below}
+use Rattle.ta_automaton.proofs.Thresholds.{stays_below, stays_true}
 use Rattle.ta_automaton.proofs.MaskTests.{all_below-from, all_below-at, implies-from, true_not, not_true, bit_set, mask_of, mask_of-bit, mask_of-below, mask_of-some}
 use Rattle.ta_encode.proofs.State.{State, add_step, skip_step, push_fall}
 use Rattle.ta_encode.proofs.Start.{negative_true, negative_false, row_fails}
@@ -30,9 +31,9 @@ some_at (x ∷ xs) (suc i) h = some_at xs i (omega arith)
 pub stays_false : (a : Automaton) (r : ℕ) (before after : Config) → Fits a before → Fits a after → Step a r before after → (j : ℕ) (row : Row) → slice_get a.fall j ≡ Some row → RowFails (value_at before) row → RowFails (value_at after) row
 stays_false a r before after f g step j row at h = stays_below a (value_at before) (value_at after) (step_later a r before after f g step) j row at h
 
--- the rise guards that hold are in the word
-abbrev pub Seen : Automaton → List Element → Config → ℕ → Type 0
-Seen a past d n = (i : ℕ) → i < n → (row : Row) → slice_get a.rise i ≡ Some row → RowHolds (value_at d) row → has_rise past i ≡ true
+-- the rise guards that hold are in the word, but for some that are left
+abbrev pub Seen : Automaton → List Element → Config → List ℕ → Type 0
+Seen a past d left = (i : ℕ) → i < length a.rise → In i left ⊎ (RiseHolds a d i → has_rise past i ≡ true)
 
 abbrev pub KeptEmpty : Pattern → Config → Type 0
 KeptEmpty p d = (l : ℕ) → has_bit p.empty l ≡ true → get_or d.counters l 0 ≡ 0
@@ -44,13 +45,13 @@ arrives : (from to b c : ℕ) → from ≢ to → b + cond (eqb to from) 1 0 ≡
 arrives from to b c ne e = grind (arith, nat_tests)
 
 -- a step between two locations is allowed
-pub step_allowed : (a : Automaton) (p : Pattern) (start : ℕ) (past : List Element) (vs fired : List ℕ) (d next : Config) (r : ℕ) → State a p start past vs fired d → Seen a past d (length a.rise) → KeptEmpty p d → KeptEmpty p next → (step : Step a r d next) → step.rule.from ≢ step.rule.to → times_in r (allowed_rules a p start past) ≡ 1
+pub step_allowed : (a : Automaton) (p : Pattern) (pairs : List (ℕ × ℕ)) (start : ℕ) (past : List Element) (vs fired : List ℕ) (d next : Config) (r : ℕ) → State a p pairs start past vs fired d → Seen a past d [] → KeptEmpty p d → KeptEmpty p next → (step : Step a r d next) → step.rule.from ≢ step.rule.to → times_in r (allowed_rules a p start past) ≡ 1
 unfolding allowed_rules
-step_allowed a p start past vs fired d next r s seen empty later step ne =
+step_allowed a p pairs start past vs fired d next r s seen empty later step ne =
     let rule = step.rule in
     let from = from_free p d rule.from empty step.move.some in
     let to = from_free p next rule.to later (arrives rule.from rule.to (get_or next.counters rule.to 0) (get_or d.counters rule.to 0) ne (step.move.moved rule.to)) in
-    let rises = all_below-from (length a.rise) (λ i. implies (has_bit rule.rise i) (has_rise past i)) (λ i b. implies-from _ _ (λ t. let w = some_at a.rise i b in seen i b w.0 w.1 (step.move.rise i w.0 w.1 (bit_set rule.rise i t)))) in
+    let rises = all_below-from (length a.rise) (λ i. implies (has_bit rule.rise i) (has_rise past i)) (λ i b. implies-from _ _ (λ t. let holds : RiseHolds a d i = (λ row at. step.move.rise i row at (bit_set rule.rise i t)) in elim (seen i b) [ inl none ↦ absurd none | inr saw ↦ saw holds ])) in
     let falls = all_below-from (length a.fall) (λ j. implies (has_bit rule.fall j) (not (has_fallen start past j))) (λ j b. implies-from _ _ (λ t.
     let w = some_at a.fall j b in
     let holds : pos 0 ≤ℤ value_of (value_at d) (w.0).form = step.move.fall j w.0 w.1 (bit_set rule.fall j t) in
@@ -65,18 +66,21 @@ Begins origin vs = (more : List ℕ) × (vs ≡ origin ++ more)
 pub begins_more : (origin vs new : List ℕ) → Begins origin vs → Begins origin (vs ++ new)
 begins_more origin vs new b = (b.0 ++ new, ap (λ (xs : List ℕ). xs ++ new) b.1 ∙ append_assoc origin b.0 new)
 
--- a state after a step, with a word that isn't complete
-pub record Stage (a : Automaton) (p : Pattern) (start : ℕ) (origin : List ℕ) (done : ℕ → Type 0) (d : Config) (n : ℕ) : Type 0 where
+-- a state after a step, with a word that isn't complete, and the rise guards that are left to be seen at this moment
+pub record Stage (a : Automaton) (p : Pattern) (pairs : List (ℕ × ℕ)) (start : ℕ) (origin : List ℕ) (done begun : ℕ → Type 0) (d : Config) (left : List ℕ) : Type 0 where
   pub past : List Element
   pub vs : List ℕ
   pub fired : List ℕ
-  pub state : State a p start past vs fired d
+  pub state : State a p pairs start past vs fired d
   pub begins : Begins origin vs
   pub more : is_complete p past ≡ false
   pub events : (e : ℕ) → done e → has_event past e ≡ true
-  pub rises : Seen a past d n
+  pub only : (e : ℕ) → has_event past e ≡ true → begun e
+  pub rises : Seen a past d left
+  pub risen : (i : ℕ) → has_rise past i ≡ true → RiseHolds a d i
+  pub admissible : Admissible a d.parameters
 
-all_below-false : (n : ℕ) (test : ℕ → Bool) → all_below n test ≡ false → (k : ℕ) × (k < n) × (test k ≡ false)
+pub all_below-false : (n : ℕ) (test : ℕ → Bool) → all_below n test ≡ false → (k : ℕ) × (k < n) × (test k ≡ false)
 unfolding all_below
 all_below-false zero test h = absurd (true≢false h)
 all_below-false (suc n) test h = elim (and_cases (all_below n test) (test n) h) [
@@ -84,7 +88,7 @@ all_below-false (suc n) test h = elim (and_cases (all_below n test) (test n) h) 
   | inr e ↦ (n, omega arith, e)
 ]
 
-false_not : (x : Bool) → not x ≡ false → x ≡ true
+pub false_not : (x : Bool) → not x ≡ false → x ≡ true
 false_not true e = refl
 false_not false e = absurd (true≢false e)
 
@@ -99,10 +103,12 @@ and_true x y = and_from x y
 abbrev pub turns : Automaton → ℕ → List Element → Config → ℕ → Bool
 turns a start past next j = not (has_fallen start past j) && row_fails next (slice_get a.fall j)
 
-pub after_step : (a : Automaton) (p : Pattern) (start : ℕ) (origin : List ℕ) (done : ℕ → Type 0) (d next : Config) (r : ℕ) → LoopsPure a → Stage a p start origin done d (length a.rise) → KeptEmpty p d → KeptEmpty p next → Step a r d next → Stage a p start origin done next 0
-unfolding has_event
-after_step a p start origin done d next r loops g empty later step =
+pub after_step : (a : Automaton) (p : Pattern) (pairs : List (ℕ × ℕ)) (start : ℕ) (origin : List ℕ) (done begun : ℕ → Type 0) (d next : Config) (r : ℕ) (all : List ℕ) → ((i : ℕ) → i < length a.rise → In i all) → LoopsPure a → Stage a p pairs start origin done begun d [] → KeptEmpty p d → KeptEmpty p next → Step a r d next → Stage a p pairs start origin done begun next all
+unfolding has_event has_rise
+after_step a p pairs start origin done begun d next r all in_all loops g empty later step =
     let s = g.state in
+    let admissible : Admissible a next.parameters = subst (Admissible a) (sym step.move.parameters) g.admissible in
+    let risen : (i : ℕ) → has_rise g.past i ≡ true → RiseHolds a next i = (λ i t row at. stays_true a (value_at d) (value_at next) (step_later a r d next s.fits (fits_after a r d next s.fits step) step) i row at (g.risen i t row at)) in
     let past = g.past in
     let fits : Fits a next = fits_after a r d next s.fits step in
     elim (eqb_tells step.rule.from step.rule.to) [
@@ -111,13 +117,16 @@ after_step a p start origin done d next r loops g empty later step =
         vs = g.vs;
         begins = g.begins;
         fired = g.fired;
-        state = skip_step a p start past g.vs g.fired d s next fits (loop_at a r d next s.fits fits step e.1 (loops r step.rule step.named e.1));
+        state = skip_step a p pairs start past g.vs g.fired d s next fits (loop_at a r d next s.fits fits step e.1 (loops r step.rule step.named e.1));
         more = g.more;
         events = g.events;
-        rises = λ i b. absurd (omega arith);
+        only = g.only;
+        risen = risen;
+        rises = λ i b. inl (in_all i b);
+        admissible = admissible;
       }
       | inr ne ↦ (
-          let one = step_allowed a p start past g.vs g.fired d next r s g.rises empty later step ne.1 in
+          let one = step_allowed a p pairs start past g.vs g.fired d next r s g.rises empty later step ne.1 in
           let moved = move_at a r d next s.fits fits step in
           let stays : (j : ℕ) (row : Row) → slice_get a.fall j ≡ Some row → has_fallen start past j ≡ true → RowFails (value_at next) row = (λ j row at f. stays_false a r d next s.fits fits step j row at (s.fallen j row at f)) in
           let test = turns a start past next in
@@ -128,7 +137,7 @@ after_step a p start origin done d next r loops g empty later step =
               vs = g.vs;
               begins = g.begins;
               fired = r ∷ g.fired;
-              state = add_step a p start past g.vs g.fired d s r next one fits moved (λ j row at. (
+              state = add_step a p pairs start past g.vs g.fired d s r next one fits moved (λ j row at. (
                 stays j row at,
                 λ f.
                     let off : test j ≡ false = true_not (test j) (all_below-at n (λ k. not (test k)) none j (slice_get_within _ _ _ at)) in
@@ -136,7 +145,10 @@ after_step a p start origin done d next r loops g empty later step =
               ));
               more = g.more;
               events = g.events;
-              rises = λ i b. absurd (omega arith);
+              only = g.only;
+              risen = risen;
+              rises = λ i b. inl (in_all i b);
+              admissible = admissible;
             }
             | inr some ↦ (
                 let mask = mask_of test n in
@@ -147,7 +159,7 @@ after_step a p start origin done d next r loops g empty later step =
                   vs = (g.vs ++ map (λ k. times_in k g.fired) (allowed_rules a p start past)) ++ map (λ k. times_in k (r ∷ [])) (allowed_rules a p start past);
                   begins = begins_more origin (g.vs ++ map (λ k. times_in k g.fired) (allowed_rules a p start past)) (map (λ k. times_in k (r ∷ [])) (allowed_rules a p start past)) (begins_more origin g.vs (map (λ k. times_in k g.fired) (allowed_rules a p start past)) g.begins);
                   fired = [];
-                  state = push_fall a p start past g.vs g.fired d s r next mask g.more (mask_of-some test n w.0 w.1 (false_not (test w.0) w.2)) (mask_of-below test n)
+                  state = push_fall a p pairs start past g.vs g.fired d s r next mask g.more (mask_of-some test n w.0 w.1 (false_not (test w.0) w.2)) (mask_of-below test n)
                       (all_below-from n (λ j. implies (has_bit mask j) (not (has_fallen start past j))) (λ j b. implies-from (has_bit mask j) (not (has_fallen start past j)) (λ t. (and_parts (not (has_fallen start past j)) (row_fails next (slice_get a.fall j)) (sym (mask_of-bit test n j b) ∙ t)).0)))
                       one fits moved (record {
                         fails = λ j row at t. negative_true _ (sym (ap (row_fails next) at) ∙ (and_parts (not (has_fallen start past j)) (row_fails next (slice_get a.fall j)) (sym (bit j row at) ∙ t)).1);
@@ -156,7 +168,10 @@ after_step a p start origin done d next r loops g empty later step =
                       });
                   more = g.more;
                   events = g.events;
-                  rises = λ i b. absurd (omega arith);
+                  only = g.only;
+                  risen = risen;
+                  rises = λ i b. inl (in_all i b);
+                  admissible = admissible;
                 })
           ])
     ]

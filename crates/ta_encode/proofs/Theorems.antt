@@ -1,17 +1,20 @@
 -- the laws of words, systems, refutations and runs
-use Rattle.std.proofs.Common.{◌≡◌, ◌≤◌, ℕ, zero, suc, ◌+◌, List, [], ◌∷◌, ◌++◌, map, get_or, take, length, length-append, arith, refl, reverse, sym, ap, ◌∙◌, subst, slice_get, Some}
+use Rattle.std.proofs.Common.{◌≡◌, ◌≤◌, inl, inr, true, ℕ, zero, suc, ◌<◌, ◌+◌, List, [], ◌∷◌, ◌++◌, map, get_or, take, length, length-append, arith, refl, reverse, sym, ap, ◌∙◌, subst, slice_get, Some}
 use Rattle.std.proofs.lemmas.List.{reverse-reverse, length-map}
+use Rattle.std.proofs.lemmas.Bool.{false≢true}
 use Rattle.ta_automaton.specs.declared.automaton.Automaton.{Automaton}
+use Rattle.ta_automaton.proofs.MaskTests.{all_below-at}
 use Rattle.ta_automaton.specs.declared.pattern.Pattern.{Pattern}
 use Rattle.ta_automaton.specs.declared.file.File.{File}
-use Rattle.ta_automaton.specs.Runs.{Config}
+use Rattle.ta_automaton.specs.Runs.{Config, LoopsPure, Occurs}
 use Rattle.ta_automaton.specs.Masks.{numbers_from}
 use Rattle.ta_automaton.proofs.Thresholds.{pattern_within, after_earlier}
+use Rattle.ta_implied.specs.Implied.{Good}
 use Rattle.ta_words.specs.declared.element.Element.{Element}
-use Rattle.ta_words.specs.Words.{Legal, is_complete}
+use Rattle.ta_words.specs.Words.{LegalUnder, has_event, is_complete}
 use Rattle.ta_encode.specs.Unknowns.{Parameter, Start, start_locations, start_meanings, meanings}
 use Rattle.ta_encode.specs.System.{word_rows, SolvesWord}
-use Rattle.ta_encode.specs.Laws.{start_values, steps_of, RunsReorder, ProofsShowSafety, ProofsLeaveNoSolution, SolutionsBecomeRuns, StepsOfSolutionsRun}
+use Rattle.ta_encode.specs.Laws.{EndsAt, Reordered, ReorderedTo, RunsReorderTo, start_values, steps_of, RunsReorder, ProofsShowSafety, ProofsLeaveNoSolution, SolutionsBecomeRuns, StepsOfSolutionsRun}
 use Rattle.ta_encode.proofs.Moments.{AllHold-left}
 use Rattle.ta_encode.proofs.Start.{parameter_values, start_counts}
 use Rattle.ta_encode.proofs.Switch.{Begins}
@@ -52,10 +55,10 @@ begins_with a p first vs count b =
     let parameters : parameter_values a first ≡ first.parameters = subst (λ (n : ℕ). map (λ j. get_or first.parameters j 0) (numbers_from 0 n) ≡ first.parameters) count (each_index first.parameters) in
     sym (ap (λ (xs : List ℕ). take (length (start_meanings a p)) xs) b.1 ∙ take_first origin b.0 (length (start_meanings a p)) many ∙ ap (λ (xs : List ℕ). xs ++ start_counts a p first) parameters)
 
-pub reorder : RunsReorder
-reorder file n p at loops first rules occurs =
-    let a = file.automaton in
-    let d = describe a p loops (earlier file n p at) first rules occurs in
+-- the word of a run in which a pattern occurs whose events come after earlier ones alone
+pub reordered_by : (a : Automaton) (p : Pattern) → AfterEarlier p → LoopsPure a → (pairs : List (ℕ × ℕ)) → Good a pairs → (first : Config) (rules : List ℕ) → Occurs a p first rules → Reordered a p pairs first
+reordered_by a p early loops pairs good first rules occurs =
+    let d = describe a p pairs good loops early first rules occurs in
     let word = reverse d.past in
     let back : d.past ≡ reverse word = sym (reverse-reverse d.past) in
     let solves = subst (λ (q : List Element). SolvesWord a p d.start q [] d.values) back d.solves in
@@ -66,19 +69,44 @@ reorder file n p at loops first rules occurs =
       values = d.values;
       begins = begins_with a p first d.values occurs.run.initial.admissible.count d.begins;
       solved = record {
-        legal = subst (Legal a p d.start) back d.legal;
+        legal = subst (LegalUnder a p pairs d.start) back d.legal;
         complete = ap (is_complete p) (sym back) ∙ d.complete;
         solves = solves;
       };
       prefix_solved = prefix_solves a p d.start word d.values solves;
     }
 
+pub reorder : RunsReorder
+reorder file n p at loops pairs good first rules occurs = reordered_by file.automaton p (earlier file n p at) loops pairs good first rules occurs
+
+-- a pattern with events has no complete word without elements
+not_empty : (p : Pattern) (past : List Element) → 0 < length p.events → is_complete p past ≡ true → past ≡ [] → ⊥
+unfolding has_event
+not_empty p past some complete e = false≢true (all_below-at (length p.events) (has_event []) (sym (ap (is_complete p) e) ∙ complete) 0 some)
+
+-- that word, and what stands at its end
+pub reordered_to : (a : Automaton) (p : Pattern) → AfterEarlier p → LoopsPure a → (pairs : List (ℕ × ℕ)) → Good a pairs → 0 < length p.events → (first : Config) (rules : List ℕ) (o : Occurs a p first rules) → ReorderedTo a p pairs first (first ∷ o.later) o.positions
+unfolding reordered_by
+reordered_to a p early loops pairs good some first rules o =
+    let d = describe a p pairs good loops early first rules o in
+    let back : d.past ≡ reverse (reverse d.past) = sym (reverse-reverse d.past) in
+    record {
+      reordered = reordered_by a p early loops pairs good first rules o;
+      ends = elim d.ends [
+        | inl none ↦ absurd (not_empty p d.past some d.complete none)
+        | inr ends ↦ subst (λ (q : List Element). EndsAt a p d.start q d.values (first ∷ o.later) o.positions) back ends
+      ];
+    }
+
+pub reorder_to : RunsReorderTo
+reorder_to file n p at loops pairs good some first rules o = reordered_to file.automaton p (earlier file n p at) loops pairs good some first rules o
+
 pub safety : ProofsShowSafety
-safety file n p at loops trees proof = proof_safe file.automaton p loops (earlier file n p at) trees proof
+safety file n p at loops pairs good trees proof = proof_safe file.automaton p pairs good loops (earlier file n p at) trees proof
 
 pub no_solution : ProofsLeaveNoSolution
-no_solution a p trees proof start b word vs s =
-    none_solves a p trees proof start b (reverse word) vs s.legal s.complete (AllHold-left vs (word_rows a p start (reverse word)) [] s.solves.rows_hold)
+no_solution a p pairs trees proof start b word vs s =
+    none_solves a p pairs trees proof start b (reverse word) vs s.legal s.complete (AllHold-left vs (word_rows a p start (reverse word)) [] s.solves.rows_hold)
 
 pub these_run : StepsOfSolutionsRun
 unfolding meanings

@@ -129,7 +129,7 @@ position_here x e n m q = let s : eqb x e ≡ true = grind (arith, nat_tests) in
 position_other : (x e n m : ℕ) → x ≢ e → cond (eqb x e) n m ≡ m
 position_other x e n m q = let s : eqb x e ≡ false = grind (arith, nat_tests) in rw s refl
 
-do_event : (a : Automaton) (p : Pattern) (start : ℕ) (past : List Element) (vs : List ℕ) (first : Config) (earlier : List ℕ) (position : ℕ → ℕ) (os : List ℕ) (e : ℕ) → Fires a p start past vs os → In (Event e) (children a p start past) → At a p start past vs (meanings a p start past) first earlier position → AllHold vs (happening_rows a p start past (meanings a p start (Event e ∷ past)) e) → At a p start (Event e ∷ past) vs (meanings a p start (Event e ∷ past)) first (earlier ++ os) (λ x. cond (eqb x e) (length (earlier ++ os)) (position x))
+do_event : (a : Automaton) (p : Pattern) (start : ℕ) (past : List Element) (vs : List ℕ) (first : Config) (earlier : List ℕ) (position : ℕ → ℕ) (os : List ℕ) (e : ℕ) → Fires a p start past vs os → In (Event e) (children a p [] start past) → At a p start past vs (meanings a p start past) first earlier position → AllHold vs (happening_rows a p start past (meanings a p start (Event e ∷ past)) e) → At a p start (Event e ∷ past) vs (meanings a p start (Event e ∷ past)) first (earlier ++ os) (λ x. cond (eqb x e) (length (earlier ++ os)) (position x))
 unfolding meanings happening_rows has_rise has_event
 do_event a p start past vs first earlier position os e w child t h =
     let ms = meanings a p start past ++ counts_after a p start past in
@@ -141,7 +141,7 @@ do_event a p start past vs first earlier position os e w child t h =
     let u = do_counts a p start past vs first earlier position os w t counters (stand a start past ms vs standing) in
     let n = length (earlier ++ os) in
     let all : length u.trail.rules ≡ n = ap (λ (xs : List ℕ). length xs) u.is in
-    let ready = and_parts (not (has_event past e)) (follows p past (slice_get p.events e)) (event_ready a p start past e child) in
+    let ready = and_parts (not (has_event past e)) (follows p past (slice_get p.events e)) (event_ready a p [] start past e child) in
     let new = true_not (has_event past e) ready.0 in
     let place : ℕ → ℕ = (λ x. cond (eqb x e) n (position x)) in
     let old_not : (x : ℕ) → has_event past x ≡ true → x ≢ e = (λ x y q. false≢true (sym new ∙ ap (has_event past) (sym q) ∙ y)) in

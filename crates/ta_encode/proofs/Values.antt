@@ -13,9 +13,10 @@ use Rattle.ta_automaton.specs.declared.automaton.Automaton.{Automaton}
 use Rattle.ta_automaton.specs.declared.pattern.Pattern.{Pattern}
 use Rattle.ta_automaton.specs.Runs.{Config, value_at}
 use Rattle.ta_automaton.specs.Masks.{has_bit, numbers_from, In}
+use Rattle.ta_implied.proofs.Members.{in_append}
 use Rattle.ta_words.specs.declared.element.Element.{Element}
 use Rattle.ta_words.specs.declared.element.Element.TheVariants.{Event, Rise, Fall}
-use Rattle.ta_words.specs.Words.{may_fire, allowed_rules, children, is_complete, is_ready, is_standing, has_rise}
+use Rattle.ta_words.specs.Words.{may_fire, allowed_rules, children, is_complete, is_ready, is_standing, may_rise}
 use Rattle.ta_encode.specs.Unknowns.{Meaning, place_coefficient}
 use Rattle.ta_automaton.specs.Places.{location_place}
 use Rattle.ta_encode.specs.System.{LinearRow, form_row, counter_row, counter_rows, condition_rows, guard_rows, combine, row_value, AllHold}
@@ -154,11 +155,6 @@ cond_in : {X : Type 0} (x : X) (b : Bool) (xs : List X) → In x (cond b [] xs) 
 cond_in x true xs h = absurd h
 cond_in x false xs h = h
 
-pub in_append : {X : Type 0} (x : X) (xs ys : List X) → In x (xs ++ ys) → In x xs ⊎ In x ys
-in_append x [] ys h = inr h
-in_append x (y ∷ xs) ys (inl e) = inl (inl e)
-in_append x (y ∷ xs) ys (inr h) = elim (in_append x xs ys h) [ inl i ↦ inl (inr i) | inr i ↦ inr i ]
-
 same_event : (e f : ℕ) → Event e ≡ Event f → e ≡ f
 same_event e f q = cc
 
@@ -186,11 +182,11 @@ pub in_filter : (ok : ℕ → Bool) (x : ℕ) (xs : List ℕ) → In x (filter o
 in_filter ok x [] h = absurd h
 in_filter ok x (y ∷ xs) h = in_kept ok x y (ok y) (filter ok xs) refl (in_filter ok x xs) h
 
-pub event_ready : (a : Automaton) (p : Pattern) (start : ℕ) (past : List Element) (e : ℕ) → In (Event e) (children a p start past) → is_ready p past e ≡ true
+pub event_ready : (a : Automaton) (p : Pattern) (pairs : List (ℕ × ℕ)) (start : ℕ) (past : List Element) (e : ℕ) → In (Event e) (children a p pairs start past) → is_ready p past e ≡ true
 unfolding children
-event_ready a p start past e h =
+event_ready a p pairs start past e h =
     let es = map Event (filter (is_ready p past) (numbers_from 0 (length p.events))) in
-    let rs = map Rise (filter (λ i. not (has_rise past i)) (numbers_from 0 (length a.rise))) in
+    let rs = map Rise (filter (may_rise pairs past) (numbers_from 0 (length a.rise))) in
     let fs = map Fall (filter (is_standing a start past) (numbers_from 1 (2 ^ length a.fall - 1))) in
     elim (in_append (Event e) es (rs ++ fs) (cond_in (Event e) (is_complete p past) (es ++ (rs ++ fs)) h)) [
       | inl i ↦ in_filter (is_ready p past) e (numbers_from 0 (length p.events)) (in_events e _ i)

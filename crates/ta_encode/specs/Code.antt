@@ -27,6 +27,6 @@ pub record SystemAt (s : Search) (w : Pending) (system : System) : Type 0 where
   pub unknowns : system.unknowns ≡ s.unknowns w.start w.past
   pub rows : RowsOf (rows_of s w) system.rows
 
--- those of a pattern's word with bounds
+-- those of a pattern's word with bounds; pairs of guards change nothing of them
 abbrev pub SystemOf : Automaton → Pattern → ℕ → List Element → List Bound → System → Type 0
-SystemOf a p start past bounds system = SystemAt (pattern_search a p) (record { start = start; past = past; bounds = bounds }) system
+SystemOf a p start past bounds system = SystemAt (pattern_search a p []) (record { start = start; past = past; bounds = bounds }) system

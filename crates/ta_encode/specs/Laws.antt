@@ -1,6 +1,8 @@
 -- What words, their systems and their refutations say of runs (the reordering theorem after POPL 2017, with start sets
 -- and joint falls as this project's own)
-use Rattle.std.specs.Prelude.{ℕ, ℤ, ◌<◌, ◌≤◌, ◌^◌, ◌≡◌, ◌≢◌, ◌==◌, if◌then◌else◌, true, List, [], ◌∷◌, ◌++◌, length, map, reverse, take, drop, slice_get, slice_index, Some}
+use Rattle.std.specs.Prelude.{ℕ, ℤ, ◌<◌, ◌≤◌, ◌^◌, ◌≡◌, ◌≢◌, ◌==◌, ◌↔◌, false, if◌then◌else◌, true, List, [], ◌∷◌, ◌++◌, length, map, reverse, take, drop, slice_get, slice_index, Some}
+use Rattle.ta_linear.specs.Values.{RowHolds}
+use Rattle.ta_linear.specs.declared.row.Row.{Row}
 use Rattle.ta_automaton.specs.declared.rule.Rule.{Rule}
 use Rattle.ta_automaton.specs.declared.automaton.Automaton.{Automaton}
 use Rattle.ta_automaton.specs.declared.pattern.Pattern.{Pattern}
@@ -8,21 +10,26 @@ use Rattle.ta_automaton.specs.declared.file.File.{File}
 use Rattle.ta_automaton.specs.Lists.{Each}
 use Rattle.ta_automaton.specs.Masks.{numbers_from}
 use Rattle.ta_automaton.specs.Places.{rule_change}
-use Rattle.ta_automaton.specs.Runs.{Config, InScope, LoopsPure, Occurs, Safe}
+use Rattle.ta_automaton.specs.Runs.{Config, InScope, LoopsPure, Occurs, Safe, value_at}
 use Rattle.ta_automaton.specs.Sums.{total}
 use Rattle.ta_cert.specs.Tree.{Tree}
+use Rattle.ta_implied.specs.Implied.{Good}
 use Rattle.ta_words.specs.declared.element.Element.{Element}
 use Rattle.ta_words.specs.declared.element.Element.TheVariants.{Event, Rise, Fall}
-use Rattle.ta_words.specs.Words.{Legal, is_complete, may_fire}
+use Rattle.ta_words.specs.Words.{LegalUnder, has_fallen, has_rise, is_complete, may_fire}
 use Rattle.ta_encode.specs.Unknowns.{Meaning, Single, meanings, counts_after, place_coefficient, start_locations, start_meanings}
 use Rattle.ta_encode.specs.System.{SolvesWord, combine}
 use Rattle.ta_encode.specs.Refutes.{ProofOf}
 
--- a complete legal word, and natural values that solve its system without bounds
-pub record SolvedWord (a : Automaton) (p : Pattern) (start : ℕ) (word : List Element) (values : List ℕ) : Type 0 where
-  pub legal : Legal a p start (reverse word)
+-- a complete word that is legal under pairs, and natural values that solve its system without bounds
+pub record SolvedUnder (a : Automaton) (p : Pattern) (pairs : List (ℕ × ℕ)) (start : ℕ) (word : List Element) (values : List ℕ) : Type 0 where
+  pub legal : LegalUnder a p pairs start (reverse word)
   pub complete : is_complete p (reverse word) ≡ true
   pub solves : SolvesWord a p start (reverse word) [] values
+
+-- the same under no pairs
+abbrev pub SolvedWord : Automaton → Pattern → ℕ → List Element → List ℕ → Type 0
+SolvedWord a p start word values = SolvedUnder a p [] start word values
 
 -- the parameters of a configuration, and its counters of the initial locations that are not kept empty
 abbrev pub start_values : Automaton → Pattern → Config → List ℕ
@@ -32,39 +39,73 @@ start_values a p first = first.parameters ++ map (slice_index first.counters) (s
 abbrev pub values_of_prefix : Automaton → Pattern → ℕ → List Element → List ℕ → List ℕ
 values_of_prefix a p start prefix values = take (length (meanings a p start (reverse prefix))) values
 
--- a set of fall guards, a complete legal word and one assignment of naturals that has the parameters and the start counts
--- of a configuration, and that solves the system of the word and that of each of its prefixes
-pub record Reordered (a : Automaton) (p : Pattern) (first : Config) : Type 0 where
+-- a set of fall guards, a complete word that is legal under pairs and one assignment of naturals that has the parameters and the
+-- start counts of a configuration, and that solves the system of the word and that of each of its prefixes
+pub record Reordered (a : Automaton) (p : Pattern) (pairs : List (ℕ × ℕ)) (first : Config) : Type 0 where
   pub start : ℕ
   pub is_start : start < 2 ^ length a.fall
   pub word : List Element
   pub values : List ℕ
   pub begins : start_values a p first ≡ take (length (start_meanings a p)) values
-  pub solved : SolvedWord a p start word values
+  pub solved : SolvedUnder a p pairs start word values
   pub prefix_solved : (k : ℕ) → SolvesWord a p start (reverse (take k word)) [] (values_of_prefix a p start (take k word) values)
 
--- every run in which the pattern occurs, of any length and any number of processes, is described by a word whose system it solves (POPL 2017, reordering; this project's words)
+-- under good pairs of rise guards, every run in which the pattern occurs, of any length and any number of processes, is described by a word that is legal under them and whose system it solves (POPL 2017, reordering; this project's words)
 abbrev pub RunsReorder : Type 0
 RunsReorder =
     (file : File) (n : ℕ) (p : Pattern) → slice_get file.patterns n ≡ Some p
     → LoopsPure file.automaton
+    → (pairs : List (ℕ × ℕ)) → Good file.automaton pairs
     → (first : Config) (rules : List ℕ) → Occurs file.automaton p first rules
-    → Reordered file.automaton p first
+    → Reordered file.automaton p pairs first
 
--- a proof of a pattern shows that the pattern occurs in no run
+-- what stands at the end of a word that describes a run of these configurations, in which the events have these positions: its
+-- newest element is an event, and the values are those of the configuration at this event's position, which no other's is behind;
+-- the rise guards that hold there are those in the word, and the fall guards that fail there are those that have fallen
+pub record EndsAt (a : Automaton) (p : Pattern) (start : ℕ) (past : List Element) (values : List ℕ) (configs : List Config) (positions : List ℕ) : Type 0 where
+  pub last : ℕ
+  pub older : List Element
+  pub newest : past ≡ Event last ∷ older
+  pub place : ℕ
+  pub position : slice_index positions last ≡ place
+  pub greatest : (e : ℕ) → e < length p.events → slice_index positions e ≤ place
+  pub config : Config
+  pub there : slice_get configs place ≡ Some config
+  pub count : length values ≡ length (meanings a p start past)
+  pub places : (i : ℕ) → combine (map (λ m. place_coefficient a m i) (meanings a p start past)) values ≡ value_at config i
+  pub risen : (i : ℕ) (row : Row) → slice_get a.rise i ≡ Some row → RowHolds (value_at config) row ↔ (has_rise past i ≡ true)
+  pub fallen : (j : ℕ) (row : Row) → slice_get a.fall j ≡ Some row → RowHolds (value_at config) row ↔ (has_fallen start past j ≡ false)
+
+-- a word as in the reordering, and what stands at its end
+pub record ReorderedTo (a : Automaton) (p : Pattern) (pairs : List (ℕ × ℕ)) (first : Config) (configs : List Config) (positions : List ℕ) : Type 0 where
+  pub reordered : Reordered a p pairs first
+  pub ends : EndsAt a p reordered.start (reverse reordered.word) reordered.values configs positions
+
+-- the word of a run in which a pattern with events occurs ends with the event that happens last, at the configuration at which it happens
+abbrev pub RunsReorderTo : Type 0
+RunsReorderTo =
+    (file : File) (n : ℕ) (p : Pattern) → slice_get file.patterns n ≡ Some p
+    → LoopsPure file.automaton
+    → (pairs : List (ℕ × ℕ)) → Good file.automaton pairs
+    → 0 < length p.events
+    → (first : Config) (rules : List ℕ) (o : Occurs file.automaton p first rules)
+    → ReorderedTo file.automaton p pairs first (first ∷ o.later) o.positions
+
+-- a proof of a pattern under good pairs shows that the pattern occurs in no run
 abbrev pub ProofsShowSafety : Type 0
 ProofsShowSafety =
     (file : File) (n : ℕ) (p : Pattern) → slice_get file.patterns n ≡ Some p
     → LoopsPure file.automaton
-    → (trees : List Tree) → ProofOf file.automaton p trees
+    → (pairs : List (ℕ × ℕ)) → Good file.automaton pairs
+    → (trees : List Tree) → ProofOf file.automaton p pairs trees
     → Safe file.automaton p
 
--- where a pattern has a proof, no complete legal word has a natural solution
+-- where a pattern has a proof under pairs, no complete word that is legal under them has a natural solution
 abbrev pub ProofsLeaveNoSolution : Type 0
 ProofsLeaveNoSolution =
-    (a : Automaton) (p : Pattern) (trees : List Tree) → ProofOf a p trees
+    (a : Automaton) (p : Pattern) (pairs : List (ℕ × ℕ)) (trees : List Tree) → ProofOf a p pairs trees
     → (start : ℕ) → start < 2 ^ length a.fall
-    → (word : List Element) (values : List ℕ) → SolvedWord a p start word values
+    → (word : List Element) (values : List ℕ) → SolvedUnder a p pairs start word values
     → ⊥
 
 -- where a step leaves, neither it nor a later one arrives

@@ -16,11 +16,11 @@ empty_word start = record { start = start; past = []; bounds = [] }
 abbrev pub all_starts : Automaton → List Pending
 all_starts a = map empty_word (numbers_from 0 (2 ^ length a.fall))
 
--- it begins with the empty word of each start set, and goes on with the children of each word
-abbrev pub pattern_search : Automaton → Pattern → Search
-pattern_search a p = record {
+-- under pairs of rise guards, (j, i) for j before i: it begins with the empty word of each start set, and goes on with the children of each word
+abbrev pub pattern_search : Automaton → Pattern → List (ℕ × ℕ) → Search
+pattern_search a p pairs = record {
   roots = all_starts a;
-  following = children a p;
+  following = children a p pairs;
   complete = λ start past. is_complete p past;
   unknowns = λ start past. length (meanings a p start past);
   rows = word_rows a p;

@@ -54,6 +54,6 @@ RefuteAll s test (w ∷ ws) (tree ∷ trees) = RefutesBy s test w tree × Refute
 abbrev pub ProofBy : Search → LeafTest → List Tree → Type 0
 ProofBy s test trees = RefuteAll s test s.roots trees
 
--- a proof of a pattern: one tree for each set of fall guards that may be false at the start
-abbrev pub ProofOf : Automaton → Pattern → List Tree → Type 0
-ProofOf a p trees = ProofBy (pattern_search a p) (IsLeaf (pattern_search a p)) trees
+-- a proof of a pattern under pairs: one tree for each set of fall guards that may be false at the start
+abbrev pub ProofOf : Automaton → Pattern → List (ℕ × ℕ) → List Tree → Type 0
+ProofOf a p pairs trees = ProofBy (pattern_search a p pairs) (IsLeaf (pattern_search a p pairs)) trees

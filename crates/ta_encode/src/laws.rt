@@ -4,14 +4,17 @@
 
 ghost use Rattle.ta_encode.specs.InPreorder.{ProofsAreDetermined, ProofsReadInOrder};
 ghost use Rattle.ta_encode.specs.Refutes.{IsLeaf};
-ghost use Rattle.ta_encode.specs.Laws.{ProofsLeaveNoSolution, ProofsShowSafety, RunsReorder, SolutionsBecomeRuns, StepsOfSolutionsRun};
+ghost use Rattle.ta_encode.specs.Laws.{ProofsLeaveNoSolution, ProofsShowSafety, RunsReorder, RunsReorderTo, SolutionsBecomeRuns, StepsOfSolutionsRun};
 
-/// Every run in which a pattern occurs is described by a word whose system it solves.
+/// Every run in which a pattern occurs is described by a word whose system it solves, under any good
+/// pairs of rise guards: within one moment a fall comes first, then the rises in an order that keeps
+/// the pairs, then the events, those of a lower number first.
 pub fn runs_reorder()
-    ensures { RunsReorder }
+    ensures word { RunsReorder }
+    ensures end { RunsReorderTo }
 {}
 
-/// A pattern that has a proof occurs in no run.
+/// A pattern that has a proof under good pairs of rise guards occurs in no run.
 pub fn proofs_show_safety()
     ensures { ProofsShowSafety }
 {}

@@ -103,7 +103,7 @@ leaves_imply a before after system ts is leaf c admissible shared holds row name
 pair_implies : (a : Automaton) (pair : ℕ × ℕ) → IsImplied a pair → (c : Config) → Admissible a c.parameters → length c.shared ≡ length a.shared → RiseHolds a c pair.1 → RiseHolds a c pair.0
 pair_implies a pair is c admissible shared holds = leaves_imply a pair.0 pair.1 is.system is.multipliers is.is is.leaf c admissible shared holds
 
-each_in : {X : Type 0} (P : X → Type 0) (xs : List X) (x : X) → Each P xs → In x xs → P x
+pub each_in : {X : Type 0} (P : X → Type 0) (xs : List X) (x : X) → Each P xs → In x xs → P x
 each_in P [] x all is = absurd is
 each_in P (y ∷ ys) x all (inl same) = subst P (sym same) all.0
 each_in P (y ∷ ys) x all (inr is) = each_in P ys x all.1 is

@@ -1,2 +1,4 @@
 pub mod Implied
 pub mod Copies
+pub mod Orders
+pub mod Refused

@@ -1,5 +1,5 @@
 -- The cells and heads of a system's rows
-use Rattle.std.proofs.Common.{◌≡◌, ◌≢◌, inl, inr, ℕ, zero, suc, ℤ, pos, ◌+◌, ◌<◌, List, [], ◌∷◌, ◌++◌, length, drop, get_or, append_assoc, arith, sym, ap, ◌∙◌, refl, Option, None}
+use Rattle.std.proofs.Common.{◌≡◌, ◌≢◌, inl, inr, ℕ, zero, suc, ℤ, pos, ◌+◌, ◌<◌, ◌≤◌, List, [], ◌∷◌, ◌++◌, length, drop, get_or, append_assoc, arith, sym, ap, ◌∙◌, refl, Option, None}
 use Rattle.std.proofs.lemmas.List.{drop_more}
 use Rattle.ta_linear.specs.Terms.{coefficient}
 use Rattle.ta_linear.specs.declared.row.Row.{Row}
@@ -47,24 +47,29 @@ pub no_values : (cells : List Cell) → length cells ≡ 0 → (r c : ℕ) → v
 no_values [] e r c = refl
 no_values (x ∷ xs) e r c = absurd (omega arith)
 
-pub shows_none : (rows : List Row) (f : ℕ → ℕ → ℤ) → ((r c : ℕ) → f r c ≡ pos 0) → RowsShow rows 0 f
-shows_none rows f zero_ = record { shown = λ i c d h. absurd (omega arith); empty = λ i c h. zero_ i c }
+-- a row that was written over
+pub overwritten_by : (list form : List (ℕ × ℤ)) (f g : ℕ → ℤ) → ((c : ℕ) → coefficient list c ≢ pos 0 → g c ≡ coefficient form c) → ((c : ℕ) → coefficient list c ≡ pos 0 → g c ≡ f c) → ((c : ℕ) → coefficient list c ≡ pos 0 → f c ≡ coefficient form c) → (c : ℕ) → g c ≡ coefficient form c
+overwritten_by list form f g listed rest was c = elim (zero_tells (coefficient list c)) [ inl e ↦ rest c e ∙ was c e | inr ne ↦ listed c ne ]
 
-pub shows_more : (rows : List Row) (k : ℕ) (f g : ℕ → ℕ → ℤ) (ts : List (ℕ × ℤ)) → RowsShow rows k f → ((d : Row) → ts ≡ (get_or rows k d).form.terms) → ((r c : ℕ) → r ≢ k → g r c ≡ f r c) →
-    ((c : ℕ) → coefficient ts c ≢ pos 0 → g k c ≡ coefficient ts c) → ((c : ℕ) → coefficient ts c ≡ pos 0 → g k c ≡ f k c) → RowsShow rows (k + 1) g
-shows_more rows k f g ts s is others listed rest = record {
-  shown = λ i c d h. elim (is_or_not i k) [
+pub shows_none : (first : ℕ) (rows : List Row) (f : ℕ → ℕ → ℤ) → ((r c : ℕ) → first ≤ r → f r c ≡ pos 0) → RowsShow first f rows first f
+shows_none first rows f zero_ = record { same = λ i c b. refl; shown = λ i c d low h. absurd (omega arith); empty = λ i c h. zero_ i c h }
+
+pub shows_more : (first : ℕ) (old : ℕ → ℕ → ℤ) (rows : List Row) (k : ℕ) (f g : ℕ → ℕ → ℤ) (ts : List (ℕ × ℤ)) → first ≤ k → RowsShow first old rows k f → ((d : Row) → ts ≡ (get_or rows k d).form.terms) → ((r c : ℕ) → r ≢ k → g r c ≡ f r c) →
+    ((c : ℕ) → coefficient ts c ≢ pos 0 → g k c ≡ coefficient ts c) → ((c : ℕ) → coefficient ts c ≡ pos 0 → g k c ≡ f k c) → RowsShow first old rows (k + 1) g
+shows_more first old rows k f g ts from s is others listed rest = record {
+  same = λ i c b. others i c (λ e. omega arith) ∙ s.same i c b;
+  shown = λ i c d low h. elim (is_or_not i k) [
     | inl e ↦ ap (λ (m : ℕ). g m c) e ∙ here c ∙ ap (λ (xs : List (ℕ × ℤ)). coefficient xs c) (is d) ∙ ap (λ (m : ℕ). coefficient (get_or rows m d).form.terms c) (sym e)
-    | inr ne ↦ others i c ne ∙ s.shown i c d (omega arith)
+    | inr ne ↦ others i c ne ∙ s.shown i c d low (omega arith)
   ];
   empty = λ i c h. others i c (λ e. omega arith) ∙ s.empty i c (omega arith);
 } where
   here : (c : ℕ) → g k c ≡ coefficient ts c
-  here c = elim (zero_tells (coefficient ts c)) [ inl e ↦ rest c e ∙ s.empty k c (omega arith) ∙ sym e | inr ne ↦ listed c ne ]
+  here = overwritten_by ts ts (f k) (g k) listed rest (λ c e. s.empty k c (omega arith) ∙ sym e)
 
-pub heads_more : (u : ℕ) (rows : List Row) (heads new : List RowHead) (slack i : ℕ) (r : Row) → i < length rows → r ≡ get_or rows i r → heads ++ slack_heads slack (drop i rows) ≡ slack_heads u rows →
-    new ≡ heads ++ record { basic = slack; denominator = pos 1; constant = r.form.constant } ∷ [] → new ++ slack_heads (slack + 1) (drop (i + 1) rows) ≡ slack_heads u rows
-heads_more u rows heads new slack i r h e all is =
+pub heads_more : (whole : List RowHead) (rows : List Row) (heads new : List RowHead) (slack i : ℕ) (r : Row) → i < length rows → r ≡ get_or rows i r → heads ++ slack_heads slack (drop i rows) ≡ whole →
+    new ≡ heads ++ record { basic = slack; denominator = pos 1; constant = r.form.constant } ∷ [] → new ++ slack_heads (slack + 1) (drop (i + 1) rows) ≡ whole
+heads_more whole rows heads new slack i r h e all is =
     let head : RowHead = record { basic = slack; denominator = pos 1; constant = r.form.constant } in
     let rest = slack_heads (suc slack) (drop (i + 1) rows) in
     let split : slack_heads slack (drop i rows) ≡ head ∷ rest =

@@ -93,12 +93,12 @@ pub record PutOver (now : LinkedCells) (row column : ℕ) (value : ℤ) (left : 
   pub fresh : now.free_head ≡ None → value_in now.cells.items row column ≡ pos 0 → new.free_head ≡ None
   pub held : length new.cells.items ≤ length now.cells.items + fills (value_in now.cells.items row column) value
 
-at_own : (t : ℕ × ℤ) (rest : List (ℕ × ℤ)) (n : ℕ) → IsNormal (t.0 + 1) n rest → coefficient (t ∷ rest) t.0 ≡ t.1
+pub at_own : (t : ℕ × ℤ) (rest : List (ℕ × ℤ)) (n : ℕ) → IsNormal (t.0 + 1) n rest → coefficient (t ∷ rest) t.0 ≡ t.1
 at_own t rest n normal =
     let none = coefficient-below (t.0 + 1) n rest t.0 normal (omega arith) in
     elim (eqb_tells t.0 t.0) [ inl e ↦ rw e.0 (omega (arith, ints, none)) | inr ne ↦ absurd (ne.1 refl) ]
 
-at_other : (t : ℕ × ℤ) (rest : List (ℕ × ℤ)) (c : ℕ) → t.0 ≢ c → coefficient (t ∷ rest) c ≡ coefficient rest c
+pub at_other : (t : ℕ × ℤ) (rest : List (ℕ × ℤ)) (c : ℕ) → t.0 ≢ c → coefficient (t ∷ rest) c ≡ coefficient rest c
 at_other t rest c apart = elim (eqb_tells t.0 c) [ inl e ↦ absurd (apart e.1) | inr ne ↦ rw ne.0 (omega (arith, ints)) ]
 
 pub overwritten_more : (old : LinkedCells) (row : ℕ) (list form : List (ℕ × ℤ)) (index : ℕ) (left : Option ℕ) (now : LinkedCells) (d : ℕ × ℤ) (value : ℤ) (left' : Option ℕ) (new : LinkedCells) → Overwritten old row list form index left now → index < length list →

@@ -13,10 +13,14 @@ mod Walking
 mod ColumnSteps
 mod Beginning
 mod LinkedFacts
-mod EnterSoFar
 mod LeastSoFar
+mod EnterSteps
 mod MergeSteps
 mod RowMerging
+mod Listed
 mod AllMerging
 mod TurnedRow
 mod PivotedTable
+mod CarriedRows
+mod ExtendedRows
+mod ExtendedTable

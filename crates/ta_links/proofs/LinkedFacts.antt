@@ -39,7 +39,7 @@ pub table_cell : (cells : List Cell) (n : ℕ) (hs : List RowHead) (i j : ℕ) �
 table_cell cells n hs i j h b =
     ap (λ (r : TableauRow). cell_of r j) (table_row_at cells n 0 hs i h) ∙ row_value_at cells n (0 + i) j b ∙ ap (λ (r : ℕ). value_in cells r j) (omega arith)
 
-values_are : (cells : List Cell) (n row : ℕ) (ts : List (ℕ × ℤ)) → ((c : ℕ) → value_in cells row c ≡ coefficient ts c) → row_values cells n row ≡ coefficients n ts
+pub values_are : (cells : List Cell) (n row : ℕ) (ts : List (ℕ × ℤ)) → ((c : ℕ) → value_in cells row c ≡ coefficient ts c) → row_values cells n row ≡ coefficients n ts
 values_are cells n row ts same = go (range_with_len 0 n) where
   go : (xs : List ℕ) → map (value_in cells row) xs ≡ map (coefficient ts) xs
   go [] = refl

@@ -6,6 +6,9 @@ use Rattle.ta_links.specs.declared.way.Way.TheVariants.{Rows, Columns}
 use Rattle.ta_links.specs.Chains.{cell_at, IsLive, line_at, place_at, IsChained}
 use Rattle.ta_links.specs.Links.{direction, following}
 use Rattle.ta_links.specs.Lines.{number_at, IsOn, MayBeOn, IsNext, NoneLeft}
+use Rattle.ta_links.specs.declared.linked_cells.LinkedCells.{LinkedCells}
+use Rattle.ta_links.specs.Gaps.{AreSound}
+use Rattle.ta_links.specs.Listing.{heads_of}
 use Rattle.ta_links.proofs.Cells.{value_none, value_found}
 
 -- the number at a place without a live cell, and with one
@@ -56,3 +59,8 @@ pub walk_none : (way : Way) (cells : List Cell) (heads : List (Option ℕ)) (lin
     IfNone next (NoneLeft way cells line before)
 walk_none way cells heads line before None chained may e = none_from way cells heads line before chained may (sym e)
 walk_none way cells heads line before (Some j) chained may e = tt
+
+-- the chains along a way
+pub chained_along : (way : Way) (l : LinkedCells) → AreSound l → IsChained (direction way) l.cells.items (heads_of way l)
+chained_along Rows l s = s.rows
+chained_along Columns l s = s.columns

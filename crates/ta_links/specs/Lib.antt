@@ -4,8 +4,14 @@ pub mod Values
 pub mod Links
 pub mod Gaps
 pub mod Lines
+pub mod Listing
 pub mod Starting
 pub mod Linked
 pub mod Inside
 pub mod Merging
 pub mod MergingAll
+pub mod Pivoting
+pub mod KeptRows
+pub mod Entering
+pub mod Carrying
+pub mod Extending

@@ -1,5 +1,5 @@
 -- A dictionary of linked rows, as its callers see it
-use Rattle.std.specs.Prelude.{ℕ, suc, ◌+◌, ◌<◌, ◌≡◌, List, [], ◌∷◌, pos, ◌<ℤ◌, length, get_or, Option}
+use Rattle.std.specs.Prelude.{ℕ, suc, ◌+◌, ◌<◌, ◌≡◌, List, [], ◌∷◌, ℤ, pos, ◌<ℤ◌, length, get_or, Option}
 use Rattle.ta_linear.specs.Numbers.{InRange}
 use Rattle.ta_dense.specs.Tableau.{TableauRow, Tableau, row_of, cell_of}
 use Rattle.ta_links.specs.declared.cell.Cell.{Cell}
@@ -42,6 +42,10 @@ pub record IsKeptInChains (d : Linked) : Type 0 where
   pub rows : length d.row_heads ≡ length d.tableau.rows
   pub columns : length d.column_heads ≡ length d.tableau.non_basic
   pub numbers : (i j : ℕ) → i < length d.tableau.rows → j < length d.tableau.non_basic → cell_of (row_of d.tableau i) j ≡ value_in d.cells i j
+
+-- the numbers of a tableau's cells, by row and column
+abbrev pub numbers_of : Tableau → ℕ → ℕ → ℤ
+numbers_of t row column = cell_of (row_of t row) column
 
 -- how many cells aren't 0
 abbrev pub live_count : List Cell → ℕ

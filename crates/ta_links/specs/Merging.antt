@@ -59,35 +59,39 @@ pub record RowMerged (columns row at column : ℕ) (heads : List RowHead) (old :
   pub within : MergesInRange column (row_in heads old columns row) (row_in heads old columns at)
   pub held : length new.cells.items ≤ length old.cells.items + filled columns (value_in old.cells.items at) (value_in new.cells.items at)
 
--- a row that isn't the chosen one was merged with it, and nothing else changed
-pub record RowStepped (columns row at column : ℕ) (heads : List RowHead) (old : LinkedCells) (heads' : List RowHead) (new : LinkedCells) : Type 0 where
+-- the chosen row, and the rows before a first one, are spared
+abbrev pub IsSpared : ℕ → ℕ → ℕ → Type 0
+IsSpared first row i = (i < first) ⊎ (i ≡ row)
+
+-- a row that isn't spared was merged with the chosen one, and nothing else changed
+pub record RowStepped (first columns row at column : ℕ) (heads : List RowHead) (old : LinkedCells) (heads' : List RowHead) (new : LinkedCells) : Type 0 where
   pub sound : AreSound new
   pub row_heads : length new.row_heads.items ≡ length old.row_heads.items
   pub column_heads : length new.column_heads.items ≡ length old.column_heads.items
   pub long : length heads' ≡ length heads
   pub proper : AreProperHeads heads'
-  pub others : (r c : ℕ) → (r ≢ at) ⊎ (r ≡ row) → value_in new.cells.items r c ≡ value_in old.cells.items r c
-  pub other_heads : (i : ℕ) → (i ≢ at) ⊎ (i ≡ row) → get_or heads' i no_head ≡ get_or heads i no_head
-  pub row_merged : at ≢ row → row_in heads' new columns at ≡ merged column (row_in heads old columns row) (row_in heads old columns at)
-  pub within : at ≢ row → MergesInRange column (row_in heads old columns row) (row_in heads old columns at)
+  pub others : (r c : ℕ) → (r ≢ at) ⊎ IsSpared first row r → value_in new.cells.items r c ≡ value_in old.cells.items r c
+  pub other_heads : (i : ℕ) → (i ≢ at) ⊎ IsSpared first row i → get_or heads' i no_head ≡ get_or heads i no_head
+  pub row_merged : ¬ (IsSpared first row at) → row_in heads' new columns at ≡ merged column (row_in heads old columns row) (row_in heads old columns at)
+  pub within : ¬ (IsSpared first row at) → MergesInRange column (row_in heads old columns row) (row_in heads old columns at)
   pub held : length new.cells.items ≤ length old.cells.items + filled columns (value_in old.cells.items at) (value_in new.cells.items at)
 
--- a row that isn't the chosen one doesn't stay in range
-pub record StepRefused (columns row at column : ℕ) (heads : List RowHead) (old : LinkedCells) : Type 0 where
-  pub apart : at ≢ row
+-- a row that isn't spared doesn't stay in range
+pub record StepRefused (first columns row at column : ℕ) (heads : List RowHead) (old : LinkedCells) : Type 0 where
+  pub apart : ¬ (IsSpared first row at)
   pub refused : ¬ (MergesInRange column (row_in heads old columns row) (row_in heads old columns at))
 
--- the rows before a place were merged
-pub record MergedBelow (columns row column : ℕ) (heads : List RowHead) (old : LinkedCells) (place : ℕ) (heads' : List RowHead) (new : LinkedCells) : Type 0 where
+-- the rows before a place that aren't spared were merged
+pub record MergedBelow (first columns row column : ℕ) (heads : List RowHead) (old : LinkedCells) (place : ℕ) (heads' : List RowHead) (new : LinkedCells) : Type 0 where
   pub sound : AreSound new
   pub row_heads : length new.row_heads.items ≡ length old.row_heads.items
   pub column_heads : length new.column_heads.items ≡ length old.column_heads.items
   pub long : length heads' ≡ length heads
   pub proper : AreProperHeads heads'
-  pub rest : (i c : ℕ) → (place ≤ i) ⊎ (i ≡ row) → value_in new.cells.items i c ≡ value_in old.cells.items i c
-  pub rest_heads : (i : ℕ) → (place ≤ i) ⊎ (i ≡ row) → get_or heads' i no_head ≡ get_or heads i no_head
-  pub done : (i : ℕ) → i < place → i ≢ row → row_in heads' new columns i ≡ merged column (row_in heads old columns row) (row_in heads old columns i)
-  pub within : (i : ℕ) → i < place → i ≢ row → MergesInRange column (row_in heads old columns row) (row_in heads old columns i)
+  pub rest : (i c : ℕ) → (place ≤ i) ⊎ IsSpared first row i → value_in new.cells.items i c ≡ value_in old.cells.items i c
+  pub rest_heads : (i : ℕ) → (place ≤ i) ⊎ IsSpared first row i → get_or heads' i no_head ≡ get_or heads i no_head
+  pub done : (i : ℕ) → i < place → ¬ (IsSpared first row i) → row_in heads' new columns i ≡ merged column (row_in heads old columns row) (row_in heads old columns i)
+  pub within : (i : ℕ) → i < place → ¬ (IsSpared first row i) → MergesInRange column (row_in heads old columns row) (row_in heads old columns i)
   pub held : length new.cells.items ≤ length old.cells.items + filled_rows place columns (value_in old.cells.items) (value_in new.cells.items)
 
 -- the chosen row was solved for the variable that enters, and nothing else changed

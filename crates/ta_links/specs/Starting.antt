@@ -4,9 +4,10 @@ use Rattle.ta_linear.specs.Terms.{coefficient}
 use Rattle.ta_linear.specs.declared.row.Row.{Row}
 use Rattle.ta_links.specs.declared.row_head.RowHead.{RowHead}
 
--- the first rows show their coefficients, and the others nothing
-pub record RowsShow (rows : List Row) (count : ℕ) (numbers : ℕ → ℕ → ℤ) : Type 0 where
-  pub shown : (i c : ℕ) (d : Row) → i < count → numbers i c ≡ coefficient (get_or rows i d).form.terms c
+-- the rows from a first one up to a number show their coefficients; those before are as they were, and those after show nothing
+pub record RowsShow (first : ℕ) (old : ℕ → ℕ → ℤ) (rows : List Row) (count : ℕ) (numbers : ℕ → ℕ → ℤ) : Type 0 where
+  pub same : (i c : ℕ) → i < first → numbers i c ≡ old i c
+  pub shown : (i c : ℕ) (d : Row) → first ≤ i → i < count → numbers i c ≡ coefficient (get_or rows i d).form.terms c
   pub empty : (i c : ℕ) → count ≤ i → numbers i c ≡ pos 0
 
 -- the heads of rows, the first of whose slacks is v

@@ -1,8 +1,11 @@
 //! A dictionary of linked rows.
 #![tactic(auto)]
 
+mod carrying;
 mod cell;
 mod columns;
+mod extending;
+mod kept;
 mod lines;
 mod linked;
 mod linked_cells;
@@ -10,6 +13,7 @@ mod linking;
 mod merging;
 mod merging_all;
 mod merging_rows;
+mod pivoting;
 mod putting;
 mod reading;
 mod row_head;
@@ -19,4 +23,5 @@ mod turning;
 mod way;
 
 pub use cell::Cell;
+pub use kept::LinkedPivot;
 pub use linked::LinkedDictionary;

@@ -42,7 +42,7 @@ is_kept told told' name out text file apart holds is = record {
 
 -- the patterns that are said to be safe are
 size_safe : (file : File) (budget number : ℕ) (p : Pattern) (v : Verdict) (nodes : ℕ) → tree_size v ≡ Some nodes → VerdictHolds file budget number p v → runs.Safe file.automaton p
-size_safe file budget number p (Safe nodes leaves) size is h = h.safe
+size_safe file budget number p (Safe nodes leaves) size is h = h.holds.safe
 size_safe file budget number p (Unsafe nodes run) size is h = absurd (cc)
 size_safe file budget number p (Spent nodes) size is h = absurd (cc)
 size_safe file budget number p (Overflow node kind) size is h = absurd (cc)
@@ -66,7 +66,7 @@ numbers_of (q ∷ qs) = ap (λ (ks : List ℕ). q.0 ∷ ks) (numbers_of qs)
 
 one_list : (file : File) (text : List ℕ) (ns ms : List ℕ) → Certificate file text ns → Certificate file text ms → ns ≡ ms
 one_list file text ns ms c d =
-    let same = one_certificate (proofs_of c.proofs) (proofs_of d.proofs) c.legal d.legal (sym c.written ∙ d.written) in
+    let same = (one_certificate c.orders d.orders (proofs_of c.proofs) (proofs_of d.proofs) c.ordered d.ordered c.legal d.legal (sym c.written ∙ d.written)).1 in
     c.named ∙ sym (numbers_of c.proofs) ∙ ap (λ (ps : List Proof). map (λ p. p.pattern) ps) same ∙ numbers_of d.proofs ∙ sym d.named
 
 -- `check` of such files

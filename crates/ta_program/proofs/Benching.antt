@@ -6,10 +6,12 @@ use Rattle.std.proofs.lemmas.List.{take_more}
 use Rattle.ta_automaton.specs.Runs.{LoopsPure}
 use Rattle.ta_automaton.specs.declared.file.File.{File}
 use Rattle.ta_automaton.specs.declared.pattern.Pattern.{Pattern}
-use Rattle.ta_cert.specs.Certificates.{cert_text, proofs_text}
+use Rattle.ta_cert.specs.Certificates.{head_text, proofs_text}
 use Rattle.ta_cert.specs.declared.line.Line.TheVariants as line
 use Rattle.ta_cert.specs.declared.fault.CertFault.{CertFault}
+use Rattle.ta_cert.specs.declared.line.Order.{Order}
 use Rattle.ta_cert.specs.declared.line.Proof.{Proof}
+use Rattle.ta_walk.specs.FoundOrders.{FoundOrders}
 use Rattle.ta_check.specs.Certificate.{Certificate}
 use Rattle.ta_check.specs.Checkers.{Finished}
 use Rattle.ta_check.specs.declared.accepted.Accepted.{Accepted}
@@ -35,9 +37,9 @@ unfolding family_text
 legal_family k bytes tree file are is legal = subst (λ (bs : List ℕ). Legal bs file) (are ∙ ap (λ (t : PlainTree). printed (file_kinds t)) is) legal
 
 -- verdicts with the text of their trees, of which the first is said
-pub says_bench : (k : ℕ) (file : File) → LoopsPure file.automaton → Legal (family_text k) file → (vs : List Verdict) → AreVerdicts file BUDGET vs → (proofs : List Proof) → AreTrees file BUDGET (safe_ones 0 file.patterns vs) proofs → (text : List ℕ) → text ≡ (ended_line line.Header ++ proofs_text proofs) ++ ended_line line.End → (p : Pattern) (v : Verdict) → slice_get file.patterns 0 ≡ Some p → slice_get vs 0 ≡ Some v → is_unsafe v ≡ false → (answer : Answer) → Writes (bench_status v) (bench_text k p v) answer → SaysBench k answer
-says_bench k file loops legal vs are proofs trees text written p v named given not_unsafe answer writes =
-    let certificate : CertificateOf file BUDGET vs text = record { trees = proofs; are = trees; written = written ∙ cert_written proofs } in
+pub says_bench : (k : ℕ) (file : File) → LoopsPure file.automaton → Legal (family_text k) file → (vs : List Verdict) → AreVerdicts file BUDGET vs → (orders : List Order) → FoundOrders file.automaton orders → (proofs : List Proof) → AreTrees file BUDGET (safe_ones 0 file.patterns vs) proofs → (text : List ℕ) → text ≡ (head_text orders ++ proofs_text proofs) ++ ended_line line.End → (p : Pattern) (v : Verdict) → slice_get file.patterns 0 ≡ Some p → slice_get vs 0 ≡ Some v → is_unsafe v ≡ false → (answer : Answer) → Writes (bench_status v) (bench_text k p v) answer → SaysBench k answer
+says_bench k file loops legal vs are orders found proofs trees text written p v named given not_unsafe answer writes =
+    let certificate : CertificateOf file BUDGET vs text = record { orders = orders; found = found; trees = proofs; are = trees; written = written ∙ cert_written orders proofs } in
     record {
       pattern = p;
       verdict = v;
@@ -57,9 +59,9 @@ says_bench k file loops legal vs are proofs trees text written p v named given n
     }
 
 -- and an answer that says so, if it is one
-pub says_ok : (k : ℕ) (file : File) → LoopsPure file.automaton → Legal (family_text k) file → (vs : List Verdict) → AreVerdicts file BUDGET vs → (proofs : List Proof) → AreTrees file BUDGET (safe_ones 0 file.patterns vs) proofs → (text : List ℕ) → text ≡ (ended_line line.Header ++ proofs_text proofs) ++ ended_line line.End → (p : Pattern) (v : Verdict) → slice_get file.patterns 0 ≡ Some p → slice_get vs 0 ≡ Some v → is_unsafe v ≡ false → (result : Result Answer AllocError) → IfOk result (Writes (bench_status v) (bench_text k p v)) → IfOk result (SaysBench k)
-says_ok k file loops legal vs are proofs trees text written p v named given not_unsafe (Ok answer) writes = says_bench k file loops legal vs are proofs trees text written p v named given not_unsafe answer writes
-says_ok k file loops legal vs are proofs trees text written p v named given not_unsafe (Err e) writes = tt
+pub says_ok : (k : ℕ) (file : File) → LoopsPure file.automaton → Legal (family_text k) file → (vs : List Verdict) → AreVerdicts file BUDGET vs → (orders : List Order) → FoundOrders file.automaton orders → (proofs : List Proof) → AreTrees file BUDGET (safe_ones 0 file.patterns vs) proofs → (text : List ℕ) → text ≡ (head_text orders ++ proofs_text proofs) ++ ended_line line.End → (p : Pattern) (v : Verdict) → slice_get file.patterns 0 ≡ Some p → slice_get vs 0 ≡ Some v → is_unsafe v ≡ false → (result : Result Answer AllocError) → IfOk result (Writes (bench_status v) (bench_text k p v)) → IfOk result (SaysBench k)
+says_ok k file loops legal vs are orders found proofs trees text written p v named given not_unsafe (Ok answer) writes = says_bench k file loops legal vs are orders found proofs trees text written p v named given not_unsafe answer writes
+says_ok k file loops legal vs are orders found proofs trees text written p v named given not_unsafe (Err e) writes = tt
 
 -- the pieces so far, with one more
 pub one_more_piece : (texts : List (List ℕ)) (k : ℕ) (text : List ℕ) → k < length texts → get_or texts k text ≡ text → texts_joined (take k texts) ++ text ≡ texts_joined (take (k + 1) texts)

@@ -6,22 +6,27 @@ use Rattle.ta_automaton.specs.declared.file.File.{File}
 use Rattle.ta_automaton.specs.declared.pattern.Pattern.{Pattern}
 use Rattle.ta_automaton.specs.Lists.{Distinct, Each}
 use Rattle.ta_automaton.specs.Runs.{LoopsPure}
-use Rattle.ta_cert.specs.Certificates.{AreWritable, cert_lines, cert_text, proof_lines, proof_of, proofs_of}
+use Rattle.ta_cert.specs.Certificates.{AreWritable, cert_lines, cert_text, order_lines, pair_of, proof_lines, proof_of, proofs_of, version_of}
 use Rattle.ta_cert.specs.Laws.{AreShort}
-use Rattle.ta_cert.specs.Lines.{IsNode}
+use Rattle.ta_cert.specs.Lines.{IsNode, line_text}
 use Rattle.ta_cert.specs.Streams.{line_limit}
 use Rattle.ta_cert.specs.Tree.{Tree, all_preorder}
 use Rattle.ta_cert.specs.declared.line.Line.{Line}
 use Rattle.ta_cert.specs.declared.line.Line.TheVariants as line
 use Rattle.ta_cert.specs.declared.line.Node.{Node}
+use Rattle.ta_cert.specs.declared.line.Order.{Order}
 use Rattle.ta_cert.specs.declared.line.Proof.{Proof}
 use Rattle.ta_check.specs.Certificate.{Certificate, ProvesPattern, number_of}
+use Rattle.ta_check.proofs.Searches.{search_named}
 use Rattle.ta_cursor.specs.Range.{IsJudged}
 use Rattle.ta_encode.proofs.Preorders.{in_order}
 use Rattle.ta_report.specs.declared.verdict.Verdict.{Verdict}
 use Rattle.ta_walk.proofs.NodesShort.{row_short}
 use Rattle.ta_walk.proofs.ProofsMade.{refuted_safe}
-use Rattle.ta_walk.specs.Ends.{IsShort}
+use Rattle.ta_walk.proofs.OrdersOnce.{orders_once}
+use Rattle.ta_walk.proofs.OrdersSound.{orders_sound}
+use Rattle.ta_walk.specs.Ends.{IsShort, TreeIs}
+use Rattle.ta_walk.specs.FoundOrders.{FoundOrders}
 use Rattle.ta_encode.specs.PatternSearch.{pattern_search}
 use Rattle.ta_program.specs.Certified.{AreTrees, CertificateOf, SafeOne, safe_numbers, safe_ones, tree_size, with_safe}
 
@@ -79,24 +84,40 @@ lines_short : (ns : List Node) (ls : List Line) → Each IsShort ns → AreShort
 lines_short [] ls short rest = rest
 lines_short (n ∷ ns) ls short rest = (short.0, lines_short ns ls short.1 rest)
 
+-- so is the first line
+version_short : (k : ℕ) → k < 2 ^ 32 → length (codes "threshold-certificate " ++ decimal k) ≤ line_limit
+version_short k below = let digits = row_short k below in omega arith
+
+head_short : (os : List Order) → length (line_text (line.Header (version_of os))) ≤ line_limit
+head_short [] = version_short 1 (lit< tt)
+head_short (o ∷ os) = version_short 2 (lit< tt)
+
+both_short : (ls ms : List Line) → AreShort ls → AreShort ms → AreShort (ls ++ ms)
+both_short [] ms short rest = rest
+both_short (l ∷ ls) ms short rest = (short.0, both_short ls ms short.1 rest)
+
 -- proofs of such patterns, whose nodes are these
-record Made (file : File) (ones : List SafeOne) (trees : List Proof) : Type 0 where
+record Made (file : File) (pairs : List (ℕ × ℕ)) (ones : List SafeOne) (trees : List Proof) : Type 0 where
   proofs : List (ℕ × List Tree)
   are : proofs_of proofs ≡ trees
-  prove : Each (ProvesPattern file) proofs
+  prove : Each (ProvesPattern file pairs) proofs
   named : map number_of proofs ≡ numbers ones
   writable : AreWritable trees
   short : AreShort (proof_lines trees)
 
-made : (file : File) (budget : ℕ) → LoopsPure file.automaton → budget ≤ 1000000000 → (ones : List SafeOne) (trees : List Proof) → Each (λ one. slice_get file.patterns one.number ≡ Some one.pattern) ones → AreTrees file budget ones trees → Made file ones trees
-made file budget loops within [] [] named are = record { proofs = []; are = refl; prove = tt; named = refl; writable = tt; short = (lit≤ tt, tt) }
-made file budget loops within [] (t ∷ ts) named are = absurd are
-made file budget loops within (one ∷ ones) [] named are = absurd are
-made file budget loops within (one ∷ ones) (t ∷ ts) named are =
+made : (file : File) (orders : List Order) → FoundOrders file.automaton orders → (budget : ℕ) → LoopsPure file.automaton → budget ≤ 1000000000 → (ones : List SafeOne) (trees : List Proof) → Each (λ one. slice_get file.patterns one.number ≡ Some one.pattern) ones → AreTrees file budget ones trees → Made file (map pair_of orders) ones trees
+made file orders found budget loops within [] [] named are = record { proofs = []; are = refl; prove = tt; named = refl; writable = tt; short = (lit≤ tt, tt) }
+made file orders found budget loops within [] (t ∷ ts) named are = absurd are
+made file orders found budget loops within (one ∷ ones) [] named are = absurd are
+made file orders found budget loops within (one ∷ ones) (t ∷ ts) named are =
     let is = are.0 in
-    let proof = (refuted_safe file one.number one.pattern named.0 loops budget within t.nodes one.nodes is.is).0 in
-    let trees = (in_order IsJudged (pattern_search file.automaton one.pattern) t.nodes).0 proof.refutes in
-    let rest = made file budget loops within ones ts named.1 are.1 in
+    let pairs = map pair_of orders in
+    let search = pattern_search file.automaton one.pattern pairs in
+    let same_orders = orders_once file.automaton is.is.orders orders is.is.found found in
+    let tree = subst (λ (os : List Order). TreeIs (pattern_search file.automaton one.pattern (map pair_of os)) budget t.nodes one.nodes) same_orders is.is.holds in
+    let proof = (refuted_safe file one.number one.pattern named.0 loops pairs (orders_sound file.automaton orders found).good budget within t.nodes one.nodes tree).0 in
+    let trees = (in_order IsJudged search t.nodes).0 proof.refutes in
+    let rest = made file orders found budget loops within ones ts named.1 are.1 in
     let number : one.number ≡ t.pattern = sym is.numbered in
     let nodes : all_preorder trees.0 ≡ t.nodes = trees.2 in
     let same : proof_of one.number trees.0 ≡ t = (λ i. record { pattern = number i; nodes = nodes i }) in
@@ -107,7 +128,7 @@ made file budget loops within (one ∷ ones) (t ∷ ts) named are =
     record {
       proofs = (one.number, trees.0) ∷ rest.proofs;
       are = ap (λ (p : Proof). p ∷ proofs_of rest.proofs) same ∙ ap (λ (ps : List Proof). t ∷ ps) rest.are;
-      prove = (record { pattern = one.pattern; named = named.0; proves = trees.1 }, rest.prove);
+      prove = (record { search = search; searched = search_named file pairs one.number one.pattern named.0; proves = trees.1 }, rest.prove);
       named = ap (λ (ks : List ℕ). one.number ∷ ks) rest.named;
       writable = (record { pattern = below; nodes = all_of IsNode t.nodes proof.writable }, rest.writable);
       short = (pattern_short t.pattern below, lines_short t.nodes (proof_lines ts) proof.short rest.short);
@@ -116,12 +137,17 @@ made file budget loops within (one ∷ ones) (t ∷ ts) named are =
 pub certificate_accepted : (file : File) (budget : ℕ) → LoopsPure file.automaton → budget ≤ 1000000000 → (vs : List Verdict) (text : List ℕ) → CertificateOf file budget vs text → Certificate file text (safe_numbers file vs)
 certificate_accepted file budget loops within vs text c =
     let ones = safe_ones 0 file.patterns vs in
-    let m = made file budget loops within ones c.trees (ones_named file 0 file.patterns vs (λ k p given. let here : k ≡ 0 + k = omega arith in subst (λ (n : ℕ). slice_get file.patterns n ≡ Some p) here given)) c.are in
+    let sound = orders_sound file.automaton c.orders c.found in
+    let m = made file c.orders c.found budget loops within ones c.trees (ones_named file 0 file.patterns vs (λ k p given. let here : k ≡ 0 + k = omega arith in subst (λ (n : ℕ). slice_get file.patterns n ≡ Some p) here given)) c.are in
     record {
+      orders = c.orders;
       proofs = m.proofs;
-      written = c.written ∙ ap cert_text (sym m.are);
+      written = c.written ∙ ap (cert_text c.orders) (sym m.are);
+      ordered = sound.writable;
       legal = subst AreWritable (sym m.are) m.writable;
-      short = subst (λ (ts : List Proof). AreShort (cert_lines ts)) (sym m.are) (lit≤ tt, m.short);
+      short = subst (λ (ts : List Proof). AreShort (cert_lines c.orders ts)) (sym m.are) (head_short c.orders, both_short (order_lines c.orders) (proof_lines c.trees) sound.short m.short);
+      shown = sound.shown;
+      good = sound.good;
       prove = m.prove;
       named = sym m.named;
       distinct = ones_distinct 0 file.patterns vs;

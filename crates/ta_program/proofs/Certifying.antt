@@ -1,12 +1,12 @@
 -- what an answer with a certificate says
-use Rattle.std.proofs.Common.{◌≡◌, ◌∙◌, ◌≤◌, ℕ, Bool, true, false, List, [], ◌∷◌, ◌++◌, length, Option, Some, Result, Ok, Err, refl, sym, ap, subst, arith, rules}
+use Rattle.std.proofs.Common.{◌≡◌, ◌∙◌, ◌≤◌, ℕ, Bool, true, false, List, [], ◌∷◌, ◌++◌, length, Option, Some, Result, Ok, Err, refl, sym, ap, subst, arith, rules, append_assoc}
 use Rattle.std.specs.Prelude.{Contains, if◌then◌else◌}
 use Rattle.std.specs.List.{list_any}
 use Rattle.ta_automaton.specs.declared.file.File.{File}
 use Rattle.ta_automaton.specs.Runs.{LoopsPure}
-use Rattle.ta_cert.specs.Certificates.{cert_text, proofs_text}
-use Rattle.ta_cert.specs.Lines.{line_text}
+use Rattle.ta_cert.specs.Certificates.{cert_text, head_text, proofs_text}
 use Rattle.ta_cert.specs.declared.line.Line.TheVariants as line
+use Rattle.ta_cert.specs.declared.line.Order.{Order}
 use Rattle.ta_cert.specs.declared.line.Proof.{Proof}
 use Rattle.ta_report.specs.declared.verdict.Verdict.{Verdict}
 use Rattle.ta_shelf.specs.Put.{Told}
@@ -23,11 +23,12 @@ use Rattle.ta_program.specs.Inside.Reported.{SampleReported}
 use Rattle.ta_program.specs.Reporting.{report_meaning}
 use Rattle.ta_program.specs.Verify.{AreVerdicts, verdicts_number}
 use Rattle.ta_program.proofs.CertificatesMade.{certificate_accepted}
-use Rattle.ta_cert.proofs.Writing.{lines_text-proofs}
+use Rattle.ta_cert.proofs.Writing.{cert_parts}
+use Rattle.ta_walk.specs.FoundOrders.{FoundOrders}
 
--- the header, the proofs and the end are the text of a certificate
-pub cert_written : (proofs : List Proof) → (ended_line line.Header ++ proofs_text proofs) ++ ended_line line.End ≡ cert_text proofs
-cert_written proofs = ap (λ (xs : List ℕ). line_text line.Header ++ (10 ∷ xs)) (sym (lines_text-proofs proofs))
+-- what stands in front of the proofs, the proofs and the end are the text of a certificate
+pub cert_written : (orders : List Order) (proofs : List Proof) → (head_text orders ++ proofs_text proofs) ++ ended_line line.End ≡ cert_text orders proofs
+cert_written orders proofs = append_assoc (head_text orders) (proofs_text proofs) (ended_line line.End) ∙ cert_parts orders proofs
 
 low_by : (some unknown : Bool) → (if some then 1 else (if unknown then 2 else 0)) ≤ 2
 low_by true unknown = omega arith
@@ -39,11 +40,11 @@ puts_within out put puts only named =
     let among : Contains (out ∷ []) out = search rules in
     subst (Within (out ∷ [])) (sym only) (subst (Contains (out ∷ [])) (sym named) among, tt)
 
-module _ (file : File) (loops : LoopsPure file.automaton) (budget : ℕ) (within : budget ≤ 1000000000) (json : Bool) (out : List ℕ) (vs : List Verdict) (are : AreVerdicts file budget vs) (proofs : List Proof) (trees : AreTrees file budget (safe_ones 0 file.patterns vs) proofs) (number : ℕ) (report : List ℕ) (numbered : number ≡ verdicts_number vs) (reported : SampleReported json file budget vs report) (files : Option Told) where
-  certificate_of : (text : List ℕ) → text ≡ cert_text proofs → CertificateOf file budget vs text
-  certificate_of text is = record { trees = proofs; are = trees; written = is }
+module _ (file : File) (loops : LoopsPure file.automaton) (budget : ℕ) (within : budget ≤ 1000000000) (json : Bool) (out : List ℕ) (vs : List Verdict) (are : AreVerdicts file budget vs) (orders : List Order) (found : FoundOrders file.automaton orders) (proofs : List Proof) (trees : AreTrees file budget (safe_ones 0 file.patterns vs) proofs) (number : ℕ) (report : List ℕ) (numbered : number ≡ verdicts_number vs) (reported : SampleReported json file budget vs report) (files : Option Told) where
+  certificate_of : (text : List ℕ) → text ≡ cert_text orders proofs → CertificateOf file budget vs text
+  certificate_of text is = record { orders = orders; found = found; trees = proofs; are = trees; written = is }
 
-  pub certified_says : (result : Result Answer Refusal) → Certifies number report out (cert_text proofs) result → Says (report_meaning file budget json (Some out)) files result []
+  pub certified_says : (result : Result Answer Refusal) → Certifies number report out (cert_text orders proofs) result → Says (report_meaning file budget json (Some out)) files result []
   certified_says (Ok answer) c =
       let low : answer.number ≤ 2 = subst (λ (n : ℕ). n ≤ 2) (sym (c.numbered ∙ numbered)) (low_by (list_any _ vs) (list_any _ vs)) in
       record {
@@ -79,7 +80,7 @@ module _ (file : File) (loops : LoopsPure file.automaton) (budget : ℕ) (within
           record {
             numbered = c.0;
             said = c.1;
-            long = record { verdicts = vs; are = are; text = cert_text proofs; certificate = certificate_of (cert_text proofs) refl; longer = c.2 };
+            long = record { verdicts = vs; are = are; text = cert_text orders proofs; certificate = certificate_of (cert_text orders proofs) refl; longer = c.2 };
           },
         );
       }

@@ -27,6 +27,8 @@ use Rattle.ta_shell.specs.Ends.{Answered, Performs, Quiet, ShelfState, SinkState
 use Rattle.ta_shell.specs.Puts.{Holds, KeptBut, Stand, put_bytes}
 use Rattle.ta_shell.specs.Sights.{View, in_files, seen}
 use Rattle.ta_shell.specs.Stages.{Hinders}
+use Rattle.ta_replay.specs.RunText.{run_text}
+use Rattle.ta_shell.specs.declared.answer.Answer.{Answer}
 use Rattle.ta_shell.specs.declared.answer.Put.{Put}
 use Rattle.ta_syntax.specs.PlainTrees.{plain_tree}
 use Rattle.ta_program.specs.Asked.{Asked, Runs, ask}
@@ -37,7 +39,9 @@ use Rattle.ta_program.specs.Check.{CheckHolds, check_meaning, check_of}
 use Rattle.ta_program.specs.Headline.{EachPatternSafe, EachPrintedSafe, HoldsFile, SomePatternOccurs, StatusTells}
 use Rattle.ta_program.specs.Kinds.{IsFile, file_kind}
 use Rattle.ta_program.specs.Printed.{EachPrintedUnsafe, EachToldSafe}
-use Rattle.ta_program.specs.Program.{Benches, CertificateWritten, CheckProves, Completes, ExactlySo, KeepsFiles, Opens, PassesLegal, PrintedHolds, ReplayShows, RunShortens, Tellings, UsageExactly, VerifyReports, put_by}
+use Rattle.ta_program.specs.Admit.{AdmitAsked, AdmitHolds, IsAdmitted, admit_meaning, admit_of, admit_words}
+use Rattle.ta_program.specs.Export.{ExportHolds, export_meaning, export_of, export_words}
+use Rattle.ta_program.specs.Program.{Admitting, Benches, CertificateWritten, CheckProves, Completes, ExactlySo, Exports, KeepsFiles, Opens, PassesLegal, PrintedHolds, ReplayShows, RunShortens, Tellings, UsageExactly, VerifyReports, put_by}
 use Rattle.ta_program.specs.Compress.{CompressHolds, compress_meaning, compress_of}
 use Rattle.ta_program.specs.Replay.{ReplayHolds, replay_meaning, replay_of}
 use Rattle.ta_program.specs.Requests.{request_of}
@@ -45,8 +49,10 @@ use Rattle.ta_program.specs.Reporting.{CertificateStands, HoldsText, ReportHolds
 use Rattle.ta_program.specs.Verify.{IsKnown, VerdictHolds, VerdictsHold, is_unsafe, is_unknown}
 use Rattle.ta_program.specs.Values.{TwoNames, two_names}
 use Rattle.ta_program.specs.VerifyWords.{VerifyWords, verify_of, verify_words}
+use Rattle.ta_program.specs.WordAsked.{WordAsked}
 use Rattle.ta_program.specs.Words.{behind_name}
-use Rattle.ta_program.proofs.UnsafePrinted.{hold_at, some_occurs, unsafe_printed}
+use Rattle.ta_program.proofs.UnsafePrinted.{hold_at, run_within, some_occurs, unsafe_printed}
+use Rattle.ta_program.proofs.WordMeanings.{admit_decides}
 use Rattle.ta_program.proofs.Meanings.{hinders_long, report_monotone, verify_decides}
 
 -- one of two tests fails only where both fail
@@ -75,7 +81,7 @@ kinds_of_two false false e = absurd (omega (arith, e))
 
 -- a verdict that holds and is neither unsafe nor unknown says safe
 safe_of : (file : File) (budget number : ℕ) (p : Pattern) (v : Verdict) → is_unsafe v ≡ false → is_unknown v ≡ false → VerdictHolds file budget number p v → runs.Safe file.automaton p
-safe_of file budget number p (Safe nodes leaves) f u h = h.safe
+safe_of file budget number p (Safe nodes leaves) f u h = h.holds.safe
 safe_of file budget number p (Unsafe nodes run) f u h = absurd (cc)
 safe_of file budget number p (Spent nodes) f u h = absurd (cc)
 safe_of file budget number p (Overflow node kind) f u h = absurd (cc)
@@ -245,6 +251,49 @@ module _ (words : List (List ℕ)) (number : ℕ) (before after : State) (h : Ru
     others = λ k is. (λ one. let b = benched k (as_bench k is) (omega (arith, one)) in status_of b.verdict (b.numbered ∙ one), λ three. never k (as_bench k is) (omega (arith, three)) (omega (arith, three)), λ four. never k (as_bench k is) (omega (arith, four)) (omega (arith, four)));
   }
 
+  as_export : (asked : WordAsked) → export_of words ≡ Some asked → Performs (export_meaning asked) number before after
+  as_export asked is = performed (codes "export") export_words (λ a. Some a.file) export_meaning number before after (λ rest r. r) words asked is h
+
+  as_admit : (all : AdmitAsked) → admit_of words ≡ Some all → Performs (admit_meaning all) number before after
+  as_admit all is = performed (codes "admit") admit_words (λ a. Some a.asked.file) admit_meaning number before after (λ rest r. r) words all is h
+
+  exported : (asked : WordAsked) (view : View) → Answered (export_meaning asked) view number before after → ExportHolds view asked before.out.written after.out.written
+  exported asked view a =
+      let found = a.holds.holds.2 in
+      let says = found.2 in
+      record { file = a.holds.holds.0; is_file = a.holds.holds.1; word = found.0; is_word = found.1; text = says.text; is_text = says.is; wrote = a.written ∙ ap (with_text before.out.written) says.writes.written; denotes = says.is.denotes }
+
+  pub exports : Exports number words before.shelf.files before.shelf.calls after.shelf.calls before.out.written after.out.written
+  exports asked is none = gives (export_meaning asked) (as_export asked is) (omega (arith, none)) (λ view. ExportHolds view asked before.out.written after.out.written) (exported asked)
+
+  admitted : (all : AdmitAsked) (view : View) → Answered (admit_meaning all) view number before after → AdmitHolds view all before.out.written after.out.written
+  admitted all view a =
+      let file = a.holds.holds.0 in
+      let found = a.holds.holds.2 in
+      let rest = found.2 in
+      let run = rest.0 in
+      let admits = rest.1.means in
+      record {
+        file = file;
+        is_file = a.holds.holds.1;
+        word = found.0;
+        is_word = found.1;
+        run = run;
+        is_run = rest.1;
+        shows = record { text = record { fits = admits.fits; text = refl }; shows = admits.shows; stays = admits.stays };
+        within = run_within file run admits.fits admits.shows admits.short;
+        wrote = a.written ∙ ap (with_text before.out.written) rest.2.written;
+      }
+
+  pub admitting : Admitting number words before.shelf.files before.shelf.calls after.shelf.calls before.out.written after.out.written
+  admitting = record {
+    holds = λ all is none. gives (admit_meaning all) (as_admit all is) (omega (arith, none)) (λ view. AdmitHolds view all before.out.written after.out.written) (admitted all);
+    exact = λ all told is files had.
+        let answer : Answer = record { number = 0; text = run_text had.file had.run; puts = [] } in
+        (as_admit all is).exact (admit_decides all) told files 0
+        (inl (answer, refl, (had.file, had.is_file, (had.word, had.is_word, (had.run, had.is_run, record { numbered = refl; written = refl; no_put = refl })))));
+  }
+
   printed_verify : (name : List ℕ) (budget : ℕ) (json : Bool) (view : View) → ReportHolds number view name budget json before.out.written after.out.written → EachToldSafe json view name before.out.written after.out.written
   printed_verify name budget json view r = record {
     file = r.file;
@@ -253,7 +302,7 @@ module _ (words : List (List ℕ)) (number : ℕ) (before after : State) (h : Ru
     gained = r.wrote;
     safe = λ k p named line.
         let said = told_safe r.file r.sample r.verdicts k p named r.is_sample.fits r.are.fit json line in
-        (hold_at r.file budget 0 r.file.patterns r.verdicts k p (Safe said.0 said.1) r.are.hold named said.2).safe;
+        (hold_at r.file budget 0 r.file.patterns r.verdicts k p (Safe said.0 said.1) r.are.hold named said.2).holds.safe;
   }
 
   printed_check : (name certificate : List ℕ) (view : View) → CheckHolds view name certificate before.out.written after.out.written → EachPrintedSafe (codes "proved") view name before.out.written after.out.written

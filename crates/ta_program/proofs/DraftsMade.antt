@@ -20,6 +20,7 @@ use Rattle.ta_program.specs.declared.draft.Draft.{Draft}
 use Rattle.ta_program.specs.declared.pieces.Pieces.{Pieces}
 use Rattle.ta_program.specs.Certified.{AreTrees, SafeOne, safe_ones, tree_size, with_safe}
 use Rattle.ta_encode.specs.PatternSearch.{pattern_search}
+use Rattle.ta_program.specs.Verify.{UnderOrders}
 use Rattle.ta_program.specs.Inside.Drafts.{AddsTree, DraftKeeps, Drafted, HasProofs, HasText, HasTrees, ended_line, pieces_text}
 
 nodes_more : (ns : List Node) (n : Node) → nodes_text (ns ++ n ∷ []) ≡ nodes_text ns ++ ended_line (line.Tree n)
@@ -54,33 +55,32 @@ proofs_more [] qs = refl
 proofs_more (p ∷ ps) qs = ap (λ (xs : List ℕ). proof_text p ++ xs) (proofs_more ps qs) ∙ sym (append_assoc (proof_text p) (proofs_text ps) (proofs_text qs))
 
 -- a verdict that doesn't say safe adds nothing
-adds_by_none : (file : File) (budget number : ℕ) (p : Pattern) (size : Option ℕ) (first : Draft) → is_some size ≡ false → (proofs : List Proof) → HasProofs first proofs → (more : List Proof) × AreTrees file budget (with_safe number p size []) more × HasProofs first (proofs ++ more)
-adds_by_none file budget number p None first is proofs has = ([], tt, subst (λ (ps : List Proof). HasProofs first ps) (sym (append-nil proofs)) has)
-adds_by_none file budget number p (Some nodes) first is proofs has = absurd (false≢true (sym is))
+adds_by_none : (file : File) (budget number : ℕ) (p : Pattern) (size : Option ℕ) (first : Draft) → is_some size ≡ false → (head : List ℕ) (proofs : List Proof) → HasProofs first head proofs → (more : List Proof) × AreTrees file budget (with_safe number p size []) more × HasProofs first head (proofs ++ more)
+adds_by_none file budget number p None first is head proofs has = ([], tt, subst (λ (ps : List Proof). HasProofs first head ps) (sym (append-nil proofs)) has)
+adds_by_none file budget number p (Some nodes) first is head proofs has = absurd (false≢true (sym is))
 
 pub adds_nothing : (file : File) (budget number : ℕ) (p : Pattern) (v : Verdict) (draft : Draft) → is_some (tree_size v) ≡ false → AddsTree file budget number p v draft draft
-adds_nothing file budget number p v draft is proofs has = adds_by_none file budget number p (tree_size v) draft is proofs has
+adds_nothing file budget number p v draft is head proofs has = adds_by_none file budget number p (tree_size v) draft is head proofs has
 
 -- one that does adds the tree
-adds_by : (file : File) (budget number : ℕ) (p : Pattern) (size : Option ℕ) (first begun proof next : Draft) → is_some size ≡ true → ((nodes : ℕ) → size ≡ Some nodes → (tree : List Node) × TreeIs (pattern_search file.automaton p) budget tree nodes × DraftKeeps begun proof tree) → HasText begun (ended_line (line.Pattern number)) → ((text more : List ℕ) → HasText first text → HasText proof more → HasText next (text ++ more)) → (proofs : List Proof) → HasProofs first proofs → (more : List Proof) × AreTrees file budget (with_safe number p size []) more × HasProofs next (proofs ++ more)
-adds_by file budget number p None first begun proof next is drafted begins added proofs has = absurd (false≢true is)
-adds_by file budget number p (Some nodes) first begun proof next is drafted begins added proofs has =
+adds_by : (file : File) (budget number : ℕ) (p : Pattern) (size : Option ℕ) (first begun proof next : Draft) → is_some size ≡ true → ((nodes : ℕ) → size ≡ Some nodes → (tree : List Node) × UnderOrders file (λ pairs. TreeIs (pattern_search file.automaton p pairs) budget tree nodes) × DraftKeeps begun proof tree) → HasText begun (ended_line (line.Pattern number)) → ((text more : List ℕ) → HasText first text → HasText proof more → HasText next (text ++ more)) → (head : List ℕ) (proofs : List Proof) → HasProofs first head proofs → (more : List Proof) × AreTrees file budget (with_safe number p size []) more × HasProofs next head (proofs ++ more)
+adds_by file budget number p None first begun proof next is drafted begins added head proofs has = absurd (false≢true is)
+adds_by file budget number p (Some nodes) first begun proof next is drafted begins added head proofs has =
     let d = drafted nodes refl in
     let one : Proof = record { pattern = number; nodes = d.0 } in
-    let header = ended_line line.Header in
     let text : HasText proof (ended_line (line.Pattern number) ++ nodes_text d.0) = d.2.text (ended_line (line.Pattern number)) begins in
-    let whole = added (header ++ proofs_text proofs) (ended_line (line.Pattern number) ++ nodes_text d.0) has text in
+    let whole = added (head ++ proofs_text proofs) (ended_line (line.Pattern number) ++ nodes_text d.0) has text in
     let same : ended_line (line.Pattern number) ++ nodes_text d.0 ≡ proofs_text (one ∷ []) = append_assoc (line_text (line.Pattern number)) (10 ∷ []) (nodes_text d.0) ∙ sym (append-nil (proof_text one)) in
-    let joined : (header ++ proofs_text proofs) ++ (ended_line (line.Pattern number) ++ nodes_text d.0) ≡ header ++ proofs_text (proofs ++ one ∷ []) =
-    append_assoc header (proofs_text proofs) (ended_line (line.Pattern number) ++ nodes_text d.0)
-    ∙ ap (λ (xs : List ℕ). header ++ (proofs_text proofs ++ xs)) same
-    ∙ ap (λ (xs : List ℕ). header ++ xs) (sym (proofs_more proofs (one ∷ []))) in
+    let joined : (head ++ proofs_text proofs) ++ (ended_line (line.Pattern number) ++ nodes_text d.0) ≡ head ++ proofs_text (proofs ++ one ∷ []) =
+    append_assoc head (proofs_text proofs) (ended_line (line.Pattern number) ++ nodes_text d.0)
+    ∙ ap (λ (xs : List ℕ). head ++ (proofs_text proofs ++ xs)) same
+    ∙ ap (λ (xs : List ℕ). head ++ xs) (sym (proofs_more proofs (one ∷ []))) in
     (one ∷ [], (record { numbered = refl; is = d.1 }, tt), subst (HasText next) joined whole)
 
 pub adds_tree : (file : File) (budget number : ℕ) (p : Pattern) (v : Verdict) (first begun proof next : Draft) → is_some (tree_size v) ≡ true → Drafted file budget number p v begun proof → HasText begun (ended_line (line.Pattern number)) → ((text more : List ℕ) → HasText first text → HasText proof more → HasText next (text ++ more)) → AddsTree file budget number p v first next
-adds_tree file budget number p v first begun proof next is drafted begins added proofs has = adds_by file budget number p (tree_size v) first begun proof next is drafted begins added proofs has
+adds_tree file budget number p v first begun proof next is drafted begins added head proofs has = adds_by file budget number p (tree_size v) first begun proof next is drafted begins added head proofs has
 
-wanted_by : (file : File) (budget : ℕ) (p : Pattern) (size : Option ℕ) (begun proof : Draft) → is_some size ≡ true → ((nodes : ℕ) → size ≡ Some nodes → (tree : List Node) × TreeIs (pattern_search file.automaton p) budget tree nodes × DraftKeeps begun proof tree) → proof.wanted ≡ begun.wanted
+wanted_by : (file : File) (budget : ℕ) (p : Pattern) (size : Option ℕ) (begun proof : Draft) → is_some size ≡ true → ((nodes : ℕ) → size ≡ Some nodes → (tree : List Node) × UnderOrders file (λ pairs. TreeIs (pattern_search file.automaton p pairs) budget tree nodes) × DraftKeeps begun proof tree) → proof.wanted ≡ begun.wanted
 wanted_by file budget p None begun proof is drafted = absurd (false≢true is)
 wanted_by file budget p (Some nodes) begun proof is drafted = (drafted nodes refl).2.wanted
 
@@ -91,8 +91,8 @@ wanted_same file budget number v begun proof within is drafted =
     wanted_by file budget at.0 (tree_size v) begun proof is (drafted at.0 at.1)
 
 -- before any verdict
-pub trees_none : (file : File) (budget : ℕ) (vs : List Verdict) (draft : Draft) → HasProofs draft [] → HasTrees file budget (safe_ones 0 [] vs) draft
-trees_none file budget vs draft has = ([], tt, has)
+pub trees_none : (file : File) (budget : ℕ) (head : List ℕ) (vs : List Verdict) (draft : Draft) → HasProofs draft head [] → HasTrees file budget head (safe_ones 0 [] vs) draft
+trees_none file budget head vs draft has = ([], tt, has)
 
 trees_append : (file : File) (budget : ℕ) (xs ys : List SafeOne) (ps qs : List Proof) → AreTrees file budget xs ps → AreTrees file budget ys qs → AreTrees file budget (xs ++ ys) (ps ++ qs)
 trees_append file budget [] ys [] qs h k = k
@@ -114,8 +114,8 @@ ones_more number (q ∷ ps) (w ∷ vs) p v same =
     ∙ with_append number q (tree_size w) (safe_ones (number + 1) ps vs) (with_safe (number + length (q ∷ ps)) p (tree_size v) [])
 
 -- one more verdict, whose tree is added
-pub trees_more : (file : File) (budget done : ℕ) (vs : List Verdict) (v : Verdict) (draft next : Draft) → done < length file.patterns → length vs ≡ done → HasTrees file budget (safe_ones 0 (take done file.patterns) vs) draft → OfPattern file done (λ p. AddsTree file budget done p v draft next) → HasTrees file budget (safe_ones 0 (take (done + 1) file.patterns) (vs ++ v ∷ [])) next
-trees_more file budget done vs v draft next within counted has adds =
+pub trees_more : (file : File) (budget : ℕ) (head : List ℕ) (done : ℕ) (vs : List Verdict) (v : Verdict) (draft next : Draft) → done < length file.patterns → length vs ≡ done → HasTrees file budget head (safe_ones 0 (take done file.patterns) vs) draft → OfPattern file done (λ p. AddsTree file budget done p v draft next) → HasTrees file budget head (safe_ones 0 (take (done + 1) file.patterns) (vs ++ v ∷ [])) next
+trees_more file budget head done vs v draft next within counted has adds =
     let ps = file.patterns in
     let at = some_at ps done within in
     let p = at.0 in
@@ -123,7 +123,7 @@ trees_more file budget done vs v draft next within counted has adds =
     let more : take done ps ++ p ∷ [] ≡ take (done + 1) ps = sym (take_more ps done p within ∙ ap (λ (q : Pattern). take done ps ++ q ∷ []) same) in
     let long : length (take done ps) ≡ done = length-take-le done ps (omega arith) in
     let number : 0 + length (take done ps) ≡ done = omega arith in
-    let added = adds p at.1 has.0 has.2 in
+    let added = adds p at.1 head has.0 has.2 in
     let trees = trees_append file budget (safe_ones 0 (take done ps) vs) (with_safe done p (tree_size v) []) has.0 added.0 has.1 added.1 in
     let ones : safe_ones 0 (take done ps) vs ++ with_safe done p (tree_size v) [] ≡ safe_ones 0 (take (done + 1) ps) (vs ++ v ∷ []) =
     sym (ones_more 0 (take done ps) vs p v (counted ∙ sym long) ∙ ap (λ (k : ℕ). safe_ones 0 (take done ps) vs ++ with_safe k p (tree_size v) []) number)

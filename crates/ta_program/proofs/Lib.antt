@@ -11,6 +11,7 @@ mod CertificatesOnce
 mod UnsafePrinted
 mod SamplesMade
 mod Meanings
+mod WordMeanings
 mod Clauses
 mod WordsDiffer
 mod Accepted

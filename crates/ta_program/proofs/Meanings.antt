@@ -36,7 +36,7 @@ pub short_monotone : (file : File) (name : List ℕ) → Monotone (short_meaning
 short_monotone file name = after_monotone (long_kind file) name [] (λ run. replies [] (SaysShort file run)) (λ run. replies_monotone [] (SaysShort file run))
 
 -- of a command that reads FILE first
-file_decides : (name : List ℕ) (puts : List (List ℕ)) (rest : File → Meaning) → ((file : File) → Monotone (rest file)) → ((file : File) (told : Told) (number other : ℕ) → IsSo (rest file) (in_files told) number → IsSo (rest file) (in_files told) other → number ≡ other) → Decides (after file_kind name puts rest)
+pub file_decides : (name : List ℕ) (puts : List (List ℕ)) (rest : File → Meaning) → ((file : File) → Monotone (rest file)) → ((file : File) (told : Told) (number other : ℕ) → IsSo (rest file) (in_files told) number → IsSo (rest file) (in_files told) other → number ≡ other) → Decides (after file_kind name puts rest)
 file_decides name puts rest rests ones =
     decides (after file_kind name puts rest) (after_monotone file_kind name puts rest rests) (λ told.
     one_number file_kind name puts rest rests told (λ bytes file fault legal found. legal.no_fault fault found) (λ bytes v w m n number other so so'.
@@ -74,7 +74,7 @@ reports_one file budget json out told number other so so' = elim so [
 ]
 
 -- a legal FILE is never refused with 3 by a command that reads FILE first, if what it does then is never refused with 3
-file_passes : (name : List ℕ) (puts : List (List ℕ)) (rest : File → Meaning) → ((file : File) → Monotone (rest file)) → ((file : File) (told : Told) (line : List ℕ) → ¬ (rest file).refuses (in_files told) 3 line) → Passes (Some name) (after file_kind name puts rest)
+pub file_passes : (name : List ℕ) (puts : List (List ℕ)) (rest : File → Meaning) → ((file : File) → Monotone (rest file)) → ((file : File) (told : Told) (line : List ℕ) → ¬ (rest file).refuses (in_files told) 3 line) → Passes (Some name) (after file_kind name puts rest)
 file_passes name puts rest rests never told line (file, is) refuses =
     elim refuses [
       | inl own ↦ no_hindrance file_kind name puts rest rests told (λ bytes f fault legal found. legal.no_fault fault found) file 3 line is own
@@ -82,7 +82,7 @@ file_passes name puts rest rests never told line (file, is) refuses =
     ]
 
 -- a second file is refused with another number
-second_passes : {A F : Type 0} (kind : Kind A F) (name : List ℕ) (rest : A → Meaning) → kind.limit.number ≡ 4 → ((value : A) (view : View) (line : List ℕ) → ¬ (rest value).refuses view 3 line) → (view : View) (line : List ℕ) → ¬ (after kind name [] rest).refuses view 3 line
+pub second_passes : {A F : Type 0} (kind : Kind A F) (name : List ℕ) (rest : A → Meaning) → kind.limit.number ≡ 4 → ((value : A) (view : View) (line : List ℕ) → ¬ (rest value).refuses view 3 line) → (view : View) (line : List ℕ) → ¬ (after kind name [] rest).refuses view 3 line
 second_passes kind name rest four never view line refuses =
     elim refuses [
       | inl own ↦ let numbered = own.numbered in absurd (omega (arith, four, numbered))

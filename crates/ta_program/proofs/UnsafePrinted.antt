@@ -1,10 +1,11 @@
 -- What the report says of unsafe patterns
-use Rattle.std.proofs.Common.{◌≡◌, ◌+◌, ◌≤◌, ℕ, zero, suc, true, length, List, [], ◌∷◌, Some, slice_get, Bool, refl, sym, ap, subst, ◌∙◌, arith}
+use Rattle.std.proofs.Common.{◌≡◌, ◌+◌, ◌≤◌, ℕ, zero, suc, true, length, map, List, [], ◌∷◌, Some, slice_get, Bool, refl, sym, ap, subst, ◌∙◌, arith}
 use Rattle.std.specs.List.{list_any}
 use Rattle.std.proofs.Math.Nat.{mul-le-mul_right}
 use Rattle.ta_automaton.specs.declared.file.File.{File}
 use Rattle.ta_automaton.specs.declared.pattern.Pattern.{Pattern}
 use Rattle.ta_automaton.specs.Runs as runs
+use Rattle.ta_cert.specs.Certificates.{pair_of}
 use Rattle.ta_replay.specs.declared.run.Run.{Run}
 use Rattle.ta_replay.specs.RunText.{run_text}
 use Rattle.ta_replay.specs.Shows.{unit_steps}
@@ -46,12 +47,12 @@ pub record Occurrence (file : File) (p : Pattern) : Type 0 where
   pub occurs : runs.Occurs file.automaton p first rules
 
 -- the run of an unsafe pattern is an occurrence of it
-run_number : (file : File) (number : ℕ) (p : Pattern) (budget nodes : ℕ) (run : Run) → UnsafeHolds file number p budget nodes run → run.pattern ≡ number
-run_number file number p budget nodes run h = h.is.same_pattern ∙ h.node.holds.pattern
+run_number : (file : File) (pairs : List (ℕ × ℕ)) (number : ℕ) (p : Pattern) (budget nodes : ℕ) (run : Run) → UnsafeHolds file pairs number p budget nodes run → run.pattern ≡ number
+run_number file pairs number p budget nodes run h = h.is.same_pattern ∙ h.node.holds.pattern
 
-pub unsafe_occurs : (file : File) (number : ℕ) (p : Pattern) (budget nodes : ℕ) (run : Run) → slice_get file.patterns number ≡ Some p → UnsafeHolds file number p budget nodes run → Occurrence file p
-unsafe_occurs file number p budget nodes run at h =
-    let named : Some h.shows.pattern ≡ Some p = sym h.shows.named ∙ ap (slice_get file.patterns) (run_number file number p budget nodes run h) ∙ at in
+pub unsafe_occurs : (file : File) (pairs : List (ℕ × ℕ)) (number : ℕ) (p : Pattern) (budget nodes : ℕ) (run : Run) → slice_get file.patterns number ≡ Some p → UnsafeHolds file pairs number p budget nodes run → Occurrence file p
+unsafe_occurs file pairs number p budget nodes run at h =
+    let named : Some h.shows.pattern ≡ Some p = sym h.shows.named ∙ ap (slice_get file.patterns) (run_number file pairs number p budget nodes run h) ∙ at in
     let same : h.shows.pattern ≡ p = cc in
     let first = h.shows.shows.first in
     let rules = unit_steps run.lines in
@@ -81,7 +82,7 @@ some_occurs file budget number (p ∷ ps) (Unsafe nodes run ∷ vs) some h = rec
   place = 0;
   pattern = p;
   at = refl;
-  occurs = λ named. let here : number ≡ number + 0 = omega arith in unsafe_occurs file number p budget nodes run (ap (slice_get file.patterns) here ∙ named) h.0;
+  occurs = λ named. let here : number ≡ number + 0 = omega arith in unsafe_occurs file (map pair_of h.0.orders) number p budget nodes run (ap (slice_get file.patterns) here ∙ named) h.0.holds;
 }
 some_occurs file budget number (p ∷ ps) (Spent nodes ∷ vs) some h = some_later file number p ps (some_occurs file budget (number + 1) ps vs some h.1)
 some_occurs file budget number (p ∷ ps) (Overflow node kind ∷ vs) some h = some_later file number p ps (some_occurs file budget (number + 1) ps vs some h.1)
@@ -103,7 +104,7 @@ few_lines file run fits shows short =
     let most = mul-le-mul_right (length a.rules + 1) turns in
     omega (arith, lines_counted run.lines, short p fits.named, most, marks)
 
-run_within : (file : File) (run : Run) → Fits file run → Shows file run → IsShortRun file run → length (run_text file run) ≤ RUN.bytes
+pub run_within : (file : File) (run : Run) → Fits file run → Shows file run → IsShortRun file run → length (run_text file run) ≤ RUN.bytes
 run_within file run fits shows short = let text = run_text_short file run fits (few_lines file run fits shows short) in omega (arith, text)
 
 -- a pattern that a report tells is unsafe, and its run
@@ -113,9 +114,11 @@ unsafe_printed json file budget x sampled vs are k p named line =
     let nodes = said.0 in
     let run = said.1 in
     let here : 0 + k ≡ k = omega arith in
-    let h : UnsafeHolds file k p budget nodes run = subst (λ (n : ℕ). UnsafeHolds file n p budget nodes run) here (hold_at file budget 0 file.patterns vs k p (Unsafe nodes run) are.hold named said.2) in
+    let v : VerdictHolds file budget k p (Unsafe nodes run) = subst (λ (n : ℕ). VerdictHolds file budget n p (Unsafe nodes run)) here (hold_at file budget 0 file.patterns vs k p (Unsafe nodes run) are.hold named said.2) in
     let fit : VerdictFits file (Unsafe nodes run) = each_at (VerdictFits file) vs k (Unsafe nodes run) are.fit said.2 in
-    let occurs = unsafe_occurs file k p budget nodes run named h in
+    let pairs = map pair_of v.orders in
+    let h = v.holds in
+    let occurs = unsafe_occurs file pairs k p budget nodes run named h in
     record {
       first = occurs.first;
       rules = occurs.rules;
@@ -128,7 +131,7 @@ unsafe_printed json file budget x sampled vs are k p named line =
           let same : found.1 ≡ run = cc in
           found.3 ∙ ap (run_text file) same;
       run = run;
-      of = run_number file k p budget nodes run h;
+      of = run_number file pairs k p budget nodes run h;
       shows = record { text = record { fits = fit.1; text = refl }; shows = h.shows; stays = h.stays };
       within = run_within file run fit.1 h.shows h.short;
     }

@@ -1,5 +1,5 @@
 -- what is known of verdicts as they are made and counted
-use Rattle.std.proofs.Common.{◌≡◌, ℕ, suc, ◌+◌, ◌<◌, ◌≤◌, List, [], ◌∷◌, ◌++◌, length, take, arith, refl, sym, ap, subst, ◌∙◌, Some, slice_get, get_or}
+use Rattle.std.proofs.Common.{◌≡◌, ℕ, suc, ◌+◌, ◌<◌, ◌≤◌, List, [], ◌∷◌, ◌++◌, length, map, reverse, take, arith, refl, sym, ap, subst, ◌∙◌, Some, slice_get, get_or}
 use Rattle.std.proofs.Math.Seq.{take-length}
 use Rattle.std.proofs.lemmas.List.{length-take-le, take_more}
 use Rattle.std.proofs.lemmas.Option.{get_or_from_slice_get}
@@ -7,14 +7,20 @@ use Rattle.ta_automaton.specs.declared.file.File.{File}
 use Rattle.ta_automaton.specs.declared.pattern.Pattern.{Pattern}
 use Rattle.ta_automaton.specs.Lists.{Each}
 use Rattle.ta_automaton.specs.Runs.{LoopsPure}
+use Rattle.ta_cert.specs.Certificates.{pair_of}
 use Rattle.ta_cert.specs.declared.line.Node.{Node}
+use Rattle.ta_cert.specs.declared.line.Order.{Order}
+use Rattle.ta_implied.specs.Implied.{Good}
 use Rattle.ta_words.specs.Calls.{OfPattern}
+use Rattle.ta_words.proofs.Counts.{legal_under}
 use Rattle.ta_encode.specs.InPreorder.{Pending}
 use Rattle.ta_encode.specs.declared.encoded.Solution.{Solution}
 use Rattle.ta_encode.proofs.Switch.{some_at}
 use Rattle.ta_walk.specs.declared.end.PlaceKind.{PlaceKind}
 use Rattle.ta_walk.specs.Ends.{NodeOf, SolutionAt, TreeIs, leaf_count}
+use Rattle.ta_walk.specs.FoundOrders.{FoundOrders}
 use Rattle.ta_walk.specs.Visit.{LeavesAt}
+use Rattle.ta_walk.proofs.OrdersSound.{orders_sound}
 use Rattle.ta_walk.proofs.ProofsMade.{refuted_safe}
 use Rattle.ta_walk.proofs.WordsSolved.{found_solved}
 use Rattle.ta_report.specs.declared.verdict.ReportKind.{ReportKind}
@@ -23,49 +29,59 @@ use Rattle.ta_report.specs.declared.verdict.Verdict.{Verdict}
 use Rattle.ta_report.specs.Report.{VerdictFits}
 use Rattle.ta_witness.specs.Witness.{IsSolution, WitnessLeaves}
 use Rattle.ta_encode.specs.PatternSearch.{pattern_search}
-use Rattle.ta_program.specs.Verify.{AreVerdicts, LeavesIn, RunLeaves, SafeHolds, VerdictHolds, VerdictsHold, place_of}
+use Rattle.ta_program.specs.Verify.{AreVerdicts, LeavesIn, RunLeaves, SafeHolds, UnderOrders, VerdictHolds, VerdictsHold, place_of}
+
+-- a fact under the pairs of the orders that are found
+pub under : (file : File) (fact : List (ℕ × ℕ) → Type 0) (orders : List Order) (pairs : List (ℕ × ℕ)) → FoundOrders file.automaton orders → pairs ≡ map pair_of orders → fact pairs → UnderOrders file fact
+under file fact orders pairs found same holds = record { orders = orders; found = found; holds = subst fact same holds }
 
 -- a refuted pattern is safe
-pub safe_holds : (file : File) (number : ℕ) (p : Pattern) → slice_get file.patterns number ≡ Some p → LoopsPure file.automaton → (budget : ℕ) → budget ≤ 1000000000 → (tree : List Node) (nodes leaves : ℕ) → TreeIs (pattern_search file.automaton p) budget tree nodes → leaves ≡ leaf_count tree → SafeHolds file p budget nodes leaves
-safe_holds file number p at loops budget within tree nodes leaves is counted =
-    record { safe = (refuted_safe file number p at loops budget within tree nodes is).1; tree = tree; is = is; counted = counted }
+pub safe_holds : (file : File) (number : ℕ) (p : Pattern) → slice_get file.patterns number ≡ Some p → LoopsPure file.automaton → (orders : List Order) (pairs : List (ℕ × ℕ)) → FoundOrders file.automaton orders → pairs ≡ map pair_of orders → (budget : ℕ) → budget ≤ 1000000000 → (tree : List Node) (nodes leaves : ℕ) → TreeIs (pattern_search file.automaton p pairs) budget tree nodes → leaves ≡ leaf_count tree → UnderOrders file (λ ps. SafeHolds file ps p budget nodes leaves)
+safe_holds file number p at loops orders pairs found same budget within tree nodes leaves is counted =
+    let good = subst (Good file.automaton) (sym same) (orders_sound file.automaton orders found).good in
+    under file (λ ps. SafeHolds file ps p budget nodes leaves) orders pairs found same
+    (record { safe = (refuted_safe file number p at loops pairs good budget within tree nodes is).1; tree = tree; is = is; counted = counted })
 
 -- what a walk finds is a solution
-pub solution_is : (file : File) (number : ℕ) (p : Pattern) → slice_get file.patterns number ≡ Some p → (budget nodes : ℕ) (solution : Solution) → NodeOf (pattern_search file.automaton p) budget nodes (SolutionAt file.automaton p number solution) → IsSolution file solution
-solution_is file number p at budget nodes solution found =
-    let solved = found_solved file.automaton p number budget nodes solution found in
+pub solution_is : (file : File) (number : ℕ) (p : Pattern) → slice_get file.patterns number ≡ Some p → (pairs : List (ℕ × ℕ)) (budget nodes : ℕ) (solution : Solution) → NodeOf (pattern_search file.automaton p pairs) budget nodes (SolutionAt file.automaton p pairs number solution) → IsSolution file solution
+solution_is file number p at pairs budget nodes solution found =
+    let solved = found_solved file.automaton p pairs number budget nodes solution found in
     record {
       pattern = p;
       named = ap (slice_get file.patterns) found.holds.pattern ∙ at;
       values = solved.0;
       are = solved.1;
-      solved = solved.3;
+      solved = record {
+        legal = legal_under file.automaton p pairs solution.start_mask (reverse solution.word) solved.3.legal;
+        complete = solved.3.complete;
+        solves = solved.3.solves;
+      };
     }
 
-pub solution_found : (file : File) (number : ℕ) → number < length file.patterns → (budget nodes : ℕ) (solution : Solution) → OfPattern file number (λ p. NodeOf (pattern_search file.automaton p) budget nodes (SolutionAt file.automaton p number solution)) → IsSolution file solution
-solution_found file number within budget nodes solution found =
+pub solution_found : (file : File) (number : ℕ) → number < length file.patterns → (pairs : List (ℕ × ℕ)) (budget nodes : ℕ) (solution : Solution) → OfPattern file number (λ p. NodeOf (pattern_search file.automaton p pairs) budget nodes (SolutionAt file.automaton p pairs number solution)) → IsSolution file solution
+solution_found file number within pairs budget nodes solution found =
     let at = some_at file.patterns number within in
-    solution_is file number at.0 at.1 budget nodes solution (found at.0 at.1)
+    solution_is file number at.0 at.1 pairs budget nodes solution (found at.0 at.1)
 
 -- what is known of a node
-pub of_node : (file : File) (p : Pattern) (budget number : ℕ) (fact other : Pending → Type 0) → ((w : Pending) → fact w → other w) → NodeOf (pattern_search file.automaton p) budget number fact → NodeOf (pattern_search file.automaton p) budget number other
-of_node file p budget number fact other gives node =
+pub of_node : (file : File) (p : Pattern) (pairs : List (ℕ × ℕ)) (budget number : ℕ) (fact other : Pending → Type 0) → ((w : Pending) → fact w → other w) → NodeOf (pattern_search file.automaton p pairs) budget number fact → NodeOf (pattern_search file.automaton p pairs) budget number other
+of_node file p pairs budget number fact other gives node =
     record { before = node.before; number_is = node.number_is; within = node.within; word = node.word; visited = node.visited; holds = gives node.word node.holds }
 
 -- where a walk says that a number leaves the range, it does
-leaves_in : (file : File) (number : ℕ) (p : Pattern) (k : PlaceKind) (r : ReportKind) (w : Pending) → place_of r ≡ k → LeavesAt (pattern_search file.automaton p) w k → LeavesIn file number p r w
-leaves_in file number p k (kind.Pivot pivot) w same leaves = subst (LeavesAt (pattern_search file.automaton p) w) (sym same) leaves
-leaves_in file number p k kind.Leaf w same leaves = subst (LeavesAt (pattern_search file.automaton p) w) (sym same) leaves
-leaves_in file number p k kind.Run w same leaves = absurd (subst (LeavesAt (pattern_search file.automaton p) w) (sym same) leaves)
+leaves_in : (file : File) (pairs : List (ℕ × ℕ)) (number : ℕ) (p : Pattern) (k : PlaceKind) (r : ReportKind) (w : Pending) → place_of r ≡ k → LeavesAt (pattern_search file.automaton p pairs) w k → LeavesIn file pairs number p r w
+leaves_in file pairs number p k (kind.Pivot pivot) w same leaves = subst (LeavesAt (pattern_search file.automaton p pairs) w) (sym same) leaves
+leaves_in file pairs number p k kind.Leaf w same leaves = subst (LeavesAt (pattern_search file.automaton p pairs) w) (sym same) leaves
+leaves_in file pairs number p k kind.Run w same leaves = absurd (subst (LeavesAt (pattern_search file.automaton p pairs) w) (sym same) leaves)
 
-pub overflow_holds : (file : File) (number : ℕ) (p : Pattern) (budget node : ℕ) (k : PlaceKind) (r : ReportKind) → place_of r ≡ k → NodeOf (pattern_search file.automaton p) budget node (λ w. LeavesAt (pattern_search file.automaton p) w k) → NodeOf (pattern_search file.automaton p) budget node (LeavesIn file number p r)
-overflow_holds file number p budget node k r same found =
-    of_node file p budget node (λ w. LeavesAt (pattern_search file.automaton p) w k) (LeavesIn file number p r) (λ w. leaves_in file number p k r w same) found
+pub overflow_holds : (file : File) (pairs : List (ℕ × ℕ)) (number : ℕ) (p : Pattern) (budget node : ℕ) (k : PlaceKind) (r : ReportKind) → place_of r ≡ k → NodeOf (pattern_search file.automaton p pairs) budget node (λ w. LeavesAt (pattern_search file.automaton p pairs) w k) → NodeOf (pattern_search file.automaton p pairs) budget node (LeavesIn file pairs number p r)
+overflow_holds file pairs number p budget node k r same found =
+    of_node file p pairs budget node (λ w. LeavesAt (pattern_search file.automaton p pairs) w k) (LeavesIn file pairs number p r) (λ w. leaves_in file pairs number p k r w same) found
 
 -- the run of a whole node leaves the range
-pub run_leaves : (file : File) (number : ℕ) (p : Pattern) (budget node : ℕ) (solution : Solution) → NodeOf (pattern_search file.automaton p) budget node (SolutionAt file.automaton p number solution) → WitnessLeaves file solution → NodeOf (pattern_search file.automaton p) budget node (LeavesIn file number p kind.Run)
-run_leaves file number p budget node solution found leaves =
-    of_node file p budget node (SolutionAt file.automaton p number solution) (RunLeaves file number p) (λ w whole. record { solution = solution; whole = whole; run = leaves }) found
+pub run_leaves : (file : File) (pairs : List (ℕ × ℕ)) (number : ℕ) (p : Pattern) (budget node : ℕ) (solution : Solution) → NodeOf (pattern_search file.automaton p pairs) budget node (SolutionAt file.automaton p pairs number solution) → WitnessLeaves file solution → NodeOf (pattern_search file.automaton p pairs) budget node (LeavesIn file pairs number p kind.Run)
+run_leaves file pairs number p budget node solution found leaves =
+    of_node file p pairs budget node (SolutionAt file.automaton p pairs number solution) (RunLeaves file pairs number p) (λ w whole. record { solution = solution; whole = whole; run = leaves }) found
 
 -- one more verdict at the end
 holds_more : (file : File) (budget number : ℕ) (ps : List Pattern) (vs : List Verdict) (p : Pattern) (v : Verdict) → VerdictsHold file budget number ps vs → VerdictHolds file budget (number + length ps) p v → VerdictsHold file budget number (ps ++ p ∷ []) (vs ++ v ∷ [])

@@ -1,5 +1,5 @@
 -- a pattern of a file has one verdict for one budget
-use Rattle.std.proofs.Common.{◌≡◌, ◌⊎◌, inl, inr, ◌+◌, ℕ, suc, List, [], ◌∷◌, Some, slice_get, refl, sym, ap, subst, ◌∙◌, arith}
+use Rattle.std.proofs.Common.{◌≡◌, ◌⊎◌, inl, inr, ◌+◌, ℕ, suc, List, [], ◌∷◌, Some, slice_get, map, refl, sym, ap, subst, ◌∙◌, arith}
 use Rattle.ta_automaton.specs.declared.file.File.{File}
 use Rattle.ta_automaton.specs.declared.pattern.Pattern.{Pattern}
 use Rattle.ta_encode.specs.declared.encoded.Solution.{Solution}
@@ -16,7 +16,10 @@ use Rattle.ta_report.specs.declared.verdict.Verdict.{Verdict}
 use Rattle.ta_report.specs.declared.verdict.Verdict.TheVariants.{Safe, Unsafe, Spent, Overflow}
 use Rattle.ta_witness.specs.Witness.{IsSolution, WitnessLeaves, WitnessOf}
 use Rattle.ta_witness.proofs.WitnessOnce.{one_witness}
-use Rattle.ta_program.specs.Verify.{VerdictHolds, VerdictsAreDetermined, VerdictsHold}
+use Rattle.ta_cert.specs.Certificates.{pair_of}
+use Rattle.ta_cert.specs.declared.line.Order.{Order}
+use Rattle.ta_walk.proofs.OrdersOnce.{orders_once}
+use Rattle.ta_program.specs.Verify.{HoldsUnder, VerdictHolds, VerdictsAreDetermined, VerdictsHold}
 use Rattle.ta_program.proofs.VerdictsMade.{solution_is}
 
 -- the run of a solution is that of a verdict, in which a replay stays in range, or it leaves the range
@@ -44,18 +47,18 @@ Gives file (walk.Spent count) v = v ≡ Spent count
 Gives file (walk.Overflow node k) v = SaysPlace node k v
 
 -- the walk of a pattern ends as a verdict says
-record EndOf (file : File) (budget number : ℕ) (p : Pattern) (v : Verdict) : Type 0 where
+record EndOf (file : File) (pairs : List (ℕ × ℕ)) (budget number : ℕ) (p : Pattern) (v : Verdict) : Type 0 where
   end : WalkEnd
-  is : IsEnd file.automaton p number budget end
+  is : IsEnd file.automaton p pairs number budget end
   gives : Gives file end v
 
-end_of : (file : File) (budget number : ℕ) (p : Pattern) (v : Verdict) → VerdictHolds file budget number p v → EndOf file budget number p v
-end_of file budget number p (Safe nodes leaves) h = record { end = walk.Refuted h.tree nodes; is = h.is; gives = ap (Safe nodes) h.counted }
-end_of file budget number p (Unsafe nodes run) h = record { end = walk.Found nodes h.solution; is = h.node; gives = inl record { run = run; says = refl; is = h.is; stays = h.stays } }
-end_of file budget number p (Spent nodes) h = record { end = walk.Spent nodes; is = h; gives = refl }
-end_of file budget number p (Overflow node (kind.Pivot pivot)) h = record { end = walk.Overflow node (place.Pivot pivot); is = h; gives = refl }
-end_of file budget number p (Overflow node kind.Leaf) h = record { end = walk.Overflow node place.Leaf; is = h; gives = refl }
-end_of file budget number p (Overflow node kind.Run) h =
+end_of : (file : File) (pairs : List (ℕ × ℕ)) (budget number : ℕ) (p : Pattern) (v : Verdict) → HoldsUnder file pairs budget number p v → EndOf file pairs budget number p v
+end_of file pairs budget number p (Safe nodes leaves) h = record { end = walk.Refuted h.tree nodes; is = h.is; gives = ap (Safe nodes) h.counted }
+end_of file pairs budget number p (Unsafe nodes run) h = record { end = walk.Found nodes h.solution; is = h.node; gives = inl record { run = run; says = refl; is = h.is; stays = h.stays } }
+end_of file pairs budget number p (Spent nodes) h = record { end = walk.Spent nodes; is = h; gives = refl }
+end_of file pairs budget number p (Overflow node (kind.Pivot pivot)) h = record { end = walk.Overflow node (place.Pivot pivot); is = h; gives = refl }
+end_of file pairs budget number p (Overflow node kind.Leaf) h = record { end = walk.Overflow node place.Leaf; is = h; gives = refl }
+end_of file pairs budget number p (Overflow node kind.Run) h =
     let leaves = h.holds in
     record {
       end = walk.Found node leaves.solution;
@@ -77,21 +80,24 @@ place_once node (place.Pivot pivot) v w a b = a ∙ sym b
 place_once node place.Leaf v w a b = a ∙ sym b
 place_once node place.Run v w a b = absurd a
 
-gives_once : (file : File) (p : Pattern) (number budget : ℕ) (e : WalkEnd) (v w : Verdict) → slice_get file.patterns number ≡ Some p → IsEnd file.automaton p number budget e → Gives file e v → Gives file e w → v ≡ w
-gives_once file p number budget (walk.Refuted nodes count) v w at is a b = a ∙ sym b
-gives_once file p number budget (walk.Found count solution) v w at is (inl a) (inl b) = shown_once file count solution v w (solution_is file number p at budget count solution is) a b
-gives_once file p number budget (walk.Found count solution) v w at is (inl a) (inr b) = absurd (never_both file count solution v w (solution_is file number p at budget count solution is) a b)
-gives_once file p number budget (walk.Found count solution) v w at is (inr a) (inl b) = absurd (never_both file count solution w v (solution_is file number p at budget count solution is) b a)
-gives_once file p number budget (walk.Found count solution) v w at is (inr a) (inr b) = a.says ∙ sym b.says
-gives_once file p number budget (walk.Spent count) v w at is a b = a ∙ sym b
-gives_once file p number budget (walk.Overflow node k) v w at is a b = place_once node k v w a b
+gives_once : (file : File) (p : Pattern) (pairs : List (ℕ × ℕ)) (number budget : ℕ) (e : WalkEnd) (v w : Verdict) → slice_get file.patterns number ≡ Some p → IsEnd file.automaton p pairs number budget e → Gives file e v → Gives file e w → v ≡ w
+gives_once file p pairs number budget (walk.Refuted nodes count) v w at is a b = a ∙ sym b
+gives_once file p pairs number budget (walk.Found count solution) v w at is (inl a) (inl b) = shown_once file count solution v w (solution_is file number p at pairs budget count solution is) a b
+gives_once file p pairs number budget (walk.Found count solution) v w at is (inl a) (inr b) = absurd (never_both file count solution v w (solution_is file number p at pairs budget count solution is) a b)
+gives_once file p pairs number budget (walk.Found count solution) v w at is (inr a) (inl b) = absurd (never_both file count solution w v (solution_is file number p at pairs budget count solution is) b a)
+gives_once file p pairs number budget (walk.Found count solution) v w at is (inr a) (inr b) = a.says ∙ sym b.says
+gives_once file p pairs number budget (walk.Spent count) v w at is a b = a ∙ sym b
+gives_once file p pairs number budget (walk.Overflow node k) v w at is a b = place_once node k v w a b
 
 verdict_once : (file : File) (budget number : ℕ) (p : Pattern) (v w : Verdict) → slice_get file.patterns number ≡ Some p → VerdictHolds file budget number p v → VerdictHolds file budget number p w → v ≡ w
 verdict_once file budget number p v w at h k =
-    let a = end_of file budget number p v h in
-    let b = end_of file budget number p w k in
-    let ends = ends_once file.automaton p number budget a.end b.end a.is b.is in
-    gives_once file p number budget b.end v w at b.is (subst (λ (e : WalkEnd). Gives file e v) ends a.gives) b.gives
+    let pairs = map pair_of k.orders in
+    let orders = orders_once file.automaton h.orders k.orders h.found k.found in
+    let first = subst (λ (os : List Order). HoldsUnder file (map pair_of os) budget number p v) orders h.holds in
+    let a = end_of file pairs budget number p v first in
+    let b = end_of file pairs budget number p w k.holds in
+    let ends = ends_once file.automaton p pairs number budget a.end b.end a.is b.is in
+    gives_once file p pairs number budget b.end v w at b.is (subst (λ (e : WalkEnd). Gives file e v) ends a.gives) b.gives
 
 -- patterns are those of a file from a number on
 abbrev From : File → ℕ → List Pattern → Type 0

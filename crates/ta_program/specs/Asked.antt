@@ -41,7 +41,7 @@ abbrev pub Passes : Option (List ℕ) → Meaning → Type 0
 Passes file m = (told : Told) (line : List ℕ) → LegalFile told file → ¬ m.refuses (in_files told) 3 line
 
 abbrev pub usage_line : List ℕ
-usage_line = codes "tav: usage: verify FILE [--nodes N] [--certificate OUT] [--json], check FILE CERT, replay FILE RUN, compress FILE RUN, bench K\n"
+usage_line = codes "tav: usage: verify FILE [--nodes N] [--certificate OUT] [--json], check FILE CERT, replay FILE RUN, compress FILE RUN, bench K, export FILE PATTERN START WORD, admit FILE PATTERN START WORD VALUES\n"
 
 -- the words are no command's: nothing is read or written, and the line says so
 pub record OfNoCommand (number : ℕ) (before after : State) : Type 0 where

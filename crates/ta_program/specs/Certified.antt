@@ -3,6 +3,7 @@ use Rattle.std.specs.Prelude.{ℕ, ◌+◌, ◌<◌, ◌≤◌, ◌≡◌, List,
 use Rattle.ta_automaton.specs.declared.file.File.{File}
 use Rattle.ta_automaton.specs.declared.pattern.Pattern.{Pattern}
 use Rattle.ta_cert.specs.Certificates.{cert_text}
+use Rattle.ta_cert.specs.declared.line.Order.{Order}
 use Rattle.ta_cert.specs.declared.line.Proof.{Proof}
 use Rattle.ta_check.specs.Certificate.{Certificate}
 use Rattle.ta_report.specs.declared.verdict.Verdict.{Verdict}
@@ -11,9 +12,10 @@ use Rattle.ta_shell.specs.declared.answer.Put.{Put}
 use Rattle.ta_shell.specs.Lines.{file_line}
 use Rattle.ta_shell.specs.Puts.{put_bytes}
 use Rattle.ta_walk.specs.Ends.{TreeIs}
+use Rattle.ta_walk.specs.FoundOrders.{FoundOrders}
 use Rattle.ta_program.specs.declared.limits.TheConstants.{CERTIFICATE}
 use Rattle.ta_encode.specs.PatternSearch.{pattern_search}
-use Rattle.ta_program.specs.Verify.{AreVerdicts}
+use Rattle.ta_program.specs.Verify.{AreVerdicts, UnderOrders}
 
 -- how many nodes the tree of a pattern has that a verdict says is safe
 abbrev pub tree_size : Verdict → Option ℕ
@@ -42,10 +44,10 @@ safe_ones number (p ∷ ps) (v ∷ vs) = with_safe number p (tree_size v) (safe_
 abbrev pub safe_numbers : File → List Verdict → List ℕ
 safe_numbers file vs = map (λ one. one.number) (safe_ones 0 file.patterns vs)
 
--- the nodes are those of the pattern's tree, within the budget
+-- the nodes are those of the pattern's tree under the orders that are found, within the budget
 pub record IsTree (file : File) (budget : ℕ) (one : SafeOne) (proof : Proof) : Type 0 where
   pub numbered : proof.pattern ≡ one.number
-  pub is : TreeIs (pattern_search file.automaton one.pattern) budget proof.nodes one.nodes
+  pub is : UnderOrders file (λ pairs. TreeIs (pattern_search file.automaton one.pattern pairs) budget proof.nodes one.nodes)
 
 -- a tree for each, in order, and no other
 abbrev pub AreTrees : File → ℕ → List SafeOne → List Proof → Type 0
@@ -54,11 +56,14 @@ AreTrees file budget [] (proof ∷ proofs) = ⊥
 AreTrees file budget (one ∷ ones) [] = ⊥
 AreTrees file budget (one ∷ ones) (proof ∷ proofs) = IsTree file budget one proof × AreTrees file budget ones proofs
 
--- the certificate of the patterns that verdicts say are safe: the text of their trees, in the order of the file
+-- the certificate of the patterns that verdicts say are safe: the text of the orders that are found, and of their trees, in the order
+-- of the file
 pub record CertificateOf (file : File) (budget : ℕ) (verdicts : List Verdict) (text : List ℕ) : Type 0 where
+  pub orders : List Order
+  pub found : FoundOrders file.automaton orders
   pub trees : List Proof
   pub are : AreTrees file budget (safe_ones 0 file.patterns verdicts) trees
-  pub written : text ≡ cert_text trees
+  pub written : text ≡ cert_text orders trees
 
 -- the certificate of a file is longer than a certificate may be
 pub record LongCertificate (file : File) (budget : ℕ) : Type 0 where

@@ -2,3 +2,4 @@ pub mod Drafts
 pub mod Certifying
 pub mod Judged
 pub mod Reported
+pub mod Found

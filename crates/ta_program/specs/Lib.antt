@@ -12,6 +12,11 @@ pub mod VerifyWords
 pub mod Certified
 pub mod Reporting
 pub mod Bench
+pub mod WordAsked
+pub mod WordSeen
+pub mod Export
+pub mod Admit
+pub mod AdmitSeen
 pub mod Requests
 pub mod Headline
 pub mod Printed

@@ -10,10 +10,12 @@ use Rattle.ta_shell.specs.Puts.{KeptBut}
 use Rattle.ta_shell.specs.Sights.{in_files, seen}
 use Rattle.ta_program.specs.Asked.{Asked, IsNoCommand, LegalFile, usage_line}
 use Rattle.ta_program.specs.Asked.Asked.{Command, NoCommand}
+use Rattle.ta_program.specs.Admit.{AdmitAsked, AdmitHolds, IsAdmitted, admit_of}
 use Rattle.ta_program.specs.Bench.{BenchHolds, bench_of}
 use Rattle.ta_program.specs.Certified.{LongCertificate}
 use Rattle.ta_program.specs.Check.{CheckHolds, check_of}
 use Rattle.ta_program.specs.Compress.{CompressHolds, compress_of}
+use Rattle.ta_program.specs.Export.{ExportHolds, export_of}
 use Rattle.ta_program.specs.Headline.{EachPrintedSafe}
 use Rattle.ta_program.specs.Kinds.{IsFile}
 use Rattle.ta_program.specs.Printed.{EachPrintedUnsafe, EachToldSafe}
@@ -23,6 +25,7 @@ use Rattle.ta_program.specs.Reporting.{CertificateStands, ReportHolds}
 use Rattle.ta_program.specs.Verify.{IsKnown}
 use Rattle.ta_program.specs.Values.{TwoNames}
 use Rattle.ta_program.specs.VerifyWords.{VerifyWords, verify_of}
+use Rattle.ta_program.specs.WordAsked.{WordAsked}
 
 -- `verify FILE` with status 0, 1 or 2, whatever its options: FILE is legal, what is said of the parameters holds, each verdict holds,
 -- they give the status, and the output gained the report: 1 where some pattern is unsafe, else 2 where some is unknown, else 0
@@ -64,6 +67,19 @@ ReplayShows number words files calls calls' written written' =
 pub record Benches (number : ℕ) (words : List (List ℕ)) (written written' : Option (List ℕ)) : Type 0 where
   pub holds : (k : ℕ) → bench_of words ≡ Some k → number ≤ 2 → BenchHolds number k written written'
   pub others : (k : ℕ) → bench_of words ≡ Some k → (number ≢ 1) × (number ≢ 3) × (number ≢ 4)
+
+-- `export FILE PATTERN START WORD` with status 0: FILE is legal and has the word, and the output gained a text that denotes, of all
+-- lists of whole numbers, exactly those that are natural and solve the word's system without bounds
+abbrev pub Exports : ℕ → List (List ℕ) → Option Told → List Call → List Call → Option (List ℕ) → Option (List ℕ) → Type 0
+Exports number words files calls calls' written written' =
+    (asked : WordAsked) → export_of words ≡ Some asked → number ≡ 0
+    → Grew (λ read. ExportHolds (seen files read) asked written written') calls calls'
+
+-- `admit FILE PATTERN START WORD VALUES` with status 0: FILE is legal and has the complete word, VALUES solve its system, and the
+-- output gained the text of their run, which shows the pattern. Where told files have all that, the status is 0, 6 and 7 aside
+pub record Admitting (number : ℕ) (words : List (List ℕ)) (files : Option Told) (calls calls' : List Call) (written written' : Option (List ℕ)) : Type 0 where
+  pub holds : (all : AdmitAsked) → admit_of words ≡ Some all → number ≡ 0 → Grew (λ read. AdmitHolds (seen files read) all written written') calls calls'
+  pub exact : (all : AdmitAsked) (told : Told) → admit_of words ≡ Some all → files ≡ Some told → IsAdmitted told all → (number ≡ 0) ⊎ ((number ≡ 6) ⊎ (number ≡ 7))
 
 -- with status 0, 1 or 2 of `verify` a pattern that the report tells is safe is safe, by its line or in JSON, and one that it tells is
 -- unsafe occurs in a run, the text of which stands there; with status 0 of `check` a pattern that is `proved` is safe

@@ -2,9 +2,11 @@
 use Rattle.std.specs.Prelude.{ℕ, List, [], ◌∷◌, codes}
 use Rattle.ta_program.specs.Asked.{Asked, row}
 use Rattle.ta_program.specs.Asked.Asked.{NoCommand}
+use Rattle.ta_program.specs.Admit.{admit_asked}
 use Rattle.ta_program.specs.Bench.{bench_asked}
 use Rattle.ta_program.specs.Check.{check_asked}
 use Rattle.ta_program.specs.Compress.{compress_asked}
+use Rattle.ta_program.specs.Export.{export_asked}
 use Rattle.ta_program.specs.Replay.{replay_asked}
 use Rattle.ta_program.specs.Reporting.{verify_asked}
 
@@ -12,9 +14,11 @@ use Rattle.ta_program.specs.Reporting.{verify_asked}
 abbrev pub request_of : List (List ℕ) → Asked
 request_of [] = NoCommand
 request_of (word ∷ words) =
-    row (codes "bench") word (bench_asked words)
+    row (codes "admit") word (admit_asked words)
+    (row (codes "bench") word (bench_asked words)
     (row (codes "check") word (check_asked words)
     (row (codes "compress") word (compress_asked words)
+    (row (codes "export") word (export_asked words)
     (row (codes "replay") word (replay_asked words)
     (row (codes "verify") word (verify_asked words)
-    NoCommand))))
+    NoCommand))))))

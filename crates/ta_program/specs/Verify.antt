@@ -6,7 +6,9 @@ use Rattle.ta_automaton.specs.declared.file.File.{File}
 use Rattle.ta_automaton.specs.declared.pattern.Pattern.{Pattern}
 use Rattle.ta_automaton.specs.Lists.{Each}
 use Rattle.ta_automaton.specs.Runs as runs
+use Rattle.ta_cert.specs.Certificates.{pair_of}
 use Rattle.ta_cert.specs.declared.line.Node.{Node}
+use Rattle.ta_cert.specs.declared.line.Order.{Order}
 use Rattle.ta_encode.specs.Sample.{HasStart}
 use Rattle.ta_encode.specs.declared.encoded.Solution.{Solution}
 use Rattle.ta_encode.specs.InPreorder.{Pending}
@@ -19,6 +21,7 @@ use Rattle.ta_walk.specs.declared.end.PlaceKind.{PlaceKind}
 use Rattle.ta_walk.specs.declared.end.PlaceKind.TheVariants as place
 use Rattle.ta_walk.specs.Visit.{LeavesAt}
 use Rattle.ta_walk.specs.Ends.{IsSpent, NodeOf, SolutionAt, TreeIs, leaf_count}
+use Rattle.ta_walk.specs.FoundOrders.{FoundOrders}
 use Rattle.ta_report.specs.declared.verdict.ReportKind.{ReportKind}
 use Rattle.ta_report.specs.declared.verdict.ReportKind.TheVariants as kind
 use Rattle.ta_report.specs.declared.verdict.Verdict.{Verdict}
@@ -35,34 +38,40 @@ place_of (kind.Pivot pivot) = place.Pivot pivot
 place_of kind.Leaf = place.Leaf
 place_of kind.Run = place.Run
 
+-- a fact of the pairs of guards by which words are ordered: those of the orders that are found
+pub record UnderOrders (file : File) (fact : List (ℕ × ℕ) → Type 0) : Type 0 where
+  pub orders : List Order
+  pub found : FoundOrders file.automaton orders
+  pub holds : fact (map pair_of orders)
+
 -- the pattern is safe; its tree has so many nodes, within the budget, and so many of them are leaves
-pub record SafeHolds (file : File) (p : Pattern) (budget nodes leaves : ℕ) : Type 0 where
+pub record SafeHolds (file : File) (pairs : List (ℕ × ℕ)) (p : Pattern) (budget nodes leaves : ℕ) : Type 0 where
   pub safe : runs.Safe file.automaton p
   pub tree : List Node
-  pub is : TreeIs (pattern_search file.automaton p) budget tree nodes
+  pub is : TreeIs (pattern_search file.automaton p pairs) budget tree nodes
   pub counted : leaves ≡ leaf_count tree
 
 -- the run shows the pattern of a number in a replay that stays in range, and has at most (guards + events) * (rules + 1) steps; it
 -- is the run of the first whole node, which is the node of this number, within the budget
-pub record UnsafeHolds (file : File) (number : ℕ) (p : Pattern) (budget nodes : ℕ) (run : Run) : Type 0 where
+pub record UnsafeHolds (file : File) (pairs : List (ℕ × ℕ)) (number : ℕ) (p : Pattern) (budget nodes : ℕ) (run : Run) : Type 0 where
   pub solution : Solution
-  pub node : NodeOf (pattern_search file.automaton p) budget nodes (SolutionAt file.automaton p number solution)
+  pub node : NodeOf (pattern_search file.automaton p pairs) budget nodes (SolutionAt file.automaton p pairs number solution)
   pub is : WitnessOf file solution run
   pub shows : Shows file run
   pub stays : ReplayStays file run
   pub short : IsShortRun file run
 
 -- the word is that of a whole node, and a number of the replay of its run leaves the range
-pub record RunLeaves (file : File) (number : ℕ) (p : Pattern) (w : Pending) : Type 0 where
+pub record RunLeaves (file : File) (pairs : List (ℕ × ℕ)) (number : ℕ) (p : Pattern) (w : Pending) : Type 0 where
   pub solution : Solution
-  pub whole : SolutionAt file.automaton p number solution w
+  pub whole : SolutionAt file.automaton p pairs number solution w
   pub run : WitnessLeaves file solution
 
 -- where a number of a node leaves the range: in a pivot, in the check of the leaf that it is, or in the replay of its run
-abbrev pub LeavesIn : File → ℕ → Pattern → ReportKind → Pending → Type 0
-LeavesIn file number p (kind.Pivot pivot) w = LeavesAt (pattern_search file.automaton p) w (place.Pivot pivot)
-LeavesIn file number p kind.Leaf w = LeavesAt (pattern_search file.automaton p) w place.Leaf
-LeavesIn file number p kind.Run w = RunLeaves file number p w
+abbrev pub LeavesIn : File → List (ℕ × ℕ) → ℕ → Pattern → ReportKind → Pending → Type 0
+LeavesIn file pairs number p (kind.Pivot pivot) w = LeavesAt (pattern_search file.automaton p pairs) w (place.Pivot pivot)
+LeavesIn file pairs number p kind.Leaf w = LeavesAt (pattern_search file.automaton p pairs) w place.Leaf
+LeavesIn file pairs number p kind.Run w = RunLeaves file pairs number p w
 
 -- the values are a sample of the parameters: natural numbers that meet the resilience condition and have an initial configuration; and
 -- the search for a sample ends with them within a budget of nodes
@@ -93,13 +102,17 @@ pub record IsSample (file : File) (budget : ℕ) (s : ReportSample) : Type 0 whe
 abbrev pub SamplesAreDetermined : Type 0
 SamplesAreDetermined = (file : File) (budget : ℕ) (s t : ReportSample) → IsSample file budget s → IsSample file budget t → s ≡ t
 
--- a verdict on the pattern of a number holds, for a budget of nodes. Each node before the one that is named was a leaf, an
--- extension or a split, and no number of it left the range
+-- a verdict on the pattern of a number holds under pairs of guards, for a budget of nodes. Each node before the one that is named was
+-- a leaf, an extension or a split, and no number of it left the range
+abbrev pub HoldsUnder : File → List (ℕ × ℕ) → ℕ → ℕ → Pattern → Verdict → Type 0
+HoldsUnder file pairs budget number p (Safe nodes leaves) = SafeHolds file pairs p budget nodes leaves
+HoldsUnder file pairs budget number p (Unsafe nodes run) = UnsafeHolds file pairs number p budget nodes run
+HoldsUnder file pairs budget number p (Spent nodes) = IsSpent (pattern_search file.automaton p pairs) budget nodes
+HoldsUnder file pairs budget number p (Overflow node kind) = NodeOf (pattern_search file.automaton p pairs) budget node (LeavesIn file pairs number p kind)
+
+-- it holds under the pairs of the orders that are found
 abbrev pub VerdictHolds : File → ℕ → ℕ → Pattern → Verdict → Type 0
-VerdictHolds file budget number p (Safe nodes leaves) = SafeHolds file p budget nodes leaves
-VerdictHolds file budget number p (Unsafe nodes run) = UnsafeHolds file number p budget nodes run
-VerdictHolds file budget number p (Spent nodes) = IsSpent (pattern_search file.automaton p) budget nodes
-VerdictHolds file budget number p (Overflow node kind) = NodeOf (pattern_search file.automaton p) budget node (LeavesIn file number p kind)
+VerdictHolds file budget number p v = UnderOrders file (λ pairs. HoldsUnder file pairs budget number p v)
 
 -- a verdict for each of the patterns, of which the first has this number, and each holds
 abbrev pub VerdictsHold : File → ℕ → ℕ → List Pattern → List Verdict → Type 0

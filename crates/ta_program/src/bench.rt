@@ -20,8 +20,9 @@ use crate::verify::{is_unknown, is_unsafe, verdicts_on};
 use crate::words::take_words;
 use std::alloc::{AllocError, Global};
 use ta_automaton::Pattern;
-use ta_cert::{CertFault, Line};
+use ta_cert::CertFault;
 use ta_check::{Accepted, Checker};
+use ta_dense::NarrowDictionary;
 use ta_maker::make_family;
 use ta_meaning::read_file;
 use ta_report::Verdict;
@@ -29,6 +30,7 @@ use ta_scope::ScopedFile;
 use ta_shelf::{Shelf, Text};
 use ta_shell::{Answer, Command, Refusal};
 use ta_syntax::print_tree;
+use ta_walk::find_orders;
 
 /// What `bench` is asked for: a number of the family.
 #[derive(Drop)]
@@ -99,8 +101,9 @@ fn bench_family(alloc: Global, k: u32) -> Result<Answer, AllocError>
 {
     let scoped = read_family(alloc, k)?;
     let budget = Budget { nodes: 1_000_000 };
-    let mut draft = Draft::begin(alloc, true, &Line::Header)?;
-    let verdicts = verdicts_on(alloc, &scoped, &budget, &mut draft)?;
+    let found = find_orders::<NarrowDictionary>(alloc, &scoped)?;
+    let mut draft = Draft::certificate(alloc, true, found.list.as_slice())?;
+    let verdicts = verdicts_on(alloc, &scoped, &found, &budget, &mut draft)?;
     let certificate = draft.end(alloc)?;
     if accept(alloc, &scoped, certificate.as_slice()).is_err() {
         return Err(AllocError);

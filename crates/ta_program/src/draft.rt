@@ -2,13 +2,14 @@
 #![tactic(auto)]
 
 ghost use Rattle.std.specs.Prelude.{◌≡◌, ◌++◌, IfOk, OnOk, List, ℕ, true};
+ghost use Rattle.ta_cert.specs.Certificates.{head_text};
 ghost use Rattle.ta_cert.specs.declared.line.Line.TheVariants.{End};
 ghost use Rattle.ta_shell.specs.Puts.{texts_joined};
 ghost use Rattle.ta_program.specs.Inside.Drafts.{DraftKeeps, HasText, ended_line};
 
 use crate::pieces::Pieces;
 use std::alloc::{AllocError, Global};
-use ta_cert::{Line, Node};
+use ta_cert::{Line, Node, Order};
 use ta_shelf::{List, Text};
 use ta_walk::Keeper;
 
@@ -31,6 +32,19 @@ impl Draft {
             return Ok(Draft { wanted, lines });
         }
         lines.write(alloc, line)?;
+        Ok(Draft { wanted, lines })
+    }
+
+    /// A draft of a certificate, with its first line and its orders.
+    pub fn certificate(alloc: Global, wanted: bool, orders: &[Order]) -> Result<Draft, AllocError>
+        ensures wanted { IfOk result (λ draft. draft.wanted ≡ wanted) }
+        ensures text { IfOk result (λ draft. HasText draft (head_text orders.now)) }
+    {
+        let mut lines = Pieces::new(alloc);
+        if !wanted {
+            return Ok(Draft { wanted, lines });
+        }
+        lines.write_head(orders)?;
         Ok(Draft { wanted, lines })
     }
 

@@ -1,12 +1,14 @@
 //! The program, over the words, the files and the sinks that it is given.
 #![tactic(auto)]
 
+mod admit;
 mod bench;
 mod budget;
 mod certified;
 mod check;
 mod compress;
 mod draft;
+mod export;
 mod laws;
 mod limits;
 mod pieces;
@@ -14,8 +16,10 @@ mod reading;
 mod replay;
 mod request;
 mod running;
+mod spelled;
 mod values;
 mod verify;
+mod word_asked;
 mod words;
 
 pub use laws::{

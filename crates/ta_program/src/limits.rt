@@ -19,3 +19,9 @@ pub const RUN: Limit = Limit {
     bytes: 16_777_216,
     number: 4,
 };
+
+/// Values for the unknowns of a word.
+pub const VALUES: Limit = Limit {
+    bytes: 1_048_576,
+    number: 4,
+};

@@ -2,13 +2,14 @@
 #![tactic(auto)]
 
 ghost use Rattle.std.specs.Prelude.{◌≡◌, [], ◌∷◌, ◌++◌, OnOk, string_bytes};
+ghost use Rattle.ta_cert.specs.Certificates.{head_text};
 ghost use Rattle.ta_cert.specs.Lines.{line_text};
 ghost use Rattle.ta_shell.specs.Puts.{texts_joined};
 ghost use Rattle.ta_program.specs.Inside.Drafts.{pieces_text};
 
 use std::alloc::{AllocError, Global};
 use std::mem;
-use ta_cert::{Line, write_line};
+use ta_cert::{Line, Order, write_head, write_line};
 use ta_shelf::Text;
 
 /// How long a piece grows before the next one is begun, in bytes.
@@ -42,6 +43,13 @@ impl Pieces {
             return Ok(());
         }
         self.close(alloc)
+    }
+
+    /// Adds what stands in front of a certificate's proofs: the first line and the orders.
+    pub fn write_head(&mut self, orders: &[Order]) -> Result<(), AllocError>
+        ensures { OnOk result (pieces_text self.new ≡ pieces_text self.old ++ head_text orders.now) }
+    {
+        write_head(&mut self.open, orders)
     }
 
     /// Ends the open piece.

@@ -5,12 +5,14 @@ ghost use Rattle.std.specs.Prelude.{◌≡◌, map};
 ghost use Rattle.ta_shell.specs.Ends.{Quiet, SinkState, Tells, state};
 ghost use Rattle.ta_program.specs.Asked.{Runs, usage_line};
 ghost use Rattle.ta_program.specs.Headline.{StatusTells};
-ghost use Rattle.ta_program.specs.Program.{Benches, CertificateWritten, CheckProves, Completes, ExactlySo, KeepsFiles, Opens, PrintedHolds, ReplayShows, RunShortens, Tellings, UsageExactly, VerifyReports};
+ghost use Rattle.ta_program.specs.Program.{Admitting, Benches, CertificateWritten, CheckProves, Completes, ExactlySo, Exports, KeepsFiles, Opens, PrintedHolds, ReplayShows, RunShortens, Tellings, UsageExactly, VerifyReports};
 ghost use Rattle.ta_program.specs.Requests.{request_of};
 
+use crate::admit::Admit;
 use crate::bench::Bench;
 use crate::check::Check;
 use crate::compress::Compress;
+use crate::export::Export;
 use crate::replay::Replay;
 use crate::request::Request;
 use crate::verify::Verify;
@@ -20,11 +22,11 @@ use ta_shell::{perform, tell_line};
 
 /// The line where the words are no command's.
 const USAGE: &str =
-    "tav: usage: verify FILE [--nodes N] [--certificate OUT] [--json], check FILE CERT, replay FILE RUN, compress FILE RUN, bench K\n";
+    "tav: usage: verify FILE [--nodes N] [--certificate OUT] [--json], check FILE CERT, replay FILE RUN, compress FILE RUN, bench K, export FILE PATTERN START WORD, admit FILE PATTERN START WORD VALUES\n";
 
 /// Does what the words ask for, and answers the number that the process ends with: 0 where all is
 /// done, 1 where some pattern is unsafe, 2 where none is and some is unknown, 3 where FILE hinders, 4
-/// where CERT or RUN does, or the certificate is too long, 5 where the words are no command's, 6 where
+/// where CERT, RUN, VALUES or a word does, or the certificate is too long, 5 where the words are no command's, 6 where
 /// the shelf or the output failed, and 7 for want of memory.
 ///
 /// A file is read and judged whole before the next one is opened, and a text is made whole before
@@ -44,6 +46,8 @@ pub fn run<S: Shelf, O: Sink, E: Sink>(
     ensures replay { ReplayShows result (map (λ w. w.now) words.now) (S.files shelf.old) (S.calls shelf.old) (S.calls shelf.new) (O.written out.old) (O.written out.new) }
     ensures compress { RunShortens result (map (λ w. w.now) words.now) (S.files shelf.old) (S.calls shelf.old) (S.calls shelf.new) (O.written out.old) (O.written out.new) }
     ensures bench { Benches result (map (λ w. w.now) words.now) (O.written out.old) (O.written out.new) }
+    ensures export { Exports result (map (λ w. w.now) words.now) (S.files shelf.old) (S.calls shelf.old) (S.calls shelf.new) (O.written out.old) (O.written out.new) }
+    ensures admit { Admitting result (map (λ w. w.now) words.now) (S.files shelf.old) (S.calls shelf.old) (S.calls shelf.new) (O.written out.old) (O.written out.new) }
     ensures printed { PrintedHolds result (map (λ w. w.now) words.now) (S.files shelf.old) (S.calls shelf.old) (S.calls shelf.new) (O.written out.old) (O.written out.new) }
     ensures usage { UsageExactly result (request_of (map (λ w. w.now) words.now)) }
     ensures exact { ExactlySo result (request_of (map (λ w. w.now) words.now)) (S.files shelf.old) }
@@ -81,9 +85,11 @@ fn obey<S: Shelf, O: Sink, E: Sink>(
         return refuse(err);
     };
     match *name {
+        "admit" => attempt::<Admit<'_>, S, O, E>(alloc, words, shelf, out, err),
         "bench" => attempt::<Bench, S, O, E>(alloc, words, shelf, out, err),
         "check" => attempt::<Check<'_>, S, O, E>(alloc, words, shelf, out, err),
         "compress" => attempt::<Compress<'_>, S, O, E>(alloc, words, shelf, out, err),
+        "export" => attempt::<Export<'_>, S, O, E>(alloc, words, shelf, out, err),
         "replay" => attempt::<Replay<'_>, S, O, E>(alloc, words, shelf, out, err),
         "verify" => attempt::<Verify<'_>, S, O, E>(alloc, words, shelf, out, err),
         _ => refuse(err),

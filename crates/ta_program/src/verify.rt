@@ -1,7 +1,9 @@
 //! The command `verify`.
 #![tactic(auto)]
 
-ghost use Rattle.std.specs.Prelude.{ℕ, ◌≡◌, ◌<◌, [], IfOk, is_some, length, map, None, Option, option_map};
+ghost use Rattle.std.specs.Prelude.{ℕ, ◌≡◌, ◌<◌, [], IfOk, is_some, length, List, map, None, Option, option_map};
+ghost use Rattle.ta_cert.specs.Certificates.{pair_of};
+ghost use Rattle.ta_cert.specs.declared.line.Order.{Order};
 ghost use Rattle.ta_automaton.specs.declared.pattern.Pattern.{Pattern};
 ghost use Rattle.ta_report.specs.Report.{VerdictFits};
 ghost use Rattle.ta_shelf.specs.Calls.{Grew};
@@ -9,6 +11,7 @@ ghost use Rattle.ta_shelf.specs.Put.{Told};
 ghost use Rattle.ta_shell.specs.Commands.{Says};
 ghost use Rattle.ta_shell.specs.Reading.{ReadCause};
 ghost use Rattle.ta_walk.specs.Ends.{NodeOf, SolutionAt};
+ghost use Rattle.ta_walk.specs.FoundOrders.{FoundOrders};
 ghost use Rattle.ta_witness.specs.Witness.{IsSolution};
 ghost use Rattle.ta_words.specs.Calls.{OfPattern};
 ghost use Rattle.ta_program.specs.Certified.{safe_ones, tree_size};
@@ -37,7 +40,7 @@ use ta_report::{ReportKind, ReportSample, Verdict, report_json, report_text};
 use ta_scope::ScopedFile;
 use ta_shelf::{Shelf, Text};
 use ta_shell::{Answer, Command, Refusal};
-use ta_walk::{PlaceKind, SampleEnd, VisitEnd, sample, visit};
+use ta_walk::{OrdersFound, PlaceKind, SampleEnd, VisitEnd, find_orders, sample, visit};
 use ta_witness::{WitnessFault, witness};
 
 /// What `verify` is asked for.
@@ -146,10 +149,13 @@ fn answer_report<'a>(
     ensures says { (files : Option Told) → Says (report_meaning scoped.now.file budget.now.nodes json (option_map (λ w. w.now) out.entry)) files result [] }
     ensures cause { ReadCause result 0 0 }
 {
-    let Ok(mut draft) = Draft::begin(alloc, out.is_some(), &Line::Header) else {
+    let Ok(found) = find_orders::<NarrowDictionary>(alloc, scoped) else {
         return Err(Refusal::Memory);
     };
-    let Ok(verdicts) = verdicts_on(alloc, scoped, budget, &mut draft) else {
+    let Ok(mut draft) = Draft::certificate(alloc, out.is_some(), found.list.as_slice()) else {
+        return Err(Refusal::Memory);
+    };
+    let Ok(verdicts) = verdicts_on(alloc, scoped, &found, budget, &mut draft) else {
         return Err(Refusal::Memory);
     };
     let number = number_of(verdicts.as_slice());
@@ -225,23 +231,25 @@ pub(crate) fn is_unknown(verdict: &Verdict) -> bool
     matches!(verdict, Verdict::Spent { .. } | Verdict::Overflow { .. })
 }
 
-/// A verdict on each pattern of a file, in order. The trees of those that are safe are added to a
-/// draft.
+/// A verdict on each pattern of a file, in order, under the orders that were found. The trees of those
+/// that are safe are added to a draft.
 pub(crate) fn verdicts_on(
     alloc: Global,
     scoped: &ScopedFile,
+    found: &OrdersFound,
     budget: &Budget,
     draft: &mut Draft,
 ) -> Result<Vec<Verdict>, AllocError>
-    requires begun { HasProofs draft.old [] }
+    requires found { FoundOrders scoped.now.file.automaton found.now.list }
+    requires same { found.now.orders ≡ map pair_of found.now.list }
     ensures verdicts { IfOk result (λ verdicts. AreVerdicts scoped.now.file budget.now.nodes verdicts.items) }
-    ensures trees { IfOk result (λ verdicts. HasTrees scoped.now.file budget.now.nodes (safe_ones 0 scoped.now.file.patterns verdicts.items) draft.new) }
+    ensures trees { (head : List ℕ) → HasProofs draft.old head [] → IfOk result (λ verdicts. HasTrees scoped.now.file budget.now.nodes head (safe_ones 0 scoped.now.file.patterns verdicts.items) draft.new) }
     ensures wanted { IfOk result (λ verdicts. draft.new.wanted ≡ draft.old.wanted) }
 {
     let count = scoped.file.patterns.as_slice().len() as u32;
     let mut verdicts = Vec::new(alloc);
     for pattern in 0..count {
-        verdicts.push(next_verdict(alloc, scoped, pattern, budget, draft)?)?;
+        verdicts.push(next_verdict(alloc, scoped, found, pattern, budget, draft)?)?;
     }
     Ok(verdicts)
 }
@@ -250,18 +258,21 @@ pub(crate) fn verdicts_on(
 fn next_verdict(
     alloc: Global,
     scoped: &ScopedFile,
+    found: &OrdersFound,
     pattern: u32,
     budget: &Budget,
     draft: &mut Draft,
 ) -> Result<Verdict, AllocError>
-    requires { pattern < length scoped.now.file.patterns }
+    requires exists { pattern < length scoped.now.file.patterns }
+    requires found { FoundOrders scoped.now.file.automaton found.now.list }
+    requires same { found.now.orders ≡ map pair_of found.now.list }
     ensures holds { IfOk result (λ verdict. OfPattern scoped.now.file pattern (λ p. VerdictHolds scoped.now.file budget.now.nodes pattern p verdict)) }
     ensures fits { IfOk result (VerdictFits scoped.now.file) }
     ensures adds { IfOk result (λ verdict. OfPattern scoped.now.file pattern (λ p. AddsTree scoped.now.file budget.now.nodes pattern p verdict draft.old draft.new)) }
     ensures wanted { IfOk result (λ verdict. draft.new.wanted ≡ draft.old.wanted) }
 {
     let mut proof = Draft::begin(alloc, draft.wanted, &Line::Pattern(pattern))?;
-    let verdict = verdict_on(alloc, scoped, pattern, budget, &mut proof)?;
+    let verdict = verdict_on(alloc, scoped, found, pattern, budget, &mut proof)?;
     if !is_safe(&verdict) {
         return Ok(verdict);
     }
@@ -281,16 +292,26 @@ fn is_safe(verdict: &Verdict) -> bool
 fn verdict_on(
     alloc: Global,
     scoped: &ScopedFile,
+    found: &OrdersFound,
     pattern: u32,
     budget: &Budget,
     draft: &mut Draft,
 ) -> Result<Verdict, AllocError>
-    requires { pattern < length scoped.now.file.patterns }
+    requires exists { pattern < length scoped.now.file.patterns }
+    requires found { FoundOrders scoped.now.file.automaton found.now.list }
+    requires same { found.now.orders ≡ map pair_of found.now.list }
     ensures holds { IfOk result (λ verdict. OfPattern scoped.now.file pattern (λ p. VerdictHolds scoped.now.file budget.now.nodes pattern p verdict)) }
     ensures fits { IfOk result (VerdictFits scoped.now.file) }
     ensures drafted { IfOk result (λ verdict. OfPattern scoped.now.file pattern (λ p. Drafted scoped.now.file budget.now.nodes pattern p verdict draft.old draft.new)) }
 {
-    match visit::<NarrowDictionary, Draft>(alloc, scoped, pattern, budget.nodes, draft)? {
+    match visit::<NarrowDictionary, Draft>(
+        alloc,
+        scoped,
+        pattern,
+        &found.orders,
+        budget.nodes,
+        draft,
+    )? {
         VisitEnd::Refuted { count, leaves } => Ok(Verdict::Safe {
             nodes: count,
             leaves,
@@ -313,7 +334,7 @@ fn verdict_of(
     solution: &Solution,
 ) -> Result<Verdict, AllocError>
     requires { IsSolution scoped.now.file solution.now }
-    ensures holds { (budget number : ℕ) (p : Pattern) → NodeOf (pattern_search scoped.now.file.automaton p) budget node (SolutionAt scoped.now.file.automaton p number solution.now) → IfOk result (λ verdict. VerdictHolds scoped.now.file budget number p verdict) }
+    ensures holds { (orders : List Order) (budget number : ℕ) (p : Pattern) → FoundOrders scoped.now.file.automaton orders → NodeOf (pattern_search scoped.now.file.automaton p (map pair_of orders)) budget node (SolutionAt scoped.now.file.automaton p (map pair_of orders) number solution.now) → IfOk result (λ verdict. VerdictHolds scoped.now.file budget number p verdict) }
     ensures no_tree { IfOk result (λ verdict. tree_size verdict ≡ None) }
     ensures fits { IfOk result (VerdictFits scoped.now.file) }
 {

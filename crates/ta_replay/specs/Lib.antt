@@ -7,4 +7,5 @@ pub mod RunText
 pub mod TextFaults
 pub mod Reading
 pub mod Answers
+pub mod Determined
 pub mod Inside

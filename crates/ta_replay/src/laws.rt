@@ -3,6 +3,7 @@
 #![tactic(auto)]
 
 ghost use Rattle.ta_replay.specs.Answers.{TextsHaveAnswers};
+ghost use Rattle.ta_replay.specs.Determined.{RefusalsAreDetermined, TextsAreDetermined};
 ghost use Rattle.ta_replay.specs.Shows.{ShownRunsOccur};
 ghost use Rattle.ta_replay.specs.Pieces.{PiecesAreShort, PiecesShow};
 
@@ -24,4 +25,14 @@ pub fn pieces_show()
 /// A text is that of a run of the file, or has a first fault at a line.
 pub fn texts_have_answers()
     ensures { TextsHaveAnswers }
+{}
+
+/// A text is that of one run, or has one first fault, and not both.
+pub fn texts_are_determined()
+    ensures { TextsAreDetermined }
+{}
+
+/// A run that fits has one first refusal, and none where it shows its pattern within the range.
+pub fn refusals_are_determined()
+    ensures { RefusalsAreDetermined }
 {}

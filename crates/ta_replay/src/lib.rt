@@ -12,7 +12,10 @@ mod words;
 mod writing;
 
 pub use fault::RunFault;
-pub use laws::{pieces_are_short, pieces_show, shown_runs_occur, texts_have_answers};
+pub use laws::{
+    pieces_are_short, pieces_show, refusals_are_determined, shown_runs_occur, texts_are_determined,
+    texts_have_answers,
+};
 pub use names::find_pattern;
 pub use numbers::read_number;
 pub use reading::read_run;

@@ -12,7 +12,7 @@ use Rattle.ta_shell.specs.declared.phrase.Phrase.{Phrase}
 use Rattle.ta_shell.specs.Lines.{file_line, phrase_text}
 use Rattle.ta_shell.specs.Reading.{IsUnreadable, Reads}
 use Rattle.ta_shell.specs.Sights.{Absent, Begins, View, in_files, seen}
-use Rattle.ta_shell.specs.Stages.{GoesOn, Hinders, IsAtFault, IsBroken, IsOf, Kind, Stage, after, replies, settles}
+use Rattle.ta_shell.specs.Stages.{GoesOn, Hinders, IsAtFault, IsBroken, IsOf, Kind, Stage, after, finds, replies, settles}
 use Rattle.ta_shell.proofs.Views.{Monotone, Sub, begins_some, has_more, not_absent, not_longer, sub_told, sub_within, whole_one}
 
 unreadable_more : (v w : View) → Sub v w → (name : List ℕ) (limit : ℕ) (Such : List ℕ → Type 0) (words : List ℕ) → IsUnreadable v name limit Such words → IsUnreadable w name limit Such words
@@ -122,6 +122,51 @@ replies_monotone puts Such = record { answers = λ v w sub answer h. h; refuses 
 
 pub settles_monotone : (puts : List (List ℕ)) (Such : Answer → Type 0) (Wrong : ℕ → List ℕ → Type 0) → Monotone (settles puts Such Wrong)
 settles_monotone puts Such Wrong = record { answers = λ v w sub answer h. h; refuses = λ v w sub number line h. h; reads = λ v w sub name h. h }
+
+-- what is found without reading
+module _ {A : Type 0} (Is : A → Type 0) (Wrong : ℕ → List ℕ → Type 0) (puts : List (List ℕ)) (rest : A → Meaning) where
+  pub finds_monotone : ((value : A) → Monotone (rest value)) → Monotone (finds Is Wrong puts rest)
+  finds_monotone rests = record {
+    answers = λ v w sub answer h. (h.0, h.1, (rests h.0).answers v w sub answer h.2);
+    refuses = λ v w sub number line h. elim h [ inl own ↦ inl own | inr r ↦ inr (r.0, r.1, (rests r.0).refuses v w sub number line r.2) ];
+    reads = λ v w sub other h. (h.0, h.1, (rests h.0).reads v w sub other h.2);
+  }
+
+  -- either something hinders, or the rest is so
+  found : (view : View) (number : ℕ) → IsSo (finds Is Wrong puts rest) view number → ((line : List ℕ) × Wrong number line) ⊎ ((v : A) × Is v × IsSo (rest v) view number)
+  found view number so = elim so [
+    | inl a ↦ inr (a.2.0, a.2.1, inl (a.0, a.1, a.2.2))
+    | inr r ↦ elim r.1 [ inl own ↦ inl (r.0, own) | inr h ↦ inr (h.0, h.1, inr (r.0, h.2)) ]
+  ]
+
+  -- one number, where what hinders has one, nothing that is so hinders, and the rest of what is so has one
+  pub finds_one : (view : View) → ((number other : ℕ) (line words : List ℕ) → Wrong number line → Wrong other words → number ≡ other) → ((v : A) (number : ℕ) (line : List ℕ) → Is v → ¬ Wrong number line) → ((v w : A) → Is v → Is w → (number other : ℕ) → IsSo (rest v) view number → IsSo (rest w) view other → number ≡ other) → (number other : ℕ) → IsSo (finds Is Wrong puts rest) view number → IsSo (finds Is Wrong puts rest) view other → number ≡ other
+  finds_one view wrong fits agree number other so so' = elim (found view number so) [
+    | inl h ↦ elim (found view other so') [ inl k ↦ wrong number other h.0 k.0 h.1 k.1 | inr k ↦ absurd (fits k.0 number h.0 k.1 h.1) ]
+    | inr h ↦ elim (found view other so') [ inl k ↦ absurd (fits h.0 other k.0 h.1 k.1) | inr k ↦ agree h.0 k.0 h.1 k.1 number other h.2 k.2 ]
+  ]
+
+  -- something hinders, and nothing is read
+  pub finds_wrong : (files : Option Told) (number : ℕ) (who : Bor (List ℕ)) (why : Phrase) → 3 ≤ number → number ≤ 4 → Wrong number (file_line who.now (phrase_text why)) → Says (finds Is Wrong puts rest) files (Err (Refused number who why)) []
+  finds_wrong files number who why three four wrong = record { opened = inl refl; judges = (three, four, inl wrong) }
+
+  -- there was no memory, and nothing is read
+  pub finds_memory : (files : Option Told) → Says (finds Is Wrong puts rest) files (Err Memory) []
+  finds_memory files = record { opened = inl refl; judges = tt }
+
+  judged_found : (view : View) (v : A) (result : Result Answer Refusal) → Is v → ((w : A) → (rest w).puts ≡ puts) → Judges (rest v) view result → Judges (finds Is Wrong puts rest) view result
+  judged_found view v (Ok answer) is same h = record { low = h.low; holds = (v, is, h.holds); within = subst (λ (ps : List (List ℕ)). Within ps answer.puts) (same v) h.within }
+  judged_found view v (Err (Refused number who why)) is same h = (h.0, h.1, inr (v, is, h.2))
+  judged_found view v (Err (ReadFailed who)) is same h = (v, is, h)
+  judged_found view v (Err (PutFailed who)) is same h = absurd h
+  judged_found view v (Err Memory) is same h = tt
+
+  -- a value is so, and then comes the rest
+  pub finds_then : (files : Option Told) (v : A) (result : Result Answer Refusal) (calls : List Call) → Is v → ((w : A) → (rest w).puts ≡ puts) → Says (rest v) files result calls → Says (finds Is Wrong puts rest) files result calls
+  finds_then files v result calls is same says = record { opened = inr (v, is, says.opened); judges = judged_found (seen files calls) v result is same says.judges }
+
+  pub grew_found : (files : Option Told) (v : A) (result : Result Answer Refusal) (before last : List Call) → Is v → ((w : A) → (rest w).puts ≡ puts) → Grew (Says (rest v) files result) before last → Grew (Says (finds Is Wrong puts rest) files result) before last
+  grew_found files v result before last is same h = record { added = h.added; grown = h.grown; such = finds_then files v result h.added is same h.such }
 
 -- told files leave one number where a meaning grows and leaves one
 pub decides : (m : Meaning) → Monotone m → ((told : Told) (number other : ℕ) → IsSo m (in_files told) number → IsSo m (in_files told) other → number ≡ other) → Decides m

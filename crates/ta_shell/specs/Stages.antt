@@ -77,6 +77,17 @@ after {A} {F} kind name puts rest = record {
   puts = puts;
 }
 
+-- nothing is read: a value is so, and then comes what it asks for; or something hinders, with this number and this line; the files
+-- of these names may be put
+abbrev pub finds : {A : Type 0} → (A → Type 0) → (ℕ → List ℕ → Type 0) → List (List ℕ) → (A → Meaning) → Meaning
+finds {A} Is Wrong puts rest = record {
+  answers = λ view answer. (value : A) × Is value × (rest value).answers view answer;
+  refuses = λ view number line. Wrong number line ⊎ ((value : A) × Is value × (rest value).refuses view number line);
+  reads = λ view other. (value : A) × Is value × (rest value).reads view other;
+  opens = λ calls. (calls ≡ []) ⊎ ((value : A) × Is value × (rest value).opens calls);
+  puts = puts;
+}
+
 -- nothing more is read, and an answer is such
 abbrev pub replies : List (List ℕ) → (Answer → Type 0) → Meaning
 replies puts Such = record {

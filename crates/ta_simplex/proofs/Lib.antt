@@ -22,8 +22,8 @@ mod Prefixes
 mod FollowLemmas
 mod RunSteps
 mod BranchLemmas
-mod RunEndings
-mod SystemEnds
+pub mod RunEndings
+pub mod SystemEnds
 mod DeterminedSteps
 mod DeterminedMultipliers
 mod DeterminedValues

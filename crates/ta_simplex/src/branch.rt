@@ -17,7 +17,7 @@ use ta_dense::{Dictionary, ExtendFault};
 use ta_linear::System;
 
 /// The bytes that dictionaries may hold together.
-const LIMIT: usize = 256_000_000;
+const LIMIT: usize = 48_000_000;
 
 /// A system that ended at a vertex: how many unknowns and rows it has, its dictionary there, and how
 /// many pivots led to it.

@@ -42,7 +42,7 @@ use Rattle.ta_smt.proofs.Solutions.{holds_same, naturals_from, points}
 use Rattle.ta_smt.proofs.ValueTexts.{not_both, values_once}
 
 -- the word as it is pending, without bounds
-abbrev pending : Asked → Pending
+abbrev pub pending : Asked → Pending
 pending word = record { start = word.start; past = reverse word.elements; bounds = [] }
 
 -- a number names one pattern
@@ -85,7 +85,7 @@ solution_from file word values complete legal natural passes =
       solved = record {
         legal = legal p complete.named;
         complete = complete.complete;
-        solves = unbounded file.automaton p (pending word) (map unsigned_abs values) (solves_of (pattern_search file.automaton p) (pending word) passes.system (map unsigned_abs values) of (solves passes.system values natural passes.checked));
+        solves = unbounded file.automaton p [] (pending word) (map unsigned_abs values) (solves_of (pattern_search file.automaton p []) (pending word) passes.system (map unsigned_abs values) of (solves passes.system values natural passes.checked));
       };
     }
 
@@ -128,7 +128,7 @@ solution_counts : (file : File) (word : Asked) (values : List ℤ) (s : System) 
 solution_counts file word values s is solution =
     let same = one_pattern file word.pattern is.pattern solution.pattern is.named solution.named in
     let of = subst (λ (p : Pattern). SystemOf file.automaton p word.start (reverse word.elements) [] s) same is.is in
-    let solved = solution_back (pattern_search file.automaton solution.pattern) (pending word) s solution.values of (record { count = solution.solved.solves.count; rows_hold = solution.solved.solves.rows_hold }) in
+    let solved = solution_back (pattern_search file.automaton solution.pattern []) (pending word) s solution.values of (record { count = solution.solved.solves.count; rows_hold = solution.solved.solves.rows_hold }) in
     let alike : (x : ℕ) → pos (slice_index solution.values x) ≡ point_of values x = λ x. sym (ap (λ zs. point_of zs x) solution.are ∙ points solution.values x) in (
       ap length solution.are ∙ length-map solution.values pos ∙ solved.count,
       λ k d b. holds_same (λ x. pos (slice_index solution.values x)) (point_of values) alike (get_or s.rows k d) (solved.rows_hold k d b),

@@ -4,4 +4,6 @@ mod Written
 mod ValueTexts
 mod Forms
 mod Spelled
-mod Admitted
+pub mod Admitted
+pub mod WordsNamed
+mod ElementTexts

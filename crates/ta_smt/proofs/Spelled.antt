@@ -25,7 +25,7 @@ pub record Spells (file : File) (number start : ℕ) (elements : List Element) (
 pub spells_none : (file : File) (number start : ℕ) (elements : List Element) → Spells file number start elements 0 []
 spells_none file number start elements = record { so_far = refl; legal = λ p named. tt }
 
-pub spells_more : (file : File) (number start : ℕ) (elements : List Element) (i : ℕ) (word new : List Element) (element : Element) → Spells file number start elements i word → slice_get elements i ≡ Some element → new ≡ word ++ element ∷ [] → OfPattern file number (λ p. In element (children file.automaton p start (reverse word))) → Spells file number start elements (i + 1) new
+pub spells_more : (file : File) (number start : ℕ) (elements : List Element) (i : ℕ) (word new : List Element) (element : Element) → Spells file number start elements i word → slice_get elements i ≡ Some element → new ≡ word ++ element ∷ [] → OfPattern file number (λ p. In element (children file.automaton p [] start (reverse word))) → Spells file number start elements (i + 1) new
 spells_more file number start elements i word new element spells at pushed child = record {
   so_far = pushed ∙ ap (λ w. w ++ element ∷ []) spells.so_far ∙ sym (take_next elements i element at);
   legal = λ p named. subst (Legal file.automaton p start) (sym (ap reverse pushed ∙ past_push word element)) (child p named, spells.legal p named);
@@ -34,12 +34,12 @@ spells_more file number start elements i word new element spells at pushed child
 pub spells_all : (file : File) (number start : ℕ) (elements word : List Element) (i : ℕ) → i ≡ length elements → Spells file number start elements i word → word ≡ elements
 spells_all file number start elements word i end spells = spells.so_far ∙ ap (λ n. take n elements) end ∙ take_all elements
 
-pub stranger : (file : File) (number start : ℕ) (elements word : List Element) (i : ℕ) (element : Element) → Spells file number start elements i word → slice_get elements i ≡ Some element → OfPattern file number (λ p. In element (children file.automaton p start (reverse word)) → ⊥) → OfPattern file number (λ p. FirstStranger file.automaton p start elements i)
+pub stranger : (file : File) (number start : ℕ) (elements word : List Element) (i : ℕ) (element : Element) → Spells file number start elements i word → slice_get elements i ≡ Some element → OfPattern file number (λ p. In element (children file.automaton p [] start (reverse word)) → ⊥) → OfPattern file number (λ p. FirstStranger file.automaton p start elements i)
 stranger file number start elements word i element spells at none p named = record {
   legal = subst (λ w. Legal file.automaton p start (reverse w)) spells.so_far (spells.legal p named);
   element = element;
   at = at;
-  stranger = λ child. none p named (subst (λ w. In element (children file.automaton p start (reverse w))) (sym spells.so_far) child);
+  stranger = λ child. none p named (subst (λ w. In element (children file.automaton p [] start (reverse w))) (sym spells.so_far) child);
 }
 
 -- a legal word has no stranger
@@ -66,10 +66,10 @@ spelled_length file number start elements i word within spells = ap length spell
     taken (x ∷ xs) (suc i) within = ap suc (taken xs i (omega arith))
 
 -- an element that is pushed, and one that isn't
-pub spells_found : (file : File) (number start : ℕ) (elements : List Element) (i : ℕ) (word new : List Element) (d : Element) (r : Bool) → Spells file number start elements i word → i < length elements → OfPattern file number (λ p. IsTrue r ↔ In (get_or elements i d) (children file.automaton p start (reverse word))) → r ≡ true → new ≡ cond r (word ++ get_or elements i d ∷ []) word → Spells file number start elements (i + 1) new
+pub spells_found : (file : File) (number start : ℕ) (elements : List Element) (i : ℕ) (word new : List Element) (d : Element) (r : Bool) → Spells file number start elements i word → i < length elements → OfPattern file number (λ p. IsTrue r ↔ In (get_or elements i d) (children file.automaton p [] start (reverse word))) → r ≡ true → new ≡ cond r (word ++ get_or elements i d ∷ []) word → Spells file number start elements (i + 1) new
 spells_found file number start elements i word new d r spells within told is pushed =
     spells_more file number start elements i word new (get_or elements i d) spells (slice_get-get_or elements i d within) (pushed ∙ ap (λ b. cond b (word ++ get_or elements i d ∷ []) word) is) (λ p named. (told p named).0 is)
 
-pub stranger_found : (file : File) (number start : ℕ) (elements word : List Element) (i : ℕ) (d : Element) (r : Bool) → Spells file number start elements i word → i < length elements → OfPattern file number (λ p. IsTrue r ↔ In (get_or elements i d) (children file.automaton p start (reverse word))) → r ≡ false → OfPattern file number (λ p. FirstStranger file.automaton p start elements i)
+pub stranger_found : (file : File) (number start : ℕ) (elements word : List Element) (i : ℕ) (d : Element) (r : Bool) → Spells file number start elements i word → i < length elements → OfPattern file number (λ p. IsTrue r ↔ In (get_or elements i d) (children file.automaton p [] start (reverse word))) → r ≡ false → OfPattern file number (λ p. FirstStranger file.automaton p start elements i)
 stranger_found file number start elements word i d r spells within told is =
     stranger file number start elements word i (get_or elements i d) spells (slice_get-get_or elements i d within) (λ p named child. false≢true (sym is ∙ (told p named).1 child))

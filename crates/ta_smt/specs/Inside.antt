@@ -1,3 +1,4 @@
 pub mod Leads
 pub mod Reading
 pub mod Checking
+pub mod Elements

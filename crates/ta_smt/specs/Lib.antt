@@ -4,4 +4,6 @@ pub mod Export
 pub mod Spelling
 pub mod Values
 pub mod Admit
+pub mod Named
+pub mod WordText
 pub mod Inside

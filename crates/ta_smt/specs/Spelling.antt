@@ -1,5 +1,5 @@
 -- Elements that make a word, and the first that doesn't (this project's profile)
-use Rattle.std.specs.Prelude.{ℕ, ◌≡◌, List, reverse, take, slice_get, Some}
+use Rattle.std.specs.Prelude.{ℕ, ◌≡◌, List, [], reverse, take, slice_get, Some}
 use Rattle.ta_automaton.specs.declared.automaton.Automaton.{Automaton}
 use Rattle.ta_automaton.specs.declared.pattern.Pattern.{Pattern}
 use Rattle.ta_automaton.specs.Masks.{In}
@@ -11,4 +11,4 @@ pub record FirstStranger (a : Automaton) (p : Pattern) (start : ℕ) (elements :
   pub legal : Legal a p start (reverse (take k elements))
   pub element : Element
   pub at : slice_get elements k ≡ Some element
-  pub stranger : ¬ In element (children a p start (reverse (take k elements)))
+  pub stranger : ¬ In element (children a p [] start (reverse (take k elements)))

@@ -1,9 +1,22 @@
-//! Why values give no run.
+//! Why a file hasn't a word, and why values give no run.
 
 ghost use Rattle.std.specs.Prelude.{◌≡◌};
 ghost use Rattle.ta_smt.specs.declared.fault.AdmitFault.TheVariants.{Memory};
 
 use std::alloc::{AllocError, AllocFailed};
+
+/// Why a file hasn't a word that is spelled by names and numbers.
+#[derive(Clone, Copy, Debug, Drop, PartialEq, Eq)]
+pub enum WordFault {
+    /// No pattern has the name.
+    Pattern,
+    /// The start set names a fall guard that isn't there.
+    Start,
+    /// This element, from 0, is no child of those before it.
+    Element(u32),
+    /// The word has not each event of the pattern.
+    Incomplete,
+}
 
 /// Why values give no run. Lines are counted from 1, rows from 0.
 #[derive(Clone, Copy, Debug, Drop, PartialEq, Eq)]

@@ -1,8 +1,9 @@
-//! What texts and admitted values determine. The functions do nothing: their contracts state the laws.
+//! What texts, spelled words and admitted values determine. The functions do nothing: their contracts state the laws.
 #![tactic(auto)]
 
 ghost use Rattle.ta_smt.specs.Admit.{AdmitsAreExact};
 ghost use Rattle.ta_smt.specs.Denotes.{ScriptsAreDetermined};
+ghost use Rattle.ta_smt.specs.Named.{WholeWordsAreExact, WordsAreExact};
 
 /// A text is that of at most one script.
 pub fn scripts_are_determined()
@@ -12,4 +13,11 @@ pub fn scripts_are_determined()
 /// Values that a run is written for have no fault, and one run.
 pub fn admits_are_exact()
     ensures { AdmitsAreExact }
+{}
+
+/// A file has at most one word that is spelled so, and then no fault of it; and a complete one has no
+/// fault of complete words.
+pub fn words_are_exact()
+    ensures words { WordsAreExact }
+    ensures whole { WholeWordsAreExact }
 {}

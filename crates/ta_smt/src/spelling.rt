@@ -7,6 +7,7 @@ ghost use Rattle.ta_words.specs.Words.{Legal};
 ghost use Rattle.ta_smt.specs.Spelling.{FirstStranger};
 
 use ta_automaton::File;
+use ta_implied::Orders;
 use ta_words::{Element, Word};
 
 /// The word of these elements, or the first, from 0, that is no child of those before it. It takes no
@@ -20,7 +21,8 @@ pub fn word_of(file: &File, pattern: u32, start_mask: u8, elements: &[Element]) 
     let mut word = Word::new();
     for element in elements {
         let number = word.elements().len() as u32;
-        if !word.push(file, pattern, start_mask, *element) {
+        let orders = Orders::new();
+        if !word.push(file, pattern, start_mask, &orders, *element) {
             return Err(number);
         }
     }

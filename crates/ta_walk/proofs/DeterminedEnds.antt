@@ -116,29 +116,29 @@ word_same : (xs ys zs : List Element) → reverse xs ≡ zs → reverse ys ≡ z
 word_same xs ys zs is are = sym (reverse-reverse xs) ∙ ap reverse (is ∙ sym are) ∙ reverse-reverse ys
 
 -- what a walk ended at, as an end of the search of its pattern
-abbrev ending_of : (a : Automaton) (p : Pattern) (number budget : ℕ) (e : WalkEnd) → IsEnd a p number budget e → Ending
-ending_of a p number budget (Refuted ns c) h = Whole ns c
-ending_of a p number budget (Found i x) h = Solved i h.word x.values
-ending_of a p number budget (Spent c) h = Stopped c
-ending_of a p number budget (Overflow i k) h = Left i k
+abbrev ending_of : (a : Automaton) (p : Pattern) (pairs : List (ℕ × ℕ)) (number budget : ℕ) (e : WalkEnd) → IsEnd a p pairs number budget e → Ending
+ending_of a p pairs number budget (Refuted ns c) h = Whole ns c
+ending_of a p pairs number budget (Found i x) h = Solved i h.word x.values
+ending_of a p pairs number budget (Spent c) h = Stopped c
+ending_of a p pairs number budget (Overflow i k) h = Left i k
 
-is_ending : (a : Automaton) (p : Pattern) (number budget : ℕ) (e : WalkEnd) (h : IsEnd a p number budget e) → IsEnding (pattern_search a p) budget (ending_of a p number budget e h)
-is_ending a p number budget (Refuted ns c) h = h
-is_ending a p number budget (Found i x) h = node_with (pattern_search a p) budget i (SolutionAt a p number x) (IsWhole (pattern_search a p) h.word x.values) h (refl, h.holds.whole)
-is_ending a p number budget (Spent c) h = h
-is_ending a p number budget (Overflow i k) h = h
+is_ending : (a : Automaton) (p : Pattern) (pairs : List (ℕ × ℕ)) (number budget : ℕ) (e : WalkEnd) (h : IsEnd a p pairs number budget e) → IsEnding (pattern_search a p pairs) budget (ending_of a p pairs number budget e h)
+is_ending a p pairs number budget (Refuted ns c) h = h
+is_ending a p pairs number budget (Found i x) h = node_with (pattern_search a p pairs) budget i (SolutionAt a p pairs number x) (IsWhole (pattern_search a p pairs) h.word x.values) h (refl, h.holds.whole)
+is_ending a p pairs number budget (Spent c) h = h
+is_ending a p pairs number budget (Overflow i k) h = h
 
-solution_once : (a : Automaton) (p : Pattern) (number : ℕ) (x y : Solution) (w v : Pending) → w ≡ v → x.values ≡ y.values → SolutionAt a p number x w → SolutionAt a p number y v → x ≡ y
-solution_once a p number x y w v same values h g =
+solution_once : (a : Automaton) (p : Pattern) (pairs : List (ℕ × ℕ)) (number : ℕ) (x y : Solution) (w v : Pending) → w ≡ v → x.values ≡ y.values → SolutionAt a p pairs number x w → SolutionAt a p pairs number y v → x ≡ y
+solution_once a p pairs number x y w v same values h g =
     let patterns = h.pattern ∙ sym g.pattern in
     let starts = h.start ∙ ap (λ (u : Pending). u.start) same ∙ sym g.start in
     let words = word_same x.word y.word v.past (h.word ∙ ap (λ (u : Pending). u.past) same) g.word in
     λ i. record { pattern = patterns i; start_mask = starts i; word = words i; values = values i }
 
 pub ends_once : EndsAreDetermined
-ends_once a p number budget e f h g = from e f h g (endings_once (pattern_search a p) budget (ending_of a p number budget e h) (ending_of a p number budget f g) (is_ending a p number budget e h) (is_ending a p number budget f g))
+ends_once a p pairs number budget e f h g = from e f h g (endings_once (pattern_search a p pairs) budget (ending_of a p pairs number budget e h) (ending_of a p pairs number budget f g) (is_ending a p pairs number budget e h) (is_ending a p pairs number budget f g))
   where
-    from : (e f : WalkEnd) (h : IsEnd a p number budget e) (g : IsEnd a p number budget f) → ending_of a p number budget e h ≡ ending_of a p number budget f g → e ≡ f
+    from : (e f : WalkEnd) (h : IsEnd a p pairs number budget e) (g : IsEnd a p pairs number budget f) → ending_of a p pairs number budget e h ≡ ending_of a p pairs number budget f g → e ≡ f
     from (Refuted ns c) (Refuted ms d) h g same = cc
     from (Refuted ns c) (Found j y) h g same = absurd (cc)
     from (Refuted ns c) (Spent d) h g same = absurd (cc)
@@ -148,7 +148,7 @@ ends_once a p number budget e f h g = from e f h g (endings_once (pattern_search
         let counts : i ≡ j = cc in
         let words : h.word ≡ g.word = cc in
         let values : x.values ≡ y.values = cc in
-        let solutions = solution_once a p number x y h.word g.word words values h.holds g.holds in
+        let solutions = solution_once a p pairs number x y h.word g.word words values h.holds g.holds in
         cc
     from (Found i x) (Spent d) h g same = absurd (cc)
     from (Found i x) (Overflow j l) h g same = absurd (cc)

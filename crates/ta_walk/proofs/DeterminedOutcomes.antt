@@ -6,7 +6,6 @@ use Rattle.ta_encode.specs.Code.{RowOf, RowsOf, SystemAt}
 use Rattle.ta_encode.specs.System.{LinearRow}
 use Rattle.ta_encode.specs.Search.{Pending, Search, rows_of}
 use Rattle.ta_dense.specs.Slack.{slack_tableau}
-use Rattle.ta_simplex.specs.declared.End.{End}
 use Rattle.ta_simplex.specs.declared.End.TheVariants as end
 use Rattle.ta_simplex.specs.Laws.{SameRow, RowsAlike, SameNumbers}
 use Rattle.ta_simplex.specs.LeastIndex.{OverflowsAt}

@@ -5,6 +5,8 @@ pub mod NodesShort
 pub mod DeterminedEnds
 pub mod WordsVisited
 pub mod SamplesFound
+pub mod OrdersOnce
+pub mod OrdersSound
 mod TableausInRange
 mod SplitsFit
 mod NodesWritten
@@ -16,3 +18,13 @@ mod Vertices
 mod Nodes
 mod WalkSoFar
 mod LeavesCounted
+mod PairSystems
+mod OrderSteps
+mod SearchesEnd
+mod WalksEnd
+mod SearchesMoved
+mod VisitsJoined
+mod EndsBehind
+mod RootsListed
+mod PartsMerged
+mod WordSoFar

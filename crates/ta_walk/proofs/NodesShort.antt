@@ -40,7 +40,7 @@ pair_short t is =
     let number = number_short t.1 (omega (arith, ints)) is.high in
     omega (arith, length-append (decimal t.0) (codes ":" ++ signed_decimal t.1), row_short t.0 is.row, number)
 
-pairs_short : (low : ℕ) (ts : List (ℕ × ℤ)) → ArePairs low ts → length (pairs_text ts) ≤ 51 * length ts
+pub pairs_short : (low : ℕ) (ts : List (ℕ × ℤ)) → ArePairs low ts → length (pairs_text ts) ≤ 51 * length ts
 pairs_short low [] are = omega arith
 pairs_short low (t ∷ ts) are = omega (arith, length-append (pair_text t) (pairs_text ts), pair_short t are.1, pairs_short (t.0 + 1) ts are.2)
 
@@ -62,18 +62,18 @@ nodes_short [] are few = tt
 nodes_short (n ∷ ns) are few = (node_short n are.0 few.0, nodes_short ns are.1 few.1)
 
 -- a node that stands at a legal word of a file's pattern has few pairs
-node_few : (file : File) (number : ℕ) (p : Pattern) (w : Pending) (n : Node) → slice_get file.patterns number ≡ Some p → Legal file.automaton p w.start w.past → NodeAt (pattern_search file.automaton p) w n → HasFewPairs n
-node_few file number p w (node.Leaf ts) at legal stands =
+node_few : (file : File) (number : ℕ) (p : Pattern) (pairs : List (ℕ × ℕ)) (w : Pending) (n : Node) → slice_get file.patterns number ≡ Some p → Legal file.automaton p w.start w.past → NodeAt (pattern_search file.automaton p pairs) w n → HasFewPairs n
+node_few file number p pairs w (node.Leaf ts) at legal stands =
     let s = stands.refuted.system in
     let unknowns = stands.refuted.is.unknowns in
     omega (arith, few_multipliers s ts stands.refuted.holds, few_unknowns file number p w.start w.past at legal)
-node_few file number p w node.Extend at legal stands = tt
-node_few file number p w (node.Split unknown floor) at legal stands = tt
+node_few file number p pairs w node.Extend at legal stands = tt
+node_few file number p pairs w (node.Split unknown floor) at legal stands = tt
 
 -- each node that is visited has few pairs
-pub nodes_few : (file : File) (number : ℕ) (p : Pattern) → slice_get file.patterns number ≡ Some p → (most : ℕ) (ws : List Pending) (ns : List Node) (rest : List Pending) → Each (Waits (pattern_search file.automaton p) most) ws → Visits (pattern_search file.automaton p) ws ns rest → Each HasFewPairs ns
-nodes_few file number p at most ws [] rest all v = tt
-nodes_few file number p at most [] (n ∷ ns) rest all v = absurd v
-nodes_few file number p at most (w ∷ ws) (n ∷ ns) rest all v =
-    let s = pattern_search file.automaton p in
-    (node_few file number p w n at (comes_legal file.automaton p w.start w.past all.0.comes).legal v.0, nodes_few file number p at (most + 1) (parts s w n ++ ws) ns rest (next_wait s most w ws n all) v.1)
+pub nodes_few : (file : File) (number : ℕ) (p : Pattern) (pairs : List (ℕ × ℕ)) → slice_get file.patterns number ≡ Some p → (most : ℕ) (ws : List Pending) (ns : List Node) (rest : List Pending) → Each (Waits (pattern_search file.automaton p pairs) most) ws → Visits (pattern_search file.automaton p pairs) ws ns rest → Each HasFewPairs ns
+nodes_few file number p pairs at most ws [] rest all v = tt
+nodes_few file number p pairs at most [] (n ∷ ns) rest all v = absurd v
+nodes_few file number p pairs at most (w ∷ ws) (n ∷ ns) rest all v =
+    let s = pattern_search file.automaton p pairs in
+    (node_few file number p pairs w n at (comes_legal file.automaton p pairs w.start w.past all.0.comes).legal v.0, nodes_few file number p pairs at (most + 1) (parts s w n ++ ws) ns rest (next_wait s most w ws n all) v.1)

@@ -22,7 +22,7 @@ below_limit (pos n) limit low h = omega (arith, ints, h)
 below_limit (negsuc n) limit low h = absurd (omega (arith, ints, low))
 
 -- multipliers in range are pairs
-are_pairs : (low count : ℕ) (ts : List (ℕ × ℤ)) → count ≤ 2 ^ 32 → AreMultipliers low count ts → ((k : ℕ) → low ≤ k → k < count → InRange (coefficient ts k)) → ArePairs low ts
+pub are_pairs : (low count : ℕ) (ts : List (ℕ × ℤ)) → count ≤ 2 ^ 32 → AreMultipliers low count ts → ((k : ℕ) → low ≤ k → k < count → InRange (coefficient ts k)) → ArePairs low ts
 are_pairs low count [] few all fits = tt
 are_pairs low count (t ∷ ts) few all fits =
     let first = all.0 in

@@ -9,7 +9,7 @@ use Rattle.ta_encode.proofs.CodeRows.{leaf_of}
 use Rattle.ta_encode.proofs.Preorders.{in_order, weaker_proof}
 use Rattle.ta_encode.proofs.Theorems.{safety}
 use Rattle.ta_walk.specs.Visit.{NodeAt, Visits}
-use Rattle.ta_walk.specs.Ends.{RefutedPatternsAreSafe}
+use Rattle.ta_walk.specs.Ends.{IsProof, RefutedPatternsAreSafe, TreeIs}
 use Rattle.ta_walk.proofs.WordsVisited.{Waits, starts_wait, next_wait}
 use Rattle.ta_walk.proofs.NodesWritten.{node_written}
 use Rattle.ta_walk.proofs.SplitsFit.{split_within}
@@ -36,28 +36,32 @@ refuted_in_order s [] (n ∷ ns) v = absurd v
 refuted_in_order s (w ∷ ws) (n ∷ ns) v = (may_stand s w n v.0, refuted_in_order s (parts s w n ++ ws) ns v.1)
 
 -- each node that is visited within the budget can be written
-nodes_written : (file : File) (number : ℕ) (p : Pattern) → slice_get file.patterns number ≡ Some p → (most : ℕ) (ws : List Pending) (ns : List Node) (rest : List Pending) → most + length ns ≤ 1000000000 → Each (Waits (pattern_search file.automaton p) most) ws → Visits (pattern_search file.automaton p) ws ns rest → Each IsNode ns
-nodes_written file number p at most ws [] rest budget all v = tt
-nodes_written file number p at most [] (n ∷ ns) rest budget all v = absurd v
-nodes_written file number p at most (w ∷ ws) (n ∷ ns) rest budget all v =
-    let s = pattern_search file.automaton p in
+nodes_written : (file : File) (number : ℕ) (p : Pattern) (pairs : List (ℕ × ℕ)) → slice_get file.patterns number ≡ Some p → (most : ℕ) (ws : List Pending) (ns : List Node) (rest : List Pending) → most + length ns ≤ 1000000000 → Each (Waits (pattern_search file.automaton p pairs) most) ws → Visits (pattern_search file.automaton p pairs) ws ns rest → Each IsNode ns
+nodes_written file number p pairs at most ws [] rest budget all v = tt
+nodes_written file number p pairs at most [] (n ∷ ns) rest budget all v = absurd v
+nodes_written file number p pairs at most (w ∷ ws) (n ∷ ns) rest budget all v =
+    let s = pattern_search file.automaton p pairs in
     let waits = all.0 in
     let few : length w.bounds ≤ 1000000000 = (let k = waits.few in omega arith) in
-    let legal = (comes_legal file.automaton p w.start w.past waits.comes).legal in (
-      node_written s w n (λ z is. few_variables w z few (is_small file number p w z at legal is)) v.0,
-      nodes_written file number p at (most + 1) (parts s w n ++ ws) ns rest (omega arith) (next_wait s most w ws n all) v.1,
+    let legal = (comes_legal file.automaton p pairs w.start w.past waits.comes).legal in (
+      node_written s w n (λ z is. few_variables w z few (is_small file number p w z at legal (record { unknowns = is.unknowns; rows = is.rows }))) v.0,
+      nodes_written file number p pairs at (most + 1) (parts s w n ++ ws) ns rest (omega arith) (next_wait s most w ws n all) v.1,
     )
 
-pub refuted_safe : RefutedPatternsAreSafe
-refuted_safe file number p at loops budget within nodes count tree =
+-- the nodes of a whole tree are a proof that a judge accepts
+pub proof_made : (file : File) (number : ℕ) (p : Pattern) (pairs : List (ℕ × ℕ)) → slice_get file.patterns number ≡ Some p → (budget : ℕ) → budget ≤ 1000000000 → (nodes : List Node) (count : ℕ) → TreeIs (pattern_search file.automaton p pairs) budget nodes count → IsProof file.automaton p pairs nodes
+proof_made file number p pairs at budget within nodes count tree =
     let a = file.automaton in
-    let s = pattern_search a p in
-    let refutes = refuted_in_order s s.roots nodes tree.visits in
-    let trees = (in_order IsJudged s nodes).0 refutes in
+    let s = pattern_search a p pairs in
     let counted = tree.counted in
     let inside = tree.within in
-    let writable = nodes_written file number p at 0 (all_starts a) nodes [] (omega arith) (starts_wait a p) tree.visits in
-    let few = nodes_few file number p at 0 (all_starts a) nodes [] (starts_wait a p) tree.visits in (
-      record { refutes = refutes; writable = writable; few = few; short = nodes_short nodes writable few },
-      safety file number p at loops trees.0 (weaker_proof (IsJudged s) (IsLeaf s) (λ w ts judged. judged.leaf) s trees.0 trees.1),
-    )
+    let writable = nodes_written file number p pairs at 0 (all_starts a) nodes [] (omega arith) (starts_wait a p pairs) tree.visits in
+    let few = nodes_few file number p pairs at 0 (all_starts a) nodes [] (starts_wait a p pairs) tree.visits in
+    record { refutes = refuted_in_order s s.roots nodes tree.visits; writable = writable; few = few; short = nodes_short nodes writable few }
+
+pub refuted_safe : RefutedPatternsAreSafe
+refuted_safe file number p at loops pairs good budget within nodes count tree =
+    let s = pattern_search file.automaton p pairs in
+    let proof = proof_made file number p pairs at budget within nodes count tree in
+    let trees = (in_order IsJudged s nodes).0 proof.refutes in
+    (proof, safety file number p at loops pairs good trees.0 (weaker_proof (IsJudged s) (IsLeaf s) (λ w ts judged. judged.leaf) s trees.0 trees.1))

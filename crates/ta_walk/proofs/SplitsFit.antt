@@ -62,7 +62,7 @@ floor_small (pos n) t (pos (suc zero)) positive natural above below fits = absur
 floor_small (pos n) (negsuc m) (pos (suc (suc d))) positive natural above below fits = (let double = twice n d in absurd (omega (arith, ints)))
 floor_small (pos n) (pos m) (pos (suc (suc d))) positive natural above below fits = (let double = twice n d in omega (arith, ints))
 
-record FloorFits (floor : ℤ) : Type 0 where
+pub record FloorFits (floor : ℤ) : Type 0 where
   pub low : pos 0 ≤ℤ floor
   pub high : floor <ℤ pos (2 ^ 126)
 
@@ -81,12 +81,16 @@ split_within search w unknown floor v =
     omega arith
 
 -- its floor is at least 0 and below 2^126
-pub split_fits : (search : Search) (w : Pending) (unknown : ℕ) (floor : ℤ) → SplitVertex search w unknown floor → unknown < 2 ^ 32 → IsSplit unknown floor
-split_fits search w unknown floor v number =
+pub split_floor : (search : Search) (w : Pending) (unknown : ℕ) (floor : ℤ) → SplitVertex search w unknown floor → FloorFits floor
+split_floor search w unknown floor v =
     let s = v.vertex.system in
     let vertex = v.vertex.holds in
     let below = some_within v.values unknown (IsAbove floor) v.splits.here in
     let count = vertex.gives.count in
     let inside : unknown < s.unknowns = omega arith in
-    let fits = floor_fits (slice_get v.values unknown) floor v.splits.here (vertex.meet.not_negative unknown inside) (vertex_in_range s v.values vertex unknown inside) in
+    floor_fits (slice_get v.values unknown) floor v.splits.here (vertex.meet.not_negative unknown inside) (vertex_in_range s v.values vertex unknown inside)
+
+pub split_fits : (search : Search) (w : Pending) (unknown : ℕ) (floor : ℤ) → SplitVertex search w unknown floor → unknown < 2 ^ 32 → IsSplit unknown floor
+split_fits search w unknown floor v number =
+    let fits = split_floor search w unknown floor v in
     record { number = number; low = fits.low; high = fits.high }

@@ -1,17 +1,13 @@
 -- what is known at each node of a visit
-use Rattle.std.proofs.Common.{◌≡◌, ℕ, zero, suc, ◌+◌, ◌≤◌, true, false, List, [], ◌∷◌, ◌++◌, length, arith, refl, sym, ap, subst, Ok, length-append}
-use Rattle.std.specs.Prelude.{reverse}
+use Rattle.std.proofs.Common.{◌≡◌, ℕ, ◌+◌, ◌≤◌, true, false, List, [], ◌∷◌, ◌++◌, length, arith, refl, sym, subst, Ok, length-append}
 use Rattle.ta_automaton.specs.Lists.{Each}
 use Rattle.ta_cert.specs.declared.line.Node.{Node}
-use Rattle.ta_words.specs.declared.element.Element.{Element}
 use Rattle.ta_encode.specs.Search.{Pending, Search, parts}
-use Rattle.ta_cursor.specs.Cursors.{here}
 use Rattle.ta_cursor.specs.InTrees.{here_at, AllWithin, AllGoOn}
 use Rattle.ta_cursor.specs.declared.place.Place.{Place}
 use Rattle.ta_cursor.proofs.TreesLeft.{here_first, here_is, later_words}
-use Rattle.ta_walk.specs.declared.end.PlaceKind.{PlaceKind}
-use Rattle.ta_walk.specs.Visit.{Visits, NodeAt, WholeAt, LeavesAt}
-use Rattle.ta_walk.specs.Ends.{TreeIs, Visited, NodeOf, WholeWord, IsUnbounded}
+use Rattle.ta_walk.specs.Visit.{Visits, NodeAt}
+use Rattle.ta_walk.specs.Ends.{TreeIs, Visited, NodeOf, IsUnbounded}
 use Rattle.ta_walk.proofs.WordsVisited.{roots_wait, left_wait}
 
 -- before a node, behind these
@@ -22,7 +18,7 @@ pub record WalkSoFar (s : Search) (place : Place) (done : ℕ) (found : List Nod
   pub counted : length found ≡ done
 
 -- a visit goes on by one node
-visits_more : (s : Search) (ws : List Pending) (ns : List Node) (w : Pending) (rest : List Pending) (n : Node) → Visits s ws ns (w ∷ rest) → NodeAt s w n → Visits s ws (ns ++ n ∷ []) (parts s w n ++ rest)
+pub visits_more : (s : Search) (ws : List Pending) (ns : List Node) (w : Pending) (rest : List Pending) (n : Node) → Visits s ws ns (w ∷ rest) → NodeAt s w n → Visits s ws (ns ++ n ∷ []) (parts s w n ++ rest)
 visits_more s ws [] w rest n visits stands = subst (λ (us : List Pending). Visits s us (n ∷ []) (parts s w n ++ rest)) visits (stands, refl)
 visits_more s [] (m ∷ ms) w rest n visits stands = absurd visits
 visits_more s (v ∷ ws) (m ∷ ms) w rest n visits stands = (visits.0, visits_more s (parts s v m ++ ws) ms w rest n visits.1 stands)

@@ -5,13 +5,12 @@ use Rattle.std.proofs.lemmas.Int.{ints}
 use Rattle.ta_linear.proofs.Signs.{ge-zero_of_mul}
 use Rattle.ta_linear.proofs.Integers.{mul_comm}
 use Rattle.ta_words.specs.declared.element.Element.{Element}
-use Rattle.ta_words.specs.Words.{Legal, is_complete}
+use Rattle.ta_words.specs.Words.{LegalUnder, is_complete}
 use Rattle.ta_encode.specs.System.{SolvesWord}
 use Rattle.ta_encode.proofs.CodeRows.{solution_of, unbounded}
 use Rattle.ta_simplex.specs.declared.fraction.Fraction.{Fraction}
 use Rattle.ta_simplex.proofs.WholeLemmas.{whole_vertex_solves}
 use Rattle.ta_walk.proofs.WordsVisited.{starts_wait, left_wait}
-use Rattle.ta_encode.specs.Search.{Pending, Search}
 use Rattle.ta_encode.specs.PatternSearch.{pattern_search}
 use Rattle.ta_cursor.proofs.PatternWords.{comes_legal}
 use Rattle.ta_walk.specs.Visit.{IsNumber, AreNumbers}
@@ -63,21 +62,21 @@ whole_solves s w numbers whole =
     )
 
 pub found_solved : FoundWordsAreSolved
-found_solved a p number budget count solution found =
-    let s = pattern_search a p in
+found_solved a p pairs number budget count solution found =
+    let s = pattern_search a p pairs in
     let w = found.word in
-    let waits = (left_wait s 0 s.roots found.visited.nodes (w ∷ found.visited.words) (starts_wait a p) found.visited.visits).0 in
-    let legal = comes_legal a p w.start w.past waits.comes in
+    let waits = (left_wait s 0 s.roots found.visited.nodes (w ∷ found.visited.words) (starts_wait a p pairs) found.visited.visits).0 in
+    let legal = comes_legal a p pairs w.start w.past waits.comes in
     let at = found.holds in
     let solved = whole_solves s w solution.values at.whole in
-    let solves = unbounded a p w solved.0 solved.2 in
+    let solves = unbounded a p pairs w solved.0 solved.2 in
     let start : w.start ≡ solution.start_mask = sym at.start in
     let past : w.past ≡ reverse solution.word = sym at.word in (
       solved.0,
       solved.1,
       subst (λ (k : ℕ). k < 2 ^ length a.fall) start legal.start_is,
       record {
-        legal = subst (λ (k : ℕ). Legal a p k (reverse solution.word)) start (subst (Legal a p w.start) past legal.legal);
+        legal = subst (λ (k : ℕ). LegalUnder a p pairs k (reverse solution.word)) start (subst (LegalUnder a p pairs w.start) past legal.under);
         complete = ap (is_complete p) (sym past) ∙ at.whole.complete;
         solves = subst (λ (k : ℕ). SolvesWord a p k (reverse solution.word) [] solved.0) start (subst (λ (q : List Element). SolvesWord a p w.start q [] solved.0) past solves);
       },

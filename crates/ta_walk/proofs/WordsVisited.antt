@@ -1,5 +1,5 @@
 -- what is known of each word that a visit leaves
-use Rattle.std.proofs.Common.{◌≡◌, inl, inr, ℕ, zero, suc, ◌+◌, ◌<◌, ◌≤◌, ◌^◌, List, [], ◌∷◌, ◌++◌, map, length, length-append, arith, refl, sym, ap, subst}
+use Rattle.std.proofs.Common.{◌≡◌, inl, inr, ℕ, zero, suc, ◌+◌, ◌≤◌, ◌^◌, List, [], ◌∷◌, ◌++◌, map, length, length-append, arith, refl, sym, ap, subst}
 use Rattle.ta_automaton.specs.declared.automaton.Automaton.{Automaton}
 use Rattle.ta_automaton.specs.declared.pattern.Pattern.{Pattern}
 use Rattle.ta_automaton.specs.Lists.{Each}
@@ -67,8 +67,8 @@ pub starts_unbounded : (a : Automaton) → Each IsUnbounded (all_starts a)
 starts_unbounded a = numbers_unbounded 0 (2 ^ length a.fall)
 
 -- the start sets' words
-pub starts_wait : (a : Automaton) (p : Pattern) → Each (Waits (pattern_search a p) 0) (all_starts a)
-starts_wait a p = roots_wait (pattern_search a p) (starts_unbounded a)
+pub starts_wait : (a : Automaton) (p : Pattern) (pairs : List (ℕ × ℕ)) → Each (Waits (pattern_search a p pairs) 0) (all_starts a)
+starts_wait a p pairs = roots_wait (pattern_search a p pairs) (starts_unbounded a)
 
 -- the words that are left after nodes
 pub left_wait : (s : Search) (most : ℕ) (ws : List Pending) (ns : List Node) (rest : List Pending) → Each (Waits s most) ws → Visits s ws ns rest → Each (Waits s (most + length ns)) rest

@@ -6,13 +6,14 @@ use Rattle.ta_automaton.specs.declared.file.File.{File}
 use Rattle.ta_automaton.specs.Lists.{Each}
 use Rattle.ta_automaton.specs.Runs.{LoopsPure, Safe}
 use Rattle.ta_cert.specs.declared.line.Node.{Node}
+use Rattle.ta_implied.specs.Implied.{Good}
 use Rattle.ta_cert.specs.declared.line.Node.TheVariants.{Extend, Split, Leaf}
 use Rattle.ta_cert.specs.Lines.{IsNode, node_text}
 use Rattle.ta_cert.specs.Streams.{line_limit}
 use Rattle.ta_words.specs.declared.element.Element.{Element}
 use Rattle.ta_encode.specs.declared.encoded.Solution.{Solution}
 use Rattle.ta_encode.specs.InPreorder.{Pending, RefutedInOrder}
-use Rattle.ta_encode.specs.Laws.{SolvedWord}
+use Rattle.ta_encode.specs.Laws.{SolvedUnder}
 use Rattle.ta_encode.specs.Search.{Search, SolvesAt}
 use Rattle.ta_encode.specs.PatternSearch.{pattern_search}
 use Rattle.ta_cursor.specs.Range.{IsJudged}
@@ -81,18 +82,18 @@ abbrev pub WholeNodesSolve : Type 0
 WholeNodesSolve = (s : Search) (w : Pending) (numbers : List ℤ) → WholeAt s w numbers → (values : List ℕ) × (numbers ≡ map pos values) × SolvesAt s w values
 
 -- a solution at a word: its values are those of a whole node
-pub record SolutionAt (a : Automaton) (p : Pattern) (number : ℕ) (solution : Solution) (w : Pending) : Type 0 where
+pub record SolutionAt (a : Automaton) (p : Pattern) (pairs : List (ℕ × ℕ)) (number : ℕ) (solution : Solution) (w : Pending) : Type 0 where
   pub pattern : solution.pattern ≡ number
   pub start : solution.start_mask ≡ w.start
   pub word : reverse solution.word ≡ w.past
-  pub whole : WholeAt (pattern_search a p) w solution.values
+  pub whole : WholeAt (pattern_search a p pairs) w solution.values
 
--- how the walk of the pattern of a number ends within a budget
-abbrev pub IsEnd : Automaton → Pattern → ℕ → ℕ → WalkEnd → Type 0
-IsEnd a p number budget (Refuted nodes count) = TreeIs (pattern_search a p) budget nodes count
-IsEnd a p number budget (Found count solution) = NodeOf (pattern_search a p) budget count (SolutionAt a p number solution)
-IsEnd a p number budget (Spent count) = IsSpent (pattern_search a p) budget count
-IsEnd a p number budget (Overflow node kind) = NodeOf (pattern_search a p) budget node (λ w. LeavesAt (pattern_search a p) w kind)
+-- how the walk of the pattern of a number under pairs of rise guards ends within a budget
+abbrev pub IsEnd : Automaton → Pattern → List (ℕ × ℕ) → ℕ → ℕ → WalkEnd → Type 0
+IsEnd a p pairs number budget (Refuted nodes count) = TreeIs (pattern_search a p pairs) budget nodes count
+IsEnd a p pairs number budget (Found count solution) = NodeOf (pattern_search a p pairs) budget count (SolutionAt a p pairs number solution)
+IsEnd a p pairs number budget (Spent count) = IsSpent (pattern_search a p pairs) budget count
+IsEnd a p pairs number budget (Overflow node kind) = NodeOf (pattern_search a p pairs) budget node (λ w. LeavesAt (pattern_search a p pairs) w kind)
 
 -- how many of some nodes are leaves
 abbrev pub leaf_count : List Node → ℕ
@@ -122,15 +123,15 @@ IsTreeEnd s budget Keeps (tree.Spent count) = IsSpent s budget count
 IsTreeEnd s budget Keeps (tree.Overflow node kind) = NodeOf s budget node (λ w. LeavesAt s w kind)
 
 -- the same of a pattern's tree: a walk ends so
-abbrev pub IsVisitEnd : Automaton → Pattern → ℕ → ℕ → (List Node → Type 0) → VisitEnd → Type 0
-IsVisitEnd a p number budget Keeps (visit.Refuted count leaves) = TreeKept (pattern_search a p) budget Keeps count leaves
-IsVisitEnd a p number budget Keeps (visit.Found count solution) = IsEnd a p number budget (Found count solution)
-IsVisitEnd a p number budget Keeps (visit.Spent count) = IsEnd a p number budget (Spent count)
-IsVisitEnd a p number budget Keeps (visit.Overflow node kind) = IsEnd a p number budget (Overflow node kind)
+abbrev pub IsVisitEnd : Automaton → Pattern → List (ℕ × ℕ) → ℕ → ℕ → (List Node → Type 0) → VisitEnd → Type 0
+IsVisitEnd a p pairs number budget Keeps (visit.Refuted count leaves) = TreeKept (pattern_search a p pairs) budget Keeps count leaves
+IsVisitEnd a p pairs number budget Keeps (visit.Found count solution) = IsEnd a p pairs number budget (Found count solution)
+IsVisitEnd a p pairs number budget Keeps (visit.Spent count) = IsEnd a p pairs number budget (Spent count)
+IsVisitEnd a p pairs number budget Keeps (visit.Overflow node kind) = IsEnd a p pairs number budget (Overflow node kind)
 
 -- a walk has one end
 abbrev pub EndsAreDetermined : Type 0
-EndsAreDetermined = (a : Automaton) (p : Pattern) (number budget : ℕ) (e f : WalkEnd) → IsEnd a p number budget e → IsEnd a p number budget f → e ≡ f
+EndsAreDetermined = (a : Automaton) (p : Pattern) (pairs : List (ℕ × ℕ)) (number budget : ℕ) (e f : WalkEnd) → IsEnd a p pairs number budget e → IsEnd a p pairs number budget f → e ≡ f
 
 -- a leaf has at most 4,657 multipliers
 abbrev pub HasFewPairs : Node → Type 0
@@ -143,22 +144,23 @@ abbrev pub IsShort : Node → Type 0
 IsShort n = length (node_text n) ≤ line_limit
 
 -- the nodes of a walk that refutes a pattern are a proof of it that a judge accepts, and each of them can be written in a line
-pub record IsProof (a : Automaton) (p : Pattern) (nodes : List Node) : Type 0 where
-  pub refutes : RefutedInOrder (pattern_search a p) (IsJudged (pattern_search a p)) (pattern_search a p).roots nodes
+pub record IsProof (a : Automaton) (p : Pattern) (pairs : List (ℕ × ℕ)) (nodes : List Node) : Type 0 where
+  pub refutes : RefutedInOrder (pattern_search a p pairs) (IsJudged (pattern_search a p pairs)) (pattern_search a p pairs).roots nodes
   pub writable : Each IsNode nodes
   pub few : Each HasFewPairs nodes
   pub short : Each IsShort nodes
 
--- then the pattern is safe
+-- then the pattern is safe, whichever good pairs of guards ordered its words
 abbrev pub RefutedPatternsAreSafe : Type 0
 RefutedPatternsAreSafe =
     (file : File) (number : ℕ) (p : Pattern) → slice_get file.patterns number ≡ Some p → LoopsPure file.automaton
+    → (pairs : List (ℕ × ℕ)) → Good file.automaton pairs
     → (budget : ℕ) → budget ≤ 1000000000
-    → (nodes : List Node) (count : ℕ) → TreeIs (pattern_search file.automaton p) budget nodes count
-    → IsProof file.automaton p nodes × Safe file.automaton p
+    → (nodes : List Node) (count : ℕ) → TreeIs (pattern_search file.automaton p pairs) budget nodes count
+    → IsProof file.automaton p pairs nodes × Safe file.automaton p
 
--- what a walk finds is a complete legal word with natural values that solve its system
+-- what a walk finds is a complete word that is legal under the pairs, with natural values that solve its system
 abbrev pub FoundWordsAreSolved : Type 0
 FoundWordsAreSolved =
-    (a : Automaton) (p : Pattern) (number budget count : ℕ) (solution : Solution) → NodeOf (pattern_search a p) budget count (SolutionAt a p number solution)
-    → (values : List ℕ) × (solution.values ≡ map pos values) × (solution.start_mask < 2 ^ length a.fall) × SolvedWord a p solution.start_mask solution.word values
+    (a : Automaton) (p : Pattern) (pairs : List (ℕ × ℕ)) (number budget count : ℕ) (solution : Solution) → NodeOf (pattern_search a p pairs) budget count (SolutionAt a p pairs number solution)
+    → (values : List ℕ) × (solution.values ≡ map pos values) × (solution.start_mask < 2 ^ length a.fall) × SolvedUnder a p pairs solution.start_mask solution.word values

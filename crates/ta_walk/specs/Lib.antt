@@ -1,4 +1,6 @@
 pub mod Visit
 pub mod Ends
 pub mod Samples
+pub mod FoundOrders
+pub mod Answers
 pub mod Inside

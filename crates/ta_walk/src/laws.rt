@@ -1,6 +1,7 @@
 //! What the ends of walks say. The functions do nothing: their contracts state the laws.
 #![tactic(auto)]
 
+ghost use Rattle.ta_walk.specs.Answers.{SearchesHaveEnds, WalksHaveEnds, WordsHaveSystems};
 ghost use Rattle.ta_walk.specs.Ends.{EndingsAreDetermined, EndsAreDetermined, FoundWordsAreSolved, RefutedPatternsAreSafe, WholeNodesSolve};
 ghost use Rattle.ta_walk.specs.Samples.{SampleEndsAreDetermined, SamplesAreReal};
 
@@ -38,4 +39,16 @@ pub fn sample_ends_are_determined()
 /// A sample has an initial configuration, and where there is none, no parameters have one.
 pub fn samples_are_real()
     ensures { SamplesAreReal }
+{}
+
+/// A search whose words have systems ends within each budget.
+pub fn searches_have_ends()
+    ensures { SearchesHaveEnds }
+{}
+
+/// The walk of each pattern of a file ends within each budget, and so does the search for a sample: the
+/// words of both have systems.
+pub fn walks_have_ends()
+    ensures systems { WordsHaveSystems }
+    ensures ends { WalksHaveEnds }
 {}

@@ -17,10 +17,11 @@ use ta_cert::{List, Node};
 use ta_cursor::{PatternTree, Place, Tree, Written};
 use ta_dense::Dictionary;
 use ta_encode::Solution;
+use ta_implied::Orders;
 use ta_scope::ScopedFile;
 use ta_simplex::Branch;
 
-/// Visits the tree of a pattern, at most so many nodes of it. Each start set begins with the empty
+/// Visits the tree of a pattern under pairs of rise guards, at most so many nodes of it. Each start set begins with the empty
 /// word. A node whose system is refuted is a leaf. At a vertex the word goes on to its children;
 /// where it is complete, the least unknown that isn't whole is split. The visit ends where no word
 /// is left, at the first whole node, at the first number that leaves 128 bits, or where the budget
@@ -31,17 +32,18 @@ pub fn walk<D: Dictionary>(
     alloc: Global,
     scoped: &ScopedFile,
     pattern: u32,
+    orders: &Orders,
     nodes: u64,
 ) -> Result<WalkEnd, AllocError>
     requires exists { pattern < length scoped.now.file.patterns }
     requires some { 0 < nodes }
     requires limit { nodes ≤ 1000000000 }
-    ensures { IfOk result (λ end. OfPattern scoped.now.file pattern (λ p. IsEnd scoped.now.file.automaton p pattern nodes end)) }
+    ensures { IfOk result (λ end. OfPattern scoped.now.file pattern (λ p. IsEnd scoped.now.file.automaton p orders.now pattern nodes end)) }
 {
     let mut kept = Nodes {
         items: Vec::new(alloc),
     };
-    match visit::<D, Nodes>(alloc, scoped, pattern, nodes, &mut kept)? {
+    match visit::<D, Nodes>(alloc, scoped, pattern, orders, nodes, &mut kept)? {
         VisitEnd::Refuted { count, .. } => Ok(WalkEnd::Refuted {
             nodes: List::from_vec(kept.items),
             count,
@@ -58,6 +60,7 @@ pub fn visit<D: Dictionary, K: Keeper>(
     alloc: Global,
     scoped: &ScopedFile,
     pattern: u32,
+    orders: &Orders,
     nodes: u64,
     keeper: &mut K,
 ) -> Result<VisitEnd, AllocError>
@@ -65,9 +68,9 @@ pub fn visit<D: Dictionary, K: Keeper>(
     requires some { 0 < nodes }
     requires limit { nodes ≤ 1000000000 }
     requires keeps { K.keeps keeper.old keeper.old [] }
-    ensures { IfOk result (λ end. OfPattern scoped.now.file pattern (λ p. IsVisitEnd scoped.now.file.automaton p pattern nodes (K.keeps keeper.old keeper.new) end)) }
+    ensures { IfOk result (λ end. OfPattern scoped.now.file pattern (λ p. IsVisitEnd scoped.now.file.automaton p orders.now pattern nodes (K.keeps keeper.old keeper.new) end)) }
 {
-    let tree = PatternTree::new(&scoped.file, pattern);
+    let tree = PatternTree::new(&scoped.file, pattern, orders);
     match visit_tree::<D, PatternTree, K>(alloc, &tree, nodes, keeper)? {
         TreeEnd::Refuted { count, leaves } => Ok(VisitEnd::Refuted { count, leaves }),
         TreeEnd::Found {
@@ -140,7 +143,7 @@ pub fn visit_tree<D: Dictionary, T: Tree, K: Keeper>(
 }
 
 /// How many leaves there are with one more node.
-fn leaves_with(leaves: u64, node: &Node) -> u64
+pub(crate) fn leaves_with(leaves: u64, node: &Node) -> u64
     requires { leaves < 1000000000 }
     ensures { result ≡ leaves + leaf_count (node.now ∷ []) }
 {

@@ -92,8 +92,8 @@ older_legal : (a : Automaton) (p : Pattern) (start : ℕ) (more past : List Elem
 older_legal a p start [] past h = h
 older_legal a p start (x ∷ more) past h = older_legal a p start more past h.1
 
-event_exists : (a : Automaton) (p : Pattern) (start : ℕ) (past : List Element) (e : ℕ) → In (Event e) (children a p start past) → e < length p.events
-event_exists a p start past e h = elim (in_children a p start past (Event e) h) [
+event_exists : (a : Automaton) (p : Pattern) (start : ℕ) (past : List Element) (e : ℕ) → In (Event e) (children a p [] start past) → e < length p.events
+event_exists a p start past e h = elim (in_children a p [] start past (Event e) h) [
   | inl c ↦ (let same : e ≡ c.0 = same_event e c.0 c.1 in let b = c.4 in omega arith)
   | inr (inl c) ↦ absurd (let q = c.1 in cc)
   | inr (inr c) ↦ absurd (let q = c.1 in cc)

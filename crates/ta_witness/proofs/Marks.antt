@@ -51,8 +51,8 @@ has_there (Rise i ∷ newer) e past = has_there newer e past
 has_there (Fall mask ∷ newer) e past = has_there newer e past
 
 -- an event that is a child is new
-new_event : (a : Automaton) (p : Pattern) (start : ℕ) (past : List Element) (e : ℕ) → In (Event e) (children a p start past) → has_event past e ≡ false
-new_event a p start past e child = true_not (has_event past e) (and_parts (not (has_event past e)) (follows p past (slice_get p.events e)) (event_ready a p start past e child)).0
+new_event : (a : Automaton) (p : Pattern) (start : ℕ) (past : List Element) (e : ℕ) → In (Event e) (children a p [] start past) → has_event past e ≡ false
+new_event a p start past e child = true_not (has_event past e) (and_parts (not (has_event past e)) (follows p past (slice_get p.events e)) (event_ready a p [] start past e child)).0
 
 no_repeat : (a : Automaton) (p : Pattern) (start : ℕ) (newer : List Element) (e : ℕ) (past : List Element) → Legal a p start (newer ++ (Event e ∷ past)) → has_event newer e ≡ false
 unfolding has_event
@@ -181,7 +181,7 @@ marks_before a p start value earlier (Event g ∷ past) (piece ∷ back) legal h
       | inl w ↦ (let v = marks_before a p start value earlier past back legal.1 h.1 e f i event at bit w in (v.0, v.1, get_left old piece.marks v.0 f v.2))
       | inr w ↦ (
           let same : g ≡ e = only_one g e w.0 w.2 in
-          let ready = and_parts (not (has_event past g)) (follows p past (slice_get p.events g)) (event_ready a p start past g legal.0) in
+          let ready = and_parts (not (has_event past g)) (follows p past (slice_get p.events g)) (event_ready a p [] start past g legal.0) in
           let b : f < length p.events = (let less = earlier e event at f bit in let c = slice_get_within p.events e event at in omega arith) in
           let follow : follows p past (Some event) ≡ true = ap (follows p past) (sym at ∙ ap (slice_get p.events) (sym same)) ∙ ready.1 in
           let done : has_event past f ≡ true = implies-at (has_bit event.after f) (has_event past f) (all_below-at (length p.events) (λ k. implies (has_bit event.after k) (has_event past k)) follow f b) (bit_true event.after f bit) in

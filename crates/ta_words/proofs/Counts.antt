@@ -6,15 +6,16 @@ use Rattle.std.proofs.lemmas.Option.{slice_get_cases}
 use Rattle.std.proofs.lemmas.Bool.{false≢true, true≢false, and_parts, eq-eqb}
 use Rattle.std.proofs.lemmas.Bool.Decides.{eqb_tells}
 use Rattle.ta_automaton.specs.Masks.{has_bit, implies, numbers_from, In}
-use Rattle.ta_automaton.proofs.MaskTests.{all_below-at, implies-at, true_not, or_left, or_right}
+use Rattle.ta_automaton.proofs.MaskTests.{all_below-at, implies-at, true_not, or_left, or_right, In-left, In-right, In-map, In-filter, In-numbers}
 use Rattle.ta_automaton.specs.declared.automaton.Automaton.{Automaton}
 use Rattle.ta_automaton.specs.declared.pattern.Pattern.{Pattern}
 use Rattle.ta_automaton.specs.declared.file.File.{File}
 use Rattle.ta_words.specs.Calls.{OfPattern}
-use Rattle.ta_words.specs.Words.{has_event, has_rise, has_fallen, is_complete, is_ready, is_standing, children, Legal}
+use Rattle.ta_words.specs.Words.{has_event, has_rise, has_fallen, is_complete, is_due, is_ready, is_standing, may_rise, children, Legal, LegalUnder}
 use Rattle.ta_words.specs.declared.element.Element.{Element}
 use Rattle.ta_words.specs.declared.element.Element.TheVariants.{Event, Rise, Fall}
-use Rattle.ta_words.proofs.Bits.{some_bit}
+use Rattle.ta_implied.proofs.Bits.{some_bit}
+use Rattle.ta_implied.proofs.Members.{in_append, in_map, in_filter, in_numbers}
 use Rattle.ta_words.proofs.Lists.{events_named}
 
 -- how many numbers below another pass
@@ -55,34 +56,7 @@ count_new f g (suc n) k h b e t = elim (eqb_tells k n) [
   | inr ne ↦ (let q = ne.1 in omega (arith, count_new f g n k h (omega arith) e t, both (f n) (g n) (h n)))
 ]
 
--- what an item of a list is
-in_append : {X : Type 0} (x : X) (xs ys : List X) → In x (xs ++ ys) → In x xs ⊎ In x ys
-in_append x [] ys h = inr h
-in_append x (y ∷ xs) ys (inl e) = inl (inl e)
-in_append x (y ∷ xs) ys (inr h) = elim (in_append x xs ys h) [ inl g ↦ inl (inr g) | inr g ↦ inr g ]
-
-in_map : {X Y : Type 0} (f : X → Y) (y : Y) (xs : List X) → In y (map f xs) → (x : X) × In x xs × (y ≡ f x)
-in_map f y [] h = absurd h
-in_map f y (x ∷ xs) (inl e) = (x, inl refl, e)
-in_map f y (x ∷ xs) (inr h) = let g = in_map f y xs h in (g.0, inr g.1, g.2)
-
-in_kept : {X : Type 0} (ok : X → Bool) (x y : X) (b : Bool) (ys : List X) → ok y ≡ b → (In x ys → In x ys) → In x (cond b (y ∷ ys) ys) → ((x ≡ y) × (ok y ≡ true)) ⊎ In x ys
-in_kept ok x y true ys e same (inl q) = inl (q, e)
-in_kept ok x y true ys e same (inr h) = inr h
-in_kept ok x y false ys e same h = inr h
-
-in_filter : {X : Type 0} (ok : X → Bool) (x : X) (xs : List X) → In x (filter ok xs) → (ok x ≡ true) × In x xs
-in_filter ok x [] h = absurd h
-in_filter ok x (y ∷ xs) h = elim (in_kept ok x y (ok y) (filter ok xs) refl (λ g. g) h) [
-  | inl q ↦ (ap ok q.0 ∙ q.1, inl q.0)
-  | inr g ↦ (let rest = in_filter ok x xs g in (rest.0, inr rest.1))
-]
-
-in_numbers : (x k n : ℕ) → In x (numbers_from k n) → (k ≤ x) × (x < k + n)
-in_numbers x k zero h = absurd h
-in_numbers x k (suc n) (inl e) = (omega arith, omega arith)
-in_numbers x k (suc n) (inr h) = let g = in_numbers x (k + 1) n h in (omega (arith, g.0), omega (arith, g.1))
-
+-- what a child is
 in_more : {X : Type 0} (x : X) (b : Bool) (xs : List X) → In x (cond b [] xs) → In x xs
 in_more x true xs h = absurd h
 in_more x false xs h = h
@@ -96,22 +70,52 @@ in_passed f test k n e h =
     (mapped.0, mapped.2, kept.0, within.0, within.1)
 
 -- a child is an event that is ready, a rise guard that is not in the word, or a set of standing fall guards
-pub in_children : (a : Automaton) (p : Pattern) (start : ℕ) (past : List Element) (e : Element) → In e (children a p start past)
+pub in_children : (a : Automaton) (p : Pattern) (pairs : List (ℕ × ℕ)) (start : ℕ) (past : List Element) (e : Element) → In e (children a p pairs start past)
     → ((x : ℕ) × (e ≡ Event x) × (is_ready p past x ≡ true) × (0 ≤ x) × (x < 0 + length p.events))
-    ⊎ (((x : ℕ) × (e ≡ Rise x) × (not (has_rise past x) ≡ true) × (0 ≤ x) × (x < 0 + length a.rise))
+    ⊎ (((x : ℕ) × (e ≡ Rise x) × (may_rise pairs past x ≡ true) × (0 ≤ x) × (x < 0 + length a.rise))
     ⊎ ((x : ℕ) × (e ≡ Fall x) × (is_standing a start past x ≡ true) × (1 ≤ x) × (x < 1 + (2 ^ length a.fall - 1))))
 unfolding children
-in_children a p start past e h =
+in_children a p pairs start past e h =
     let events = map Event (filter (is_ready p past) (numbers_from 0 (length p.events))) in
-    let rises = map Rise (filter (λ i. not (has_rise past i)) (numbers_from 0 (length a.rise))) in
+    let rises = map Rise (filter (may_rise pairs past) (numbers_from 0 (length a.rise))) in
     let falls = map Fall (filter (is_standing a start past) (numbers_from 1 (2 ^ length a.fall - 1))) in
     elim (in_append e events (rises ++ falls) (in_more e (is_complete p past) (events ++ (rises ++ falls)) h)) [
       | inl g ↦ inl (in_passed Event (is_ready p past) 0 (length p.events) e g)
       | inr g ↦ elim (in_append e rises falls g) [
-        | inl r ↦ inr (inl (in_passed Rise (λ i. not (has_rise past i)) 0 (length a.rise) e r))
+        | inl r ↦ inr (inl (in_passed Rise (may_rise pairs past) 0 (length a.rise) e r))
         | inr r ↦ inr (inr (in_passed Fall (is_standing a start past) 1 (2 ^ length a.fall - 1) e r))
       ]
     ]
+
+passed_more : (f : ℕ → Element) (test other : ℕ → Bool) (k n : ℕ) (e : Element) → ((x : ℕ) → test x ≡ true → other x ≡ true) → In e (map f (filter test (numbers_from k n))) → In e (map f (filter other (numbers_from k n)))
+passed_more f test other k n e more h =
+    let c = in_passed f test k n e h in
+    subst (λ x. In x (map f (filter other (numbers_from k n)))) (sym c.1) (In-map f c.0 _ (In-filter other c.0 _ (more c.0 c.2) (In-numbers c.0 k n c.3 c.4)))
+
+cond_more : {X : Type 0} (x : X) (b : Bool) (xs ys : List X) → (In x xs → In x ys) → In x (cond b [] xs) → In x (cond b [] ys)
+cond_more x true xs ys more h = absurd h
+cond_more x false xs ys more h = more h
+
+-- a child under pairs is one under none
+pub under_none : (a : Automaton) (p : Pattern) (pairs : List (ℕ × ℕ)) (start : ℕ) (past : List Element) (e : Element) → In e (children a p pairs start past) → In e (children a p [] start past)
+unfolding children
+under_none a p pairs start past e h =
+    let events = map Event (filter (is_ready p past) (numbers_from 0 (length p.events))) in
+    let rises = map Rise (filter (may_rise pairs past) (numbers_from 0 (length a.rise))) in
+    let free = map Rise (filter (may_rise [] past) (numbers_from 0 (length a.rise))) in
+    let falls = map Fall (filter (is_standing a start past) (numbers_from 1 (2 ^ length a.fall - 1))) in
+    cond_more e (is_complete p past) (events ++ (rises ++ falls)) (events ++ (free ++ falls)) (λ g. elim (in_append e events (rises ++ falls) g) [
+      | inl l ↦ In-left e events (free ++ falls) l
+      | inr l ↦ elim (in_append e rises falls l) [
+        | inl r ↦ In-right e events (free ++ falls) (In-left e free falls (passed_more Rise (may_rise pairs past) (may_rise [] past) 0 (length a.rise) e (λ x t. (and_parts (is_due pairs past x) (not (has_rise past x)) t).1) r))
+        | inr r ↦ In-right e events (free ++ falls) (In-right e free falls r)
+      ]
+    ]) h
+
+-- a word that is legal under pairs is legal
+pub legal_under : (a : Automaton) (p : Pattern) (pairs : List (ℕ × ℕ)) (start : ℕ) (past : List Element) → LegalUnder a p pairs start past → Legal a p start past
+legal_under a p pairs start [] h = tt
+legal_under a p pairs start (e ∷ past) h = (under_none a p pairs start past e h.0, legal_under a p pairs start past h.1)
 
 -- how much of the events and guards a word has
 abbrev weight : Automaton → Pattern → ℕ → List Element → ℕ
@@ -151,7 +155,7 @@ pub legal_weight : (a : Automaton) (p : Pattern) (start : ℕ) (past : List Elem
 legal_weight a p start [] h = omega arith
 legal_weight a p start (e ∷ past) h =
     let rest = legal_weight a p start past h.1 in
-    elim (in_children a p start past e h.0) [
+    elim (in_children a p [] start past e h.0) [
       | inl c ↦ (let b : c.0 < length p.events = (let q = c.4 in omega arith) in let same = ap (λ x. weight a p start (x ∷ past)) c.1 in omega (arith, same, event_weighs a p start past c.0 c.2 b))
       | inr (inl c) ↦ (let b : c.0 < length a.rise = (let q = c.4 in omega arith) in let same = ap (λ x. weight a p start (x ∷ past)) c.1 in omega (arith, same, rise_weighs a p start past c.0 c.2 b))
       | inr (inr c) ↦ (let b : c.0 < 2 ^ length a.fall = (let q = c.4 in let low = c.3 in omega arith) in let same = ap (λ x. weight a p start (x ∷ past)) c.1 in omega (arith, same, fall_weighs a p start past c.0 c.2 c.3 b))
@@ -166,9 +170,9 @@ pattern_exists : (file : File) (k : ℕ) → k < length file.patterns → (p : P
 pattern_exists file k b = elim ((slice_get_cases file.patterns k).1) [ inl found ↦ (found.0, found.2) | inr past ↦ absurd (let q = past.0 in omega arith) ]
 
 -- there is room for a child of a legal word
-pub room : (file : File) (k start : ℕ) (word listed : List Element) (e : Element) → k < length file.patterns → OfPattern file k (λ p. Legal file.automaton p start (reverse word)) → OfPattern file k (λ p. listed ≡ children file.automaton p start (reverse word)) → In e listed → length word < 30
-room file k start word listed e b legal is h =
+pub room : (file : File) (k start : ℕ) (pairs : List (ℕ × ℕ)) (word listed : List Element) (e : Element) → k < length file.patterns → OfPattern file k (λ p. Legal file.automaton p start (reverse word)) → OfPattern file k (λ p. listed ≡ children file.automaton p pairs start (reverse word)) → In e listed → length word < 30
+room file k start pairs word listed e b legal is h =
     let found = pattern_exists file k b in
     let p = found.0 in
-    let child : In e (children file.automaton p start (reverse word)) = subst (In e) (is p found.1) h in
+    let child : In e (children file.automaton p [] start (reverse word)) = under_none file.automaton p pairs start (reverse word) e (subst (In e) (is p found.1) h) in
     omega (arith, legal_length file.automaton p start (e ∷ reverse word) (events_named file k p found.1).limit (child, legal p found.1), length-reverse word)

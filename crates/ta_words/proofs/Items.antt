@@ -3,11 +3,7 @@ use Rattle.std.proofs.Common.{◌≡◌, ◌⊎◌, inl, inr, ℕ, zero, suc, �
 use Rattle.std.proofs.lemmas.List.{take_more}
 use Rattle.std.proofs.Math.Seq.{take-length}
 use Rattle.ta_automaton.specs.Masks.{In}
-
-in_append : {X : Type 0} (x : X) (xs ys : List X) → In x (xs ++ ys) → In x xs ⊎ In x ys
-in_append x [] ys h = inr h
-in_append x (y ∷ xs) ys (inl e) = inl (inl e)
-in_append x (y ∷ xs) ys (inr h) = elim (in_append x xs ys h) [ inl g ↦ inl (inr g) | inr g ↦ inr g ]
+use Rattle.ta_implied.proofs.Members.{in_append}
 
 pub in_at : {X : Type 0} (xs : List X) (i : ℕ) (d : X) → i < length xs → In (get_or xs i d) xs
 in_at [] i d b = absurd (omega arith)

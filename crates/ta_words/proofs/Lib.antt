@@ -1,8 +1,8 @@
 -- lemmas for the crates above
 pub mod Listed
-pub mod Bits
 pub mod Past
 pub mod Pushes
 pub mod Lists
+pub mod Pairs
 pub mod Counts
 mod Items

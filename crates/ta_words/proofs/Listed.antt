@@ -1,33 +1,33 @@
 -- children of a word
-use Rattle.std.proofs.Common.{◌≡◌, ℕ, ◌-◌, ◌^◌, ◌<◌, ◌≤◌, List, [], ◌++◌, map, length, cond, Bool, true, false, not, arith, sym, refl, subst}
+use Rattle.std.proofs.Common.{◌≡◌, ℕ, ◌-◌, ◌^◌, ◌<◌, ◌≤◌, List, [], ◌++◌, map, length, cond, Bool, true, false, arith, sym, refl, subst}
 use Rattle.std.specs.Prelude.{filter}
 use Rattle.std.proofs.lemmas.Bool.{true≢false}
 use Rattle.ta_automaton.specs.declared.automaton.Automaton.{Automaton}
 use Rattle.ta_automaton.specs.declared.pattern.Pattern.{Pattern}
 use Rattle.ta_automaton.specs.Masks.{numbers_from, In}
-use Rattle.ta_automaton.proofs.MaskTests.{not_true, In-left, In-right, In-map, In-filter, In-numbers}
+use Rattle.ta_automaton.proofs.MaskTests.{In-left, In-right, In-map, In-filter, In-numbers}
 use Rattle.ta_words.specs.declared.element.Element.{Element}
 use Rattle.ta_words.specs.declared.element.Element.TheVariants.{Event, Rise, Fall}
-use Rattle.ta_words.specs.Words.{has_rise, is_complete, is_ready, is_standing, children}
+use Rattle.ta_words.specs.Words.{is_complete, is_ready, is_standing, may_rise, children}
 
 cond_false : {X : Type 0} (b : Bool) (x y : X) → b ≡ false → cond b x y ≡ y
 cond_false true x y e = absurd (true≢false e)
 cond_false false x y e = refl
 
-pub event_child : (a : Automaton) (p : Pattern) (start : ℕ) (past : List Element) (e : ℕ) → is_complete p past ≡ false → e < length p.events → is_ready p past e ≡ true → In (Event e) (children a p start past)
+pub event_child : (a : Automaton) (p : Pattern) (pairs : List (ℕ × ℕ)) (start : ℕ) (past : List Element) (e : ℕ) → is_complete p past ≡ false → e < length p.events → is_ready p past e ≡ true → In (Event e) (children a p pairs start past)
 unfolding children
-event_child a p start past e more b ready =
+event_child a p pairs start past e more b ready =
     subst (In (Event e)) (sym (cond_false (is_complete p past) [] _ more))
     (In-left (Event e) _ _ (In-map Event e _ (In-filter (is_ready p past) e _ ready (In-numbers e 0 (length p.events) (omega arith) (omega arith)))))
 
-pub rise_child : (a : Automaton) (p : Pattern) (start : ℕ) (past : List Element) (i : ℕ) → is_complete p past ≡ false → i < length a.rise → has_rise past i ≡ false → In (Rise i) (children a p start past)
+pub rise_child : (a : Automaton) (p : Pattern) (pairs : List (ℕ × ℕ)) (start : ℕ) (past : List Element) (i : ℕ) → is_complete p past ≡ false → i < length a.rise → may_rise pairs past i ≡ true → In (Rise i) (children a p pairs start past)
 unfolding children
-rise_child a p start past i more b new =
+rise_child a p pairs start past i more b new =
     subst (In (Rise i)) (sym (cond_false (is_complete p past) [] _ more))
-    (In-right (Rise i) _ _ (In-left (Rise i) _ _ (In-map Rise i _ (In-filter (λ k. not (has_rise past k)) i _ (not_true (has_rise past i) new) (In-numbers i 0 (length a.rise) (omega arith) (omega arith))))))
+    (In-right (Rise i) _ _ (In-left (Rise i) _ _ (In-map Rise i _ (In-filter (may_rise pairs past) i _ new (In-numbers i 0 (length a.rise) (omega arith) (omega arith))))))
 
-pub fall_child : (a : Automaton) (p : Pattern) (start : ℕ) (past : List Element) (mask : ℕ) → is_complete p past ≡ false → 1 ≤ mask → mask < 2 ^ length a.fall → is_standing a start past mask ≡ true → In (Fall mask) (children a p start past)
+pub fall_child : (a : Automaton) (p : Pattern) (pairs : List (ℕ × ℕ)) (start : ℕ) (past : List Element) (mask : ℕ) → is_complete p past ≡ false → 1 ≤ mask → mask < 2 ^ length a.fall → is_standing a start past mask ≡ true → In (Fall mask) (children a p pairs start past)
 unfolding children
-fall_child a p start past mask more low high standing =
+fall_child a p pairs start past mask more low high standing =
     subst (In (Fall mask)) (sym (cond_false (is_complete p past) [] _ more))
-    (In-right (Fall mask) (map Event (filter (is_ready p past) (numbers_from 0 (length p.events)))) (map Rise (filter (λ i. not (has_rise past i)) (numbers_from 0 (length a.rise))) ++ map Fall (filter (is_standing a start past) (numbers_from 1 (2 ^ length a.fall - 1)))) (In-right (Fall mask) (map Rise (filter (λ i. not (has_rise past i)) (numbers_from 0 (length a.rise)))) (map Fall (filter (is_standing a start past) (numbers_from 1 (2 ^ length a.fall - 1)))) (In-map Fall mask _ (In-filter (is_standing a start past) mask _ standing (In-numbers mask 1 (2 ^ length a.fall - 1) low (omega arith))))))
+    (In-right (Fall mask) (map Event (filter (is_ready p past) (numbers_from 0 (length p.events)))) (map Rise (filter (may_rise pairs past) (numbers_from 0 (length a.rise))) ++ map Fall (filter (is_standing a start past) (numbers_from 1 (2 ^ length a.fall - 1)))) (In-right (Fall mask) (map Rise (filter (may_rise pairs past) (numbers_from 0 (length a.rise)))) (map Fall (filter (is_standing a start past) (numbers_from 1 (2 ^ length a.fall - 1)))) (In-map Fall mask _ (In-filter (is_standing a start past) mask _ standing (In-numbers mask 1 (2 ^ length a.fall - 1) low (omega arith))))))

@@ -1,5 +1,5 @@
 -- what follows a word, and how long words and lists of children get
-use Rattle.std.proofs.Common.{◌≡◌, ℕ, zero, suc, ◌+◌, ◌-◌, ◌^◌, ◌<◌, ◌≤◌, List, [], ◌∷◌, ◌++◌, length, map, cond, Bool, true, false, not, get_or, slice_get, Some, arith, sym, ap, ◌∙◌, refl, subst, append_assoc, length-append}
+use Rattle.std.proofs.Common.{◌≡◌, ℕ, zero, suc, ◌+◌, ◌-◌, ◌^◌, ◌<◌, ◌≤◌, List, [], ◌∷◌, ◌++◌, length, map, cond, Bool, true, false, get_or, slice_get, Some, arith, sym, ap, ◌∙◌, refl, subst, append_assoc, length-append}
 use Rattle.std.specs.Prelude.{filter}
 use Rattle.std.proofs.Math.Nat.{pow-le-pow_right}
 use Rattle.std.proofs.lemmas.Bool.{false≢true, true≢false}
@@ -13,7 +13,7 @@ use Rattle.ta_automaton.specs.declared.pattern.Pattern.{Pattern}
 use Rattle.ta_automaton.proofs.Thresholds.{pattern_within, each_from_at}
 use Rattle.ta_words.specs.Calls.{OfPattern}
 use Rattle.ta_words.specs.Seen.{EventsNamed}
-use Rattle.ta_words.specs.Words.{has_rise, is_complete, is_ready, is_standing, children}
+use Rattle.ta_words.specs.Words.{is_complete, is_ready, is_standing, may_rise, children}
 use Rattle.ta_words.specs.declared.element.Element.{Element}
 use Rattle.ta_words.specs.declared.element.Element.TheVariants.{Event, Rise, Fall}
 
@@ -72,18 +72,18 @@ cond_false false x y e = refl
 abbrev event_children : Pattern → List Element → List Element
 event_children p past = map Event (filter (is_ready p past) (numbers_from 0 (length p.events)))
 
-abbrev rise_children : Automaton → List Element → List Element
-rise_children a past = map Rise (filter (λ i. not (has_rise past i)) (numbers_from 0 (length a.rise)))
+abbrev rise_children : Automaton → List (ℕ × ℕ) → List Element → List Element
+rise_children a pairs past = map Rise (filter (may_rise pairs past) (numbers_from 0 (length a.rise)))
 
 abbrev fall_children : Automaton → ℕ → List Element → List Element
 fall_children a start past = map Fall (filter (is_standing a start past) (numbers_from 1 (2 ^ length a.fall - 1)))
 
-pub children_listed : (a : Automaton) (p : Pattern) (start : ℕ) (past first second third fourth : List Element) → is_complete p past ≡ false → first ≡ [] → second ≡ first ++ event_children p past → third ≡ second ++ rise_children a past → fourth ≡ third ++ fall_children a start past → fourth ≡ children a p start past
+pub children_listed : (a : Automaton) (p : Pattern) (pairs : List (ℕ × ℕ)) (start : ℕ) (past first second third fourth : List Element) → is_complete p past ≡ false → first ≡ [] → second ≡ first ++ event_children p past → third ≡ second ++ rise_children a pairs past → fourth ≡ third ++ fall_children a start past → fourth ≡ children a p pairs start past
 unfolding children
-children_listed a p start past first second third fourth more e f g h =
-    h ∙ ap (λ xs. xs ++ fall_children a start past) (g ∙ ap (λ xs. xs ++ rise_children a past) (f ∙ ap (λ xs. xs ++ event_children p past) e))
-    ∙ append_assoc (event_children p past) (rise_children a past) (fall_children a start past) ∙ sym (cond_false (is_complete p past) [] (event_children p past ++ (rise_children a past ++ fall_children a start past)) more)
+children_listed a p pairs start past first second third fourth more e f g h =
+    h ∙ ap (λ xs. xs ++ fall_children a start past) (g ∙ ap (λ xs. xs ++ rise_children a pairs past) (f ∙ ap (λ xs. xs ++ event_children p past) e))
+    ∙ append_assoc (event_children p past) (rise_children a pairs past) (fall_children a start past) ∙ sym (cond_false (is_complete p past) [] (event_children p past ++ (rise_children a pairs past ++ fall_children a start past)) more)
 
-pub no_children : (a : Automaton) (p : Pattern) (start : ℕ) (past none : List Element) → is_complete p past ≡ true → none ≡ [] → none ≡ children a p start past
+pub no_children : (a : Automaton) (p : Pattern) (pairs : List (ℕ × ℕ)) (start : ℕ) (past none : List Element) → is_complete p past ≡ true → none ≡ [] → none ≡ children a p pairs start past
 unfolding children
-no_children a p start past none done e = e ∙ sym (cond_true (is_complete p past) [] (event_children p past ++ (rise_children a past ++ fall_children a start past)) done)
+no_children a p pairs start past none done e = e ∙ sym (cond_true (is_complete p past) [] (event_children p past ++ (rise_children a pairs past ++ fall_children a start past)) done)

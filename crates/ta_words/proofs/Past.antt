@@ -12,7 +12,7 @@ use Rattle.ta_words.specs.Words.{has_event, has_rise, has_fallen, is_complete, m
 use Rattle.ta_words.specs.declared.element.Element.{Element}
 use Rattle.ta_words.specs.declared.element.Element.TheVariants.{Event, Rise, Fall}
 use Rattle.ta_words.specs.declared.seen.Seen.{Seen}
-use Rattle.ta_words.proofs.Bits.{has_none, all_below-same, first_numbers, first_below}
+use Rattle.ta_implied.proofs.Bits.{has_none, all_below-same, first_numbers, first_below}
 
 -- the first elements of a word, the newest first
 pub reverse_more : {X : Type 0} (xs : List X) (i : ℕ) (d : X) → i < length xs → reverse (take (i + 1) xs) ≡ get_or xs i d ∷ reverse (take i xs)

@@ -1,8 +1,8 @@
 -- what a word says of events and guards, as masks
-use Rattle.std.specs.Prelude.{ℕ, ◌<◌, ◌≤◌, ◌^◌, ◌≡◌, List, length, slice_get, Some}
+use Rattle.std.specs.Prelude.{ℕ, ◌<◌, ◌≤◌, ◌^◌, ◌≡◌, ◌↔◌, IsTrue, List, length, slice_get, Some}
 use Rattle.ta_automaton.specs.declared.pattern.Event.{Event as PatternEvent}
 use Rattle.ta_automaton.specs.declared.pattern.Pattern.{Pattern}
-use Rattle.ta_automaton.specs.Masks.{has_bit}
+use Rattle.ta_automaton.specs.Masks.{has_bit, In}
 use Rattle.ta_words.specs.Words.{has_event, has_rise, has_fallen}
 use Rattle.ta_words.specs.declared.element.Element.{Element}
 use Rattle.ta_words.specs.declared.seen.Seen.{Seen}
@@ -17,3 +17,7 @@ pub record IsSeen (seen : Seen) (start : ℕ) (past : List Element) : Type 0 whe
 pub record EventsNamed (p : Pattern) : Type 0 where
   pub limit : length p.events ≤ 8
   pub after : (e : ℕ) (event : PatternEvent) → slice_get p.events e ≡ Some event → event.after < 2 ^ length p.events
+
+-- a mask of the rise guards that come before one, by pairs (j, i): j before i
+abbrev pub NamesBefore : List (ℕ × ℕ) → ℕ → ℕ → Type 0
+NamesBefore pairs rise mask = (j : ℕ) → IsTrue (has_bit mask j) ↔ In (j, rise) pairs

@@ -1,5 +1,5 @@
 -- Words, their children and the rules that are allowed after them. A word is given as its past: its elements, the newest first.
-use Rattle.std.specs.Prelude.{ℕ, ◌-◌, ◌^◌, ◌==◌, Bool, false, cond, not, ◌&&◌, ◌||◌, List, [], ◌∷◌, ◌++◌, length, map, filter, slice_get, Option, Some, None}
+use Rattle.std.specs.Prelude.{ℕ, ◌-◌, ◌^◌, ◌==◌, Bool, true, false, cond, not, ◌&&◌, ◌||◌, List, [], ◌∷◌, ◌++◌, length, map, filter, slice_get, Option, Some, None}
 use Rattle.ta_automaton.specs.declared.rule.Rule.{Rule}
 use Rattle.ta_automaton.specs.declared.automaton.Automaton.{Automaton}
 use Rattle.ta_automaton.specs.declared.pattern.Event.{Event as PatternEvent}
@@ -45,18 +45,31 @@ is_ready p past e = not (has_event past e) && follows p past (slice_get p.events
 abbrev pub is_standing : Automaton → ℕ → List Element → ℕ → Bool
 is_standing a start past mask = all_below (length a.fall) (λ j. implies (has_bit mask j) (not (has_fallen start past j)))
 
--- the elements that may follow a word, in order
-unfoldable pub children : Automaton → Pattern → ℕ → List Element → List Element
-children a p start past =
+-- whether each rise guard that comes before one is in the word, by pairs (j, i): j before i
+abbrev pub is_due : List (ℕ × ℕ) → List Element → ℕ → Bool
+is_due [] past i = true
+is_due (pair ∷ pairs) past i = implies (pair.1 == i) (has_rise past pair.0) && is_due pairs past i
+
+-- whether a rise guard may come: those before it are in the word, and it isn't yet
+abbrev pub may_rise : List (ℕ × ℕ) → List Element → ℕ → Bool
+may_rise pairs past i = is_due pairs past i && not (has_rise past i)
+
+-- the elements that may follow a word under such pairs, in order
+unfoldable pub children : Automaton → Pattern → List (ℕ × ℕ) → ℕ → List Element → List Element
+children a p pairs start past =
     cond (is_complete p past) []
     (map Event (filter (is_ready p past) (numbers_from 0 (length p.events)))
-    ++ (map Rise (filter (λ i. not (has_rise past i)) (numbers_from 0 (length a.rise)))
+    ++ (map Rise (filter (may_rise pairs past) (numbers_from 0 (length a.rise)))
     ++ map Fall (filter (is_standing a start past) (numbers_from 1 (2 ^ length a.fall - 1)))))
 
--- each element is a child of the elements before it
+-- each element may follow the elements before it, under pairs
+abbrev pub LegalUnder : Automaton → Pattern → List (ℕ × ℕ) → ℕ → List Element → Type 0
+LegalUnder a p pairs start [] = Unit {0}
+LegalUnder a p pairs start (e ∷ past) = In e (children a p pairs start past) × LegalUnder a p pairs start past
+
+-- the same under no pairs
 abbrev pub Legal : Automaton → Pattern → ℕ → List Element → Type 0
-Legal a p start [] = Unit {0}
-Legal a p start (e ∷ past) = In e (children a p start past) × Legal a p start past
+Legal a p start past = LegalUnder a p [] start past
 
 -- whether a rule leads to another location, touches no location that is kept empty, has its rise guards in the word, and has no fall guard that is in the start set or has fallen
 abbrev pub may_fire : Automaton → Pattern → ℕ → List Element → Option Rule → Bool

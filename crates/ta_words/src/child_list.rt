@@ -1,18 +1,18 @@
 //! Lists of elements that may follow a word.
 #![tactic(auto)]
 
-ghost use Rattle.std.specs.Prelude.{ℕ, ◌+◌, ◌-◌, ◌≡◌, ◌≤◌, ◌<◌, ◌^◌, ◌++◌, ◌∷◌, ◌↔◌, IsTrue, List, [], filter, length, map, not, reverse};
+ghost use Rattle.std.specs.Prelude.{ℕ, ◌+◌, ◌-◌, ◌≡◌, ◌≤◌, ◌<◌, ◌^◌, ◌++◌, ◌∷◌, ◌↔◌, IsTrue, List, [], filter, length, map};
 ghost use Rattle.ta_words.specs.declared.element.Element.TheVariants.{Event, Fall, Rise};
 ghost use Rattle.ta_automaton.specs.Masks.{In, numbers_from};
 ghost use Rattle.ta_words.specs.Seen.{EventsNamed, IsSeen};
-ghost use Rattle.ta_words.specs.Words.{has_rise, is_ready, is_standing};
+ghost use Rattle.ta_words.specs.Words.{is_ready, is_standing, may_rise};
 
 use crate::element::Element;
-use crate::mask;
 use crate::seen::Seen;
 use arrayvec::ArrayVec;
 use std::marker::Model;
 use ta_automaton::{Automaton, Pattern};
+use ta_implied::Orders;
 
 /// A list of at most 87 elements: 8 events, 16 rise guards and 63 sets of fall guards. Contracts
 /// see it as that list.
@@ -77,13 +77,13 @@ impl Children {
         }
     }
 
-    pub(crate) fn push_rises(&mut self, automaton: &Automaton, seen: Seen)
+    pub(crate) fn push_rises(&mut self, automaton: &Automaton, orders: &Orders, seen: Seen)
         requires { length self.old + 16 ≤ 87 }
         ensures { (start : ℕ) (past : List Element) → IsSeen seen start past
-            → self.new ≡ self.old ++ map Rise (filter (λ i. not (has_rise past i)) (numbers_from 0 (length automaton.now.rise))) }
+            → self.new ≡ self.old ++ map Rise (filter (may_rise orders.now past) (numbers_from 0 (length automaton.now.rise))) }
     {
         for rise in 0..automaton.rise.as_slice().len() {
-            if !mask::contains(seen.rises, rise as u32) {
+            if seen.may_rise(rise as u32, orders.mask(rise as u32)) {
                 self.push(Element::Rise(rise as u32));
             }
         }

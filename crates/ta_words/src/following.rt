@@ -11,18 +11,20 @@ use crate::element::Element;
 use crate::seen::Seen;
 use crate::word::Word;
 use ta_automaton::File;
+use ta_implied::Orders;
 
-/// The elements that may follow a word, in order; a complete word has none.
-pub fn children(file: &File, pattern: u32, start_mask: u8, word: &Word) -> Children
+/// The elements that may follow a word under pairs of rise guards, in order; a complete word has
+/// none.
+pub fn children(file: &File, pattern: u32, start_mask: u8, orders: &Orders, word: &Word) -> Children
     requires { pattern < length file.now.patterns }
-    ensures { OfPattern file.now pattern (λ p. result ≡ children file.now.automaton p start_mask (reverse word.now)) }
+    ensures { OfPattern file.now pattern (λ p. result ≡ children file.now.automaton p orders.now start_mask (reverse word.now)) }
 {
     let pattern = &file.patterns.as_slice()[pattern as usize];
     let seen = Seen::of(start_mask, word.elements());
     let mut children = Children::new();
     if !seen.is_complete(pattern) {
         children.push_events(pattern, seen);
-        children.push_rises(&file.automaton, seen);
+        children.push_rises(&file.automaton, orders, seen);
         children.push_falls(&file.automaton, seen);
     }
     children

@@ -4,8 +4,8 @@
 ghost use Rattle.std.specs.Prelude.{ℕ, ◌<◌, ◌≤◌, ◌^◌, ◌≡◌, ◌∷◌, ◌==◌, ◌&&◌, List, Some, length, not, reverse};
 ghost use Rattle.ta_automaton.specs.Shape.{RuleWithin};
 ghost use Rattle.ta_automaton.specs.Masks.{all_below, has_bit, implies};
-ghost use Rattle.ta_words.specs.Seen.{EventsNamed, IsSeen};
-ghost use Rattle.ta_words.specs.Words.{has_event, has_fallen, has_rise, is_complete, is_standing, may_fire};
+ghost use Rattle.ta_words.specs.Seen.{EventsNamed, IsSeen, NamesBefore};
+ghost use Rattle.ta_words.specs.Words.{has_event, has_fallen, has_rise, is_complete, is_standing, may_fire, may_rise};
 
 use crate::element::Element;
 use crate::mask;
@@ -70,6 +70,15 @@ impl Seen {
             → result ≡ (not (has_event past event) && all_below n (λ f. implies (has_bit after f) (has_event past f))) }
     {
         !mask::contains(self.events, event) && mask::is_subset(u32::from(after), self.events)
+    }
+
+    /// Whether a rise guard is not in the word, and the set of those that come before it is.
+    pub(crate) fn may_rise(self, rise: u32, before: u16) -> bool
+        requires { rise < 32 }
+        ensures { (start : ℕ) (past : List Element) (pairs : List (ℕ × ℕ)) → IsSeen self start past → NamesBefore pairs rise before
+            → result ≡ may_rise pairs past rise }
+    {
+        !mask::contains(self.rises, rise) && mask::is_subset(u32::from(before), self.rises)
     }
 
     /// Whether no fall guard of a set is in the start set or has fallen.

@@ -11,6 +11,7 @@ use crate::following::children;
 use arrayvec::ArrayVec;
 use std::marker::Model;
 use ta_automaton::File;
+use ta_implied::Orders;
 
 /// A list of at most 30 elements, which contracts see as that list. It is legal for a pattern and
 /// a start set if each element is a child of the elements before it.
@@ -40,6 +41,18 @@ impl Word {
         }
     }
 
+    /// The same word once more.
+    pub fn again(&self) -> Word
+        ensures { result ≡ self.now }
+    {
+        let all = self.elements.as_slice();
+        let mut elements = ArrayVec::new();
+        match elements.try_extend_from_slice(all) {
+            Ok(()) => Word { elements },
+            Err(_) => unreachable!(),
+        }
+    }
+
     /// The elements, in order.
     pub fn elements(&self) -> &[Element]
         ensures { result.now ≡ self.now }
@@ -55,14 +68,22 @@ impl Word {
         self.elements.truncate(length);
     }
 
-    /// Appends an element if it is a child of the word, and says whether it is.
-    pub fn push(&mut self, file: &File, pattern: u32, start_mask: u8, element: Element) -> bool
+    /// Appends an element if it may follow the word under pairs of rise guards, and says whether it
+    /// may.
+    pub fn push(
+        &mut self,
+        file: &File,
+        pattern: u32,
+        start_mask: u8,
+        orders: &Orders,
+        element: Element,
+    ) -> bool
         requires exists { pattern < list_length file.now.patterns }
         requires legal { OfPattern file.now pattern (λ p. Legal file.now.automaton p start_mask (reverse self.old)) }
-        ensures child { OfPattern file.now pattern (λ p. IsTrue result ↔ In element (children file.now.automaton p start_mask (reverse self.old))) }
+        ensures child { OfPattern file.now pattern (λ p. IsTrue result ↔ In element (children file.now.automaton p orders.now start_mask (reverse self.old))) }
         ensures word { self.new ≡ (if result then self.old ++ element ∷ [] else self.old) }
     {
-        let is_child = children(file, pattern, start_mask, self).contains(element);
+        let is_child = children(file, pattern, start_mask, orders, self).contains(element);
         if is_child {
             self.elements.push(element);
         }

@@ -5,10 +5,11 @@ use std::alloc::{AllocError, Global};
 use std::rt::Clock;
 use std::time::Instant;
 use std::{fs, io};
-use ta_dense::NarrowDictionary;
+use ta_dense::{DenseDictionary, Dictionary, NarrowDictionary};
+use ta_links::LinkedDictionary;
 use ta_meaning::read_file;
 use ta_scope::ScopedFile;
-use ta_walk::{WalkEnd, walk};
+use ta_walk::{WalkEnd, find_orders, walk};
 
 /// How many bytes a file has at most.
 const LIMIT: usize = 1_048_576;
@@ -16,11 +17,17 @@ const LIMIT: usize = 1_048_576;
 /// How many nodes a walk visits at most.
 const MOST: u64 = 1_000_000_000;
 
-/// Walks the pattern of a number, from 0, of a file, and visits so many nodes at most: the words say which.
+/// Walks the pattern of a number, from 0, of a file, and visits so many nodes at most: the words say
+/// which, and a fourth may name the rows that are taken, if not narrow ones.
 pub(crate) fn print(rt: &HostRuntime, words: &[String]) -> io::Result<()> {
-    if words.len() != 3 {
-        return println!(rt; "timings: walk FILE PATTERN NODES");
+    if words.len() < 3 || words.len() > 4 {
+        return println!(rt; "timings: walk FILE PATTERN NODES [dense|linked]");
     }
+    let rows = if words.len() == 4 {
+        words[3].as_str()
+    } else {
+        "narrow"
+    };
     let bytes = fs::read(rt, words[0].as_str())?;
     let pattern = words[1].as_str().parse::<u32>().unwrap_or(0);
     let nodes = words[2].as_str().parse::<u64>().unwrap_or(1);
@@ -28,13 +35,17 @@ pub(crate) fn print(rt: &HostRuntime, words: &[String]) -> io::Result<()> {
         return println!(rt; "timings: too long");
     }
     match read_file(rt.alloc(), bytes.as_slice()) {
-        Ok(scoped) => time(rt, rt.alloc(), &scoped, pattern, nodes),
+        Ok(scoped) => match rows {
+            "dense" => time::<_, DenseDictionary>(rt, rt.alloc(), &scoped, pattern, nodes),
+            "linked" => time::<_, LinkedDictionary>(rt, rt.alloc(), &scoped, pattern, nodes),
+            _ => time::<_, NarrowDictionary>(rt, rt.alloc(), &scoped, pattern, nodes),
+        },
         Err(_) => println!(rt; "timings: the file is refused"),
     }
 }
 
 /// Walks the tree of a pattern and prints how it ends, and the time.
-fn time<R: Clock + Print>(
+fn time<R: Clock + Print, D: Dictionary>(
     rt: &R,
     alloc: Global,
     scoped: &ScopedFile,
@@ -44,8 +55,11 @@ fn time<R: Clock + Print>(
     if pattern as usize >= scoped.file().patterns.as_slice().len() || nodes == 0 || nodes > MOST {
         return println!(rt; "timings: no such pattern");
     }
+    let Ok(found) = find_orders::<NarrowDictionary>(alloc, scoped) else {
+        return println!(rt; "memory ran out");
+    };
     let start = Instant::now(rt)?;
-    let end = walk::<NarrowDictionary>(alloc, scoped, pattern, nodes);
+    let end = walk::<D>(alloc, scoped, pattern, &found.orders, nodes);
     let taken = start.elapsed(rt)?.as_micros();
     match end {
         Ok(WalkEnd::Refuted { count, .. }) => println!(rt; "refuted: {count} nodes in {taken} us"),

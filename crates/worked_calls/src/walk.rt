@@ -3,6 +3,7 @@
 use std::alloc::{AllocError, Global};
 use std::test::Fail;
 use ta_dense::{DenseDictionary, DensePivot, Dictionary, ExtendFault, PivotFault};
+use ta_implied::Orders;
 use ta_linear::System;
 use ta_meaning::read_file;
 use ta_walk::walk;
@@ -96,7 +97,7 @@ impl Dictionary for NoRoom {
 fn walks_without_room(rt: HostRuntime) -> Result<(), Fail> {
     let scoped = read_file(rt.alloc(), FILE)?;
     assert!(rt; !scoped.file().patterns.as_slice().is_empty());
-    assert!(rt; walk::<NoRoom>(rt.alloc(), &scoped, 0, 10).is_err());
-    assert!(rt; walk::<DenseDictionary>(rt.alloc(), &scoped, 0, 10).is_ok());
+    assert!(rt; walk::<NoRoom>(rt.alloc(), &scoped, 0, &Orders::new(), 10).is_err());
+    assert!(rt; walk::<DenseDictionary>(rt.alloc(), &scoped, 0, &Orders::new(), 10).is_ok());
     Ok(())
 }

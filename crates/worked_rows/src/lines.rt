@@ -40,7 +40,8 @@ fn read_by(alloc: Global, shown: &mut String, text: &[u8], size: usize) -> Resul
 fn show(text: &mut String, number: u64, line: &Line) -> Result<(), AllocError> {
     write!(text, "{number} ")?;
     match line {
-        Line::Header => write!(text, "header")?,
+        Line::Header(version) => write!(text, "header {version}")?,
+        Line::Order { before, after } => write!(text, "order {before} {after}")?,
         Line::Pattern(pattern) => write!(text, "pattern {pattern}")?,
         Line::Tree(Node::Extend) => write!(text, "extend")?,
         Line::Tree(Node::Split { unknown, floor }) => write!(text, "split {unknown} at {floor}")?,

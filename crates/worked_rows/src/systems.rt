@@ -10,6 +10,7 @@ use std::alloc::{AllocError, Global};
 use ta_automaton::File;
 use ta_dense::DenseDictionary;
 use ta_encode::{Bound, Encoded, Meaning, Side, encode, unknown_count};
+use ta_implied::Orders;
 use ta_simplex::{End, SolveFault, solve};
 use ta_words::{Element, Word, allowed_rules, children, is_complete};
 
@@ -44,9 +45,10 @@ fn word_of(file: &File, start_mask: u8, elements: &[Element]) -> Option<Word>
     requires { 0 < length file.now.patterns }
     ensures { IfSome result (λ word. OfPattern file.now 0 (λ p. Legal file.now.automaton p start_mask (reverse word))) }
 {
+    let orders = Orders::new();
     let mut word = Word::new();
     for element in elements {
-        if !word.push(file, 0, start_mask, *element) {
+        if !word.push(file, 0, start_mask, &orders, *element) {
             return None;
         }
     }
@@ -192,7 +194,7 @@ pub fn following(
         return String::from_str(alloc, NO_WORD);
     };
     let mut text = String::from_str(alloc, "children")?;
-    for child in children(file, 0, start_mask, &word).elements() {
+    for child in children(file, 0, start_mask, &Orders::new(), &word).elements() {
         let (kind, number) = match *child {
             Element::Event(event) => (" e", event),
             Element::Rise(guard) => (" r", guard),

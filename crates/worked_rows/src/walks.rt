@@ -2,15 +2,15 @@
 #![tactic(auto)]
 
 use std::alloc::{AllocError, Global};
-use ta_cert::{Proof, write_cert};
+use ta_cert::{Order, Proof, write_cert};
 use ta_dense::{DenseDictionary, NarrowDictionary};
 use ta_scope::ScopedFile;
-use ta_walk::{PlaceKind, WalkEnd, walk};
+use ta_walk::{PlaceKind, WalkEnd, find_orders, walk};
 
 /// How many nodes a walk visits at most.
 const MOST: u64 = 1_000_000_000;
 
-/// How the walk of pattern 0 ends, and the certificate of a refutation.
+/// How the walk of pattern 0 ends under the orders that are found, and the certificate of a refutation.
 pub fn end(
     alloc: Global,
     scoped: &ScopedFile,
@@ -20,19 +20,20 @@ pub fn end(
     if scoped.file().patterns.as_slice().is_empty() || nodes == 0 || nodes > MOST {
         return String::from_str(alloc, "no such walk");
     }
+    let found = find_orders::<NarrowDictionary>(alloc, scoped)?;
     let end = if narrow {
-        walk::<NarrowDictionary>(alloc, scoped, 0, nodes)?
+        walk::<NarrowDictionary>(alloc, scoped, 0, &found.orders, nodes)?
     } else {
-        walk::<DenseDictionary>(alloc, scoped, 0, nodes)?
+        walk::<DenseDictionary>(alloc, scoped, 0, &found.orders, nodes)?
     };
-    describe(alloc, end)
+    describe(alloc, found.list.as_slice(), end)
 }
 
-fn describe(alloc: Global, end: WalkEnd) -> Result<String, AllocError> {
+fn describe(alloc: Global, orders: &[Order], end: WalkEnd) -> Result<String, AllocError> {
     match end {
         WalkEnd::Refuted { count, nodes } => {
             let proofs = [Proof { pattern: 0, nodes }];
-            let text = write_cert(alloc, proofs.as_slice())?;
+            let text = write_cert(alloc, orders, proofs.as_slice())?;
             format!(in alloc; "refuted {count}\n{}", text.as_str())
         }
         WalkEnd::Found { count, .. } => format!(in alloc; "found {count}"),
@@ -51,7 +52,10 @@ pub fn solution(alloc: Global, scoped: &ScopedFile) -> Result<String, AllocError
     if scoped.file().patterns.as_slice().is_empty() {
         return Ok(text);
     }
-    if let WalkEnd::Found { solution, .. } = walk::<NarrowDictionary>(alloc, scoped, 0, MOST)? {
+    let orders = find_orders::<NarrowDictionary>(alloc, scoped)?.orders;
+    if let WalkEnd::Found { solution, .. } = walk::<NarrowDictionary>(
+        alloc, scoped, 0, &orders, MOST,
+    )? {
         for value in solution.values.as_slice() {
             write!(text, " {value}")?;
         }

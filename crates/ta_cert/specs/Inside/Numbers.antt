@@ -1,8 +1,7 @@
 -- Numbers and pairs at the front of a text.
-use Rattle.std.specs.Prelude.{ℕ, ℤ, ◌<◌, ◌≡◌, ◌==◌, Bool, true, false, List, [], ◌∷◌, ◌++◌, length, decimal}
-use Rattle.std.specs.Char.{is_ascii_digit}
+use Rattle.std.specs.Prelude.{ℕ, ℤ, ◌<◌, ◌≡◌, ◌==◌, ◌^◌, Bool, true, false, List, [], ◌∷◌, ◌++◌, length, decimal}
 use Rattle.std.specs.Str.Parse.{AllDigits}
-use Rattle.ta_cert.specs.Lines.{IsPair, ArePairs, IsSplit, pair_text, pairs_text, split_text}
+use Rattle.ta_cert.specs.Lines.{IsPair, ArePairs, IsSplit, pair_text, pairs_text, split_text, guards_text}
 use Rattle.ta_cert.specs.Numbers.{BeginsNoDigit}
 
 -- the bytes don't begin so
@@ -42,6 +41,15 @@ pub record IsSplitText (bytes : List ℕ) (unknown : ℕ) (floor : ℤ) : Type 0
 
 abbrev pub NoSplitText : List ℕ → Type 0
 NoSplitText bytes = (unknown : ℕ) (floor : ℤ) → IsSplitText bytes unknown floor → ⊥
+
+-- the bytes are the numbers of two guards
+pub record AreGuardsText (bytes : List ℕ) (before after : ℕ) : Type 0 where
+  pub first : before < 2 ^ 32
+  pub second : after < 2 ^ 32
+  pub text : bytes ≡ guards_text before after
+
+abbrev pub NoGuardsText : List ℕ → Type 0
+NoGuardsText bytes = (before after : ℕ) → AreGuardsText bytes before after → ⊥
 
 -- the bytes are the pairs of a leaf
 pub record ArePairsText (bytes : List ℕ) (ts : List (ℕ × ℤ)) : Type 0 where

@@ -5,7 +5,6 @@ use Rattle.ta_automaton.specs.declared.pattern.Pattern.{Pattern}
 use Rattle.ta_cert.specs.Certificates.{nodes_text, proofs_text}
 use Rattle.ta_cert.specs.Lines.{line_text}
 use Rattle.ta_cert.specs.declared.line.Line.{Line}
-use Rattle.ta_cert.specs.declared.line.Line.TheVariants as line
 use Rattle.ta_cert.specs.declared.line.Node.{Node}
 use Rattle.ta_cert.specs.declared.line.Proof.{Proof}
 use Rattle.ta_report.specs.declared.verdict.Verdict.{Verdict}
@@ -15,6 +14,7 @@ use Rattle.ta_program.specs.declared.pieces.Pieces.{Pieces}
 use Rattle.ta_program.specs.declared.draft.Draft.{Draft}
 use Rattle.ta_encode.specs.PatternSearch.{pattern_search}
 use Rattle.ta_program.specs.Certified.{AreTrees, SafeOne, tree_size, with_safe}
+use Rattle.ta_program.specs.Verify.{UnderOrders}
 
 -- the pieces, and the one that is still open
 abbrev pub pieces_text : Pieces → List ℕ
@@ -33,18 +33,18 @@ pub record DraftKeeps (first now : Draft) (nodes : List Node) : Type 0 where
 abbrev pub ended_line : Line → List ℕ
 ended_line l = line_text l ++ (10 ∷ [])
 
--- a draft of a certificate with these proofs, before its end
-abbrev pub HasProofs : Draft → List Proof → Type 0
-HasProofs draft proofs = HasText draft (ended_line line.Header ++ proofs_text proofs)
+-- a draft of a certificate with these proofs behind a text, before its end
+abbrev pub HasProofs : Draft → List ℕ → List Proof → Type 0
+HasProofs draft head proofs = HasText draft (head ++ proofs_text proofs)
 
 -- the draft has the lines of the pattern's tree where a verdict says that it is safe
 abbrev pub Drafted : File → ℕ → ℕ → Pattern → Verdict → Draft → Draft → Type 0
-Drafted file budget number p verdict first now = (nodes : ℕ) → tree_size verdict ≡ Some nodes → (tree : List Node) × TreeIs (pattern_search file.automaton p) budget tree nodes × DraftKeeps first now tree
+Drafted file budget number p verdict first now = (nodes : ℕ) → tree_size verdict ≡ Some nodes → (tree : List Node) × UnderOrders file (λ pairs. TreeIs (pattern_search file.automaton p pairs) budget tree nodes) × DraftKeeps first now tree
 
--- the draft has the trees of these, and no other proofs
-abbrev pub HasTrees : File → ℕ → List SafeOne → Draft → Type 0
-HasTrees file budget ones draft = (proofs : List Proof) × AreTrees file budget ones proofs × HasProofs draft proofs
+-- behind a text the draft has the trees of these, and no other proofs
+abbrev pub HasTrees : File → ℕ → List ℕ → List SafeOne → Draft → Type 0
+HasTrees file budget head ones draft = (proofs : List Proof) × AreTrees file budget ones proofs × HasProofs draft head proofs
 
 -- the tree of a pattern was added where a verdict says that it is safe
 abbrev pub AddsTree : File → ℕ → ℕ → Pattern → Verdict → Draft → Draft → Type 0
-AddsTree file budget number p verdict first now = (proofs : List Proof) → HasProofs first proofs → (more : List Proof) × AreTrees file budget (with_safe number p (tree_size verdict) []) more × HasProofs now (proofs ++ more)
+AddsTree file budget number p verdict first now = (head : List ℕ) (proofs : List Proof) → HasProofs first head proofs → (more : List Proof) × AreTrees file budget (with_safe number p (tree_size verdict) []) more × HasProofs now head (proofs ++ more)

@@ -5,6 +5,7 @@ use Rattle.ta_cert.proofs.Reading.{read_complete}
 use Rattle.ta_cert.proofs.law.read_again.Goals as goal
 
 pub returns : goal.returns
-returns c = λ writable short.
-    let complete = c.in_ok-text.ensures.again writable short in
-    read_complete _ (cert_lines c.args.proofs.now) c.read_text.result (subst (λ t. IsComplete t (cert_lines c.args.proofs.now)) (sym (c.as_bytes.ensures.value ∙ c.as_str.ensures)) complete) c.read_text.ensures
+returns c = λ orders writable short.
+    let lines = cert_lines c.args.orders.now c.args.proofs.now in
+    let complete = c.in_ok-text.ensures.again orders writable short in
+    read_complete _ lines c.read_text.result (subst (λ t. IsComplete t lines) (sym (c.as_bytes.ensures.value ∙ c.as_str.ensures)) complete) c.read_text.ensures

@@ -1,9 +1,8 @@
 use Rattle.std.proofs.Common.{ap, ◌∙◌, sym, unsigned_abs}
 use Rattle.std.proofs.lemmas.Int.{to_z-of_z}
-use Rattle.std.proofs.lemmas.Nat.Gcd.{IsGcd-swap}
 use mir.Val.{to_z}
 use mir.Syntax.{w64}
-use Rattle.ta_linear.proofs.GcdLemmas.{gcd_of_is, gcd_of-zero}
+use Rattle.ta_linear.proofs.GcdLemmas.{gcd_of-zero}
 use Rattle.ta_linear.specs.Gcd.{gcd_of}
 use Rattle.ta_dense.proofs.narrow_cells.gcd_with_cell.Goals as goal
 
@@ -16,4 +15,4 @@ pub returns-else-cell-eq0 : goal.returns-else-cell-eq0
 returns-else-cell-eq0 c =
     let fx = c.ranges.cell in
     let u = simp to_z-of_z at c.unsigned_abs.ensures.value in
-    gcd_of_is _ _ _ (IsGcd-swap _ _ _ c.gcd_narrow.ensures) ∙ ap (gcd_of c.args.divisor) u
+    c.gcd_with_size.ensures ∙ ap (gcd_of c.args.divisor) u

@@ -6,6 +6,7 @@ use mir.Syntax.{w64}
 use Rattle.ta_linear.proofs.GcdLemmas.{gcd_of_is}
 use Rattle.ta_dense.specs.Tableau.{factor_divisor}
 use Rattle.ta_dense.proofs.Bounded.{factor_small, first_one, second_one}
+use Rattle.ta_dense.proofs.ReduceFacts.{div-one}
 use Rattle.ta_dense.proofs.narrow_rows.narrow_factors.Goals as goal
 
 pub returns-then-c-eq1-clause-first : goal.returns-then-c-eq1-clause-first
@@ -85,3 +86,23 @@ returns-clause-second c =
     let above : pos 0 <ℤ pos c.gcd_narrow-divisor.result = omega (arith, ints, some) in
     let fq : SFits w64 (int_div c.args.a (pos c.gcd_narrow-divisor.result)) = quot_fits w64 c.args.a (pos c.gcd_narrow-divisor.result) fa above in
     rw z (simp to_z-of_z (ap (λ (n : ℕ). int_div c.args.a (pos n)) d))
+
+pub returns-then-divisor-eq1-clause-first : goal.returns-then-divisor-eq1-clause-first
+returns-then-divisor-eq1-clause-first c =
+    let fc = c.ranges.c in
+    let fa = c.ranges.a in
+    let u = simp to_z-of_z at c.unsigned_abs.ensures.value in
+    let v = simp to_z-of_z at c.unsigned_abs-2.ensures.value in
+    let d : c.gcd_narrow-divisor.result ≡ factor_divisor c.args.c c.args.a = rw (u, v) at (gcd_of_is _ _ _ c.gcd_narrow-divisor.ensures) in
+    let one : factor_divisor c.args.c c.args.a ≡ 1 = sym d ∙ c.if-divisor-eq1.true in
+    simp to_z-of_z (sym (ap (λ (n : ℕ). int_div c.args.c (pos n)) one ∙ div-one c.args.c))
+
+pub returns-then-divisor-eq1-clause-second : goal.returns-then-divisor-eq1-clause-second
+returns-then-divisor-eq1-clause-second c =
+    let fc = c.ranges.c in
+    let fa = c.ranges.a in
+    let u = simp to_z-of_z at c.unsigned_abs.ensures.value in
+    let v = simp to_z-of_z at c.unsigned_abs-2.ensures.value in
+    let d : c.gcd_narrow-divisor.result ≡ factor_divisor c.args.c c.args.a = rw (u, v) at (gcd_of_is _ _ _ c.gcd_narrow-divisor.ensures) in
+    let one : factor_divisor c.args.c c.args.a ≡ 1 = sym d ∙ c.if-divisor-eq1.true in
+    simp to_z-of_z (sym (ap (λ (n : ℕ). int_div c.args.a (pos n)) one ∙ div-one c.args.a))

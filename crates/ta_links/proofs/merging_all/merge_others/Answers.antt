@@ -1,10 +1,24 @@
-use Rattle.ta_links.proofs.AllMerging.{refused_here, merged_more}
+use Rattle.std.proofs.Common.{pos, length, get_or, arith}
+use Rattle.ta_links.proofs.AllMerging.{refused_here, next_met, met_more, met_all}
 use Rattle.ta_links.proofs.merging_all.merge_others.Goals as goal
+
+pub merge_one-requires-clause-at : goal.merge_one-requires-clause-at
+merge_one-requires-clause-at c =
+    let next = next_met c.args.first c.args.columns c.args.row c.args.column c.args.heads.now.items c.args.links.now c.args.met.now c.loop-at.at-index (0, pos 0) c.loop-at.heads.items c.loop-at.links c.requires.column c.loop-at.invariant c.loop-at-test.true in
+    let inside = next.inside in
+    let long = c.loop-at.invariant.below.long in
+    omega arith
 
 pub returns-then-not-branch-clause-refused : goal.returns-then-not-branch-clause-refused
 returns-then-not-branch-clause-refused c =
-    refused_here c.args.columns c.args.row c.args.column c.args.heads.now.items c.args.links.now c.loop-at.at c.args.rows c.loop-at.heads.items c.loop-at.links c.loop-at-test.true c.loop-at.invariant (c.in_ok-merge_one.ensures.refused c.if-not-branch.true)
+    let hs = c.args.heads.now.items in
+    let next = next_met c.args.first c.args.columns c.args.row c.args.column c.args.heads.now.items c.args.links.now c.args.met.now c.loop-at.at-index (0, pos 0) c.loop-at.heads.items c.loop-at.links c.requires.column c.loop-at.invariant c.loop-at-test.true in
+    refused_here c.args.first c.args.columns c.args.row c.args.column hs c.args.links.now (get_or c.args.met.now c.loop-at.at-index (0, pos 0)).0 (length hs) c.loop-at.heads.items c.loop-at.links next.inside next.below (c.in_ok-merge_one.ensures.refused c.if-not-branch.true)
 
 pub loop-at-preserved : goal.loop-at-preserved
 loop-at-preserved c =
-    merged_more c.args.columns c.args.row c.args.column c.args.heads.now.items c.args.links.now c.loop-at.at c.loop-at.heads.items c.loop-at.links c.merge_one.new.heads.items c.merge_one.new.links c.loop-at.invariant (c.in_ok-merge_one.ensures.done c.if-not-branch.false)
+    let next = next_met c.args.first c.args.columns c.args.row c.args.column c.args.heads.now.items c.args.links.now c.args.met.now c.loop-at.at-index (0, pos 0) c.loop-at.heads.items c.loop-at.links c.requires.column c.loop-at.invariant c.loop-at-test.true in
+    met_more c.args.first c.args.columns c.args.row c.args.column c.args.heads.now.items c.args.links.now c.args.met.now c.loop-at.at-index (get_or c.args.met.now c.loop-at.at-index (0, pos 0)).0 c.loop-at.heads.items c.loop-at.links c.merge_one.new.heads.items c.merge_one.new.links next (c.in_ok-merge_one.ensures.done c.if-not-branch.false)
+
+pub returns-clause-done : goal.returns-clause-done
+returns-clause-done c = met_all c.args.first c.args.columns c.args.row c.args.column c.args.heads.now.items c.args.links.now c.args.met.now c.loop-at.at-index c.loop-at.heads.items c.loop-at.links c.requires.column c.loop-at.invariant (omega arith)

@@ -13,6 +13,6 @@ loop-pattern-preserved c =
     let so = l.invariant.so_far in
     record {
       so_far = rw c.in_ok-push.ensures.items (so_far_more file budget count l.pattern l.verdicts.items c.in_ok-next_verdict.field-0 so below c.in_ok-next_verdict.ensures.holds c.in_ok-next_verdict.ensures.fits);
-      trees = rw c.in_ok-push.ensures.items (trees_more file budget l.pattern l.verdicts.items c.in_ok-next_verdict.field-0 l.draft c.next_verdict.new.draft (so_many file budget count l.pattern l.verdicts.items so below).0 (so_many file budget count l.pattern l.verdicts.items so below).1 l.invariant.trees c.in_ok-next_verdict.ensures.adds);
+      trees = λ head begun. rw c.in_ok-push.ensures.items (trees_more file budget head l.pattern l.verdicts.items c.in_ok-next_verdict.field-0 l.draft c.next_verdict.new.draft (so_many file budget count l.pattern l.verdicts.items so below).0 (so_many file budget count l.pattern l.verdicts.items so below).1 (l.invariant.trees head begun) c.in_ok-next_verdict.ensures.adds);
       wanted = c.in_ok-next_verdict.ensures.wanted ∙ l.invariant.wanted;
     }

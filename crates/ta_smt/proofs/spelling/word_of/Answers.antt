@@ -17,4 +17,4 @@ returns-then-not-push-clause-stranger c =
     let within = c.loop-element-test.true in
     let place : i ≡ length c.elements.result.now = sym (ap length c.elements.ensures ∙ spelled_length c.args.file.now c.args.pattern c.args.start_mask c.args.elements.now i c.loop-element.word (omega arith) c.loop-element.invariant) in
     subst (λ n. OfPattern c.args.file.now c.args.pattern (λ p. FirstStranger c.args.file.now.automaton p c.args.start_mask c.args.elements.now n)) place
-    (stranger_found c.args.file.now c.args.pattern c.args.start_mask c.args.elements.now c.loop-element.word i _ c.push.result c.loop-element.invariant within c.push.ensures.child c.if-not-push.true)
+    (stranger_found c.args.file.now c.args.pattern c.args.start_mask c.args.elements.now c.loop-element.word i _ c.push.result c.loop-element.invariant within (rw c.new-orders.ensures at c.push.ensures.child) c.if-not-push.true)

@@ -1,5 +1,5 @@
-use Rattle.std.proofs.Common.{◌≡◌, length, reverse, not, arith, sym, ap, ◌∙◌}
-use Rattle.ta_words.specs.Words.{children, has_rise, is_ready}
+use Rattle.std.proofs.Common.{◌≡◌, length, reverse, arith, sym, ap, ◌∙◌}
+use Rattle.ta_words.specs.Words.{children, is_ready, may_rise}
 use Rattle.ta_words.specs.declared.element.Element.TheVariants.{Event, Rise}
 use Rattle.ta_words.proofs.Lists.{pattern_at, of_pattern, events_named, passed_most, children_listed, no_children}
 use Rattle.ta_words.proofs.following.children.Goals as goal
@@ -27,7 +27,7 @@ push_falls-requires c =
       named.limit,
       c.args.file.now.automaton.shape.limits.rise_limit,
       passed_most Event (is_ready p past) c.new-children.result c.push_events.new.self 0 (length p.events) (c.push_events.ensures c.args.start_mask past c.of-seen.ensures),
-      passed_most Rise (λ i. not (has_rise past i)) c.push_events.new.self c.push_rises.new.self 0 rises (c.push_rises.ensures c.args.start_mask past c.of-seen.ensures),
+      passed_most Rise (may_rise c.args.orders.now past) c.push_events.new.self c.push_rises.new.self 0 rises (c.push_rises.ensures c.args.start_mask past c.of-seen.ensures),
     )
 
 pub returns-then-not-is_complete : goal.returns-then-not-is_complete
@@ -37,8 +37,8 @@ returns-then-not-is_complete c =
     let past = reverse c.elements.result.now in
     let start = c.args.start_mask in
     let at = pattern_at c.args.file.now c.as_slice.result.now c.args.pattern p c.as_slice.ensures c.requires c.index-as_slice-pattern.is in
-    let listed = children_listed a p start past c.new-children.result c.push_events.new.self c.push_rises.new.self c.push_falls.new.self (sym (c.is_complete.ensures start past c.of-seen.ensures) ∙ c.if-not-is_complete.true) c.new-children.ensures (c.push_events.ensures start past c.of-seen.ensures) (c.push_rises.ensures start past c.of-seen.ensures) (c.push_falls.ensures start past c.of-seen.ensures) in
-    of_pattern c.args.file.now c.args.pattern p (λ q. c.push_falls.new.self ≡ children a q start (reverse c.args.word.now)) at (listed ∙ ap (λ w. children a p start (reverse w)) c.elements.ensures)
+    let listed = children_listed a p c.args.orders.now start past c.new-children.result c.push_events.new.self c.push_rises.new.self c.push_falls.new.self (sym (c.is_complete.ensures start past c.of-seen.ensures) ∙ c.if-not-is_complete.true) c.new-children.ensures (c.push_events.ensures start past c.of-seen.ensures) (c.push_rises.ensures start past c.of-seen.ensures) (c.push_falls.ensures start past c.of-seen.ensures) in
+    of_pattern c.args.file.now c.args.pattern p (λ q. c.push_falls.new.self ≡ children a q c.args.orders.now start (reverse c.args.word.now)) at (listed ∙ ap (λ w. children a p c.args.orders.now start (reverse w)) c.elements.ensures)
 
 pub returns-else-not-is_complete : goal.returns-else-not-is_complete
 returns-else-not-is_complete c =
@@ -47,5 +47,5 @@ returns-else-not-is_complete c =
     let past = reverse c.elements.result.now in
     let start = c.args.start_mask in
     let at = pattern_at c.args.file.now c.as_slice.result.now c.args.pattern p c.as_slice.ensures c.requires c.index-as_slice-pattern.is in
-    let listed = no_children a p start past c.new-children.result (sym (c.is_complete.ensures start past c.of-seen.ensures) ∙ c.if-not-is_complete.false) c.new-children.ensures in
-    of_pattern c.args.file.now c.args.pattern p (λ q. c.new-children.result ≡ children a q start (reverse c.args.word.now)) at (listed ∙ ap (λ w. children a p start (reverse w)) c.elements.ensures)
+    let listed = no_children a p c.args.orders.now start past c.new-children.result (sym (c.is_complete.ensures start past c.of-seen.ensures) ∙ c.if-not-is_complete.false) c.new-children.ensures in
+    of_pattern c.args.file.now c.args.pattern p (λ q. c.new-children.result ≡ children a q c.args.orders.now start (reverse c.args.word.now)) at (listed ∙ ap (λ w. children a p c.args.orders.now start (reverse w)) c.elements.ensures)

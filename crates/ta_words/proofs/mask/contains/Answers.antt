@@ -1,4 +1,4 @@
-use Rattle.ta_words.proofs.Bits.{set_test}
+use Rattle.ta_implied.proofs.Bits.{set_test}
 use Rattle.ta_words.proofs.mask.contains.Goals as goal
 
 pub returns : goal.returns

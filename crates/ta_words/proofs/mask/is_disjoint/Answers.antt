@@ -1,4 +1,4 @@
-use Rattle.ta_words.proofs.Bits.{disjoint}
+use Rattle.ta_implied.proofs.Bits.{disjoint}
 use Rattle.ta_words.proofs.mask.is_disjoint.Goals as goal
 
 pub returns : goal.returns

@@ -1,4 +1,4 @@
-use Rattle.ta_words.proofs.Bits.{subset}
+use Rattle.ta_implied.proofs.Bits.{subset}
 use Rattle.ta_words.proofs.mask.is_subset.Goals as goal
 
 pub returns : goal.returns

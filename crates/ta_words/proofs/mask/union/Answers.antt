@@ -1,4 +1,4 @@
-use Rattle.ta_words.proofs.Bits.{has_or}
+use Rattle.ta_implied.proofs.Bits.{has_or}
 use Rattle.ta_words.proofs.mask.union.Goals as goal
 
 pub returns : goal.returns

@@ -1,4 +1,4 @@
-use Rattle.ta_words.proofs.Bits.{with_bit}
+use Rattle.ta_implied.proofs.Bits.{with_bit}
 use Rattle.ta_words.proofs.mask.with.Goals as goal
 
 pub returns-then-number-lt32 : goal.returns-then-number-lt32

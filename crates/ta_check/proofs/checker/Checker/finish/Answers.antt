@@ -34,4 +34,4 @@ pub returns-clause-unsolved : goal.returns-clause-unsolved
 returns-clause-unsolved c =
     let s = c.args.self in
     let some = stands_somewhere s c.if-self.false c.requires in
-    certificate_unsolved s.scoped.now.file some.0 c.from_vec.result (returns-clause-answer c some.0 some.1)
+    certificate_unsolved s.scoped.now.file some.0 c.from_vec.result (loops_pure s.scoped.now.file.automaton s.scoped.now.in_scope) s.scoped.now.in_scope (returns-clause-answer c some.0 some.1)

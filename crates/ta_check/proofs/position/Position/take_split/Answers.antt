@@ -1,8 +1,6 @@
-use Rattle.std.proofs.Common.{◌≡◌, ◌<◌, ◌≤◌, ℕ, true, List, length, reverse, sym, ap, ◌∙◌, subst, refl, FitsSigned}
+use Rattle.std.proofs.Common.{◌≡◌, ◌<◌, ◌≤◌, ℕ, true, length, reverse, ap, ◌∙◌, subst, refl, FitsSigned}
 use Rattle.std.specs.Int.{w128}
 use Rattle.std.proofs.lemmas.Int.{to_z-of_z}
-use Rattle.ta_automaton.specs.declared.file.File.{File}
-use Rattle.ta_words.specs.declared.element.Element.{Element}
 use Rattle.ta_cert.specs.declared.line.Node.TheVariants as node
 use Rattle.ta_encode.specs.Unknowns.{meanings}
 use Rattle.ta_cursor.specs.InTrees.{here_at}
@@ -16,7 +14,7 @@ returns-then-unknown-unknown_count c = λ at is.
     let d = s.place.cursor in
     let a = c.args.file.now.automaton in
     let p = c.new-tree.result.pattern.now in
-    let n = newest c.args.file.now s at c.args.pattern p c.new-tree.ensures.pattern c.requires.current is in
+    let n = newest c.args.file.now s at c.args.pattern p c.new-tree.ensures.pattern c.requires.none c.requires.current is in
     let word = c.word.ensures ∙ ap (λ (e : Cursor). e.word) c.cursor-2.ensures in
     let start = c.start_mask-start_mask.ensures ∙ ap (λ (e : Cursor). e.start_mask) c.cursor.ensures in
     let count : c.unknown_count.result ≡ length (meanings a p d.start_mask (reverse d.word)) = rw (start, word, c.new-tree.ensures.file) at c.unknown_count.ensures in
@@ -26,7 +24,7 @@ returns-then-unknown-unknown_count c = λ at is.
         unknown = c.args.unknown;
         floor = c.args.floor;
         is = refl;
-        at = at_some_word c.args.file.now s at c.args.pattern p (λ q w. length (meanings a q w.start w.past) ≤ c.args.unknown) n beyond;
+        at = at_some_word c.args.file.now s at c.args.pattern p (λ search w. search.unknowns w.start w.past ≤ c.args.unknown) n beyond;
       },
     )
 
@@ -36,13 +34,13 @@ returns c = λ at is.
     let d = s.place.cursor in
     let a = c.args.file.now.automaton in
     let p = c.new-tree.result.pattern.now in
-    let n = newest c.args.file.now s at c.args.pattern p c.new-tree.ensures.pattern c.requires.current is in
+    let n = newest c.args.file.now s at c.args.pattern p c.new-tree.ensures.pattern c.requires.none c.requires.current is in
     let word = c.word.ensures ∙ ap (λ (e : Cursor). e.word) c.cursor-2.ensures in
     let start = c.start_mask-start_mask.ensures ∙ ap (λ (e : Cursor). e.start_mask) c.cursor.ensures in
     let count : c.unknown_count.result ≡ length (meanings a p d.start_mask (reverse d.word)) = rw (start, word, c.new-tree.ensures.file) at c.unknown_count.ensures in
     let may : c.args.unknown < length (meanings a p d.start_mask (reverse d.word)) = subst (λ (k : ℕ). c.args.unknown < k) count c.if-unknown-unknown_count.false in
     let fits : FitsSigned w128 c.args.floor = c.ranges.floor in
     let within = first_within c.args.file.now s at c.args.pattern p n in
-    let told = rw c.new-tree.ensures.file at c.in_ok-split.ensures in
+    let told = rw (c.new-tree.ensures.file, c.new-tree.ensures.orders) at c.in_ok-split.ensures in
     let went = simp to_z-of_z at (told (here_at s.place) (later c.args.file.now s at c.args.pattern p n) within) in
-    node_taken c.args.file.now s _ at c.args.pattern c.args.number p (node.Split c.args.unknown c.args.floor) true n is may refl c.requires.current n.kept (refl, went)
+    node_taken c.args.file.now s _ at c.args.pattern c.args.number p (node.Split c.args.unknown c.args.floor) true n is (record { version = refl; orders = refl; waiting = refl }) may refl c.requires.current n.kept (refl, went)

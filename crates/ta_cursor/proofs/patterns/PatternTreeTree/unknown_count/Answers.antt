@@ -8,4 +8,4 @@ pub unknown_count-requires-clause-legal : goal.unknown_count-requires-clause-leg
 unknown_count-requires-clause-legal c =
     let t = c.args.self.now in
     let past = reverse c.args.word.now in
-    of_pattern t.file.now t.number t.pattern.now (λ p. Legal t.file.now.automaton p c.args.start_mask past) t.named (comes_legal t.file.now.automaton t.pattern.now c.args.start_mask past c.requires).legal
+    of_pattern t.file.now t.number t.pattern.now (λ p. Legal t.file.now.automaton p c.args.start_mask past) t.named (comes_legal t.file.now.automaton t.pattern.now t.orders.now c.args.start_mask past c.requires).legal

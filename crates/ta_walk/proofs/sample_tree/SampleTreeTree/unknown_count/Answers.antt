@@ -1,4 +1,4 @@
-use Rattle.std.proofs.Common.{◌+◌, ◌<◌, ◌^◌, List, ℕ, length, arith, ap, sym, ◌∙◌}
+use Rattle.std.proofs.Common.{◌+◌, ◌<◌, ◌^◌, List, ℕ, length, arith, ap}
 use Rattle.ta_encode.proofs.Samples.{sample_count, sample_few}
 use Rattle.ta_walk.proofs.sample_tree.SampleTreeTree.unknown_count.Goals as goal
 

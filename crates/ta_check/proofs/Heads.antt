@@ -1,0 +1,132 @@
+-- lines behind the first line of a certificate: its pairs with their leaves, and then its proofs
+use Rattle.std.proofs.Common.{◌≡◌, inl, inr, ℕ, suc, ℤ, true, List, [], ◌∷◌, ◌++◌, map, None, Some, sym, ap, ◌∙◌, refl, subst, append_assoc, append-nil}
+use Rattle.std.proofs.lemmas.Bool.{false≢true}
+use Rattle.ta_automaton.specs.declared.file.File.{File}
+use Rattle.ta_automaton.specs.Lists.{Each, Distinct}
+use Rattle.ta_automaton.specs.Masks.{In}
+use Rattle.ta_automaton.proofs.MaskTests.{In-left, In-right}
+use Rattle.ta_cert.specs.declared.line.Line.{Line}
+use Rattle.ta_cert.specs.declared.line.Line.TheVariants as line
+use Rattle.ta_cert.specs.declared.line.Node.{Node}
+use Rattle.ta_cert.specs.declared.line.Node.TheVariants as node
+use Rattle.ta_cert.specs.declared.line.Order.{Order}
+use Rattle.ta_cert.specs.Lines.{IsLine, IsNode, has_end}
+use Rattle.ta_cert.specs.Streams.{AreLater}
+use Rattle.ta_cert.specs.Certificates.{AreOrders, order_lines, pair_of}
+use Rattle.ta_automaton.specs.declared.automaton.Automaton.{Automaton}
+use Rattle.ta_implied.specs.Implied.{Good, IsPair}
+use Rattle.ta_implied.specs.Orders.{IsShown, MayJoin}
+use Rattle.ta_implied.proofs.Chains.{leads_along}
+use Rattle.ta_implied.proofs.Joining.{good_behind}
+use Rattle.ta_check.specs.Certificate.{ShowsPair}
+use Rattle.ta_check.specs.Lines.{Standing, IsFree, Shows, TakesOrder, Waits, LeadThrough}
+use Rattle.ta_check.proofs.Following.{not_waiting, waits_once}
+use Rattle.ta_check.proofs.Behind.{Behind, behind, behind_last, behind_pattern, standing}
+
+-- lines behind the first line and some pairs: more pairs with their leaves, and then proofs
+pub record OrdersBehind (file : File) (version : ℕ) (pairs : List (ℕ × ℕ)) (ls : List Line) (after : Standing) : Type 0 where
+  pub orders : List Order
+  pub rest : List Line
+  pub lines : ls ≡ order_lines orders ++ rest
+  pub ordered : AreOrders orders
+  pub shown : Each (ShowsPair file.automaton) orders
+  pub good : Good file.automaton pairs → Good file.automaton (pairs ++ map pair_of orders)
+  pub some : version ≡ 2 → pairs ++ map pair_of orders ≡ [] → ⊥
+  pub second : (orders ≡ [] → ⊥) → version ≡ 2
+  pub behind : Behind file (standing version (pairs ++ map pair_of orders) [] []) rest after
+
+-- no more pairs
+none_more : (file : File) (version : ℕ) (pairs : List (ℕ × ℕ)) (ls : List Line) (after : Standing) → IsFree (standing version pairs [] []) → Behind file (standing version pairs [] []) ls after → OrdersBehind file version pairs ls after
+none_more file version pairs ls after free b = record {
+  orders = [];
+  rest = ls;
+  lines = refl;
+  ordered = tt;
+  shown = tt;
+  good = λ good. subst (Good file.automaton) (sym (append-nil pairs)) good;
+  some = λ two empty. free.some two (sym (append-nil pairs) ∙ empty);
+  second = λ more. absurd (more refl);
+  behind = subst (λ (xs : List (ℕ × ℕ)). Behind file (standing version xs [] []) ls after) (sym (append-nil pairs)) b;
+}
+
+-- one pair more
+pub one_order : (file : File) (version : ℕ) (pairs : List (ℕ × ℕ)) (before later : ℕ) (n : Node) (ls : List Line) (after next : Standing) (ts : List (ℕ × ℤ)) → IsLine (line.Order before later) → IsNode n → Waits file (standing version pairs [] []) (before, later) next → n ≡ node.Leaf ts → IsShown file.automaton (before, later) ts → OrdersBehind file version (pairs ++ (before, later) ∷ []) ls after → OrdersBehind file version pairs (line.Order before later ∷ line.Tree n ∷ ls) after
+one_order file version pairs before later n ls after next ts form leaf waits is shown b =
+    let pair : ℕ × ℕ = (before, later) in
+    let one : Order = record { before = before; after = later; multipliers = ts } in
+    let all : (pairs ++ pair ∷ []) ++ map pair_of b.orders ≡ pairs ++ map pair_of (one ∷ b.orders) = append_assoc pairs (pair ∷ []) (map pair_of b.orders) in
+    record {
+      orders = one ∷ b.orders;
+      rest = b.rest;
+      lines = ap (λ (m : Node). line.Order before later ∷ line.Tree m ∷ ls) is ∙ ap (λ (xs : List Line). line.Order before later ∷ line.Tree (node.Leaf ts) ∷ xs) b.lines;
+      ordered = (record { before = form.0; after = form.1; leaf = subst IsNode is leaf }, b.ordered);
+      shown = (shown, b.shown);
+      good = λ good. subst (Good file.automaton) all (b.good (good_behind file.automaton pairs pair good waits.may (record { system = shown.system; is = shown.is; multipliers = ts; leaf = shown.leaf })));
+      some = λ two empty. b.some two (all ∙ empty);
+      second = λ more. waits.takes.version;
+      behind = subst (λ (xs : List (ℕ × ℕ)). Behind file (standing version xs [] []) b.rest after) all b.behind;
+    }
+
+-- where the leaf of a pair leads
+shown_at : (file : File) (version : ℕ) (pairs : List (ℕ × ℕ)) (pair : ℕ × ℕ) (n : Node) (next last : Standing) → next ≡ record (standing version pairs [] []) { waiting = Some pair } → (shows : Shows file next n last) → (shows.pair ≡ pair) × (last ≡ standing version (pairs ++ pair ∷ []) [] [])
+shown_at file version pairs pair n next last is shows =
+    let waits : next.waiting ≡ Some pair = ap (λ (t : Standing). t.waiting) is in
+    let same = waits_once next shows.pair pair shows.waits waits in
+    (same, shows.leads ∙ ap (λ (t : Standing). record t { pairs = t.pairs ++ shows.pair ∷ []; waiting = None }) is ∙ ap (λ (q : ℕ × ℕ). standing version (pairs ++ q ∷ []) [] []) same)
+
+-- lines behind the first line
+pub heads : (file : File) (version : ℕ) (pairs : List (ℕ × ℕ)) (ls : List Line) (after : Standing) → AreLater ls → has_end ls ≡ true → LeadThrough file (standing version pairs [] []) ls after → OrdersBehind file version pairs ls after
+heads file version pairs [] after later ended lead = absurd (false≢true ended)
+heads file version pairs (line.Header v ∷ ls) after later ended lead = absurd (false≢true (sym later.2))
+heads file version pairs (line.Pattern k ∷ ls) after later ended (next, begins, lead) =
+    let began = ap (λ (t : Standing). t.begun) begins.leads in
+    none_more file version pairs (line.Pattern k ∷ ls) after begins.free (behind_pattern file (standing version pairs [] []) k next ls after later.0 begins (behind file next ls after (ap (λ (t : Standing). t.waiting) begins.leads) (λ e. let gone : k ∷ [] ≡ [] = sym began ∙ e in cc) later.4 ended lead))
+heads file version pairs (line.Tree n ∷ ls) after later ended (next, inl stands, lead) = absurd (let none : [] ≡ (stands.word ∷ stands.words) = stands.at.pending in cc)
+heads file version pairs (line.Tree n ∷ ls) after later ended (next, inr shows, lead) = absurd (let none : None ≡ Some shows.pair = shows.waits in cc)
+heads file version pairs (line.End ∷ ls) after later ended (next, ends, lead) = none_more file version pairs (line.End ∷ ls) after ends.free (behind_last file (standing version pairs [] []) next ls after later ends lead)
+heads file version pairs (line.Order j i ∷ []) after later ended lead = absurd (false≢true ended)
+heads file version pairs (line.Order j i ∷ line.Header v ∷ ls) after later ended lead = absurd (false≢true (sym later.4.2))
+heads file version pairs (line.Order j i ∷ line.Order k l ∷ ls) after later ended (next, waits, (last, second, lead)) = absurd (not_waiting next.waiting (j, i) second.takes.none (ap (λ (t : Standing). t.waiting) waits.leads))
+heads file version pairs (line.Order j i ∷ line.Pattern k ∷ ls) after later ended (next, waits, (last, second, lead)) = absurd (not_waiting next.waiting (j, i) second.free.none (ap (λ (t : Standing). t.waiting) waits.leads))
+heads file version pairs (line.Order j i ∷ line.End ∷ ls) after later ended (next, waits, (last, second, lead)) = absurd (not_waiting next.waiting (j, i) second.free.none (ap (λ (t : Standing). t.waiting) waits.leads))
+heads file version pairs (line.Order j i ∷ line.Tree n ∷ ls) after later ended (next, waits, (last, inl stands, lead)) = absurd (not_waiting next.waiting (j, i) stands.at.none (ap (λ (t : Standing). t.waiting) waits.leads))
+heads file version pairs (line.Order j i ∷ line.Tree n ∷ ls) after later ended (next, waits, (last, inr shows, lead)) =
+    let at = shown_at file version pairs (j, i) n next last waits.leads shows in
+    one_order file version pairs j i n ls after next shows.multipliers later.0 later.4.0 waits shows.is (subst (λ (q : ℕ × ℕ). IsShown file.automaton q shows.multipliers) at.0 shows.shown)
+    (heads file version (pairs ++ (j, i) ∷ []) ls after later.4.4 ended (subst (λ (t : Standing). LeadThrough file t ls after) at.1 lead))
+
+-- of a good list of pairs each may join those before it
+apart_before : (xs rest : List (ℕ × ℕ)) (pair : ℕ × ℕ) → Distinct (xs ++ pair ∷ rest) → In pair xs → ⊥
+apart_before [] rest pair distinct there = there
+apart_before (x ∷ xs) rest pair distinct (inl is) = not_among x (xs ++ pair ∷ rest) pair distinct.0 (In-right pair xs (pair ∷ rest) (inl refl)) (sym is)
+  where
+    not_among : (y : ℕ × ℕ) (zs : List (ℕ × ℕ)) (q : ℕ × ℕ) → Each (λ z. y ≡ z → ⊥) zs → In q zs → (y ≡ q → ⊥)
+    not_among y [] q apart there = absurd there
+    not_among y (z ∷ zs) q apart (inl same) = λ e. apart.0 (e ∙ same)
+    not_among y (z ∷ zs) q apart (inr more) = not_among y zs q apart.1 more
+apart_before (x ∷ xs) rest pair distinct (inr there) = apart_before xs rest pair distinct.1 there
+
+each_at : (P : ℕ × ℕ → Type 0) (xs rest : List (ℕ × ℕ)) (pair : ℕ × ℕ) → Each P (xs ++ pair ∷ rest) → P pair
+each_at P [] rest pair all = all.0
+each_at P (x ∷ xs) rest pair all = each_at P xs rest pair all.1
+
+joins : (a : Automaton) (xs rest : List (ℕ × ℕ)) (pair : ℕ × ℕ) → Good a (xs ++ pair ∷ rest) → MayJoin a xs pair
+joins a xs rest pair good = record {
+  is = each_at (IsPair a) xs rest pair good.pairs_are;
+  fresh = apart_before xs rest pair good.distinct;
+  closes_none = λ more chain. good.acyclic (suc more) pair.0 (pair.1, In-right pair xs (pair ∷ rest) (inl refl), leads_along xs (xs ++ pair ∷ rest) (λ q there. In-left q xs (pair ∷ rest) there) more pair.1 pair.0 chain);
+}
+
+-- the lines of orders lead through them
+pub lead_orders : (file : File) (pairs : List (ℕ × ℕ)) (orders : List Order) (ls : List Line) → Good file.automaton (pairs ++ map pair_of orders) → Each (ShowsPair file.automaton) orders → ((after : Standing) × LeadThrough file (standing 2 (pairs ++ map pair_of orders) [] []) ls after) → (after : Standing) × LeadThrough file (standing 2 pairs [] []) (order_lines orders ++ ls) after
+lead_orders file pairs [] ls good shown lead = (lead.0, subst (λ (xs : List (ℕ × ℕ)). LeadThrough file (standing 2 xs [] []) ls lead.0) (append-nil pairs) lead.1)
+lead_orders file pairs (o ∷ os) ls good shown lead =
+    let pair : ℕ × ℕ = pair_of o in
+    let all : (pairs ++ pair ∷ []) ++ map pair_of os ≡ pairs ++ map pair_of (o ∷ os) = append_assoc pairs (pair ∷ []) (map pair_of os) in
+    let rest = lead_orders file (pairs ++ pair ∷ []) os ls (subst (Good file.automaton) (sym all) good) shown.1 (lead.0, subst (λ (xs : List (ℕ × ℕ)). LeadThrough file (standing 2 xs [] []) ls lead.0) (sym all) lead.1) in
+    let at = standing 2 pairs [] [] in
+    let takes : TakesOrder at = record { version = refl; none = refl; early = refl } in
+    let next : Standing = record at { waiting = Some pair } in
+    let waits : Waits file at pair next = record { takes = takes; may = joins file.automaton pairs (map pair_of os) pair good; leads = refl } in
+    let shows : Shows file next (node.Leaf o.multipliers) (standing 2 (pairs ++ pair ∷ []) [] []) = record { pair = pair; waits = refl; multipliers = o.multipliers; is = refl; shown = shown.0; leads = refl } in
+    (rest.0, (next, waits, (standing 2 (pairs ++ pair ∷ []) [] [], inr shows, rest.1)))

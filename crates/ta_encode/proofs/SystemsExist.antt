@@ -1,0 +1,427 @@
+-- The numbers of a word's rows are in range, so each word has a system.
+use Rattle.std.proofs.Common.{◌≡◌, ◌≢◌, ◌⊎◌, inl, inr, ⊎_elim, ℕ, zero, suc, ℤ, pos, negsuc, ◌+◌, ◌-◌, ◌*◌, ◌^◌, ◌<◌, ◌≤◌, ◌+ℤ◌, ◌-ℤ◌, ◌*ℤ◌, ◌≤ℤ◌, ◌<ℤ◌, unsigned_abs, Bool, true, false, not, eqb, cond, List, [], ◌∷◌, ◌++◌, length, length-append, map, get_or, slice_get, Option, Some, None, arith, refl, sym, ap, subst, ◌∙◌}
+use Rattle.std.specs.List.{filter}
+use Rattle.std.specs.Prelude.{◌==◌, if◌then◌else◌, nat_lt}
+use Rattle.std.proofs.lemmas.Int.{ints, unsigned_abs-mul}
+use Rattle.std.proofs.lemmas.List.{length-map}
+use Rattle.std.proofs.Math.Nat.{mul-le-mul}
+use Rattle.ta_linear.specs.Numbers.{InRange}
+use Rattle.ta_linear.specs.Rows.{AllBelow}
+use Rattle.ta_linear.specs.Terms.{coefficient, IsNormal}
+use Rattle.ta_linear.specs.Values.{terms_value}
+use Rattle.ta_linear.specs.declared.form.Form.{Form}
+use Rattle.ta_linear.specs.declared.row.Row.{Row}
+use Rattle.ta_linear.specs.declared.row.System.{System}
+use Rattle.ta_linear.proofs.TermLemmas.{IsNormal-higher, IsNormal-lower, coefficient-below}
+use Rattle.ta_automaton.specs.declared.automaton.Automaton.{Automaton}
+use Rattle.ta_automaton.specs.declared.condition.Comparison.{Comparison}
+use Rattle.ta_automaton.specs.declared.file.File.{File}
+use Rattle.ta_automaton.specs.declared.pattern.Event.{Event as PatternEvent}
+use Rattle.ta_automaton.specs.declared.pattern.Pattern.{Pattern}
+use Rattle.ta_automaton.specs.declared.rule.Rule.{Rule}
+use Rattle.ta_automaton.specs.Lists.{Each}
+use Rattle.ta_automaton.specs.Masks.{has_bit, numbers_from}
+use Rattle.ta_automaton.specs.Places.{one_if, location_place, shared_change, rule_change}
+use Rattle.ta_automaton.proofs.Thresholds.{pattern_within, rule_within}
+use Rattle.ta_words.specs.declared.element.Element.{Element}
+use Rattle.ta_words.specs.declared.element.Element.TheVariants.{Event, Rise, Fall}
+use Rattle.ta_words.specs.Words.{allowed_rules, has_fallen}
+use Rattle.ta_encode.specs.Code.{RowOf, RowsOf, SystemAt}
+use Rattle.ta_encode.specs.Lines.{BoundsWithin}
+use Rattle.ta_encode.specs.PatternSearch.{pattern_search}
+use Rattle.ta_encode.specs.Sample.{sample_meanings, sample_rows, sample_search}
+use Rattle.ta_encode.specs.Search.{Pending, Search, rows_of}
+use Rattle.ta_encode.specs.Unknowns.{Meaning, Parameter, Start, Count, Single, place_coefficient, start_meanings, meanings, counts_after, singles_after}
+use Rattle.ta_encode.specs.System.{LinearRow, Bound, Side, Low, High, bound_row, only_at, side_row, opposite, negated, form_row, counter_row, counter_rows, condition_rows, guard_rows, start_guard_rows, start_coefficient, processes_row, singles_row, event_rows, standing_rows, start_rows, rise_rows, happening_rows, fall_rows, word_rows}
+use Rattle.ta_encode.specs.Inside.Lines.{SmallForm, SmallRows, SmallCondition, SmallEvents}
+use Rattle.ta_encode.proofs.Changes.{small_updates}
+use Rattle.ta_encode.proofs.Drafts.{events_small}
+use Rattle.ta_encode.proofs.Running.{Small, abs_minus, abs_sum, if_other, if_same}
+use Rattle.ta_encode.proofs.Samples.{sample_few}
+use Rattle.ta_encode.proofs.Smallness.{fall_rows_small, places_most, processes_small, resilience_small, rise_rows_small, small_condition}
+
+-- ---- numbers
+
+choose_small : (b : Bool) (x y : ℤ) (n : ℕ) → unsigned_abs x ≤ n → unsigned_abs y ≤ n → unsigned_abs (if b then x else y) ≤ n
+choose_small true x y n h g = h
+choose_small false x y n h g = g
+
+one_small : (x y : ℕ) → unsigned_abs (one_if x y) ≤ 1
+one_small x y = choose_small (x == y) (pos 1) (pos 0) 1 (omega arith) (omega arith)
+
+updates_small : (ts : List (ℕ × ℤ)) (x : ℕ) → Each Small ts → unsigned_abs (coefficient ts x) ≤ length ts * 1000000000
+updates_small [] x h = omega arith
+updates_small (t ∷ ts) x h =
+    let first = choose_small (t.0 == x) t.1 (pos 0) 1000000000 h.0 (omega arith) in
+    let whole = abs_sum (if t.0 == x then t.1 else pos 0) (coefficient ts x) 1000000000 (length ts * 1000000000) first (updates_small ts x h.1) in
+    omega (arith, whole)
+
+shared_small : (a : Automaton) (rule : Rule) (place : ℕ) → length rule.updates ≤ 16 → Each Small rule.updates → unsigned_abs (shared_change a rule place) ≤ 16000000000
+unfolding shared_change
+shared_small a rule place few small =
+    let there : unsigned_abs (coefficient rule.updates (place - length a.parameters)) ≤ 16000000000 = omega (arith, updates_small rule.updates (place - length a.parameters) small) in
+    choose_small (nat_lt place (length a.parameters)) (pos 0) _ 16000000000 (omega arith) (choose_small (nat_lt place (length a.parameters + length a.shared)) (coefficient rule.updates (place - length a.parameters)) (pos 0) 16000000000 there (omega arith))
+
+change_small : (a : Automaton) (r : ℕ) (o : Option Rule) (place : ℕ) → slice_get a.rules r ≡ o → unsigned_abs (rule_change a o place) ≤ 17000000000
+change_small a r None place at = omega arith
+change_small a r (Some rule) place at =
+    let within = rule_within a r rule at in
+    let shared = shared_small a rule place within.updates_limit (small_updates (length a.shared) rule.updates within.updates) in
+    let to = one_if (location_place a rule.to) place in
+    let from = one_if (location_place a rule.from) place in
+    let move = abs_minus to from 1 1 (one_small (location_place a rule.to) place) (one_small (location_place a rule.from) place) in
+    omega (arith, abs_sum (shared_change a rule place) (to -ℤ from) 16000000000 2 shared move)
+
+place_small : (a : Automaton) (m : Meaning) (place : ℕ) → unsigned_abs (place_coefficient a m place) ≤ 17000000000
+place_small a (Parameter i) place = omega (arith, one_small i place)
+place_small a (Start l) place = omega (arith, one_small (location_place a l) place)
+place_small a (Count k r) place = change_small a r (slice_get a.rules r) place refl
+place_small a (Single k r) place = change_small a r (slice_get a.rules r) place refl
+
+product_small : (a b : ℤ) → unsigned_abs a ≤ 1000000000 → unsigned_abs b ≤ 17000000000 → unsigned_abs (a *ℤ b) ≤ 17000000000000000000
+product_small a b h g = subst (λ n. n ≤ 17000000000000000000) (sym (unsigned_abs-mul a b)) (mul-le-mul h g)
+
+value_small : (a : Automaton) (m : Meaning) (ts : List (ℕ × ℤ)) → Each Small ts → unsigned_abs (terms_value (place_coefficient a m) ts) ≤ length ts * 17000000000000000000
+value_small a m [] h = omega arith
+value_small a m (t ∷ ts) h =
+    let z = place_coefficient a m t.0 in
+    let whole = abs_sum (t.1 *ℤ z) (terms_value (place_coefficient a m) ts) 17000000000000000000 (length ts * 17000000000000000000) (product_small t.1 z h.0 (place_small a m t.0)) (value_small a m ts h.1) in
+    omega (arith, whole)
+
+form_small : (a : Automaton) (m : Meaning) (f : Form) → SmallForm f → unsigned_abs (terms_value (place_coefficient a m) f.terms) ≤ 2 ^ 72
+form_small a m f small = omega (arith, value_small a m f.terms small.terms.small, small.terms.few)
+
+-- ---- rows whose numbers are small: a constant up to some number, and no more coefficients than unknowns
+
+record Mild (most n : ℕ) (l : LinearRow) : Type 0 where
+  constant : unsigned_abs l.constant ≤ most
+  coefficients : Each (λ (c : ℤ). unsigned_abs c ≤ 2 ^ 73) l.coefficients
+  count : length l.coefficients ≤ n
+
+abbrev AllMild : ℕ → ℕ → List LinearRow → Type 0
+AllMild most n ls = Each (Mild most n) ls
+
+each_map : {X Y : Type 0} (P : Y → Type 0) (f : X → Y) (xs : List X) → ((x : X) → P (f x)) → Each P (map f xs)
+each_map P f [] h = tt
+each_map P f (x ∷ xs) h = (h x, each_map P f xs h)
+
+each_turned : {X : Type 0} (P Q : X → Type 0) (f : X → X) (xs : List X) → ((x : X) → P x → Q (f x)) → Each P xs → Each Q (map f xs)
+each_turned P Q f [] h all = tt
+each_turned P Q f (x ∷ xs) h all = (h x all.0, each_turned P Q f xs h all.1)
+
+each_weaker : {X : Type 0} (P Q : X → Type 0) (xs : List X) → ((x : X) → P x → Q x) → Each P xs → Each Q xs
+each_weaker P Q [] h all = tt
+each_weaker P Q (x ∷ xs) h all = (h x all.0, each_weaker P Q xs h all.1)
+
+each_append : {X : Type 0} (P : X → Type 0) (xs ys : List X) → Each P xs → Each P ys → Each P (xs ++ ys)
+each_append P [] ys h g = g
+each_append P (x ∷ xs) ys h g = (h.0, each_append P xs ys h.1 g)
+
+each_cond : {X : Type 0} (P : X → Type 0) (b : Bool) (xs ys : List X) → Each P xs → Each P ys → Each P (cond b xs ys)
+each_cond P true xs ys h g = h
+each_cond P false xs ys h g = g
+
+more : (most most' n n' : ℕ) (ls : List LinearRow) → most ≤ most' → n ≤ n' → AllMild most n ls → AllMild most' n' ls
+more most most' n n' ls low few all = each_weaker (Mild most n) (Mild most' n') ls (λ l mild. record { constant = (let h = mild.constant in omega arith); coefficients = mild.coefficients; count = (let h = mild.count in omega arith) }) all
+
+less_small : (c : ℤ) (n : ℕ) → unsigned_abs c ≤ n → unsigned_abs (pos 0 -ℤ c) ≤ n
+less_small c n h = omega (arith, ints)
+
+coefficients_turned : (cs : List ℤ) → Each (λ (c : ℤ). unsigned_abs c ≤ 2 ^ 73) cs → Each (λ (c : ℤ). unsigned_abs c ≤ 2 ^ 73) (map (λ c. pos 0 -ℤ c) cs)
+coefficients_turned cs h = each_turned (λ (c : ℤ). unsigned_abs c ≤ 2 ^ 73) (λ (c : ℤ). unsigned_abs c ≤ 2 ^ 73) (λ c. pos 0 -ℤ c) cs (λ c small. less_small c (2 ^ 73) small) h
+
+opposite_mild : (most n : ℕ) (l : LinearRow) → Mild most n l → Mild most n (opposite l)
+opposite_mild most n l h = record { constant = less_small l.constant most h.constant; coefficients = coefficients_turned l.coefficients h.coefficients; count = (let few = h.count in omega (arith, length-map l.coefficients (λ c. pos 0 -ℤ c))) }
+
+negated_mild : (most n : ℕ) (l : LinearRow) → Mild most n l → Mild (most + 1) n (negated l)
+negated_mild most n l h = record { constant = abs_minus (pos 0 -ℤ l.constant) (pos 1) most 1 (less_small l.constant most h.constant) (omega arith); coefficients = coefficients_turned l.coefficients h.coefficients; count = (let few = h.count in omega (arith, length-map l.coefficients (λ c. pos 0 -ℤ c))) }
+
+one_more : (n : ℕ) (l : LinearRow) → Mild 1000000000 n l → Mild 1000000001 n l
+one_more n l mild = record { constant = (let h = mild.constant in omega arith); coefficients = mild.coefficients; count = mild.count }
+
+form_mild : (a : Automaton) (ms : List Meaning) (f : Form) → SmallForm f → Mild 1000000000 (length ms) (form_row a ms f)
+form_mild a ms f small = record {
+  constant = small.constant;
+  coefficients = each_map (λ (c : ℤ). unsigned_abs c ≤ 2 ^ 73) (λ m. terms_value (place_coefficient a m) f.terms) ms (λ m. omega (arith, form_small a m f small));
+  count = omega (arith, length-map ms (λ m. terms_value (place_coefficient a m) f.terms));
+}
+
+counters_mild : (a : Automaton) (ms : List Meaning) (ls : List ℕ) → AllMild 1000000001 (length ms) (map (counter_row a ms) ls)
+counters_mild a ms ls = each_map (Mild 1000000001 (length ms)) (counter_row a ms) ls (λ l. record {
+  constant = omega arith;
+  coefficients = each_map (λ (c : ℤ). unsigned_abs c ≤ 2 ^ 73) (λ m. place_coefficient a m (location_place a l)) ms (λ m. omega (arith, place_small a m (location_place a l)));
+  count = omega (arith, length-map ms (λ m. place_coefficient a m (location_place a l)));
+})
+
+forms_mild : (a : Automaton) (ms : List Meaning) (rows : List Row) → SmallRows rows → AllMild 1000000001 (length ms) (map (λ (r : Row). form_row a ms r.form) rows)
+forms_mild a ms [] small = tt
+forms_mild a ms (r ∷ rs) small = (one_more (length ms) (form_row a ms r.form) (form_mild a ms r.form small.0), forms_mild a ms rs small.1)
+
+condition_mild : (a : Automaton) (ms : List Meaning) (ks : List Comparison) → Each (λ (k : Comparison). SmallRows k.rows) ks → AllMild 1000000001 (length ms) (condition_rows a ms ks)
+condition_mild a ms [] small = tt
+condition_mild a ms (k ∷ ks) small = each_append (Mild 1000000001 (length ms)) (map (λ (r : Row). form_row a ms r.form) k.rows) (condition_rows a ms ks) (forms_mild a ms k.rows small.0) (condition_mild a ms ks small.1)
+
+guards_mild : (a : Automaton) (ms : List Meaning) (test : ℕ → Bool) (k : ℕ) (rows : List Row) → SmallRows rows → AllMild 1000000000 (length ms) (guard_rows a ms test k rows)
+guards_mild a ms test k [] small = tt
+guards_mild a ms test k (r ∷ rs) small =
+    let rest = guards_mild a ms test (k + 1) rs small.1 in
+    each_cond (Mild 1000000000 (length ms)) (test k) (form_row a ms r.form ∷ guard_rows a ms test (k + 1) rs) (guard_rows a ms test (k + 1) rs) (form_mild a ms r.form small.0, rest) rest
+
+guards_more : (a : Automaton) (ms : List Meaning) (test : ℕ → Bool) (rows : List Row) → SmallRows rows → AllMild 1000000001 (length ms) (guard_rows a ms test 0 rows)
+guards_more a ms test rows small = more 1000000000 1000000001 (length ms) (length ms) (guard_rows a ms test 0 rows) (omega arith) (omega arith) (guards_mild a ms test 0 rows small)
+
+one_of : (n : ℕ) (b : Bool) (x y : LinearRow) → Mild 1000000001 n x → Mild 1000000001 n y → Mild 1000000001 n (cond b x y)
+one_of n true x y h g = h
+one_of n false x y h g = g
+
+start_guards_mild : (a : Automaton) (ms : List Meaning) (start k : ℕ) (rows : List Row) → SmallRows rows → AllMild 1000000001 (length ms) (start_guard_rows a ms start k rows)
+start_guards_mild a ms start k [] small = tt
+start_guards_mild a ms start k (r ∷ rs) small =
+    let f = form_row a ms r.form in
+    let mild = form_mild a ms r.form small.0 in
+    (one_of (length ms) (has_bit start k) (negated f) f (negated_mild 1000000000 (length ms) f mild) (one_more (length ms) f mild), start_guards_mild a ms start (k + 1) rs small.1)
+
+start_coefficient-small : (m : Meaning) → unsigned_abs (start_coefficient m) ≤ 1
+start_coefficient-small (Parameter i) = omega arith
+start_coefficient-small (Start l) = omega arith
+start_coefficient-small (Count k r) = omega arith
+start_coefficient-small (Single k r) = omega arith
+
+processes_mild : (a : Automaton) (ms : List Meaning) → AllMild 1000000001 (length ms) (processes_row a ms ∷ opposite (processes_row a ms) ∷ [])
+processes_mild a ms =
+    let small = processes_small a in
+    let mild : Mild 1000000001 (length ms) (processes_row a ms) = record {
+      constant = (let h = small.constant in omega arith);
+      coefficients = each_map (λ (c : ℤ). unsigned_abs c ≤ 2 ^ 73) (λ m. terms_value (place_coefficient a m) a.processes.terms -ℤ start_coefficient m) ms (λ m.
+          omega (arith, abs_minus (terms_value (place_coefficient a m) a.processes.terms) (start_coefficient m) (2 ^ 72) 1 (form_small a m a.processes small) (start_coefficient-small m)));
+      count = omega (arith, length-map ms (λ m. terms_value (place_coefficient a m) a.processes.terms -ℤ start_coefficient m));
+    } in
+    (mild, (opposite_mild 1000000001 (length ms) (processes_row a ms) mild, tt))
+
+singles_mild : (before : List Meaning) (rules : List ℕ) (n : ℕ) → length before + length rules ≤ n → AllMild 1000000001 n (singles_row before rules ∷ opposite (singles_row before rules) ∷ [])
+singles_mild before rules n few =
+    let zeros = map (λ (m : Meaning). pos 0) before in
+    let ones = map (λ (r : ℕ). pos 1) rules in
+    let mild : Mild 1000000001 n (singles_row before rules) = record {
+      constant = omega arith;
+      coefficients = each_append (λ (c : ℤ). unsigned_abs c ≤ 2 ^ 73) zeros ones (each_map (λ (c : ℤ). unsigned_abs c ≤ 2 ^ 73) (λ (m : Meaning). pos 0) before (λ m. omega arith)) (each_map (λ (c : ℤ). unsigned_abs c ≤ 2 ^ 73) (λ (r : ℕ). pos 1) rules (λ r. omega arith));
+      count = omega (arith, length-append zeros ones, length-map before (λ (m : Meaning). pos 0), length-map rules (λ (r : ℕ). pos 1));
+    } in
+    (mild, (opposite_mild 1000000001 n (singles_row before rules) mild, tt))
+
+event_mild : (a : Automaton) (p : Pattern) (ms : List Meaning) (e : ℕ) → SmallEvents p → (o : Option PatternEvent) → slice_get p.events e ≡ o → AllMild 1000000001 (length ms) (event_rows a ms o)
+event_mild a p ms e events None at = tt
+event_mild a p ms e events (Some event) at = condition_mild a ms event.condition.comparisons (events.small e event at)
+
+-- ---- the rows of a word
+
+module _ (a : Automaton) (p : Pattern) (start_small : SmallCondition p.start) (events : SmallEvents p) where
+  falls_mild : (ms : List Meaning) (test : ℕ → Bool) → AllMild 1000000001 (length ms) (guard_rows a ms test 0 a.fall)
+  falls_mild ms test = guards_more a ms test a.fall (fall_rows_small a)
+
+  kept_mild : (ms : List Meaning) → AllMild 1000000001 (length ms) (counter_rows a p ms)
+  kept_mild ms = counters_mild a ms (filter (λ l. not (has_bit p.empty l)) (numbers_from 0 (length a.locations)))
+
+  start_mild : (start : ℕ) → AllMild 1000000001 (length (start_meanings a p)) (start_rows a p start)
+  unfolding start_rows
+  start_mild start =
+      let ms = start_meanings a p in
+      let n = length ms in
+      let pair = processes_row a ms ∷ opposite (processes_row a ms) ∷ [] in
+      each_append (Mild 1000000001 n) (condition_rows a ms a.resilience.comparisons) (pair ++ (condition_rows a ms p.start.comparisons ++ start_guard_rows a ms start 0 a.fall)) (condition_mild a ms a.resilience.comparisons (resilience_small a))
+      (each_append (Mild 1000000001 n) pair (condition_rows a ms p.start.comparisons ++ start_guard_rows a ms start 0 a.fall) (processes_mild a ms)
+      (each_append (Mild 1000000001 n) (condition_rows a ms p.start.comparisons) (start_guard_rows a ms start 0 a.fall) (condition_mild a ms p.start.comparisons start_small) (start_guards_mild a ms start 0 a.fall (fall_rows_small a))))
+
+  happening_mild : (start : ℕ) (past : List Element) (ms : List Meaning) (e : ℕ) → AllMild 1000000001 (length ms) (happening_rows a p start past ms e)
+  unfolding happening_rows
+  happening_mild start past ms e =
+      each_append (Mild 1000000001 (length ms)) (counter_rows a p ms) (event_rows a ms (slice_get p.events e) ++ standing_rows a start past ms) (kept_mild ms)
+      (each_append (Mild 1000000001 (length ms)) (event_rows a ms (slice_get p.events e)) (standing_rows a start past ms) (event_mild a p ms e events (slice_get p.events e) refl) (falls_mild ms (λ j. not (has_fallen start past j))))
+
+  rise_mild : (start : ℕ) (past : List Element) (ms : List Meaning) (i : ℕ) → AllMild 1000000001 (length ms) (rise_rows a p start past ms i)
+  unfolding rise_rows
+  rise_mild start past ms i =
+      each_append (Mild 1000000001 (length ms)) (counter_rows a p ms) (guard_rows a ms (λ k. eqb k i) 0 a.rise ++ standing_rows a start past ms) (kept_mild ms)
+      (each_append (Mild 1000000001 (length ms)) (guard_rows a ms (λ k. eqb k i) 0 a.rise) (standing_rows a start past ms) (guards_more a ms (λ k. eqb k i) a.rise (rise_rows_small a)) (falls_mild ms (λ j. not (has_fallen start past j))))
+
+  gone_mild : (ms : List Meaning) (test : ℕ → Bool) → AllMild 1000000001 (length ms) (map negated (guard_rows a ms test 0 a.fall))
+  gone_mild ms test = each_turned (Mild 1000000000 (length ms)) (Mild 1000000001 (length ms)) negated (guard_rows a ms test 0 a.fall) (λ l mild. negated_mild 1000000000 (length ms) l mild) (guards_mild a ms test 0 a.fall (fall_rows_small a))
+
+  fall_mild : (start : ℕ) (past : List Element) (before : List Meaning) (mask : ℕ) → AllMild 1000000001 (length (before ++ singles_after a p start past)) (fall_rows a p start past before (before ++ singles_after a p start past) mask)
+  unfolding fall_rows
+  fall_mild start past before mask =
+      let al = allowed_rules a p start past in
+      let end = before ++ singles_after a p start past in
+      let n = length end in
+      let longer = length-append before (singles_after a p start past) in
+      let many = length-map al (Single (length past)) in
+      let early = more 1000000001 1000000001 (length before) n (counter_rows a p before) (omega arith) (omega arith) (kept_mild before) in
+      let chosen = more 1000000001 1000000001 (length before) n (guard_rows a before (has_bit mask) 0 a.fall) (omega arith) (omega arith) (falls_mild before (has_bit mask)) in
+      let pair = singles_row before al ∷ opposite (singles_row before al) ∷ [] in
+      let s = standing_rows a start (Fall mask ∷ past) end in
+      let g = map negated (guard_rows a end (has_bit mask) 0 a.fall) in
+      let c = counter_rows a p end in
+      each_append (Mild 1000000001 n) (counter_rows a p before) (guard_rows a before (has_bit mask) 0 a.fall ++ (pair ++ (c ++ (g ++ s)))) early
+      (each_append (Mild 1000000001 n) (guard_rows a before (has_bit mask) 0 a.fall) (pair ++ (c ++ (g ++ s))) chosen
+      (each_append (Mild 1000000001 n) pair (c ++ (g ++ s)) (singles_mild before al n (omega arith))
+      (each_append (Mild 1000000001 n) c (g ++ s) (kept_mild end) (each_append (Mild 1000000001 n) g s (gone_mild end (has_bit mask)) (falls_mild end (λ j. not (has_fallen start (Fall mask ∷ past) j)))))))
+
+  word_mild : (start : ℕ) (past : List Element) → AllMild 1000000001 (length (meanings a p start past)) (word_rows a p start past)
+  unfolding word_rows meanings
+  word_mild start [] = start_mild start
+  word_mild start (Event e ∷ past) =
+      let ms = meanings a p start past in
+      let end = ms ++ counts_after a p start past in
+      each_append (Mild 1000000001 (length end)) (word_rows a p start past) (happening_rows a p start past end e) (more 1000000001 1000000001 (length ms) (length end) (word_rows a p start past) (omega arith) (omega (arith, length-append ms (counts_after a p start past))) (word_mild start past)) (happening_mild start past end e)
+  word_mild start (Rise i ∷ past) =
+      let ms = meanings a p start past in
+      let end = ms ++ counts_after a p start past in
+      each_append (Mild 1000000001 (length end)) (word_rows a p start past) (rise_rows a p start past end i) (more 1000000001 1000000001 (length ms) (length end) (word_rows a p start past) (omega arith) (omega (arith, length-append ms (counts_after a p start past))) (word_mild start past)) (rise_mild start past end i)
+  word_mild start (Fall mask ∷ past) =
+      let ms = meanings a p start past in
+      let before = ms ++ counts_after a p start past in
+      let end = before ++ singles_after a p start past in
+      each_append (Mild 1000000001 (length end)) (word_rows a p start past) (fall_rows a p start past before end mask) (more 1000000001 1000000001 (length ms) (length end) (word_rows a p start past) (omega arith) (omega (arith, length-append ms (counts_after a p start past), length-append before (singles_after a p start past))) (word_mild start past)) (fall_mild start past before mask)
+
+-- ---- the rows of the search for a sample
+
+sample_mild : (a : Automaton) → AllMild 1000000001 (length (sample_meanings a)) (sample_rows a)
+unfolding sample_rows
+sample_mild a =
+    let ms = sample_meanings a in
+    each_append (Mild 1000000001 (length ms)) (condition_rows a ms a.resilience.comparisons) (processes_row a ms ∷ opposite (processes_row a ms) ∷ []) (condition_mild a ms a.resilience.comparisons (resilience_small a)) (processes_mild a ms)
+
+-- ---- rows of the code
+
+-- numbers in range, and no more coefficients than unknowns
+record Fitting (n : ℕ) (l : LinearRow) : Type 0 where
+  constant : InRange l.constant
+  coefficients : Each InRange l.coefficients
+  count : length l.coefficients ≤ n
+
+mild_fits : (n : ℕ) (l : LinearRow) → Mild 1000000001 n l → Fitting n l
+mild_fits n l mild = record {
+  constant = (let h = mild.constant in omega arith);
+  coefficients = each_weaker (λ (c : ℤ). unsigned_abs c ≤ 2 ^ 73) InRange l.coefficients (λ c small. omega arith) mild.coefficients;
+  count = mild.count;
+}
+
+-- a bound
+only_fits : (u : ℕ) (z : ℤ) → InRange z → Each InRange (only_at u z)
+only_fits zero z fits = (fits, tt)
+only_fits (suc u) z fits = (omega arith, only_fits u z fits)
+
+only_count : (u : ℕ) (z : ℤ) → length (only_at u z) ≡ u + 1
+only_count zero z = refl
+only_count (suc u) z = omega (arith, only_count u z)
+
+side_fits : (n u : ℕ) (floor : ℤ) (side : Side) → u < n → pos 0 ≤ℤ floor → floor <ℤ pos (2 ^ 126) → Fitting n (side_row u floor side)
+side_fits n u floor Low below low high = record { constant = omega (arith, ints); coefficients = only_fits u (negsuc 0) (omega arith); count = omega (arith, only_count u (negsuc 0)) }
+side_fits n u floor High below low high = record { constant = omega (arith, ints); coefficients = only_fits u (pos 1) (omega arith); count = omega (arith, only_count u (pos 1)) }
+
+bounds_fit : (n : ℕ) (bs : List Bound) → BoundsWithin n bs → Each (Fitting n) (map bound_row bs)
+bounds_fit n [] within = tt
+bounds_fit n (b ∷ bs) within = (let h = within.0 in side_fits n b.unknown b.floor b.side h.exists h.least h.most, bounds_fit n bs within.1)
+
+-- terms with these coefficients, from some unknown on
+record Terms (k : ℕ) (cs : List ℤ) : Type 0 where
+  terms : List (ℕ × ℤ)
+  normal : IsNormal k (k + length cs) terms
+  there : (i : ℕ) → coefficient terms (k + i) ≡ get_or cs i (pos 0)
+
+zero_or_not : (z : ℤ) → (z ≡ pos 0) ⊎ (z ≢ pos 0)
+zero_or_not (pos zero) = inl refl
+zero_or_not (pos (suc n)) = inr (λ e. absurd (omega (arith, ints)))
+zero_or_not (negsuc n) = inr (λ e. absurd (omega (arith, ints)))
+
+at_own : (k : ℕ) (c : ℤ) (ts : List (ℕ × ℤ)) → coefficient ((k, c) ∷ ts) k ≡ (c +ℤ coefficient ts k)
+at_own k c ts = ap (λ z. z +ℤ coefficient ts k) (if_same (k, c) k refl)
+
+at_other : (k x : ℕ) (c : ℤ) (ts : List (ℕ × ℤ)) → k ≢ x → coefficient ((k, c) ∷ ts) x ≡ coefficient ts x
+at_other k x c ts ne = ap (λ z. z +ℤ coefficient ts x) (if_other (k, c) x ne) ∙ nothing (coefficient ts x)
+  where
+    nothing : (z : ℤ) → (pos 0 +ℤ z) ≡ z
+    nothing z = omega (arith, ints)
+
+IsNormal-from : (low low' high high' : ℕ) (ts : List (ℕ × ℤ)) → low' ≤ low → high ≡ high' → IsNormal low high ts → IsNormal low' high' ts
+IsNormal-from low low' high high' ts less same normal = subst (λ h. IsNormal low' h ts) same (IsNormal-lower low low' high ts less normal)
+
+-- of one more coefficient, which is zero or not
+module _ (k : ℕ) (c : ℤ) (cs : List ℤ) (fits : InRange c) (rest : Terms (k + 1) cs) where
+  shifted : (i : ℕ) → coefficient rest.terms (k + suc i) ≡ get_or cs i (pos 0)
+  shifted i = ap (coefficient rest.terms) (let e : k + suc i ≡ (k + 1) + i = omega arith in e) ∙ rest.there i
+
+  below : coefficient rest.terms k ≡ pos 0
+  below = coefficient-below (k + 1) ((k + 1) + length cs) rest.terms k rest.normal (omega arith)
+
+  there_without : c ≡ pos 0 → (i : ℕ) → coefficient rest.terms (k + i) ≡ get_or (c ∷ cs) i (pos 0)
+  there_without none zero = ap (coefficient rest.terms) (let e : k + 0 ≡ k = omega arith in e) ∙ below ∙ sym none
+  there_without none (suc i) = shifted i
+
+  without : c ≡ pos 0 → Terms k (c ∷ cs)
+  without none = record { terms = rest.terms; normal = IsNormal-from (k + 1) k ((k + 1) + length cs) (k + suc (length cs)) rest.terms (omega arith) (omega arith) rest.normal; there = there_without none }
+
+  nothing_more : (z : ℤ) → z ≡ pos 0 → (c +ℤ z) ≡ c
+  nothing_more z none = omega (arith, ints, none)
+
+  there_with : (i : ℕ) → coefficient ((k, c) ∷ rest.terms) (k + i) ≡ get_or (c ∷ cs) i (pos 0)
+  there_with zero = ap (coefficient ((k, c) ∷ rest.terms)) (let e : k + 0 ≡ k = omega arith in e) ∙ at_own k c rest.terms ∙ nothing_more (coefficient rest.terms k) below
+  there_with (suc i) = at_other k (k + suc i) c rest.terms (λ e. absurd (omega (arith, e))) ∙ shifted i
+
+  with_it : c ≢ pos 0 → Terms k (c ∷ cs)
+  with_it some = record { terms = (k, c) ∷ rest.terms; normal = (omega arith, record { not_zero = some; in_range = fits }, IsNormal-from (k + 1) (k + 1) ((k + 1) + length cs) (k + suc (length cs)) rest.terms (omega arith) (omega arith) rest.normal); there = there_with }
+
+  terms_more : Terms k (c ∷ cs)
+  terms_more = ⊎_elim without with_it (zero_or_not c)
+
+terms_exist : (k : ℕ) (cs : List ℤ) → Each InRange cs → Terms k cs
+terms_exist k [] fits = record { terms = []; normal = omega arith; there = λ i. refl }
+terms_exist k (c ∷ cs) fits = terms_more k c cs fits.0 (terms_exist (k + 1) cs fits.1)
+
+-- a row of the code
+record CodeRow (n : ℕ) (l : LinearRow) : Type 0 where
+  row : Row
+  is : RowOf l row
+  below : IsNormal 0 n row.form.terms
+
+row_exists : (n : ℕ) (l : LinearRow) → n ≤ 2 ^ 32 → Fitting n l → CodeRow n l
+row_exists n l few fits =
+    let t = terms_exist 0 l.coefficients fits.coefficients in
+    let count = fits.count in
+    let below = IsNormal-higher 0 (0 + length l.coefficients) n t.terms (omega arith) t.normal in
+    record {
+      row = record { form = record { constant = l.constant; terms = t.terms; constant_fits = fits.constant; normal = IsNormal-higher 0 n (2 ^ 32) t.terms few below } };
+      is = record { constant = refl; coefficients = λ u. ap (coefficient t.terms) (let e : u ≡ 0 + u = omega arith in e) ∙ t.there u };
+      below = below;
+    }
+
+record CodeRows (n : ℕ) (ls : List LinearRow) : Type 0 where
+  rows : List Row
+  are : RowsOf ls rows
+  below : AllBelow n rows
+
+rows_exist : (n : ℕ) (ls : List LinearRow) → n ≤ 2 ^ 32 → Each (Fitting n) ls → CodeRows n ls
+rows_exist n [] few fits = record { rows = []; are = tt; below = tt }
+rows_exist n (l ∷ ls) few fits =
+    let first = row_exists n l few fits.0 in
+    let rest = rows_exist n ls few fits.1 in
+    record { rows = first.row ∷ rest.rows; are = (first.is, rest.are); below = (first.below, rest.below) }
+
+-- a word whose rows fit has a system
+system_exists : (s : Search) (w : Pending) → s.unknowns w.start w.past ≤ 2 ^ 32 → AllMild 1000000001 (s.unknowns w.start w.past) (s.rows w.start w.past) → BoundsWithin (s.unknowns w.start w.past) w.bounds → (system : System) × SystemAt s w system
+system_exists s w few mild bounds =
+    let n = s.unknowns w.start w.past in
+    let own = each_weaker (Mild 1000000001 n) (Fitting n) (s.rows w.start w.past) (mild_fits n) mild in
+    let r = rows_exist n (rows_of s w) few (each_append (Fitting n) (s.rows w.start w.past) (map bound_row w.bounds) own (bounds_fit n w.bounds bounds)) in
+    (record { unknowns = n; rows = r.rows; within = r.below }, record { unknowns = refl; rows = r.are })
+
+-- each word of a pattern of a file, whatever the pairs of rise guards, with few enough unknowns, has a system
+pub word_system : (file : File) (number : ℕ) (p : Pattern) (pairs : List (ℕ × ℕ)) (w : Pending) → slice_get file.patterns number ≡ Some p → length (meanings file.automaton p w.start w.past) ≤ 2 ^ 32 → BoundsWithin (length (meanings file.automaton p w.start w.past)) w.bounds → (system : System) × SystemAt (pattern_search file.automaton p pairs) w system
+word_system file number p pairs w at few bounds =
+    let a = file.automaton in
+    let start = small_condition (length a.parameters + length a.shared + length a.locations) p.start (places_most a) (pattern_within file number p at).start in
+    system_exists (pattern_search a p pairs) w few (word_mild a p start (events_small file number p at) w.start w.past) bounds
+
+-- and so has each word of the search for a sample
+pub sample_system : (a : Automaton) (w : Pending) → BoundsWithin (length (sample_meanings a)) w.bounds → (system : System) × SystemAt (sample_search a) w system
+sample_system a w bounds = system_exists (sample_search a) w (omega (arith, sample_few a)) (sample_mild a) bounds

@@ -1,0 +1,98 @@
+-- the pairs of masks: which they are, their order, and one more at its place
+use Rattle.std.proofs.Common.{length, ◌≡◌, inl, inr, ℕ, zero, suc, ◌+◌, ◌-◌, ◌^◌, ◌<◌, ◌≤◌, List, [], ◌∷◌, ◌++◌, map, get_or, cond, true, arith, sym, ap, ◌∙◌, refl, subst, lit<}
+use Rattle.std.specs.Prelude.{filter, replicate}
+use Rattle.std.proofs.lemmas.Bool.{false≢true}
+use Rattle.ta_automaton.specs.Lists.{Each}
+use Rattle.ta_automaton.specs.Masks.{has_bit, numbers_from, In}
+use Rattle.ta_automaton.proofs.MaskTests.{In-left, In-right, In-map, In-filter, In-numbers}
+use Rattle.ta_implied.specs.Orders.{pairs_at, pairs_from}
+use Rattle.ta_implied.proofs.Bits.{has_none, has_above, in_or_above, some_bit}
+use Rattle.ta_implied.proofs.Members.{in_append, in_map, in_filter}
+
+-- a pair of the guards of a mask
+in_pairs_at : (j i guard mask : ℕ) → In (j, i) (pairs_at guard mask) → (i ≡ guard) × (has_bit mask j ≡ true)
+in_pairs_at j i guard mask h =
+    let mapped = in_map (λ k. (k, guard)) (j, i) (filter (has_bit mask) (numbers_from 0 16)) h in
+    let kept = in_filter (has_bit mask) mapped.0 (numbers_from 0 16) mapped.1 in
+    (ap (λ (q : ℕ × ℕ). q.1) mapped.2, ap (λ (q : ℕ × ℕ). has_bit mask q.0) mapped.2 ∙ kept.0)
+
+pairs_at_in : (j guard mask : ℕ) → j < 16 → has_bit mask j ≡ true → In (j, guard) (pairs_at guard mask)
+pairs_at_in j guard mask below has = In-map (λ k. (k, guard)) j (filter (has_bit mask) (numbers_from 0 16)) (In-filter (has_bit mask) j (numbers_from 0 16) has (In-numbers j 0 16 (omega arith) (omega arith)))
+
+-- a pair of masks is one of the mask of its guard after
+in_pairs : (j i k : ℕ) (masks : List ℕ) → In (j, i) (pairs_from k masks) → (k ≤ i) × (has_bit (get_or masks (i - k) 0) j ≡ true)
+in_pairs j i k [] h = absurd h
+in_pairs j i k (m ∷ ms) h = elim (in_append (j, i) (pairs_at k m) (pairs_from (k + 1) ms) h) [
+  | inl here ↦ (let g = in_pairs_at j i k m here in let none : i - k ≡ 0 = omega (arith, g.0) in (omega (arith, g.0), ap (λ d. has_bit (get_or (m ∷ ms) d 0) j) none ∙ g.1))
+  | inr later ↦ (let g = in_pairs j i (k + 1) ms later in let next : i - k ≡ suc (i - (k + 1)) = omega (arith, g.0) in (omega (arith, g.0), ap (λ d. has_bit (get_or (m ∷ ms) d 0) j) next ∙ g.1))
+]
+
+pairs_in : (j k d : ℕ) (masks : List ℕ) → j < 16 → has_bit (get_or masks d 0) j ≡ true → In (j, k + d) (pairs_from k masks)
+pairs_in j k d [] below has = absurd (false≢true (sym (has_none j) ∙ has))
+pairs_in j k zero (m ∷ ms) below has =
+    let same : k + 0 ≡ k = omega arith in
+    In-left (j, k + 0) (pairs_at k m) (pairs_from (k + 1) ms) (subst (λ i. In (j, i) (pairs_at k m)) (sym same) (pairs_at_in j k m below has))
+pairs_in j k (suc d) (m ∷ ms) below has =
+    let same : k + suc d ≡ (k + 1) + d = omega arith in
+    In-right (j, k + suc d) (pairs_at k m) (pairs_from (k + 1) ms) (subst (λ i. In (j, i) (pairs_from (k + 1) ms)) (sym same) (pairs_in j (k + 1) d ms below has))
+
+-- masks of no guards have no pairs
+abbrev pub AreEmpty : List ℕ → Type 0
+AreEmpty [] = Unit {0}
+AreEmpty (m ∷ ms) = (m ≡ 0) × AreEmpty ms
+
+no_numbers : (xs : List ℕ) → filter (has_bit 0) xs ≡ []
+no_numbers [] = refl
+no_numbers (x ∷ xs) = ap (λ b. cond b (x ∷ filter (has_bit 0) xs) (filter (has_bit 0) xs)) (has_none x) ∙ no_numbers xs
+
+no_pairs_at : (k : ℕ) → pairs_at k 0 ≡ []
+no_pairs_at k = ap (map (λ j. (j, k))) (no_numbers (numbers_from 0 16))
+
+pub no_pairs : (k : ℕ) (masks : List ℕ) → AreEmpty masks → pairs_from k masks ≡ []
+no_pairs k [] h = refl
+no_pairs k (m ∷ ms) h = ap (λ n. pairs_at k n ++ pairs_from (k + 1) ms) h.0 ∙ ap (λ xs. xs ++ pairs_from (k + 1) ms) (no_pairs_at k) ∙ no_pairs (k + 1) ms h.1
+
+pub AreEmpty-replicate : (n : ℕ) → AreEmpty (replicate n 0)
+AreEmpty-replicate zero = tt
+AreEmpty-replicate (suc n) = (refl, AreEmpty-replicate n)
+
+pub empty_fit : (masks : List ℕ) → AreEmpty masks → Each (λ m. m < 2 ^ 16) masks
+empty_fit [] h = tt
+empty_fit (m ∷ ms) h = (rw h.0 (let small : 0 < 2 ^ 16 = lit< tt in small), empty_fit ms h.1)
+
+-- a mask of numbers of guards alone has no other bits
+bit_below : (masks : List ℕ) (d j : ℕ) → Each (λ m. m < 2 ^ 16) masks → has_bit (get_or masks d 0) j ≡ true → j < 16
+bit_below [] d j h has = absurd (false≢true (sym (has_none j) ∙ has))
+bit_below (m ∷ ms) zero j h has = elim (in_or_above 16 j) [ inl below ↦ below | inr above ↦ absurd (false≢true (sym (has_above m 16 j h.0 above) ∙ has)) ]
+bit_below (m ∷ ms) (suc d) j h has = bit_below ms d j h.1 has
+
+-- a pair is one of the masks where its guard before is in the mask of its guard after
+pub pair_of_bit : (masks : List ℕ) (j i : ℕ) → Each (λ m. m < 2 ^ 16) masks → has_bit (get_or masks i 0) j ≡ true → In (j, i) (pairs_from 0 masks)
+pair_of_bit masks j i fit has =
+    let same : 0 + i ≡ i = omega arith in
+    subst (λ g. In (j, g) (pairs_from 0 masks)) same (pairs_in j 0 i masks (bit_below masks i j fit has) has)
+
+pub bit_of_pair : (masks : List ℕ) (j i : ℕ) → In (j, i) (pairs_from 0 masks) → has_bit (get_or masks i 0) j ≡ true
+bit_of_pair masks j i h =
+    let same : i ≡ i - 0 = omega arith in
+    ap (λ d. has_bit (get_or masks d 0) j) same ∙ (in_pairs j i 0 masks h).1
+
+-- masks that have no pairs are of no guards
+empty_mask : (k m : ℕ) → m < 2 ^ 16 → pairs_at k m ≡ [] → m ≡ 0
+empty_mask k zero fits none = refl
+empty_mask k (suc m) fits none =
+    let w = some_bit (suc m) 16 (omega arith) fits in
+    absurd (subst (In (w.0, k)) none (pairs_at_in w.0 k (suc m) w.1 w.2))
+
+append_empty : (xs ys : List (ℕ × ℕ)) → xs ++ ys ≡ [] → (xs ≡ []) × (ys ≡ [])
+append_empty [] ys e = (refl, e)
+append_empty (x ∷ xs) ys e = absurd (let n = ap (λ (zs : List (ℕ × ℕ)). length zs) e in omega arith)
+
+empty_masks : (k : ℕ) (masks : List ℕ) → Each (λ m. m < 2 ^ 16) masks → pairs_from k masks ≡ [] → masks ≡ replicate (length masks) 0
+empty_masks k [] fit none = refl
+empty_masks k (m ∷ ms) fit none =
+    let parts = append_empty (pairs_at k m) (pairs_from (k + 1) ms) none in
+    ap (λ n. n ∷ ms) (empty_mask k m fit.0 parts.0) ∙ ap (λ xs. 0 ∷ xs) (empty_masks (k + 1) ms fit.1 parts.1)
+
+pub all_empty : (masks : List ℕ) → Each (λ m. m < 2 ^ 16) masks → length masks ≡ 16 → pairs_from 0 masks ≡ [] → masks ≡ replicate 16 0
+all_empty masks fit count none = empty_masks 0 masks fit none ∙ ap (λ n. replicate n 0) count

@@ -1,0 +1,115 @@
+-- The dictionary of a longer system
+use Rattle.std.proofs.Common.{◌≡◌, ℕ, ◌+◌, ◌-◌, ◌<◌, ◌≤◌, List, ◌∷◌, [], ◌++◌, length, map, take, drop, get_or, arith, sym, ap, ◌∙◌, subst}
+use Rattle.std.proofs.lemmas.List.{length-append, length-map, length-take, get_or-take}
+use Rattle.std.proofs.lemmas.List.FromFn.{length-range_with_len}
+use Rattle.std.specs.List.{range_with_len}
+use Rattle.ta_linear.specs.declared.row.Row.{Row}
+use Rattle.ta_linear.specs.declared.row.System.{System}
+use Rattle.ta_dense.specs.Tableau.{TableauRow, basic_of}
+use Rattle.ta_dense.specs.Slack.{slack_rows}
+use Rattle.ta_dense.specs.Extending.{raised, widened, extended, FirstLeaving}
+use Rattle.ta_dense.specs.Kept.{KeptPivot, kept_at, chosen_row, carried, StayInRange}
+use Rattle.ta_dense.specs.Merge.{FirstRefused}
+use Rattle.ta_links.specs.declared.cell.Cell.{Cell}
+use Rattle.ta_links.specs.declared.row_head.RowHead.{RowHead}
+use Rattle.ta_links.specs.declared.linked_cells.LinkedCells.{LinkedCells}
+use Rattle.ta_links.specs.declared.linked.LinkedDictionary.TheInside.{Inside}
+use Rattle.ta_links.specs.Gaps.{AreSound}
+use Rattle.ta_links.specs.Values.{value_in}
+use Rattle.ta_links.specs.Linked.{Linked, table_rows, no_head, AreProperHeads, IsProperHead}
+use Rattle.ta_links.specs.Inside.Fields.{linked_of}
+use Rattle.ta_links.specs.Starting.{RowsShow, slack_heads}
+use Rattle.ta_links.specs.Carrying.{rows_from, IsRoom}
+use Rattle.ta_links.specs.Extending.{raised_head, AllCarried, IsRefusal}
+use Rattle.ta_links.proofs.LinkedFacts.{length-table_rows, table_row_at}
+use Rattle.ta_links.proofs.ExtendedRows.{Lengthened, new_rows_begin, begun_room, extended_table}
+
+-- the basic variable of a row
+pub basic_is : (inside : Inside) (d : Linked) (i : ℕ) → linked_of inside ≡ d → i < length inside.rows.items → basic_of d.tableau i ≡ (get_or inside.rows.items i no_head).basic
+basic_is inside d i view b = ap (λ (e : Linked). basic_of e.tableau i) (sym view) ∙ ap (λ (r : TableauRow). r.basic) (table_row_at inside.links.cells.items (length inside.non_basic.items) 0 inside.rows.items i b)
+
+-- the heads and cells before the new rows are carried
+pub lengthen : (u m first last : ℕ) (hs heads : List RowHead) (old : LinkedCells) (rows : List Row) (hs1 : List RowHead) (l1 : LinkedCells) → heads ≡ hs → first ≡ length hs → u ≤ m → first ≤ last → last ≡ length rows →
+    hs1 ≡ (map (raised_head u (m - u)) heads ++ slack_heads (m + length heads) (drop (length heads) rows)) ++ no_head ∷ [] → RowsShow first (value_in old.cells.items) rows (length rows) (value_in l1.cells.items) → Lengthened u (m - u) first (last - first) hs old rows hs1 l1
+lengthen u m first last hs heads old rows hs1 l1 same long few low all is shows =
+    let em : m ≡ u + (m - u) = omega arith in
+    let ef : length heads ≡ first = ap (λ (xs : List RowHead). length xs) same ∙ sym long in
+    record {
+      heads = is ∙ ap (λ (xs : List RowHead). (map (raised_head u (m - u)) xs ++ slack_heads (m + length heads) (drop (length heads) rows)) ++ no_head ∷ []) same
+          ∙ ap (λ (f : ℕ). (map (raised_head u (m - u)) hs ++ slack_heads (m + f) (drop f rows)) ++ no_head ∷ []) ef
+          ∙ ap (λ (k : ℕ). (map (raised_head u (m - u)) hs ++ slack_heads (k + first) (drop first rows)) ++ no_head ∷ []) em;
+      long = long;
+      all = omega arith;
+      shows = shows;
+    }
+
+pub room_for : (u m first last : ℕ) (hs : List RowHead) (old : LinkedCells) (rows : List Row) (hs1 : List RowHead) (l1 : LinkedCells) → u ≤ m → Lengthened u (m - u) first (last - first) hs old rows hs1 l1 → AreProperHeads hs → AreSound l1 → length l1.row_heads.items ≡ length rows + 1 → length l1.column_heads.items ≡ m →
+    IsRoom m (first + (last - first)) hs1 l1
+room_for u m first last hs old rows hs1 l1 few w proper sound rl cl =
+    let em : u + (m - u) ≡ m = omega arith in
+    subst (λ (k : ℕ). IsRoom k (first + (last - first)) hs1 l1) em (begun_room u (m - u) first (last - first) hs old rows hs1 l1 w proper sound rl (cl ∙ sym em))
+
+-- the new rows
+news : (us : List ℕ) (u m first last : ℕ) (hs : List RowHead) (old : LinkedCells) (rows : List Row) (hs1 : List RowHead) (l1 : LinkedCells) → first ≡ length hs → u ≤ m → Lengthened u (m - u) first (last - first) hs old rows hs1 l1 →
+    rows_from hs1 l1 m first (last - first) ≡ slack_rows m (m + length (table_rows old.cells.items (length us) 0 hs)) (drop (length (table_rows old.cells.items (length us) 0 hs)) rows)
+news us u m first last hs old rows hs1 l1 long few w =
+    let em : u + (m - u) ≡ m = omega arith in
+    let ef : first ≡ length (table_rows old.cells.items (length us) 0 hs) = long ∙ sym (length-table_rows old.cells.items (length us) 0 hs) in
+    ap (λ (k : ℕ). rows_from hs1 l1 k first (last - first)) (sym em) ∙ new_rows_begin u (m - u) first (last - first) hs old rows hs1 l1 w ∙ ap (λ (k : ℕ). slack_rows k (k + first) (drop first rows)) em ∙ ap (λ (f : ℕ). slack_rows m (m + f) (drop f rows)) ef
+
+pub extend_is : (us nb : List ℕ) (hs hs1 hs2 hs3 : List RowHead) (old l1 l2 : LinkedCells) (cells : List Cell) (s : System) (ks : List KeptPivot) (u first last : ℕ) → u ≡ length us → first ≡ length hs → u ≤ s.unknowns → first ≤ last → Lengthened u (s.unknowns - u) first (last - first) hs old s.rows hs1 l1 → AreSound old → length old.column_heads.items ≡ u →
+    AllCarried s.unknowns first (last - first) ks (length ks) hs1 l1 hs2 l2 → hs3 ≡ take last hs2 → cells ≡ l2.cells.items → nb ≡ map (raised u (s.unknowns - u)) us ++ range_with_len u (s.unknowns - u) →
+    record { non_basic = nb; rows = table_rows cells (length nb) 0 hs3 } ≡ extended (record { non_basic = us; rows = table_rows old.cells.items (length us) 0 hs }) ks s
+extend_is us nb hs hs1 hs2 hs3 old l1 l2 cells s ks u first last eu long few low w sound cl a dropped same names =
+    let m = s.unknowns in
+    let n = s.unknowns - u in
+    let em : u + (s.unknowns - u) ≡ s.unknowns = omega arith in
+    let el : first + (last - first) ≡ last = omega arith in
+    let n1 = length-append (map (raised u (s.unknowns - u)) us) (range_with_len u (s.unknowns - u)) in
+    let n2 = length-map us (raised u (s.unknowns - u)) in
+    let n3 = length-range_with_len u (s.unknowns - u) in
+    let n4 = ap (λ (xs : List ℕ). length xs) names in
+    let wide : length nb ≡ u + (s.unknowns - u) = omega arith in
+    let table = extended_table u (s.unknowns - u) first (last - first) hs old s.rows hs1 hs2 hs3 l1 l2 w sound cl a.kept a.room.long (dropped ∙ ap (λ (k : ℕ). take k hs2) (sym el)) in
+    let more = ap (λ (k : ℕ). rows_from hs2 l2 k first (last - first)) em ∙ a.rows ∙ ap (carried s.unknowns ks (length ks)) (news us u s.unknowns first last hs old s.rows hs1 l1 long few w) in
+    let wider = map (widened u (s.unknowns - u)) (table_rows old.cells.items u 0 hs) in
+    let rest = carried s.unknowns ks (length ks) (slack_rows s.unknowns (s.unknowns + length (table_rows old.cells.items (length us) 0 hs)) (drop (length (table_rows old.cells.items (length us) 0 hs)) s.rows)) in
+    let rows_ = ap (λ (xs : List Cell). table_rows xs (length nb) 0 hs3) same ∙ ap (λ (k : ℕ). table_rows l2.cells.items k 0 hs3) wide ∙ table ∙ ap (λ (xs : List TableauRow). wider ++ xs) more
+    ∙ ap (λ (k : ℕ). map (widened k (s.unknowns - k)) (table_rows old.cells.items k 0 hs) ++ rest) eu in
+    let names_ = names ∙ ap (λ (k : ℕ). map (raised k (s.unknowns - k)) us ++ range_with_len k (s.unknowns - k)) eu in
+    let all = map (widened (length us) (s.unknowns - length us)) (table_rows old.cells.items (length us) 0 hs) ++ rest in
+    ap (λ (rs : List TableauRow). record { non_basic = nb; rows = rs }) rows_ ∙ ap (λ (ns : List ℕ). record { non_basic = ns; rows = all }) names_
+
+pub extend_within : (us : List ℕ) (hs hs1 hs2 : List RowHead) (old l1 l2 : LinkedCells) (s : System) (ks : List KeptPivot) (u first last : ℕ) → first ≡ length hs → u ≤ s.unknowns → Lengthened u (s.unknowns - u) first (last - first) hs old s.rows hs1 l1 → AllCarried s.unknowns first (last - first) ks (length ks) hs1 l1 hs2 l2 →
+    StayInRange s.unknowns ks (length ks) (slack_rows s.unknowns (s.unknowns + length (table_rows old.cells.items (length us) 0 hs)) (drop (length (table_rows old.cells.items (length us) 0 hs)) s.rows))
+extend_within us hs hs1 hs2 old l1 l2 s ks u first last long few w a = subst (StayInRange s.unknowns ks (length ks)) (news us u s.unknowns first last hs old s.rows hs1 l1 long few w) a.within
+
+pub extend_refused : (us : List ℕ) (hs hs1 : List RowHead) (old l1 : LinkedCells) (s : System) (ks : List KeptPivot) (u first last pivot row : ℕ) → first ≡ length hs → u ≤ s.unknowns → Lengthened u (s.unknowns - u) first (last - first) hs old s.rows hs1 l1 → pivot < length ks → IsRefusal s.unknowns first (last - first) ks hs1 l1 pivot row →
+    FirstLeaving (record { non_basic = us; rows = table_rows old.cells.items (length us) 0 hs }) ks s pivot row
+extend_refused us hs hs1 old l1 s ks u first last pivot row long few w below r =
+    let is = news us u s.unknowns first last hs old s.rows hs1 l1 long few w in
+    let rows_ = length-table_rows old.cells.items (length us) 0 hs in
+    let low = r.low in
+    record {
+      below = below;
+      before = subst (StayInRange s.unknowns ks pivot) is r.before;
+      new = row - first;
+      number = omega arith;
+      refused = subst (λ (xs : List TableauRow). FirstRefused (kept_at ks pivot).column (chosen_row s.unknowns (kept_at ks pivot)) (carried s.unknowns ks pivot xs) (row - first)) is r.refused;
+    }
+
+pub names_long : (us nb : List ℕ) (u m : ℕ) → u ≤ m → u ≡ length us → nb ≡ map (raised u (m - u)) us ++ range_with_len u (m - u) → length nb ≡ m
+names_long us nb u m few eu names =
+    let n1 = length-append (map (raised u (m - u)) us) (range_with_len u (m - u)) in
+    let n2 = length-map us (raised u (m - u)) in
+    let n3 = length-range_with_len u (m - u) in
+    let n4 = ap (λ (xs : List ℕ). length xs) names in
+    omega arith
+
+pub taken_long : (last : ℕ) (hs hs' : List RowHead) → hs' ≡ take last hs → length hs ≡ last + 1 → length hs' ≡ last
+taken_long last hs hs' e long = let t = length-take last hs in let f = ap (λ (xs : List RowHead). length xs) e in omega arith
+
+pub taken_proper : (last : ℕ) (hs hs' : List RowHead) → hs' ≡ take last hs → length hs ≡ last + 1 → AreProperHeads hs → AreProperHeads hs'
+taken_proper last hs hs' e long proper i b =
+    let short = taken_long last hs hs' e long in
+    subst IsProperHead (sym (ap (λ (xs : List RowHead). get_or xs i no_head) e ∙ get_or-take last hs i no_head (omega arith))) (proper i (omega arith))

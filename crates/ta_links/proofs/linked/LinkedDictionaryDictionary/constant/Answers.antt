@@ -1,0 +1,27 @@
+use Rattle.std.proofs.Common.{◌∙◌, ap, sym, List, length, get_or, arith, rules}
+use Rattle.std.proofs.lemmas.Int.{to_z-of_z}
+use mir.Val.{SFits}
+use mir.Syntax.{w128}
+use Rattle.ta_dense.specs.Tableau.{TableauRow}
+use Rattle.ta_links.specs.declared.row_head.RowHead.{RowHead}
+use Rattle.ta_links.specs.Linked.{no_head}
+use Rattle.ta_links.proofs.LinkedFacts.{head_is, row_below}
+use Rattle.ta_links.proofs.linked.LinkedDictionaryDictionary.constant.Goals as goal
+
+pub head_of-requires : goal.head_of-requires
+head_of-requires c =
+    let b = row_below c.self.inside c.args.self.now c.args.row c.self.view_is c.requires in
+    let long = ap (λ (hs : List RowHead). length hs) c.deref.ensures.value in
+    omega arith
+
+pub returns-clause-value : goal.returns-clause-value
+returns-clause-value c =
+    let w = head_is c.self.inside c.args.self.now c.args.row c.head_of.result c.self.invariant c.self.view_is c.requires (c.head_of.ensures ∙ ap (λ (hs : List RowHead). get_or hs c.args.row no_head) c.deref.ensures.value) in
+    let f : SFits w128 c.head_of.result.constant = search rules in
+    simp to_z-of_z (sym (ap (λ (r : TableauRow). r.constant) w.row_is))
+
+pub returns-clause-fits : goal.returns-clause-fits
+returns-clause-fits c =
+    let w = head_is c.self.inside c.args.self.now c.args.row c.head_of.result c.self.invariant c.self.view_is c.requires (c.head_of.ensures ∙ ap (λ (hs : List RowHead). get_or hs c.args.row no_head) c.deref.ensures.value) in
+    let f : SFits w128 c.head_of.result.constant = search rules in
+    simp to_z-of_z w.proper.constant

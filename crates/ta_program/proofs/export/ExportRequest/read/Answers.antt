@@ -1,0 +1,12 @@
+use Rattle.std.proofs.Common.{map, Some}
+use Rattle.ta_program.specs.declared.export.Export.{Export}
+use Rattle.ta_program.specs.Export.{export_meaning, export_words}
+use Rattle.ta_program.specs.WordSeen.{asked_seen}
+use Rattle.ta_program.proofs.Meanings.{asked_for}
+use Rattle.ta_program.proofs.WordMeanings.{export_decides, export_passes}
+use Rattle.ta_program.proofs.export.ExportRequest.read.Goals as goal
+
+pub returns : goal.returns
+returns c =
+    asked_for (λ (command : Export). asked_seen command.asked) (λ asked. Some asked.file) export_meaning export_decides export_passes
+    c.read_export.result (export_words (map (λ w. w.now) c.args.words.now)) c.read_export.ensures

@@ -1,0 +1,2 @@
+-- lemmas for the crates above
+pub mod Resting

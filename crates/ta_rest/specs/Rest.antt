@@ -1,0 +1,26 @@
+-- Runs that have come to rest (this project's profile)
+use Rattle.std.specs.Prelude.{ℕ, ◌+◌, ◌<◌, ◌≡◌, List, length, slice_get, slice_index, Some, IsBitSet}
+use Rattle.ta_automaton.specs.declared.automaton.Automaton.{Automaton}
+use Rattle.ta_automaton.specs.declared.pattern.Event.{Event}
+use Rattle.ta_automaton.specs.declared.pattern.Pattern.{Pattern}
+use Rattle.ta_automaton.specs.Runs.{At, Config, Occurs, Step}
+
+-- at rest: each step that is possible is that of a self-loop
+abbrev pub AtRest : Automaton → Config → Type 0
+AtRest a c = (r : ℕ) (next : Config) (step : Step a r c next) → step.rule.from ≡ step.rule.to
+
+-- the pattern occurs in a run, its last event at the run's end, where the run has come to rest
+pub record RestOccurs (a : Automaton) (p : Pattern) (first : Config) (rules : List ℕ) : Type 0 where
+  pub occurs : Occurs a p first rules
+  pub last : ℕ
+  pub is_last : last + 1 ≡ length p.events
+  pub at_end : slice_index occurs.positions last ≡ length rules
+  pub rests : (c : Config) → At first occurs.later (length rules) c → AtRest a c
+
+-- it does so in no run, for any admissible parameters and any number of steps
+abbrev pub RestSafe : Automaton → Pattern → Type 0
+RestSafe a p = (first : Config) (rules : List ℕ) → RestOccurs a p first rules → ⊥
+
+-- the events of a pattern come after events of lower numbers alone, as those of a file's patterns do
+abbrev pub ComeAfterEarlier : Pattern → Type 0
+ComeAfterEarlier p = (e : ℕ) (event : Event) → slice_get p.events e ≡ Some event → (f : ℕ) → IsBitSet event.after f → f < e

@@ -1,0 +1,50 @@
+-- The system of a word at whose end a run has come to rest, and the search of such words (this project's profile). A word is given
+-- as its past: its elements, the newest first.
+use Rattle.std.specs.Prelude.{ℕ, ◌==◌, Bool, false, cond, not, ◌&&◌, List, [], ◌++◌, length, map, filter, slice_get, Option, Some, None}
+use Rattle.ta_automaton.specs.declared.rule.Rule.{Rule}
+use Rattle.ta_automaton.specs.declared.automaton.Automaton.{Automaton}
+use Rattle.ta_automaton.specs.declared.pattern.Pattern.{Pattern}
+use Rattle.ta_automaton.specs.Masks.{has_bit, all_below, implies, numbers_from}
+use Rattle.ta_words.specs.declared.element.Element.{Element}
+use Rattle.ta_words.specs.Words.{children, has_fallen, has_rise, is_complete}
+use Rattle.ta_encode.specs.Unknowns.{meanings}
+use Rattle.ta_encode.specs.System.{LinearRow, opposite, negated, counter_row, guard_rows, word_rows}
+use Rattle.ta_encode.specs.Search.{Search}
+use Rattle.ta_encode.specs.PatternSearch.{all_starts}
+
+-- whether some number below another passes
+abbrev pub some_below : ℕ → (ℕ → Bool) → Bool
+some_below n test = not (all_below n (λ k. not (test k)))
+
+-- whether a rule leads from a location to another, has its rise guards in the word, and has no fall guard that is in the start set or has fallen
+abbrev pub leads_out : Automaton → ℕ → List Element → ℕ → Option Rule → Bool
+leads_out a start past l None = false
+leads_out a start past l (Some rule) =
+    (rule.from == l)
+    && (not (rule.from == rule.to)
+    && (all_below (length a.rise) (λ i. implies (has_bit rule.rise i) (has_rise past i))
+    && all_below (length a.fall) (λ j. implies (has_bit rule.fall j) (not (has_fallen start past j)))))
+
+-- whether a location isn't kept empty and has such a rule: at rest nobody is in it
+abbrev pub must_be_left : Automaton → Pattern → ℕ → List Element → ℕ → Bool
+must_be_left a p start past l = not (has_bit p.empty l) && some_below (length a.rules) (λ r. leads_out a start past l (slice_get a.rules r))
+
+-- the rows of rest at a word's end: the negated rise guards that aren't in the word, and `-counter` of those locations, in order
+unfoldable pub end_rows : Automaton → Pattern → ℕ → List Element → List LinearRow
+end_rows a p start past =
+    map negated (guard_rows a (meanings a p start past) (λ i. not (has_rise past i)) 0 a.rise)
+    ++ map (λ l. opposite (counter_row a (meanings a p start past) l)) (filter (must_be_left a p start past) (numbers_from 0 (length a.locations)))
+
+-- the rows of a word, and of rest where it is complete
+unfoldable pub rest_rows : Automaton → Pattern → ℕ → List Element → List LinearRow
+rest_rows a p start past = word_rows a p start past ++ cond (is_complete p past) (end_rows a p start past) []
+
+-- the search of a pattern's words of rest: its words under no pairs, with these rows
+abbrev pub rest_search : Automaton → Pattern → Search
+rest_search a p = record {
+  roots = all_starts a;
+  following = children a p [];
+  complete = λ start past. is_complete p past;
+  unknowns = λ start past. length (meanings a p start past);
+  rows = rest_rows a p;
+}

@@ -1,0 +1,164 @@
+-- Words of a file by the name of their pattern, and the text of their systems.
+use Rattle.std.proofs.Common.{◌≡◌, ◌≢◌, ◌+◌, ◌<◌, ◌≤◌, ◌^◌, ℕ, zero, suc, ℤ, pos, Bool, true, false, nat_lt, List, [], ◌∷◌, length, map, reverse, slice_get, Some, arith, below_more, refl, sym, ap, subst, ◌∙◌}
+use Rattle.std.specs.Prelude.{◌↔◌}
+use Rattle.std.proofs.lemmas.Bool.{false≢true}
+use Rattle.std.proofs.lemmas.Bool.Decides.{nat_tests}
+use Rattle.std.proofs.lemmas.Option.{same_Some}
+use Rattle.ta_linear.specs.declared.row.System.{System}
+use Rattle.ta_automaton.specs.declared.file.File.{File}
+use Rattle.ta_automaton.specs.declared.pattern.Pattern.{Pattern}
+use Rattle.ta_automaton.specs.Lists.{Distinct, Each}
+use Rattle.ta_automaton.specs.Patterns.{pattern_name}
+use Rattle.ta_words.specs.declared.element.Element.{Element}
+use Rattle.ta_words.specs.Calls.{OfPattern}
+use Rattle.ta_words.specs.Words.{Legal, is_complete}
+use Rattle.ta_encode.specs.Code.{SystemOf}
+use Rattle.ta_encode.specs.PatternSearch.{pattern_search}
+use Rattle.ta_encode.specs.System.{SolvesWord}
+use Rattle.ta_encode.proofs.CodeRows.{solution_back, solution_of, unbounded}
+use Rattle.ta_smt.specs.declared.fault.WordFault.{WordFault}
+use Rattle.ta_smt.specs.declared.fault.WordFault.TheVariants as fault
+use Rattle.ta_smt.specs.Admit.{Asked, SystemAsked, asked}
+use Rattle.ta_smt.specs.Denotes.{Denotes}
+use Rattle.ta_smt.specs.Export.{DenotesSolutions, IsNaturalSolution, system_text}
+use Rattle.ta_smt.specs.Named.{IsLegalWord, IsNamed, IsWholeWordOf, IsWordOf, IsWordText, NoWhole, SolvesAsked, Spelling, WholeFaultOf, WholeWordsAreExact, WordFaultOf, WordsAreExact}
+use Rattle.ta_smt.specs.Spelling.{FirstStranger}
+use Rattle.ta_smt.proofs.Admitted.{pending}
+use Rattle.ta_smt.proofs.Spelled.{no_stranger}
+
+-- no pattern of a list has the name of another
+apart : (ps : List Pattern) (i : ℕ) (p : Pattern) (name : List ℕ) → Each (λ other. name ≡ other → ⊥) (map pattern_name ps) → slice_get ps i ≡ Some p → name ≡ p.name → ⊥
+apart [] i p name each at same = absurd (cc)
+apart (q ∷ ps) zero p name each at same = each.0 (same ∙ sym (ap pattern_name (same_Some q p at)))
+apart (q ∷ ps) (suc i) p name each at same = apart ps i p name each.1 at same
+
+-- of patterns with distinct names, one has each name
+one_place : (ps : List Pattern) (i j : ℕ) (p q : Pattern) → Distinct (map pattern_name ps) → slice_get ps i ≡ Some p → slice_get ps j ≡ Some q → p.name ≡ q.name → i ≡ j
+one_place [] i j p q distinct at there same = absurd (cc)
+one_place (x ∷ xs) zero zero p q distinct at there same = refl
+one_place (x ∷ xs) zero (suc j) p q distinct at there same = absurd (apart xs j q x.name distinct.0 there (ap pattern_name (same_Some x p at) ∙ same))
+one_place (x ∷ xs) (suc i) zero p q distinct at there same = absurd (apart xs i p x.name distinct.0 at (ap pattern_name (same_Some x q there) ∙ sym same))
+one_place (x ∷ xs) (suc i) (suc j) p q distinct at there same = ap suc (one_place xs i j p q distinct.1 at there same)
+
+one_number : (file : File) (name : List ℕ) (i j : ℕ) (p q : Pattern) → IsNamed file.patterns name i p → IsNamed file.patterns name j q → i ≡ j
+one_number file name i j p q is are = one_place file.patterns i j p q file.shape.distinct is.at are.at (is.named ∙ sym are.named)
+
+one_named : (file : File) (name : List ℕ) (i j : ℕ) (p q : Pattern) → IsNamed file.patterns name i p → IsNamed file.patterns name j q → p ≡ q
+one_named file name i j p q is are = same_Some p q (sym is.at ∙ ap (slice_get file.patterns) (one_number file name i j p q is are) ∙ are.at)
+
+same_asked : (p q s t : ℕ) (xs ys : List Element) → p ≡ q → s ≡ t → xs ≡ ys → asked p s xs ≡ asked q t ys
+same_asked p q s t xs ys e f g = rw (e, f, g) refl
+
+word_once : (file : File) (spelled : Spelling) (word other : Asked) → IsWordOf file spelled word → IsWordOf file spelled other → other ≡ word
+word_once file spelled word other is are =
+    same_asked other.pattern word.pattern other.start word.start other.elements word.elements
+    (one_number file spelled.name other.pattern word.pattern are.pattern is.pattern are.named is.named)
+    (are.start ∙ sym is.start)
+    (are.elements ∙ sym is.elements)
+
+no_word_fault : (file : File) (spelled : Spelling) (word : Asked) (found : WordFault) → IsWordOf file spelled word → WordFaultOf file spelled found → ⊥
+no_word_fault file spelled word fault.Pattern is bad = bad word.pattern is.pattern is.named
+no_word_fault file spelled word fault.Start is bad = let within = is.begins in let beyond = bad.beyond in omega arith
+no_word_fault file spelled word (fault.Element k) is bad =
+    let same = one_named file spelled.name bad.number word.pattern bad.pattern is.pattern bad.named is.named in
+    no_stranger file.automaton is.pattern spelled.start spelled.elements k is.legal (subst (λ (p : Pattern). FirstStranger file.automaton p spelled.start spelled.elements k) same bad.stranger)
+no_word_fault file spelled word fault.Incomplete is bad = bad
+
+pub words_exact : WordsAreExact
+words_exact file spelled word is = ((λ found bad. no_word_fault file spelled word found is bad), (λ other are. word_once file spelled word other is are))
+
+pub whole_exact : WholeWordsAreExact
+whole_exact file spelled word whole fault.Pattern bad = no_word_fault file spelled word fault.Pattern whole.is bad
+whole_exact file spelled word whole fault.Start bad = no_word_fault file spelled word fault.Start whole.is bad
+whole_exact file spelled word whole (fault.Element k) bad = no_word_fault file spelled word (fault.Element k) whole.is bad
+whole_exact file spelled word whole fault.Incomplete bad =
+    let same = one_named file spelled.name word.pattern bad.word.pattern whole.is.pattern bad.is.pattern whole.is.named bad.is.named in
+    false≢true (sym bad.incomplete ∙ subst (λ (p : Pattern). is_complete p (reverse spelled.elements) ≡ true) same whole.complete)
+
+-- what was found in the order of the faults
+pub no_start : (file : File) (name : List ℕ) (start : ℕ) (elements : List Element) (number : ℕ) → (pattern : Pattern) × IsNamed file.patterns name number pattern → 2 ^ length file.automaton.fall ≤ start → WordFaultOf file (record { name = name; start = start; elements = elements }) fault.Start
+no_start file name start elements number named beyond = record { number = number; pattern = named.0; named = named.1; beyond = beyond }
+
+pub no_child : (file : File) (name : List ℕ) (start : ℕ) (elements : List Element) (number k : ℕ) → (pattern : Pattern) × IsNamed file.patterns name number pattern → start < 2 ^ length file.automaton.fall → ((p : Pattern) → slice_get file.patterns number ≡ Some p → FirstStranger file.automaton p start elements k) → WordFaultOf file (record { name = name; start = start; elements = elements }) (fault.Element k)
+no_child file name start elements number k named begins stranger = record { number = number; pattern = named.0; named = named.1; begins = begins; stranger = stranger named.0 named.1.at }
+
+pub word_found : (file : File) (name : List ℕ) (start : ℕ) (elements word : List Element) (number : ℕ) → (pattern : Pattern) × IsNamed file.patterns name number pattern → start < 2 ^ length file.automaton.fall → word ≡ elements → ((p : Pattern) → slice_get file.patterns number ≡ Some p → Legal file.automaton p start (reverse word)) → IsWordOf file (record { name = name; start = start; elements = elements }) (asked number start word)
+word_found file name start elements word number named begins same legal = record {
+  pattern = named.0;
+  named = named.1;
+  start = refl;
+  begins = begins;
+  elements = same;
+  legal = subst (λ es. Legal file.automaton named.0 start (reverse es)) same (legal named.0 named.1.at);
+}
+
+-- the natural solutions of a system of a word are those of the word
+solves_asked : (file : File) (word : Asked) (system : System) (values : List ℤ) → SystemAsked file word system → IsNaturalSolution system values → SolvesAsked file word values
+solves_asked file word system values is solution = record {
+  pattern = is.pattern;
+  named = is.named;
+  naturals = solution.naturals;
+  are = solution.are;
+  solves = unbounded file.automaton is.pattern [] (pending word) solution.naturals (solution_of (pattern_search file.automaton is.pattern []) (pending word) system solution.naturals is.is solution.solve);
+}
+
+solves_system : (file : File) (word : Asked) (system : System) (values : List ℤ) → SystemAsked file word system → SolvesAsked file word values → IsNaturalSolution system values
+solves_system file word system values is solution =
+    let same = same_Some solution.pattern is.pattern (sym solution.named ∙ is.named) in
+    let solves = subst (λ (p : Pattern). SolvesWord file.automaton p word.start (reverse word.elements) [] solution.naturals) same solution.solves in
+    record {
+      naturals = solution.naturals;
+      are = solution.are;
+      solve = solution_back (pattern_search file.automaton is.pattern []) (pending word) system solution.naturals is.is (record { count = solves.count; rows_hold = solves.rows_hold });
+    }
+
+pub word_text_is : (file : File) (word : Asked) (system : System) (text : List ℕ) → SystemAsked file word system → text ≡ system_text system → DenotesSolutions system text → IsWordText file word text
+word_text_is file word system text is written denotes = record {
+  system = system;
+  is = is;
+  written = written;
+  denotes = λ values. ((λ said. solves_asked file word system values is ((denotes values).0 said)), (λ solves. (denotes values).1 (solves_system file word system values is solves)));
+}
+
+-- a word that a file has is legal
+pub legal_word : (file : File) (spelled : Spelling) (word : Asked) → IsWordOf file spelled word → IsLegalWord file word
+legal_word file spelled word is = record {
+  pattern = is.pattern;
+  named = is.named.at;
+  legal = rw (is.start, is.elements) is.legal;
+}
+
+pub get_within : (ps : List Pattern) (i : ℕ) (p : Pattern) → slice_get ps i ≡ Some p → i < length ps
+get_within [] i p at = absurd (cc)
+get_within (q ∷ ps) zero p at = omega arith
+get_within (q ∷ ps) (suc i) p at = let more = get_within ps i p at in omega arith
+
+pub legal_exists : (file : File) (word : Asked) → IsLegalWord file word → word.pattern < length file.patterns
+legal_exists file word is = get_within file.patterns word.pattern is.pattern is.named
+
+pub legal_of : (file : File) (word : Asked) → IsLegalWord file word → OfPattern file word.pattern (λ p. Legal file.automaton p word.start (reverse word.elements))
+legal_of file word is p at = subst (λ (q : Pattern). Legal file.automaton q word.start (reverse word.elements)) (same_Some is.pattern p (sym is.named ∙ at)) is.legal
+
+-- no pattern so far has the name
+abbrev pub NoneSoFar : List Pattern → List ℕ → ℕ → Type 0
+NoneSoFar ps name i = (k : ℕ) → k < i → (p : Pattern) → slice_get ps k ≡ Some p → p.name ≢ name
+
+pub none_more : (ps : List Pattern) (name : List ℕ) (i : ℕ) (item : Pattern) → slice_get ps i ≡ Some item → item.name ≢ name → NoneSoFar ps name i → NoneSoFar ps name (i + 1)
+none_more ps name i item at other before = below_more _ _ before (λ p is e. other (ap pattern_name (same_Some item p (sym at ∙ is)) ∙ e))
+
+pub none_at_all : (ps : List Pattern) (name : List ℕ) (i : ℕ) → length ps ≤ i → NoneSoFar ps name i → (number : ℕ) (pattern : Pattern) → ¬ IsNamed ps name number pattern
+none_at_all ps name i all before number pattern is = let within = get_within ps number pattern is.at in before number (omega arith) pattern is.at is.named
+
+-- a test of two numbers
+pub below_by : (a b : ℕ) (r : Bool) → r ≡ nat_lt a b → r ≡ true → a < b
+below_by a b r is e = grind (arith, nat_tests)
+
+pub beyond_by : (a b : ℕ) (r : Bool) → r ≡ nat_lt a b → r ≡ false → b ≤ a
+beyond_by a b r is e = grind (arith, nat_tests)
+
+-- a word that is complete, and one that isn't
+pub whole_found : (file : File) (spelled : Spelling) (word : Asked) (r : Bool) → IsWordOf file spelled word → OfPattern file word.pattern (λ p. r ≡ is_complete p (reverse word.elements)) → r ≡ true → IsWholeWordOf file spelled word
+whole_found file spelled word r is told e = record { is = is; complete = ap (λ es. is_complete is.pattern (reverse es)) (sym is.elements) ∙ sym (told is.pattern is.named.at) ∙ e }
+
+pub no_whole : (file : File) (spelled : Spelling) (word : Asked) (r : Bool) → IsWordOf file spelled word → OfPattern file word.pattern (λ p. r ≡ is_complete p (reverse word.elements)) → r ≡ false → NoWhole file spelled
+no_whole file spelled word r is told e = record { word = word; is = is; incomplete = ap (λ es. is_complete is.pattern (reverse es)) (sym is.elements) ∙ sym (told is.pattern is.named.at) ∙ e }

@@ -1,0 +1,10 @@
+use Rattle.std.proofs.Common.{◌≡◌, ◌≤◌, ◌^◌, ◌∙◌, length, ap, arith, nat_lt, refl}
+use Rattle.std.proofs.lemmas.Bool.Decides.{nat_tests}
+use Rattle.ta_cursor.proofs.PatternWords.{shifted}
+use Rattle.ta_smt.proofs.named.begins.Goals as goal
+
+pub returns : goal.returns
+returns c =
+    let a = c.args.file.now.automaton in
+    let shift = shifted (length a.fall) a.shape.limits.fall_limit in
+    rw (c.as_slice.ensures, shift.is) refl

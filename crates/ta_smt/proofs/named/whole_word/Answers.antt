@@ -1,0 +1,12 @@
+use Rattle.ta_smt.specs.Admit.{asked}
+use Rattle.ta_smt.specs.Named.{spelling}
+use Rattle.ta_smt.proofs.WordsNamed.{no_whole, whole_found}
+use Rattle.ta_smt.proofs.named.whole_word.Goals as goal
+
+pub returns-in-Ok-clause-word : goal.returns-in-Ok-clause-word
+returns-in-Ok-clause-word c =
+    whole_found c.args.file.now (spelling c.args.name.now c.args.start_mask c.args.elements.now) (asked c.in-Ok.named.pattern c.in-Ok.named.start_mask c.in-Ok.named.word) c.is_complete.result c.in-Ok.ensures.word c.is_complete.ensures c.if-is_complete.true
+
+pub returns-in-Ok-2-clause-fault : goal.returns-in-Ok-2-clause-fault
+returns-in-Ok-2-clause-fault c =
+    no_whole c.args.file.now (spelling c.args.name.now c.args.start_mask c.args.elements.now) (asked c.in-Ok.named.pattern c.in-Ok.named.start_mask c.in-Ok.named.word) c.is_complete.result c.in-Ok.ensures.word c.is_complete.ensures c.if-is_complete.false

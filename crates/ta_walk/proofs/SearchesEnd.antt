@@ -1,0 +1,202 @@
+-- A search whose words have systems ends.
+use Rattle.std.proofs.Common.{◌≡◌, ◌⊎◌, inl, inr, ℕ, zero, suc, ◌+◌, ◌<◌, ℤ, pos, negsuc, Bool, true, false, List, [], ◌∷◌, ◌++◌, length, length-append, map, slice_get, arith, refl, sym, subst, ◌∙◌}
+use Rattle.std.specs.Prelude.{IsSomeAnd}
+use Rattle.std.specs.Int.{int_div_euclid, int_rem_euclid}
+use Rattle.std.proofs.lemmas.Bool.{true≢false}
+use Rattle.std.proofs.lemmas.Int.{ints}
+use Rattle.ta_linear.proofs.Floor.{floor_low, floor_high}
+use Rattle.ta_linear.specs.declared.row.System.{System}
+use Rattle.ta_automaton.specs.Lists.{Each}
+use Rattle.ta_automaton.specs.Masks.{In}
+use Rattle.ta_cert.specs.declared.line.Node.{Node}
+use Rattle.ta_cert.specs.declared.line.Node.TheVariants as node
+use Rattle.ta_words.specs.declared.element.Element.{Element}
+use Rattle.ta_encode.specs.declared.meaning.Bound.{Bound}
+use Rattle.ta_encode.specs.declared.meaning.Side.{Side}
+use Rattle.ta_encode.specs.declared.meaning.Side.TheVariants.{Low, High}
+use Rattle.ta_encode.specs.Code.{SystemAt}
+use Rattle.ta_encode.specs.Lines.{BoundWithin, BoundsWithin}
+use Rattle.ta_encode.specs.Search.{Pending, Search, Comes, bound_at, bounded, longer, parts}
+use Rattle.ta_cursor.proofs.Beginning.{comes_first}
+use Rattle.ta_simplex.specs.Answers.{HasEnd, RunOverflows}
+use Rattle.ta_simplex.specs.Ends.{IsEnd as IsSystemEnd}
+use Rattle.ta_simplex.specs.declared.End.{End}
+use Rattle.ta_simplex.specs.declared.End.TheVariants as end
+use Rattle.ta_simplex.specs.declared.fraction.Fraction.{Fraction}
+use Rattle.ta_simplex.proofs.RunEndings.{run_ends}
+use Rattle.ta_simplex.proofs.SystemEnds.{end_exists}
+use Rattle.ta_walk.specs.declared.end.PlaceKind.TheVariants as kind
+use Rattle.ta_walk.specs.Answers.{HasSystems, HasEnding, SearchesHaveEnds}
+use Rattle.ta_walk.specs.Ends.{Whole, Solved, Stopped, Left, IsUnbounded, Visited}
+use Rattle.ta_walk.specs.Visit.{AreNumbers, IsAbove, IsWhole, NodeAt, SplitsAt, Visits}
+use Rattle.ta_walk.proofs.SplitsFit.{split_within, split_floor}
+use Rattle.ta_walk.proofs.Vertices.{rest_above, rest_whole}
+use Rattle.ta_walk.proofs.WalkSoFar.{visits_more}
+
+-- ---- the values of a vertex are all whole, or there is a first one that isn't
+
+whole_or_above : (f : Fraction) → IsWhole f ⊎ ((floor : ℤ) × IsAbove floor f)
+whole_or_above f = of_rest (int_rem_euclid f.top f.bottom) refl
+  where
+    quotient : ℤ
+    quotient = int_div_euclid f.top f.bottom
+
+    of_rest : (rest : ℤ) → rest ≡ int_rem_euclid f.top f.bottom → IsWhole f ⊎ ((floor : ℤ) × IsAbove floor f)
+    of_rest (pos zero) is = inl (rest_whole f (pos zero) is refl)
+    of_rest (pos (suc n)) is = inr (quotient, rest_above f (pos (suc n)) quotient is (λ e. absurd (omega (arith, ints))) (floor_low f.top f.bottom quotient f.positive refl) (floor_high f.top f.bottom quotient f.positive refl))
+    of_rest (negsuc n) is = inr (quotient, rest_above f (negsuc n) quotient is (λ e. absurd (omega (arith, ints))) (floor_low f.top f.bottom quotient f.positive refl) (floor_high f.top f.bottom quotient f.positive refl))
+
+-- the first split behind a whole value
+split_behind : (f : Fraction) (fs : List Fraction) (x : ℕ) (floor : ℤ) → IsWhole f → SplitsAt fs x floor → SplitsAt (f ∷ fs) (suc x) floor
+split_behind f fs x floor whole splits = record { before = before; here = splits.here }
+  where
+    before : (y : ℕ) → y < suc x → IsSomeAnd (slice_get (f ∷ fs) y) IsWhole
+    before zero less = whole
+    before (suc y) less = splits.before y (omega arith)
+
+split_first : (f : Fraction) (fs : List Fraction) (floor : ℤ) → IsAbove floor f → SplitsAt (f ∷ fs) 0 floor
+split_first f fs floor above = record { before = λ x less. absurd (omega arith); here = above }
+
+numbers_or_split : (fs : List Fraction) → ((ks : List ℤ) × AreNumbers fs ks) ⊎ ((x : ℕ) × (floor : ℤ) × SplitsAt fs x floor)
+numbers_or_split [] = inl ([], tt)
+numbers_or_split (f ∷ fs) = elim (whole_or_above f) [
+  | inr above ↦ inr (0, above.0, split_first f fs above.0 above.1)
+  | inl whole ↦ elim (numbers_or_split fs) [
+    | inl rest ↦ inl (whole.0 ∷ rest.0, (whole.1, rest.1))
+    | inr rest ↦ inr (suc rest.0, rest.1, split_behind f fs rest.0 rest.1 whole rest.2)
+  ]
+]
+
+-- ---- what is known of each word that is left
+
+-- the search comes to the word, its bounds are of its unknowns, and only a complete word has bounds
+record Lives (s : Search) (w : Pending) : Type 0 where
+  comes : Comes s w.start w.past
+  bounds : BoundsWithin (s.unknowns w.start w.past) w.bounds
+  open_ : IsUnbounded w ⊎ (s.complete w.start w.past ≡ true)
+
+each_append : {X : Type 0} (P : X → Type 0) (xs ys : List X) → Each P xs → Each P ys → Each P (xs ++ ys)
+each_append P [] ys h g = g
+each_append P (x ∷ xs) ys h g = (h.0, each_append P xs ys h.1 g)
+
+unbounded_within : (n : ℕ) (w : Pending) → IsUnbounded w → BoundsWithin n w.bounds
+unbounded_within n w none = subst (BoundsWithin n) (sym none) tt
+
+root_lives : (s : Search) (w : Pending) → In w s.roots → IsUnbounded w → Lives s w
+root_lives s w is none = record {
+  comes = comes_first s w.start w.past (w, is, refl, refl);
+  bounds = unbounded_within (s.unknowns w.start w.past) w none;
+  open_ = inl none;
+}
+
+roots_live : (s : Search) (ws : List Pending) → ((w : Pending) → In w ws → In w s.roots) → Each IsUnbounded ws → Each (Lives s) ws
+roots_live s [] inside all = tt
+roots_live s (w ∷ ws) inside all = (root_lives s w (inside w (inl (let same : w ≡ w = refl in same))) all.0, roots_live s ws (λ v is. inside v (inr is)) all.1)
+
+longer_lives : (s : Search) (w : Pending) → Comes s w.start w.past → IsUnbounded w → (es : List Element) → ((e : Element) → In e es → In e (s.following w.start w.past)) → Each (Lives s) (map (longer w) es)
+longer_lives s w comes none [] inside = tt
+longer_lives s w comes none (e ∷ es) inside = (
+  record {
+    comes = inr (inside e (inl (let same : e ≡ e = refl in same)), comes);
+    bounds = unbounded_within (s.unknowns w.start (e ∷ w.past)) (longer w e) none;
+    open_ = inl none;
+  },
+  longer_lives s w comes none es (λ f is. inside f (inr is)),
+)
+
+is_unbounded : (s : Search) (w : Pending) → Lives s w → s.complete w.start w.past ≡ false → IsUnbounded w
+is_unbounded s w lives going = elim lives.open_ [ inl none ↦ none | inr complete ↦ absurd (true≢false (sym complete ∙ going)) ]
+
+bounded_lives : (s : Search) (w : Pending) (b : Bound) → Lives s w → BoundWithin (s.unknowns w.start w.past) b → s.complete w.start w.past ≡ true → Lives s (bounded w b)
+bounded_lives s w b lives within complete = record {
+  comes = lives.comes;
+  bounds = each_append (BoundWithin (s.unknowns w.start w.past)) w.bounds (b ∷ []) lives.bounds (within, tt);
+  open_ = inr complete;
+}
+
+parts_live : (s : Search) (w : Pending) (n : Node) → Lives s w → NodeAt s w n → Each (Lives s) (parts s w n)
+parts_live s w (node.Leaf ts) lives stands = tt
+parts_live s w node.Extend lives stands = longer_lives s w lives.comes (is_unbounded s w lives stands.going_on) (s.following w.start w.past) (λ e is. is)
+parts_live s w (node.Split unknown floor) lives stands =
+    let below = split_within s w unknown floor stands in
+    let fits = split_floor s w unknown floor stands in
+    let within : (side : Side) → BoundWithin (s.unknowns w.start w.past) (bound_at unknown floor side) = λ side. record { exists = below; least = fits.low; most = fits.high } in
+    (bounded_lives s w (bound_at unknown floor Low) lives (within Low) stands.complete, (bounded_lives s w (bound_at unknown floor High) lives (within High) stands.complete, tt))
+
+-- ---- each word has a node, or ends the search
+
+-- a system has an end, or some pivot of it leaves the range
+system_ends : (s : System) → ¬ HasEnd s → ¬ RunOverflows s → ⊥
+system_ends s no_end no_overflow = run_ends s (λ r. no_end (end_exists s r.0 r.1 r.2 r.3)) no_overflow
+
+module _ (s : Search) (has : HasSystems s) (budget : ℕ) (none : ¬ HasEnding s budget) where
+  -- at a word before which so many nodes were visited, within the budget
+  module _ (w : Pending) (lives : Lives s w) (done : ℕ) (within : done < budget) (visited : Visited s done w) (next : (n : Node) → NodeAt s w n → ⊥) where
+    at_vertex : (system : System) → SystemAt s w system → (values : List Fraction) → IsSystemEnd system (end.Vertex values) → (b : Bool) → s.complete w.start w.past ≡ b → ⊥
+    at_vertex system is values vertex false going = next node.Extend (record { values = values; vertex = record { system = system; is = is; holds = vertex }; going_on = going })
+    at_vertex system is values vertex true complete = elim (numbers_or_split values) [
+      | inl numbers ↦ none (
+        Solved (done + 1) w numbers.0,
+        record {
+          before = done;
+          number_is = refl;
+          within = omega arith;
+          word = w;
+          visited = visited;
+          holds = (refl, record { values = values; vertex = record { system = system; is = is; holds = vertex }; complete = complete; whole = numbers.1 });
+        },
+      )
+      | inr split ↦ next (node.Split split.0 split.1) (record { values = values; vertex = record { system = system; is = is; holds = vertex }; complete = complete; splits = split.2 })
+    ]
+
+    at_leaf : (system : System) → SystemAt s w system → (ts : List (ℕ × ℤ)) → IsSystemEnd system (end.Refuted ts) → ⊥
+    at_leaf system is ts refuted = none (
+      Left (done + 1) kind.Leaf,
+      record {
+        before = done;
+        number_is = refl;
+        within = omega arith;
+        word = w;
+        visited = visited;
+        holds = record {
+          multipliers = ts;
+          refuted = record { system = system; is = is; holds = refuted };
+          leaves = λ stays. next (node.Leaf ts) (record { refuted = record { system = system; is = is; holds = refuted }; in_range = stays });
+        };
+      },
+    )
+
+    at_end : (system : System) → SystemAt s w system → (e : End) → IsSystemEnd system e → ⊥
+    at_end system is (end.Refuted ts) h = at_leaf system is ts h
+    at_end system is (end.Vertex values) h = at_vertex system is values h (s.complete w.start w.past) refl
+
+    at_overflow : (system : System) → SystemAt s w system → RunOverflows system → ⊥
+    at_overflow system is over = none (
+      Left (done + 1) (kind.Pivot over.0),
+      record {
+        before = done;
+        number_is = refl;
+        within = omega arith;
+        word = w;
+        visited = visited;
+        holds = record { system = system; is = is; holds = over.1 };
+      },
+    )
+
+    at_word : ⊥
+    at_word =
+        let system = has.systems w lives.comes lives.bounds in
+        system_ends system.0 (λ e. at_end system.0 system.1 e.0 e.1) (at_overflow system.0 system.1)
+
+  go : (left done : ℕ) (ns : List Node) (ws : List Pending) → Visits s s.roots ns ws → length ns ≡ done → done + left ≡ budget → Each (Lives s) ws → ⊥
+  go left done ns [] visits counted all lives = none (Whole ns (length ns), record { visits = visits; counted = refl; within = omega arith })
+  go zero done ns (w ∷ ws) visits counted all lives = none (Stopped budget, record { counted = refl; word = w; visited = record { nodes = ns; words = ws; visits = visits; counted = omega arith } })
+  go (suc left) done ns (w ∷ ws) visits counted all lives =
+      at_word w lives.0 done (omega arith) (record { nodes = ns; words = ws; visits = visits; counted = counted })
+      (λ n stands. go left (done + 1) (ns ++ n ∷ []) (parts s w n ++ ws) (visits_more s s.roots ns w ws n visits stands) (omega (arith, length-append ns (n ∷ []))) (omega arith) (each_append (Lives s) (parts s w n) ws (parts_live s w n lives.0 stands) lives.1))
+
+  ends : ⊥
+  ends = go budget 0 [] s.roots refl refl (omega arith) (roots_live s s.roots (λ w is. is) has.unbounded)
+
+pub searches_end : SearchesHaveEnds
+searches_end s has budget none = ends s has budget none

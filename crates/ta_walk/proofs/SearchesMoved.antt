@@ -1,0 +1,48 @@
+-- searches that differ in the words with which they begin alone have the same nodes
+use Rattle.std.proofs.Common.{◌≡◌, ℕ, ℤ, List, [], ◌∷◌, ◌++◌, refl, sym, subst}
+use Rattle.ta_linear.specs.declared.row.System.{System}
+use Rattle.ta_cert.specs.declared.line.Node.{Node}
+use Rattle.ta_cert.specs.declared.line.Node.TheVariants as node
+use Rattle.ta_encode.specs.Code.{SystemAt}
+use Rattle.ta_encode.specs.Search.{Pending, Search, parts}
+use Rattle.ta_simplex.specs.LeastIndex.{OverflowsAt}
+use Rattle.ta_simplex.specs.Refuted.{IsRefuted}
+use Rattle.ta_simplex.specs.Vertex.{IsVertex}
+use Rattle.ta_dense.specs.Slack.{slack_tableau}
+use Rattle.ta_walk.specs.declared.end.PlaceKind.{PlaceKind}
+use Rattle.ta_walk.specs.declared.end.PlaceKind.TheVariants as kind
+use Rattle.ta_walk.specs.Visit.{LeavesAt, NodeAt, OfSystem, Visits, WholeAt}
+use Rattle.ta_walk.specs.Inside.Parts.{beginning}
+
+moved_system : (s : Search) (us vs : List Pending) (w : Pending) (fact : System → Type 0) → OfSystem (beginning s us) w fact → OfSystem (beginning s vs) w fact
+moved_system s us vs w fact of = record {
+  system = of.system;
+  is = record { unknowns = of.is.unknowns; rows = of.is.rows };
+  holds = of.holds;
+}
+
+pub moved_node : (s : Search) (us vs : List Pending) (w : Pending) (n : Node) → NodeAt (beginning s us) w n → NodeAt (beginning s vs) w n
+moved_node s us vs w (node.Leaf ts) at = record { refuted = moved_system s us vs w (λ system. IsRefuted system ts) at.refuted; in_range = at.in_range }
+moved_node s us vs w node.Extend at = record { values = at.values; vertex = moved_system s us vs w (λ system. IsVertex system at.values) at.vertex; going_on = at.going_on }
+moved_node s us vs w (node.Split unknown floor) at = record { values = at.values; vertex = moved_system s us vs w (λ system. IsVertex system at.values) at.vertex; complete = at.complete; splits = at.splits }
+
+pub moved_whole : (s : Search) (us vs : List Pending) (w : Pending) (numbers : List ℤ) → WholeAt (beginning s us) w numbers → WholeAt (beginning s vs) w numbers
+moved_whole s us vs w numbers at = record { values = at.values; vertex = moved_system s us vs w (λ system. IsVertex system at.values) at.vertex; complete = at.complete; whole = at.whole }
+
+pub moved_leaves : (s : Search) (us vs : List Pending) (w : Pending) (k : PlaceKind) → LeavesAt (beginning s us) w k → LeavesAt (beginning s vs) w k
+moved_leaves s us vs w (kind.Pivot count) at = moved_system s us vs w (λ system. OverflowsAt (slack_tableau system) count) at
+moved_leaves s us vs w kind.Leaf at = record { multipliers = at.multipliers; refuted = moved_system s us vs w (λ system. IsRefuted system at.multipliers) at.refuted; leaves = at.leaves }
+moved_leaves s us vs w kind.Run at = at
+
+same_parts : (s : Search) (us vs : List Pending) (w : Pending) (n : Node) → parts (beginning s us) w n ≡ parts (beginning s vs) w n
+same_parts s us vs w (node.Leaf ts) = refl
+same_parts s us vs w node.Extend = refl
+same_parts s us vs w (node.Split unknown floor) = refl
+
+pub moved_visits : (s : Search) (us vs : List Pending) (ws : List Pending) (ns : List Node) (rest : List Pending) → Visits (beginning s us) ws ns rest → Visits (beginning s vs) ws ns rest
+moved_visits s us vs ws [] rest v = v
+moved_visits s us vs [] (n ∷ ns) rest v = absurd v
+moved_visits s us vs (w ∷ ws) (n ∷ ns) rest v = (
+  moved_node s us vs w n v.0,
+  subst (λ (ps : List Pending). Visits (beginning s vs) (ps ++ ws) ns rest) (same_parts s us vs w n) (moved_visits s us vs (parts (beginning s us) w n ++ ws) ns rest v.1),
+)

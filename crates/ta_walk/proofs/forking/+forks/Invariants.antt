@@ -1,0 +1,17 @@
+use Rattle.std.proofs.Common.{◌+◌, ◌-◌, ◌*◌, vec_len}
+use Rattle.ta_walk.proofs.forking.+forks.Given as goal
+
+abbrev pub decreases-visit_list : goal.decreases-visit_list
+decreases-visit_list g l = 17179869184 * l.levels + (4 * vec_len l.words + 4)
+
+abbrev pub decreases-visit_halves : goal.decreases-visit_halves
+decreases-visit_halves g l = 17179869184 * l.levels + (4 * (vec_len l.words + vec_len l.others) + 3)
+
+abbrev pub decreases-visit_halves-front : goal.decreases-visit_halves-front
+decreases-visit_halves-front g l = 17179869184 * l.levels + (4 * vec_len l.words + 5)
+
+abbrev pub decreases-visit_halves-back : goal.decreases-visit_halves-back
+decreases-visit_halves-back g l = 17179869184 * l.levels + (4 * vec_len l.others + 5)
+
+abbrev pub decreases-visit_front : goal.decreases-visit_front
+decreases-visit_front g l = 17179869184 * l.levels + 3

@@ -1,0 +1,31 @@
+use Rattle.std.proofs.Common.{◌<◌, ◌^◌, arith, refl, rules, FitsSigned, to_z-of_z}
+use Rattle.std.specs.Int.{w128}
+use Rattle.ta_cursor.specs.Cursors.{here}
+use Rattle.ta_walk.specs.Visit.{SplitVertex}
+use Rattle.ta_walk.proofs.SplitsFit.{split_fits, split_within}
+use Rattle.ta_walk.proofs.WordSoFar.{inside_of}
+use Rattle.ta_walk.proofs.visiting.go_on.Goals as goal
+
+pub split-requires : goal.split-requires
+split-requires g c =
+    let s = g.T.Tree.search c.args.tree.now in
+    let w = here c.args.cursor.now in
+    let split : SplitVertex s w c.in-Split.unknown c.in-Split.floor = rw c.in-Split.is at c.requires.stands in
+    let number : c.in-Split.unknown < 2 ^ 32 = omega arith in
+    let is = split_fits s w c.in-Split.unknown c.in-Split.floor split number in
+    let low = is.low in
+    let high = is.high in
+    let f : FitsSigned w128 c.in-Split.floor = search rules in
+    simp to_z-of_z is
+
+pub returns-in-Leaf : goal.returns-in-Leaf
+returns-in-Leaf g c = λ w words all. rw c.in-Leaf.is (c.leave.ensures words (inside_of (g.T.Tree.search c.args.tree.now) c.args.cursor.now w words all))
+
+pub returns-in_ok-split-in-Split : goal.returns-in_ok-split-in-Split
+returns-in_ok-split-in-Split g c = λ w words all.
+    let s = g.T.Tree.search c.args.tree.now in
+    let split : SplitVertex s (here c.args.cursor.now) c.in-Split.unknown c.in-Split.floor = rw c.in-Split.is at c.requires.stands in
+    let unknown = split_within s (here c.args.cursor.now) c.in-Split.unknown c.in-Split.floor split in
+    let f : FitsSigned w128 c.in-Split.floor = search rules in
+    let told = simp to_z-of_z at (c.in_ok-split-in-Split.ensures s w words all unknown) in
+    rw c.in-Split.is (refl, told)

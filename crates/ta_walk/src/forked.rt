@@ -1,0 +1,178 @@
+//! The walk of a pattern whose parts are visited beside each other.
+#![tactic(auto)]
+
+ghost use Rattle.std.specs.Prelude.{◌<◌, ◌≤◌, ◌≡◌, [], IfOk, is_some, length, true, false};
+ghost use Rattle.ta_words.specs.Calls.{OfPattern};
+ghost use Rattle.ta_walk.specs.Ends.{IsEnd, IsTreeEnd, IsVisitEnd};
+ghost use Rattle.ta_walk.specs.Inside.Parts.{PartEnds, search_of};
+
+use crate::end::{TreeEnd, VisitEnd, WalkEnd};
+use crate::forking::visit_list;
+use crate::gate::{Gate, Idle};
+use crate::keeper::{Keeper, Nodes, PartKeeper};
+use crate::part::{Part, Watch};
+use crate::roots::roots_of;
+use std::alloc::{AllocError, Global};
+use std::sync::atomic::AtomicU64;
+use std::thread::Threads;
+use ta_cert::List;
+use ta_cursor::PatternTree;
+use ta_dense::Dictionary;
+use ta_encode::Solution;
+use ta_implied::Orders;
+use ta_scope::ScopedFile;
+
+/// How many lists of words in one another are forked where a search begins with several words; one
+/// more where it begins with one.
+const LEVELS: u32 = 0;
+
+/// Visits the tree of a pattern as `walk` does, its parts beside each other; the end is that of one
+/// thread which visits them in order. Each half of a fork goes through the gate before its first
+/// node.
+pub fn walk_gated<D: Dictionary, R: Threads + Sync, G: Gate>(
+    rt: &R,
+    alloc: Global,
+    scoped: &ScopedFile,
+    pattern: u32,
+    orders: &Orders,
+    nodes: u64,
+    gate: &G,
+) -> Result<WalkEnd, AllocError>
+    requires exists { pattern < length scoped.now.file.patterns }
+    requires some { 0 < nodes }
+    requires limit { nodes ≤ 1000000000 }
+    ensures { IfOk result (λ end. OfPattern scoped.now.file pattern (λ p. IsEnd scoped.now.file.automaton p orders.now pattern nodes end)) }
+{
+    let mut kept = Nodes {
+        items: Vec::new(alloc),
+    };
+    match visit_gated::<D, Nodes, R, G>(
+        rt, alloc, scoped, pattern, orders, nodes, gate, &mut kept,
+    )? {
+        VisitEnd::Refuted { count, .. } => Ok(WalkEnd::Refuted {
+            nodes: List::from_vec(kept.items),
+            count,
+        }),
+        VisitEnd::Found { count, solution } => Ok(WalkEnd::Found { count, solution }),
+        VisitEnd::Spent { count } => Ok(WalkEnd::Spent { count }),
+        VisitEnd::Overflow { node, kind } => Ok(WalkEnd::Overflow { node, kind }),
+    }
+}
+
+/// Visits the tree of a pattern as `walk` does, and hands the nodes on in order: those of the first
+/// part as they come, those of a later one when the parts before it ended.
+pub fn visit_forked<D: Dictionary, K: PartKeeper, R: Threads + Sync>(
+    rt: &R,
+    alloc: Global,
+    scoped: &ScopedFile,
+    pattern: u32,
+    orders: &Orders,
+    nodes: u64,
+    keeper: &mut K,
+) -> Result<VisitEnd, AllocError>
+    requires exists { pattern < length scoped.now.file.patterns }
+    requires some { 0 < nodes }
+    requires limit { nodes ≤ 1000000000 }
+    requires keeps { K.keeps keeper.old keeper.old [] }
+    ensures { IfOk result (λ end. OfPattern scoped.now.file pattern (λ p. IsVisitEnd scoped.now.file.automaton p orders.now pattern nodes (K.keeps keeper.old keeper.new) end)) }
+{
+    visit_gated::<D, K, R, Idle>(rt, alloc, scoped, pattern, orders, nodes, &Idle {}, keeper)
+}
+
+/// Visits the tree of a pattern as `visit_forked` does, through a gate.
+fn visit_gated<D: Dictionary, K: PartKeeper, R: Threads + Sync, G: Gate>(
+    rt: &R,
+    alloc: Global,
+    scoped: &ScopedFile,
+    pattern: u32,
+    orders: &Orders,
+    nodes: u64,
+    gate: &G,
+    keeper: &mut K,
+) -> Result<VisitEnd, AllocError>
+    requires exists { pattern < length scoped.now.file.patterns }
+    requires some { 0 < nodes }
+    requires limit { nodes ≤ 1000000000 }
+    requires keeps { K.keeps keeper.old keeper.old [] }
+    ensures { IfOk result (λ end. OfPattern scoped.now.file pattern (λ p. IsVisitEnd scoped.now.file.automaton p orders.now pattern nodes (K.keeps keeper.old keeper.new) end)) }
+{
+    let tree = PatternTree::new(&scoped.file, pattern, orders);
+    match fork_tree::<D, K, R, G>(rt, alloc, &tree, nodes, gate, keeper)? {
+        TreeEnd::Refuted { count, leaves } => Ok(VisitEnd::Refuted { count, leaves }),
+        TreeEnd::Found {
+            count,
+            start_mask,
+            word,
+            values,
+        } => Ok(VisitEnd::Found {
+            count,
+            solution: Solution {
+                pattern,
+                start_mask,
+                word,
+                values,
+            },
+        }),
+        TreeEnd::Spent { count } => Ok(VisitEnd::Spent { count }),
+        TreeEnd::Overflow { node, kind } => Ok(VisitEnd::Overflow { node, kind }),
+    }
+}
+
+/// Visits the trees of a search, one for each word with which it begins, at most so many nodes of
+/// them, and hands the nodes on in order. The halves of a list of words are visited beside each other,
+/// each behind the gate.
+fn fork_tree<D: Dictionary, K: PartKeeper, R: Threads + Sync, G: Gate>(
+    rt: &R,
+    alloc: Global,
+    tree: &PatternTree<'_>,
+    nodes: u64,
+    gate: &G,
+    keeper: &mut K,
+) -> Result<TreeEnd, AllocError>
+    requires limit { nodes ≤ 1000000000 }
+    requires keeps { K.keeps keeper.old keeper.old [] }
+    ensures { IfOk result (IsTreeEnd (search_of tree.now) nodes (K.keeps keeper.old keeper.new)) }
+{
+    let hasty = visit_parts::<D, K, R, G>(rt, alloc, tree, nodes, gate, false, keeper)?;
+    if let Some(end) = hasty {
+        return Ok(end);
+    }
+    let patient = visit_parts::<D, K, R, G>(rt, alloc, tree, nodes, gate, true, keeper)?;
+    match patient {
+        Some(end) => Ok(end),
+        None => unreachable!(),
+    }
+}
+
+/// Visits the trees of a search as `fork_tree` does. It has no end where a part was given up that
+/// matters; no part is given up by who is patient.
+fn visit_parts<D: Dictionary, K: PartKeeper, R: Threads + Sync, G: Gate>(
+    rt: &R,
+    alloc: Global,
+    tree: &PatternTree<'_>,
+    nodes: u64,
+    gate: &G,
+    patient: bool,
+    keeper: &mut K,
+) -> Result<Option<TreeEnd>, AllocError>
+    requires limit { nodes ≤ 1000000000 }
+    requires keeps { K.keeps keeper.old keeper.old [] }
+    ensures ends { IfOk result (PartEnds (search_of tree.now) nodes (K.keeps keeper.old keeper.new)) }
+    ensures patient { patient ≡ true → IfOk result (λ end. is_some end ≡ true) }
+    ensures kept { IfOk result (λ end. is_some end ≡ false → keeper.new ≡ keeper.old) }
+{
+    let decided = AtomicU64::new(u64::MAX);
+    let watch = Watch::new(&decided, patient);
+    let late = keeper.later(alloc)?;
+    let words = roots_of(alloc, tree)?;
+    let levels = if words.len() > 1 { LEVELS } else { LEVELS + 1 };
+    let part = visit_list::<D, K, R, G>(rt, alloc, tree, gate, watch, words, levels, nodes, late)?;
+    let Part { end, keeper: late } = part;
+    match end {
+        None => Ok(None),
+        Some(end) => {
+            keeper.append(alloc, late)?;
+            Ok(Some(end))
+        }
+    }
+}
