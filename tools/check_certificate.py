@@ -1,17 +1,18 @@
 #!/usr/bin/env python3
 """Judges a certificate without `tav`: for people who trust nobody's proofs.
 
-    tools/check_certificate.py FILE CERT
+    tools/check_certificate.py [--rest] FILE CERT
 
 Written from docs/FORMATS.md alone, it shares nothing with `tav`, and is plain before it is fast. It prints what
-`tav check FILE CERT` prints, with its status: 0 where CERT is accepted, 3 where FILE is missing or at fault, 4 where
-CERT is, 5 for other words, 6 where reading fails. The limits of both (F6 to F8, lengths) aren't tested here, and of
-a FILE with several faults another one may be told.
+`tav check FILE CERT` prints, or with --rest what `tav rest-check FILE CERT` does, with its status: 0 where CERT is
+accepted, 3 where FILE is missing or at fault, 4 where CERT is, 5 for other words, 6 where reading fails. The limits of
+both (F6 to F8, lengths) aren't tested here, and of a FILE with several faults another one may be told.
 
 A certificate is a tree of cases. A leaf multiplies some rows (each says `row >= 0`) and adds them; where the sum
 has no positive coefficient and a negative constant, no natural numbers meet the rows, and the case can't come
 about. So read `judge_leaf`, then `System` (which rows), `follow` (which cases), `order` (which guard may be asked for
-before another), and last `Automaton`, the reader.
+before another), and last `Automaton`, the reader. Of runs that have come to rest read `at_rest` (which rows more) and
+`endings` too.
 """
 
 import copy
@@ -166,6 +167,16 @@ class Automaton:
             on_cycle = rule.updates and self.leads(rule.target, rule.source)
             need(not on_cycle, f"F11 cycle with updates at rule {number}")
 
+    def endings(self):
+        """Lets the last event of each pattern come after all its others, and gives a pattern without events one."""
+        for number, rule in enumerate(self.rules):
+            on_cycle = rule.source != rule.target and self.leads(rule.target, rule.source)
+            need(not on_cycle, f"F14 longer cycle at rule {number}")
+        for number, pattern in enumerate(self.patterns):
+            *others, last = pattern.events or [Event("rest", set(), [])]
+            ending = others + [last._replace(after={it.name for it in others})]
+            self.patterns[number] = pattern._replace(events=ending)
+
     def place(self, kind):
         name = self.fresh(self.kind_of)
         self.kind_of[name] = kind
@@ -227,9 +238,10 @@ class System:
     """The unknowns and rows of a word, but for its bounds. `moment` has the value of each place at the word's end, as
     a form over the numbers of the unknowns."""
 
-    def __init__(self, automaton, pattern, start, before):
-        """The empty word, with a start set of fall guards; `before` has for each rise guard those that come first."""
-        self.automaton, self.pattern, self.before = automaton, pattern, before
+    def __init__(self, automaton, pattern, start, before, rest=False):
+        """The empty word, with a start set of fall guards; `before` has for each rise guard those that come first;
+        `rest` tells whether a run is to have come to rest at the end of a complete word."""
+        self.automaton, self.pattern, self.before, self.rest = automaton, pattern, before, rest
         self.events, self.rises, self.fallen = set(), set(), start
         begins = [name for name in automaton.initial if name not in pattern.empty]
         self.unknowns = len(automaton.parameters + begins)
@@ -246,10 +258,23 @@ class System:
             total = combined(total, row[name], self.moment[name])
         return total
 
+    def is_complete(self):
+        return len(self.events) == len(self.pattern.events)
+
+    def at_rest(self):
+        """The rows of rest at the word's end: no other guard is true, and nobody can leave where he is."""
+        if not self.rest or not self.is_complete():
+            return []
+        held = [row for i, row in enumerate(self.automaton.rise) if i not in self.rises]
+        moves = [it for it in self.automaton.rules if it.source != it.target]
+        left = {it.source for it in moves if it.rise <= self.rises and not it.fall & self.fallen} - self.pattern.empty
+        nobody = [combined({}, -1, self.moment[name]) for name in self.automaton.locations if name in left]
+        return [negated(self.value(row)) for row in held] + nobody
+
     def children(self):
         """The elements that may follow, in order; none where every event has happened."""
         events = self.pattern.events
-        if len(self.events) == len(events):
+        if self.is_complete():
             return []
         ready = [("event", e) for e, it in enumerate(events) if it.name not in self.events and it.after <= self.events]
         rises = [("rise", i) for i, first in enumerate(self.before) if i not in self.rises and first <= self.rises]
@@ -359,15 +384,16 @@ def order(automaton, before, lines, one, other):
     before[other].add(one)
 
 
-def follow(automaton, pattern, before, lines):
+def follow(automaton, pattern, before, lines, rest):
     """Reads a tree for each start set, its nodes in preorder: in place of a node come the cases that it makes."""
-    todo = [(System(automaton, pattern, start, before), (), ()) for start in reversed(subsets(len(automaton.fall)))]
+    starts = reversed(subsets(len(automaton.fall)))
+    todo = [(System(automaton, pattern, start, before, rest), (), ()) for start in starts]
     while todo:
         system, element, bounds = todo.pop()
         system = system.longer(*element) if element else system
         kind, numbers = lines.take("e", "s", "f")
         if kind == "f":
-            judge_leaf(system, bounds, list(zip(numbers[::2], numbers[1::2])))
+            judge_leaf(system, system.at_rest() + list(bounds), list(zip(numbers[::2], numbers[1::2])))
         elif kind == "e":
             need(system.children(), "C8 extension of a complete word")
             todo += [(system, child, bounds) for child in reversed(system.children())]
@@ -378,10 +404,10 @@ def follow(automaton, pattern, before, lines):
                 todo.append((system, (), bounds + (side,)))
 
 
-def judge(automaton, lines):
-    """The numbers of the patterns that a certificate proves."""
+def judge(automaton, lines, rest):
+    """The numbers of the patterns that a certificate proves. One of rest has no orders."""
     proved, before, first = set(), [set() for _ in automaton.rise], lines.line()
-    need(first in (b"threshold-certificate 1", b"threshold-certificate 2"), "C1 malformed")
+    need(first in (b"threshold-certificate 1", b"threshold-certificate 2")[: 1 if rest else 2], "C1 malformed")
     kind, numbers = lines.take(*("pattern", "end") if first.endswith(b"1") else ("o",))
     while kind == "o":
         order(automaton, before, lines, *numbers)
@@ -390,7 +416,7 @@ def judge(automaton, lines):
         number = numbers[0]
         need(number < len(automaton.patterns), "C3 unknown pattern")
         need(number not in proved, "C11 repeated pattern")
-        follow(automaton, automaton.patterns[number], before, lines)
+        follow(automaton, automaton.patterns[number], before, lines, rest)
         proved.add(number)
         kind, numbers = lines.take("pattern", "end")
     lines.number += 1
@@ -399,6 +425,8 @@ def judge(automaton, lines):
 
 
 def main(words):
+    rest = words[:1] == ["--rest"]
+    words = words[1:] if rest else words
     if len(words) != 2:
         print(__doc__.strip(), file=sys.stderr)
         return 5
@@ -406,18 +434,21 @@ def main(words):
     try:
         with open(name, "rb") as file:
             automaton = Automaton(file.read())
+        if rest:
+            automaton.endings()
         name, status = words[1], 4
         with open(name, "rb") as file:
             lines = Lines(file)
-            proved = judge(automaton, lines)
+            proved = judge(automaton, lines, rest)
     except (Fault, OSError) as fault:
         told = f"{fault} at line {lines.number}" if lines else fault
         why = told if isinstance(fault, Fault) else "missing" if isinstance(fault, FileNotFoundError) else "read failed"
         print(f"tav: {name}: {why}", file=sys.stderr)
         return 6 if why == "read failed" else status
     print(f"automaton {automaton.name}")
+    told = "rest proved" if rest else "proved"
     for number, pattern in enumerate(automaton.patterns):
-        print(f"pattern {pattern.name}: {'proved' if number in proved else 'not proved'}")
+        print(f"pattern {pattern.name}: {told if number in proved else f'not {told}'}")
     return 0
 
 

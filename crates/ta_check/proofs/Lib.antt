@@ -10,7 +10,7 @@ mod PairSystems
 mod LeafFaults
 mod Reasons
 mod Refusing
-mod OneFault
+pub mod OneFault
 mod Pieces
 mod Answering
 mod Leaves

@@ -14,4 +14,5 @@ mod Lasts
 mod Masks
 mod Counted
 mod Excluding
+pub mod Once
 mod AlwaysStarts

@@ -2,4 +2,5 @@ pub mod Units
 pub mod Pieces
 pub mod Tales
 pub mod Faults
+pub mod Determined
 pub mod Inside

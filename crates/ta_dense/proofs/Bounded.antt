@@ -1,7 +1,7 @@
 -- bounds of rows, and what they keep
 use Rattle.std.proofs.Common.{◌≡◌, inl, inr, ℕ, suc, ◌<◌, ◌≤◌, ◌+◌, ◌*◌, ◌/◌, ◌^◌, List, ◌∷◌, length, map, set, get_or, arith, sym, refl, ap, ◌∙◌, ℤ, pos, negsuc, neg_ℤ, ◌+ℤ◌, ◌-ℤ◌, ◌*ℤ◌, ◌<ℤ◌, ◌≤ℤ◌, unsigned_abs, get_or-set_same, get_or-set_other}
 use Rattle.std.specs.Prelude.{int_div}
-use Rattle.std.specs.Int.{w64}
+use Rattle.std.specs.Int.{w32}
 use Rattle.std.proofs.lemmas.Bool.{cases_eq}
 use Rattle.std.proofs.lemmas.Int.{ints, unsigned_abs-mul, fits_signed_from_abs}
 use Rattle.std.proofs.lemmas.List.{length-set}
@@ -12,22 +12,22 @@ use mir.Val.{SFits}
 use Rattle.ta_linear.specs.Numbers.{InRange}
 use Rattle.ta_dense.specs.Tableau.{TableauRow, combine, merged_by, divided, turned, divisor_of, factor_divisor}
 use Rattle.ta_dense.specs.Merge.{CombinesInRange, MergesByInRange}
-use Rattle.ta_dense.specs.Bounds.{AreBounded, IsBound, CombinesIn64, AllCombineIn64}
+use Rattle.ta_dense.specs.Bounds.{AreBounded, IsBound, CombinesIn32, AllCombineIn32}
 use Rattle.ta_linear.proofs.GcdLemmas.{IsGcd-gcd_of}
 use Rattle.ta_dense.proofs.Divide.{unsigned_abs-neg, gcd_with_divides}
 use Rattle.ta_dense.proofs.PivotLaws.{length-combine, get_or-combine}
 use Rattle.ta_dense.proofs.ReduceFacts.{zero_minus, div-one, factors_positive}
 
 abbrev pub IsSmall : ℤ → Type 0
-IsSmall z = unsigned_abs z < 2 ^ 63
+IsSmall z = unsigned_abs z < 2 ^ 31
 
-pub fits64 : (z : ℤ) (t : ℕ) → unsigned_abs z ≤ t → t < 2 ^ 63 → SFits w64 z
-fits64 z t h k = fits_signed_from_abs w64 z (omega arith)
+pub fits32 : (z : ℤ) (t : ℕ) → unsigned_abs z ≤ t → t < 2 ^ 31 → SFits w32 z
+fits32 z t h k = fits_signed_from_abs w32 z (omega arith)
 
-pub fits_minus64 : (z : ℤ) → IsSmall z → SFits w64 (pos 0 -ℤ z)
-fits_minus64 z h =
+pub fits_minus32 : (z : ℤ) → IsSmall z → SFits w32 (pos 0 -ℤ z)
+fits_minus32 z h =
     let same : unsigned_abs (pos 0 -ℤ z) ≡ unsigned_abs z = ap unsigned_abs (zero_minus z) ∙ unsigned_abs-neg z in
-    fits_signed_from_abs w64 (pos 0 -ℤ z) (omega arith)
+    fits_signed_from_abs w32 (pos 0 -ℤ z) (omega arith)
 
 -- absolute values of differences, products and quotients
 abs_upper : (z : ℤ) → z ≤ℤ pos (unsigned_abs z)
@@ -73,17 +73,17 @@ combines_below p a q c b d h k =
       difference = difference_le (p *ℤ a) (q *ℤ c) (unsigned_abs p * b) (unsigned_abs q * d) x y;
     }
 
-pub in64 : (p a q c : ℤ) (t : ℕ) → CombinesBelow p a q c t → t < 2 ^ 63 → CombinesIn64 p a q c
-in64 p a q c t h k = record {
-  left = fits64 (p *ℤ a) t h.left k;
-  right = fits64 (q *ℤ c) t h.right k;
-  difference = fits64 (p *ℤ a -ℤ q *ℤ c) t h.difference k;
+pub in32 : (p a q c : ℤ) (t : ℕ) → CombinesBelow p a q c t → t < 2 ^ 31 → CombinesIn32 p a q c
+in32 p a q c t h k = record {
+  left = fits32 (p *ℤ a) t h.left k;
+  right = fits32 (q *ℤ c) t h.right k;
+  difference = fits32 (p *ℤ a -ℤ q *ℤ c) t h.difference k;
 }
 
-in_range_of : (z : ℤ) (t : ℕ) → unsigned_abs z ≤ t → t < 2 ^ 63 → InRange z
+in_range_of : (z : ℤ) (t : ℕ) → unsigned_abs z ≤ t → t < 2 ^ 31 → InRange z
 in_range_of z t h k = omega arith
 
-combines_in_range : (p a q c : ℤ) (t : ℕ) → CombinesBelow p a q c t → t < 2 ^ 63 → CombinesInRange p a q c
+combines_in_range : (p a q c : ℤ) (t : ℕ) → CombinesBelow p a q c t → t < 2 ^ 31 → CombinesInRange p a q c
 combines_in_range p a q c t h k = record {
   left = in_range_of (p *ℤ a) t h.left k;
   right = in_range_of (q *ℤ c) t h.right k;
@@ -93,9 +93,9 @@ combines_in_range p a q c t h k = record {
 pub cell_le : (xs : List ℤ) (b j : ℕ) → AreBounded b xs → j < length xs → unsigned_abs (get_or xs j (pos 0)) ≤ b
 cell_le xs b j all h = all j (pos 0) h
 
-pub cells_in64 : (p q : ℤ) (b d : ℕ) (xs cs : List ℤ) → length xs ≡ length cs → AreBounded b xs → AreBounded d cs → unsigned_abs p * b + unsigned_abs q * d < 2 ^ 63 → AllCombineIn64 p q xs cs
-cells_in64 p q b d xs cs e x c within j h =
-    in64 p (get_or xs j (pos 0)) q (get_or cs j (pos 0)) (unsigned_abs p * b + unsigned_abs q * d) (combines_below p (get_or xs j (pos 0)) q (get_or cs j (pos 0)) b d (cell_le xs b j x h) (cell_le cs d j c (omega arith))) within
+pub cells_in32 : (p q : ℤ) (b d : ℕ) (xs cs : List ℤ) → length xs ≡ length cs → AreBounded b xs → AreBounded d cs → unsigned_abs p * b + unsigned_abs q * d < 2 ^ 31 → AllCombineIn32 p q xs cs
+cells_in32 p q b d xs cs e x c within j h =
+    in32 p (get_or xs j (pos 0)) q (get_or cs j (pos 0)) (unsigned_abs p * b + unsigned_abs q * d) (combines_below p (get_or xs j (pos 0)) q (get_or cs j (pos 0)) b d (cell_le xs b j x h) (cell_le cs d j c (omega arith))) within
 
 -- the bound of a merged row
 pub IsBound-merged_by : (p q : ℤ) (b d column : ℕ) (chosen r : TableauRow) → length r.cells ≡ length chosen.cells → column < length chosen.cells → IsBound d chosen → IsBound b r →
@@ -118,7 +118,7 @@ IsBound-merged_by p q b d column chosen r same h c k =
     }
 
 -- no listed product or difference of such a merge leaves the range
-pub merges_by_in_range : (p q : ℤ) (b d column : ℕ) (chosen r : TableauRow) → length r.cells ≡ length chosen.cells → IsBound d chosen → IsBound b r → unsigned_abs p * b + unsigned_abs q * d < 2 ^ 63 → MergesByInRange p q column chosen r
+pub merges_by_in_range : (p q : ℤ) (b d column : ℕ) (chosen r : TableauRow) → length r.cells ≡ length chosen.cells → IsBound d chosen → IsBound b r → unsigned_abs p * b + unsigned_abs q * d < 2 ^ 31 → MergesByInRange p q column chosen r
 merges_by_in_range p q b d column chosen r same c k within =
     let turned_le = product_le q chosen.denominator d c.denominator in
     let own_le = product_le p r.denominator b k.denominator in
@@ -152,25 +152,25 @@ IsBound-turned b entering column r h k = record {
 }
 
 -- smaller factors show as much
-pub factors_below : (c a : ℤ) (g b d : ℕ) → unsigned_abs c * b + unsigned_abs a * d < 2 ^ 63 → unsigned_abs (int_div c (pos g)) * b + unsigned_abs (int_div a (pos g)) * d < 2 ^ 63
+pub factors_below : (c a : ℤ) (g b d : ℕ) → unsigned_abs c * b + unsigned_abs a * d < 2 ^ 31 → unsigned_abs (int_div c (pos g)) * b + unsigned_abs (int_div a (pos g)) * d < 2 ^ 31
 factors_below c a g b d h =
     let x = mul-le-mul_right b (quotient_le c g) in
     let y = mul-le-mul_right d (quotient_le a g) in
     omega arith
 
--- divisors of positive numbers of 64 bits
+-- divisors of positive numbers of 32 bits
 abs_positive : (z : ℤ) → pos 0 <ℤ z → 0 < unsigned_abs z
 abs_positive (pos n) h = omega (arith, ints, h)
 abs_positive (negsuc n) h = omega arith
 
-small_positive : (z : ℤ) → SFits w64 z → pos 0 <ℤ z → unsigned_abs z < 2 ^ 63
+small_positive : (z : ℤ) → SFits w32 z → pos 0 <ℤ z → unsigned_abs z < 2 ^ 31
 small_positive (pos n) f h = let s = f.sfits in omega arith
 small_positive (negsuc n) f h = absurd (omega (arith, ints, h))
 
 pub divisor_le : (r : TableauRow) → pos 0 <ℤ r.denominator → divisor_of r ≤ unsigned_abs r.denominator
 divisor_le r h = le_of_dvd (abs_positive r.denominator h) (gcd_with_divides (r.constant ∷ r.cells) (unsigned_abs r.denominator)).0
 
-pub factor_small : (c a : ℤ) (g : ℕ) → g ≡ factor_divisor c a → pos 0 <ℤ c → SFits w64 c → (0 < g) × (g < 2 ^ 63)
+pub factor_small : (c a : ℤ) (g : ℕ) → g ≡ factor_divisor c a → pos 0 <ℤ c → SFits w32 c → (0 < g) × (g < 2 ^ 31)
 factor_small c a g e h f =
     let some = (factors_positive c a h).0 in
     let le = le_of_dvd (abs_positive c h) (IsGcd-gcd_of (unsigned_abs c) (unsigned_abs a)).0 in

@@ -1,4 +1,4 @@
--- rows of 64-bit numbers before and after a merge
+-- rows of 32-bit numbers before and after a merge
 use Rattle.std.proofs.Common.{◌≡◌, ℕ, ◌<◌, ◌+◌, ◌-◌, ◌*◌, ◌^◌, List, ◌∷◌, ◌++◌, length, get_or, arith, sym, refl, ap, ◌∙◌, subst, ℤ, pos, ◌<ℤ◌, unsigned_abs}
 use Rattle.std.proofs.lemmas.List.{length-map, length-append, get_or-map, get_or_append_left, get_or-append_right}
 use Rattle.std.proofs.lemmas.List.Elements.{All-append, All-cons, All-head, All-tail}
@@ -6,7 +6,7 @@ use Rattle.std.specs.Prelude.{int_div}
 use Rattle.ta_dense.specs.Tableau.{TableauRow, cell_of, merged_by, reduced, turned, divisor_of, factor_divisor, no_row}
 use Rattle.ta_dense.specs.Merge.{IsProper, MergesInRange, RowsMergeBelow}
 use Rattle.ta_dense.specs.Bounds.{IsBound}
-use Rattle.ta_dense.specs.Narrow.{narrow_view, narrow_views, IsNarrow, AreNarrow, MergesIn64, AllMergeIn64, narrow_at}
+use Rattle.ta_dense.specs.Narrow.{narrow_view, narrow_views, IsNarrow, AreNarrow, MergesIn32, AllMergeIn32, narrow_at}
 use Rattle.ta_dense.specs.declared.narrow_rows.NarrowRow.{NarrowRow}
 use Rattle.ta_dense.proofs.ProperFacts.{IsProper-reduced, IsProper-merged_by, IsProper-turned}
 use Rattle.ta_dense.proofs.PivotParts.{Cut, cut_by, at_row}
@@ -16,14 +16,14 @@ pub narrow_itself : (n : ℕ) (r : NarrowRow) → IsNarrow n r → IsNarrow (len
 narrow_itself n r k = subst (λ (m : ℕ). IsNarrow m r) (sym k.proper.long) k
 
 -- a row is as narrow as one with the same numbers and the same bound
-narrow_from : (n : ℕ) (r : NarrowRow) (x : TableauRow) (b : ℕ) → narrow_view r ≡ x → r.bound ≡ b → IsProper n x → IsBound b x → b < 2 ^ 63 → IsNarrow n r
+narrow_from : (n : ℕ) (r : NarrowRow) (x : TableauRow) (b : ℕ) → narrow_view r ≡ x → r.bound ≡ b → IsProper n x → IsBound b x → b < 2 ^ 31 → IsNarrow n r
 narrow_from n r x b e f proper bounded fits = record {
   proper = subst (IsProper n) (sym e) proper;
   bounded = subst (λ (y : TableauRow). IsBound r.bound y) (sym e) (subst (λ (m : ℕ). IsBound m x) (sym f) bounded);
   fits = rw f fits;
 }
 
-pub narrow_merged_by : (n column : ℕ) (chosen r new : NarrowRow) (p q : ℤ) → column < n → pos 0 <ℤ p → IsNarrow n chosen → IsNarrow n r → unsigned_abs p * r.bound + unsigned_abs q * chosen.bound < 2 ^ 63 →
+pub narrow_merged_by : (n column : ℕ) (chosen r new : NarrowRow) (p q : ℤ) → column < n → pos 0 <ℤ p → IsNarrow n chosen → IsNarrow n r → unsigned_abs p * r.bound + unsigned_abs q * chosen.bound < 2 ^ 31 →
     narrow_view new ≡ merged_by p q column (narrow_view chosen) (narrow_view r) → new.bound ≡ unsigned_abs p * r.bound + unsigned_abs q * chosen.bound → IsNarrow n new
 narrow_merged_by n column chosen r new p q h positive c k within e f =
     let same : length r.cells.items ≡ length chosen.cells.items = k.proper.long ∙ sym c.proper.long in
@@ -41,14 +41,14 @@ narrow_turned n column entering r new h positive k e f =
     let long = k.proper.long in
     narrow_from n new (turned entering column (narrow_view r)) r.bound e f (IsProper-turned n column entering (narrow_view r) h positive k.proper) (IsBound-turned r.bound entering column (narrow_view r) (omega arith) k.bounded) k.fits
 
--- what fits 64 bits is in range
-merge_in_range : (n column : ℕ) (chosen r : NarrowRow) → IsNarrow n chosen → IsNarrow n r → MergesIn64 column chosen r → MergesInRange column (narrow_view chosen) (narrow_view r)
+-- what fits 32 bits is in range
+merge_in_range : (n column : ℕ) (chosen r : NarrowRow) → IsNarrow n chosen → IsNarrow n r → MergesIn32 column chosen r → MergesInRange column (narrow_view chosen) (narrow_view r)
 merge_in_range n column chosen r c k m apart =
     let g = factor_divisor (cell_of (narrow_view chosen) column) (cell_of (narrow_view r) column) in
     merges_by_in_range (int_div (cell_of (narrow_view chosen) column) (pos g)) (int_div (cell_of (narrow_view r) column) (pos g)) r.bound chosen.bound column (narrow_view chosen) (narrow_view r) (k.proper.long ∙ sym c.proper.long) c.bounded k.bounded
     (factors_below (cell_of (narrow_view chosen) column) (cell_of (narrow_view r) column) g r.bound chosen.bound (m apart))
 
-pub all_in_range : (n column : ℕ) (chosen : NarrowRow) (rows : List NarrowRow) → IsNarrow n chosen → AreNarrow n rows → AllMergeIn64 column chosen rows → RowsMergeBelow column (narrow_view chosen) (narrow_views rows) (length (narrow_views rows))
+pub all_in_range : (n column : ℕ) (chosen : NarrowRow) (rows : List NarrowRow) → IsNarrow n chosen → AreNarrow n rows → AllMergeIn32 column chosen rows → RowsMergeBelow column (narrow_view chosen) (narrow_views rows) (length (narrow_views rows))
 all_in_range n column chosen rows c all m i less inside =
     let long = length-map rows narrow_view in
     rw (get_or-map narrow_view rows i chosen no_row (omega arith)) (merge_in_range n column chosen (get_or rows i chosen) c (all i chosen (omega arith)) (m i chosen (omega arith)))

@@ -1,15 +1,15 @@
--- Bounds of rows, and which products they keep within 64 bits
+-- Bounds of rows, and which products they keep within 32 bits
 use Rattle.std.specs.Prelude.{ℕ, ◌<◌, ◌≤◌, ◌^◌, List, ℤ, pos, ◌-ℤ◌, ◌*ℤ◌, unsigned_abs, length, get_or, All, FitsSigned}
-use Rattle.std.specs.Int.{w64}
+use Rattle.std.specs.Int.{w32}
 use Rattle.ta_dense.specs.Tableau.{TableauRow}
 
 -- no absolute value of a list is above a number
 abbrev pub AreBounded : ℕ → List ℤ → Type 0
 AreBounded bound xs = All (λ x. unsigned_abs x ≤ bound) xs
 
--- every absolute value of a list is below 2^63
+-- every absolute value of a list is below 2^31
 abbrev pub AreSmall : List ℤ → Type 0
-AreSmall xs = All (λ x. unsigned_abs x < 2 ^ 63) xs
+AreSmall xs = All (λ x. unsigned_abs x < 2 ^ 31) xs
 
 -- a bound of a row: no absolute value of its numbers is above it
 pub record IsBound (bound : ℕ) (r : TableauRow) : Type 0 where
@@ -17,12 +17,12 @@ pub record IsBound (bound : ℕ) (r : TableauRow) : Type 0 where
   pub constant : unsigned_abs r.constant ≤ bound
   pub cells : AreBounded bound r.cells
 
--- the products and the difference of one place fit 64 bits
-pub record CombinesIn64 (p a q c : ℤ) : Type 0 where
-  pub left : FitsSigned w64 (p *ℤ a)
-  pub right : FitsSigned w64 (q *ℤ c)
-  pub difference : FitsSigned w64 (p *ℤ a -ℤ q *ℤ c)
+-- the products and the difference of one place fit 32 bits
+pub record CombinesIn32 (p a q c : ℤ) : Type 0 where
+  pub left : FitsSigned w32 (p *ℤ a)
+  pub right : FitsSigned w32 (q *ℤ c)
+  pub difference : FitsSigned w32 (p *ℤ a -ℤ q *ℤ c)
 
 -- those of each place
-abbrev pub AllCombineIn64 : ℤ → ℤ → List ℤ → List ℤ → Type 0
-AllCombineIn64 p q xs cs = (j : ℕ) → j < length xs → CombinesIn64 p (get_or xs j (pos 0)) q (get_or cs j (pos 0))
+abbrev pub AllCombineIn32 : ℤ → ℤ → List ℤ → List ℤ → Type 0
+AllCombineIn32 p q xs cs = (j : ℕ) → j < length xs → CombinesIn32 p (get_or xs j (pos 0)) q (get_or cs j (pos 0))

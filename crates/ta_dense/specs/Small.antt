@@ -3,7 +3,7 @@ use Rattle.ta_dense.specs.Tableau.{Tableau}
 use Rattle.ta_dense.specs.Narrow.{narrow_views, AreNarrow}
 use Rattle.ta_dense.specs.declared.small.SmallDictionary.TheInside.{Inside}
 
--- what the fields of a dictionary of 64-bit numbers mean
+-- what the fields of a dictionary of 32-bit numbers mean
 abbrev pub small_tableau : Inside → Tableau
 small_tableau d = record { non_basic = d.non_basic.items; rows = narrow_views d.rows.items }
 

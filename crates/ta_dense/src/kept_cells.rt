@@ -6,15 +6,15 @@ ghost use Rattle.ta_dense.specs.KeptCells.{kept_cells};
 use crate::small::padded_narrow_cells;
 use std::alloc::{AllocError, Global};
 
-/// Cells in 16 bits where all of them fit, for a branch keeps thousands of pivots; else in 64.
+/// Cells in 16 bits where all of them fit, for a branch keeps thousands of pivots; else in 32.
 #[derive(Drop)]
 pub(crate) enum KeptCells {
     Short(Vec<i16>),
-    Long(Vec<i64>),
+    Long(Vec<i32>),
 }
 
 // The cells in 16 bits, where all of them fit.
-fn shortened(alloc: Global, cells: &[i64]) -> Result<Option<Vec<i16>>, AllocError>
+fn shortened(alloc: Global, cells: &[i32]) -> Result<Option<Vec<i16>>, AllocError>
     ensures { IfOk result (λ o. IfSome o (λ v. v.items ≡ cells.now)) }
 {
     let mut short = Vec::with_capacity(alloc, cells.len())?;
@@ -28,17 +28,17 @@ fn shortened(alloc: Global, cells: &[i64]) -> Result<Option<Vec<i16>>, AllocErro
 }
 
 // Writes numbers into the first places.
-fn write_first(places: &mut [i64], numbers: &[i16])
+fn write_first(places: &mut [i32], numbers: &[i16])
     requires { length numbers.now ≤ length places.old }
     ensures { places.new ≡ numbers.now ++ drop (length numbers.now) places.old }
 {
     for j in 0..numbers.len() {
-        places[j] = numbers[j] as i64;
+        places[j] = numbers[j] as i32;
     }
 }
 
 impl KeptCells {
-    pub(crate) fn of(alloc: Global, cells: &[i64]) -> Result<KeptCells, AllocError>
+    pub(crate) fn of(alloc: Global, cells: &[i32]) -> Result<KeptCells, AllocError>
         ensures { IfOk result (λ k. kept_cells k ≡ cells.now) }
     {
         match shortened(alloc, cells)? {
@@ -56,8 +56,8 @@ impl KeptCells {
         }
     }
 
-    /// The cells in 64 bits, with zeros up to a number of columns.
-    pub(crate) fn padded(&self, alloc: Global, columns: usize) -> Result<Vec<i64>, AllocError>
+    /// The cells in 32 bits, with zeros up to a number of columns.
+    pub(crate) fn padded(&self, alloc: Global, columns: usize) -> Result<Vec<i32>, AllocError>
         requires { length (kept_cells self.now) ≤ columns }
         ensures { IfOk result (λ v. v.items ≡ kept_cells self.now ++ replicate (columns - length (kept_cells self.now)) (pos 0)) }
     {
@@ -68,8 +68,8 @@ impl KeptCells {
     }
 }
 
-// Cells of 16 bits in 64, with zeros up to a number of columns.
-fn padded_short(alloc: Global, cells: &[i16], columns: usize) -> Result<Vec<i64>, AllocError>
+// Cells of 16 bits in 32, with zeros up to a number of columns.
+fn padded_short(alloc: Global, cells: &[i16], columns: usize) -> Result<Vec<i32>, AllocError>
     requires { length cells.now ≤ columns }
     ensures { IfOk result (λ v. v.items ≡ cells.now ++ replicate (columns - length cells.now) (pos 0)) }
 {

@@ -1,4 +1,4 @@
-//! Dictionaries that keep 64-bit numbers as long as bounds show that these suffice.
+//! Dictionaries that keep 32-bit numbers as long as bounds show that these suffice.
 
 ghost use Rattle.std.specs.Prelude.{◌≡◌, ◌<◌, ◌^◌, pos, ◌<ℤ◌, length, IfOk, IfErr};
 ghost use Rattle.ta_dense.specs.Tableau.{cell_of, pivoted, row_of};
@@ -17,7 +17,7 @@ use crate::small_pivot::{NarrowPivot, PivotForm, wide_pivots};
 use std::alloc::{AllocError, Global};
 use ta_linear::System;
 
-/// A dictionary whose numbers are of 64 bits as long as a bound of each row shows that no product
+/// A dictionary whose numbers are of 32 bits as long as a bound of each row shows that no product
 /// or difference of a pivot leaves them, and then of 128 bits.
 #[derive(Drop)]
 pub struct NarrowDictionary {
@@ -37,7 +37,7 @@ impl NarrowDictionary {
     }
 }
 
-// The pivot in 64 bits, or in 128 where bounds don't show that it fits.
+// The pivot in 32 bits, or in 128 where bounds don't show that it fits.
 fn pivot_small(
     alloc: Global,
     small: SmallDictionary,
@@ -82,7 +82,7 @@ fn pivot_wide(
     })
 }
 
-// The longer system's dictionary in 64 bits, or in 128 where bounds don't show that these suffice.
+// The longer system's dictionary in 32 bits, or in 128 where bounds don't show that these suffice.
 fn extend_small(
     alloc: Global,
     small: &SmallDictionary,
@@ -192,7 +192,7 @@ impl Dictionary for NarrowDictionary {
 
     fn bytes(&self) -> usize {
         let cells = (self.rows() as usize).saturating_mul(self.columns() as usize + 6);
-        let width = if self.is_wide() { 16 } else { 8 };
+        let width = if self.is_wide() { 16 } else { 4 };
         cells.saturating_mul(width)
     }
 

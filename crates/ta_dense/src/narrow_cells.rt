@@ -1,18 +1,18 @@
-//! Lists of cells of 64 bits.
+//! Lists of cells of 32 bits.
 
 ghost use Rattle.std.specs.Prelude.{◌≡◌, ◌<◌, ◌≤◌, ◌^◌, pos, ◌<ℤ◌, unsigned_abs, int_div, neg_ℤ, length, map, IfSome};
 ghost use Rattle.std.specs.Int.{IsGcd};
 ghost use Rattle.ta_linear.specs.Gcd.{gcd_of};
 ghost use Rattle.ta_dense.specs.Tableau.{combine, gcd_with};
-ghost use Rattle.ta_dense.specs.Bounds.{AllCombineIn64, AreBounded, AreSmall};
+ghost use Rattle.ta_dense.specs.Bounds.{AllCombineIn32, AreBounded, AreSmall};
 
-// The number in 64 bits, where its absolute value is below 2^63.
-pub(crate) fn narrowed(number: i128) -> Option<i64>
+// The number in 32 bits, where its absolute value is below 2^31.
+pub(crate) fn narrowed(number: i128) -> Option<i32>
     ensures value { IfSome result (λ z. z ≡ number) }
-    ensures small { IfSome result (λ z. unsigned_abs z < 2 ^ 63) }
+    ensures small { IfSome result (λ z. unsigned_abs z < 2 ^ 31) }
 {
-    if number.unsigned_abs() < 1 << 63 {
-        Some(number as i64)
+    if number.unsigned_abs() < 1 << 31 {
+        Some(number as i32)
     } else {
         None
     }
@@ -20,9 +20,9 @@ pub(crate) fn narrowed(number: i128) -> Option<i64>
 
 // `p` times the first list minus `q` times the second, place by place.
 #[inline(always)]
-fn combine_by(p: i64, q: i64, cells: &mut [i64], chosen: &[i64])
+fn combine_by(p: i32, q: i32, cells: &mut [i32], chosen: &[i32])
     requires long { length cells.old ≡ length chosen.now }
-    requires fit { AllCombineIn64 p q cells.old chosen.now }
+    requires fit { AllCombineIn32 p q cells.old chosen.now }
     ensures { cells.new ≡ combine p q cells.old chosen.now }
 {
     for j in 0..cells.len() {
@@ -31,9 +31,9 @@ fn combine_by(p: i64, q: i64, cells: &mut [i64], chosen: &[i64])
 }
 
 // The same, by a loop of its own for each kind of factors that comes often.
-pub(crate) fn combine_narrow(p: i64, q: i64, cells: &mut [i64], chosen: &[i64])
+pub(crate) fn combine_narrow(p: i32, q: i32, cells: &mut [i32], chosen: &[i32])
     requires long { length cells.old ≡ length chosen.now }
-    requires fit { AllCombineIn64 p q cells.old chosen.now }
+    requires fit { AllCombineIn32 p q cells.old chosen.now }
     ensures { cells.new ≡ combine p q cells.old chosen.now }
 {
     match (p, q) {
@@ -51,12 +51,12 @@ pub(crate) fn combine_narrow(p: i64, q: i64, cells: &mut [i64], chosen: &[i64])
 }
 
 // The greatest of a number and the absolute values of cells.
-pub(crate) fn greatest_of(start: u64, cells: &[i64]) -> u64
-    requires start { start < 2 ^ 63 }
+pub(crate) fn greatest_of(start: u32, cells: &[i32]) -> u32
+    requires start { start < 2 ^ 31 }
     requires cells { AreSmall cells.now }
     ensures above { start ≤ result }
     ensures bound { AreBounded result cells.now }
-    ensures below { result < 2 ^ 63 }
+    ensures below { result < 2 ^ 31 }
 {
     let mut greatest = start;
     for cell in cells {
@@ -66,7 +66,7 @@ pub(crate) fn greatest_of(start: u64, cells: &[i64]) -> u64
 }
 
 // The greatest common divisor; 0 for 0 and 0.
-pub(crate) fn gcd_narrow(a: u64, b: u64) -> u64
+pub(crate) fn gcd_narrow(a: u32, b: u32) -> u32
     ensures { IsGcd a b result }
 {
     let mut x = a;
@@ -80,7 +80,7 @@ pub(crate) fn gcd_narrow(a: u64, b: u64) -> u64
 }
 
 // The greatest common divisor of a divisor and a number, which is often 1.
-fn gcd_with_size(divisor: u64, size: u64) -> u64
+fn gcd_with_size(divisor: u32, size: u32) -> u32
     ensures { result ≡ gcd_of divisor size }
 {
     if size == 1 {
@@ -91,7 +91,7 @@ fn gcd_with_size(divisor: u64, size: u64) -> u64
 }
 
 // The greatest common divisor of a divisor and a cell; most cells are 0, and few are less than it.
-fn gcd_with_cell(divisor: u64, cell: i64) -> u64
+fn gcd_with_cell(divisor: u32, cell: i32) -> u32
     ensures { result ≡ gcd_of divisor (unsigned_abs cell) }
 {
     if cell == 0 {
@@ -103,7 +103,7 @@ fn gcd_with_cell(divisor: u64, cell: i64) -> u64
 
 // The greatest common divisor of 1 or 2 and a cell.
 #[inline(always)]
-fn halved(divisor: u64, cell: i64) -> u64
+fn halved(divisor: u32, cell: i32) -> u32
     requires some { 0 < divisor }
     requires few { divisor < 3 }
     ensures value { result ≡ gcd_of divisor (unsigned_abs cell) }
@@ -118,7 +118,7 @@ fn halved(divisor: u64, cell: i64) -> u64
 }
 
 // The greatest common divisor of 2 and cells, without a division.
-fn gcd_with_two(cells: &[i64]) -> u64
+fn gcd_with_two(cells: &[i32]) -> u32
     ensures { result ≡ gcd_with 2 cells.now }
 {
     let mut divisor = 2;
@@ -129,7 +129,7 @@ fn gcd_with_two(cells: &[i64]) -> u64
 }
 
 // The greatest common divisor of a natural number and cells; it is 2 that comes most often.
-pub(crate) fn gcd_of_narrow(start: u64, cells: &[i64]) -> u64
+pub(crate) fn gcd_of_narrow(start: u32, cells: &[i32]) -> u32
     ensures { result ≡ gcd_with start cells.now }
 {
     if start == 2 {
@@ -140,7 +140,7 @@ pub(crate) fn gcd_of_narrow(start: u64, cells: &[i64]) -> u64
 }
 
 // The same, cell by cell.
-fn gcd_by_cells(start: u64, cells: &[i64]) -> u64
+fn gcd_by_cells(start: u32, cells: &[i32]) -> u32
     ensures { result ≡ gcd_with start cells.now }
 {
     let mut divisor = start;
@@ -155,7 +155,7 @@ fn gcd_by_cells(start: u64, cells: &[i64]) -> u64
 
 // The quotient; many cells are 0, and a division takes long.
 #[inline(always)]
-fn quotient(cell: i64, divisor: i64) -> i64
+fn quotient(cell: i32, divisor: i32) -> i32
     requires { pos 0 <ℤ divisor }
     ensures { result ≡ int_div cell divisor }
 {
@@ -164,7 +164,7 @@ fn quotient(cell: i64, divisor: i64) -> i64
 
 // Divides each cell.
 #[inline(always)]
-fn divide_by(cells: &mut [i64], divisor: i64)
+fn divide_by(cells: &mut [i32], divisor: i32)
     requires { pos 0 <ℤ divisor }
     ensures { cells.new ≡ map (λ z. int_div z divisor) cells.old }
 {
@@ -174,7 +174,7 @@ fn divide_by(cells: &mut [i64], divisor: i64)
 }
 
 // The same, by a loop of its own for each divisor that comes often: it needs no division.
-pub(crate) fn divide_narrow(cells: &mut [i64], divisor: i64)
+pub(crate) fn divide_narrow(cells: &mut [i32], divisor: i32)
     requires { pos 0 <ℤ divisor }
     ensures { cells.new ≡ map (λ z. int_div z divisor) cells.old }
 {
@@ -188,7 +188,7 @@ pub(crate) fn divide_narrow(cells: &mut [i64], divisor: i64)
 }
 
 // Negates each cell.
-pub(crate) fn negate_narrow(cells: &mut [i64])
+pub(crate) fn negate_narrow(cells: &mut [i32])
     requires { AreSmall cells.old }
     ensures { cells.new ≡ map neg_ℤ cells.old }
 {

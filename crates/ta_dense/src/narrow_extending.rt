@@ -1,4 +1,4 @@
-//! Rows of 64-bit numbers of a longer system.
+//! Rows of 32-bit numbers of a longer system.
 
 ghost use Rattle.std.specs.Prelude.{◌≡◌, ◌<◌, ◌+◌, ◌^◌, ℕ, length, map, get_or, IfOk};
 ghost use Rattle.std.specs.Bool.{OnTrue};
@@ -36,7 +36,7 @@ pub(crate) fn widened_narrow_rows(
     Ok(wide)
 }
 
-// Carries the rows through a pivot, if it is of 64-bit numbers and bounds show that all of it fits
+// Carries the rows through a pivot, if it is of 32-bit numbers and bounds show that all of it fits
 // them. Rows that are not carried are of no use.
 fn carry_narrow(
     alloc: Global,
@@ -62,7 +62,7 @@ fn carry_narrow(
     Ok(true)
 }
 
-// Carries the rows through the pivots, one after another, as long as these are of 64-bit numbers
+// Carries the rows through the pivots, one after another, as long as these are of 32-bit numbers
 // and bounds show that all of it fits them.
 pub(crate) fn carry_narrow_rows(
     alloc: Global,

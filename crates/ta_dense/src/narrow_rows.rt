@@ -1,11 +1,11 @@
-//! A row of 64-bit numbers, with a bound of them.
+//! A row of 32-bit numbers, with a bound of them.
 
 ghost use Rattle.std.specs.Prelude.{◌≡◌, ◌<◌, ◌≤◌, ◌+◌, ◌*◌, ◌^◌, ◌≢◌, pos, ◌<ℤ◌, unsigned_abs, int_div, length, map};
 ghost use Rattle.std.specs.Bool.{OnTrue, OnFalse};
 ghost use Rattle.ta_dense.specs.Tableau.{merged_by, divided, divisor_of, reduced, merged, turned, pivoted_rows, cell_of, factor_divisor};
 ghost use Rattle.ta_dense.specs.Merge.{IsProper, OthersMergeBelow};
 ghost use Rattle.ta_dense.specs.Bounds.{IsBound};
-ghost use Rattle.ta_dense.specs.Narrow.{narrow_view, narrow_views, IsNarrow, AreNarrow, MergesIn64, AllMergeIn64, narrow_at};
+ghost use Rattle.ta_dense.specs.Narrow.{narrow_view, narrow_views, IsNarrow, AreNarrow, MergesIn32, AllMergeIn32, narrow_at};
 
 use crate::narrow_cells::{
     combine_narrow, divide_narrow, gcd_narrow, gcd_of_narrow, greatest_of, negate_narrow,
@@ -16,10 +16,10 @@ use crate::narrow_cells::{
 #[derive(Drop)]
 pub(crate) struct NarrowRow {
     pub(crate) basic: u32,
-    pub(crate) denominator: i64,
-    pub(crate) constant: i64,
-    pub(crate) cells: Vec<i64>,
-    pub(crate) bound: u64,
+    pub(crate) denominator: i32,
+    pub(crate) constant: i32,
+    pub(crate) cells: Vec<i32>,
+    pub(crate) bound: u32,
 }
 
 // Takes the row's bound anew: the greatest absolute value of its numbers.
@@ -35,18 +35,18 @@ pub(crate) fn tighten(row: &mut NarrowRow)
     row.bound = greatest_of(first, &row.cells);
 }
 
-// Whether `c` times the first bound and `a` times the second are less than 2^63 together.
-fn is_small(c: u64, first: u64, a: u64, second: u64) -> bool
-    requires c { c < 2 ^ 63 }
-    requires first { first < 2 ^ 63 }
-    requires a { a < 2 ^ 63 }
-    requires second { second < 2 ^ 63 }
-    ensures { OnTrue result (c * first + a * second < 2 ^ 63) }
+// Whether `c` times the first bound and `a` times the second are less than 2^31 together.
+fn is_small(c: u32, first: u32, a: u32, second: u32) -> bool
+    requires c { c < 2 ^ 31 }
+    requires first { first < 2 ^ 31 }
+    requires a { a < 2 ^ 31 }
+    requires second { second < 2 ^ 31 }
+    ensures { OnTrue result (c * first + a * second < 2 ^ 31) }
 {
-    c as u128 * first as u128 + a as u128 * (second as u128) < 1 << 63
+    c as u64 * first as u64 + a as u64 * (second as u64) < 1 << 31
 }
 
-// Whether bounds show that the row can be merged in 64 bits. Where the row's bound doesn't, it is
+// Whether bounds show that the row can be merged in 32 bits. Where the row's bound doesn't, it is
 // taken anew.
 fn merges(chosen: &NarrowRow, column: usize, row: &mut NarrowRow) -> bool
     requires chosen { IsNarrow (length chosen.now.cells.items) chosen.now }
@@ -54,7 +54,7 @@ fn merges(chosen: &NarrowRow, column: usize, row: &mut NarrowRow) -> bool
     requires column { column < length chosen.now.cells.items }
     ensures view { narrow_view row.new ≡ narrow_view row.old }
     ensures narrow { IsNarrow (length chosen.now.cells.items) row.new }
-    ensures within { OnTrue result (MergesIn64 column chosen.now row.new) }
+    ensures within { OnTrue result (MergesIn32 column chosen.now row.new) }
 {
     let a = row.cells[column].unsigned_abs();
     if a == 0 {
@@ -68,14 +68,14 @@ fn merges(chosen: &NarrowRow, column: usize, row: &mut NarrowRow) -> bool
     is_small(c, row.bound, a, chosen.bound)
 }
 
-// Whether bounds show that each row can be merged in 64 bits.
+// Whether bounds show that each row can be merged in 32 bits.
 pub(crate) fn all_merge(rows: &mut [NarrowRow], chosen: &NarrowRow, column: usize) -> bool
     requires chosen { IsNarrow (length chosen.now.cells.items) chosen.now }
     requires rows { AreNarrow (length chosen.now.cells.items) rows.old }
     requires column { column < length chosen.now.cells.items }
     ensures views { narrow_views rows.new ≡ narrow_views rows.old }
     ensures narrow { AreNarrow (length chosen.now.cells.items) rows.new }
-    ensures within { OnTrue result (AllMergeIn64 column chosen.now rows.new) }
+    ensures within { OnTrue result (AllMergeIn32 column chosen.now rows.new) }
 {
     for at in 0..rows.len() {
         if !merges(chosen, column, &mut rows[at]) {
@@ -86,12 +86,12 @@ pub(crate) fn all_merge(rows: &mut [NarrowRow], chosen: &NarrowRow, column: usiz
 }
 
 // `p` times the row minus `q` times the chosen row, with a bound of that.
-fn merge_narrow_by(p: i64, q: i64, column: usize, chosen: &NarrowRow, row: &mut NarrowRow)
+fn merge_narrow_by(p: i32, q: i32, column: usize, chosen: &NarrowRow, row: &mut NarrowRow)
     requires chosen { IsBound chosen.now.bound (narrow_view chosen.now) }
     requires row { IsBound row.old.bound (narrow_view row.old) }
     requires long { length row.old.cells.items ≡ length chosen.now.cells.items }
     requires column { column < length chosen.now.cells.items }
-    requires within { unsigned_abs p * row.old.bound + unsigned_abs q * chosen.now.bound < 2 ^ 63 }
+    requires within { unsigned_abs p * row.old.bound + unsigned_abs q * chosen.now.bound < 2 ^ 31 }
     ensures value { narrow_view row.new ≡ merged_by p q column (narrow_view chosen.now) (narrow_view row.old) }
     ensures bound { row.new.bound ≡ unsigned_abs p * row.old.bound + unsigned_abs q * chosen.now.bound }
 {
@@ -104,7 +104,7 @@ fn merge_narrow_by(p: i64, q: i64, column: usize, chosen: &NarrowRow, row: &mut 
 }
 
 // The greatest common divisor of the row's numbers.
-fn divisor_of_narrow(row: &NarrowRow) -> u64
+fn divisor_of_narrow(row: &NarrowRow) -> u32
     requires { IsProper (length row.now.cells.items) (narrow_view row.now) }
     ensures value { result ≡ divisor_of (narrow_view row.now) }
     ensures positive { 0 < result }
@@ -117,7 +117,7 @@ fn divisor_of_narrow(row: &NarrowRow) -> u64
 }
 
 // Divides each number of the row.
-fn divide_narrow_row(row: &mut NarrowRow, divisor: i64)
+fn divide_narrow_row(row: &mut NarrowRow, divisor: i32)
     requires { pos 0 <ℤ divisor }
     ensures value { narrow_view row.new ≡ divided (unsigned_abs divisor) (narrow_view row.old) }
     ensures bound { row.new.bound ≡ row.old.bound }
@@ -135,13 +135,13 @@ fn reduce_narrow(row: &mut NarrowRow)
 {
     let divisor = divisor_of_narrow(row);
     if divisor > 1 {
-        divide_narrow_row(row, divisor as i64);
+        divide_narrow_row(row, divisor as i32);
     }
 }
 
 // The two factors: each cell divided by the greatest common divisor of both.
-fn narrow_factors(c: i64, a: i64) -> (i64, i64)
-    requires a { unsigned_abs a < 2 ^ 63 }
+fn narrow_factors(c: i32, a: i32) -> (i32, i32)
+    requires a { unsigned_abs a < 2 ^ 31 }
     requires positive { pos 0 <ℤ c }
     ensures first { result.0 ≡ int_div c (pos (factor_divisor c a)) }
     ensures second { result.1 ≡ int_div a (pos (factor_divisor c a)) }
@@ -149,7 +149,7 @@ fn narrow_factors(c: i64, a: i64) -> (i64, i64)
     if c == 1 {
         return (1, a);
     }
-    let divisor = gcd_narrow(c.unsigned_abs(), a.unsigned_abs()) as i64;
+    let divisor = gcd_narrow(c.unsigned_abs(), a.unsigned_abs()) as i32;
     if divisor == 1 {
         return (c, a);
     }
@@ -162,7 +162,7 @@ fn merge_narrow(chosen: &NarrowRow, column: usize, row: &mut NarrowRow)
     requires row { IsNarrow (length chosen.now.cells.items) row.old }
     requires column { column < length chosen.now.cells.items }
     requires positive { pos 0 <ℤ cell_of (narrow_view chosen.now) column }
-    requires within { MergesIn64 column chosen.now row.old }
+    requires within { MergesIn32 column chosen.now row.old }
     ensures value { narrow_view row.new ≡ merged column (narrow_view chosen.now) (narrow_view row.old) }
     ensures narrow { IsNarrow (length chosen.now.cells.items) row.new }
 {
@@ -180,7 +180,7 @@ pub(crate) fn merge_all_narrow(rows: &mut [NarrowRow], chosen: &NarrowRow, colum
     requires rows { AreNarrow (length chosen.now.cells.items) rows.old }
     requires column { column < length chosen.now.cells.items }
     requires positive { pos 0 <ℤ cell_of (narrow_view chosen.now) column }
-    requires within { AllMergeIn64 column chosen.now rows.old }
+    requires within { AllMergeIn32 column chosen.now rows.old }
     ensures value { narrow_views rows.new ≡ map (merged column (narrow_view chosen.now)) (narrow_views rows.old) }
     ensures narrow { AreNarrow (length chosen.now.cells.items) rows.new }
 {
@@ -206,7 +206,7 @@ fn turn_narrow(row: &mut NarrowRow, column: usize, entering: u32)
 }
 
 // Merges the row into the others and turns it, or changes nothing where bounds don't show that all
-// of it fits 64 bits.
+// of it fits 32 bits.
 pub(crate) fn pivot_narrow_rows(
     rows: &mut [NarrowRow],
     row: usize,

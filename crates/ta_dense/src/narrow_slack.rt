@@ -1,4 +1,4 @@
-//! Rows of 64-bit numbers solved for their slacks.
+//! Rows of 32-bit numbers solved for their slacks.
 
 ghost use Rattle.std.specs.Prelude.{◌≡◌, ◌<◌, ◌≤◌, ◌+◌, ◌^◌, pos, length, drop, replicate, IfOk, IfSome};
 ghost use Rattle.std.specs.Bool.{OnTrue};
@@ -12,8 +12,8 @@ use crate::narrow_rows::NarrowRow;
 use std::alloc::{AllocError, Global};
 use ta_linear::{Row, System};
 
-// Writes each coefficient into the cell of its unknown, where all of them fit 64 bits.
-fn fill_narrow(cells: &mut [i64], terms: &[(u32, i128)]) -> bool
+// Writes each coefficient into the cell of its unknown, where all of them fit 32 bits.
+fn fill_narrow(cells: &mut [i32], terms: &[(u32, i128)]) -> bool
     requires terms { IsNormal 0 (length cells.old) terms.now }
     requires cells { cells.old ≡ replicate (length cells.old) (pos 0) }
     ensures value { OnTrue result (cells.new ≡ coefficients (length cells.old) terms.now) }
@@ -28,7 +28,7 @@ fn fill_narrow(cells: &mut [i64], terms: &[(u32, i128)]) -> bool
     true
 }
 
-// The row solved for its slack, where its numbers fit 64 bits.
+// The row solved for its slack, where its numbers fit 32 bits.
 fn narrow_slack_row(
     alloc: Global,
     row: &Row,
@@ -56,7 +56,7 @@ fn narrow_slack_row(
     }))
 }
 
-// The system's rows from a number on, each solved for its slack, where their numbers fit 64 bits.
+// The system's rows from a number on, each solved for its slack, where their numbers fit 32 bits.
 pub(crate) fn narrow_slack_rows(
     alloc: Global,
     system: &System,

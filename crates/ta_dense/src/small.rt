@@ -1,4 +1,4 @@
-//! A dictionary whose numbers fit 64 bits.
+//! A dictionary whose numbers fit 32 bits.
 
 ghost use Rattle.std.specs.Prelude.{◌≡◌, ◌<◌, ◌≤◌, ◌-◌, ◌++◌, replicate, ◌^◌, pos, ◌<ℤ◌, length, unsigned_abs, IfOk, IfErr, IfSome, IfNone};
 ghost use Rattle.ta_dense.specs.Tableau.{basic_of, cell_of, non_basic_of, pivoted, row_of};
@@ -26,7 +26,7 @@ use std::alloc::{AllocError, Global};
 use std::marker::Model;
 use ta_linear::System;
 
-/// A dictionary whose numbers fit 64 bits, with a bound of each row's.
+/// A dictionary whose numbers fit 32 bits, with a bound of each row's.
 #[derive(Drop)]
 pub(crate) struct SmallDictionary {
     non_basic: Vec<u32>,
@@ -46,7 +46,7 @@ impl Model for SmallDictionary {
 }
 
 // The cells in 128 bits.
-fn widened_cells(alloc: Global, cells: &[i64]) -> Result<Vec<i128>, AllocError>
+fn widened_cells(alloc: Global, cells: &[i32]) -> Result<Vec<i128>, AllocError>
     ensures { IfOk result (λ v. v.items ≡ cells.now) }
 {
     let mut wide = Vec::with_capacity(alloc, cells.len())?;
@@ -71,9 +71,9 @@ pub(crate) fn widened_row(alloc: Global, row: &NarrowRow) -> Result<DenseRow, Al
 // The cells with zeros up to a number of columns.
 pub(crate) fn padded_narrow_cells(
     alloc: Global,
-    cells: &[i64],
+    cells: &[i32],
     columns: usize,
-) -> Result<Vec<i64>, AllocError>
+) -> Result<Vec<i32>, AllocError>
     requires { length cells.now ≤ columns }
     ensures { IfOk result (λ v. v.items ≡ cells.now ++ replicate (columns - length cells.now) (pos 0)) }
 {
@@ -105,7 +105,7 @@ pub(crate) fn padded_narrow(
 }
 
 impl SmallDictionary {
-    /// The dictionary in which every slack is basic, where its numbers fit 64 bits.
+    /// The dictionary in which every slack is basic, where its numbers fit 32 bits.
     pub(crate) fn from_system(
         alloc: Global,
         system: &System,
@@ -166,7 +166,7 @@ impl SmallDictionary {
         self.non_basic[column as usize]
     }
 
-    pub(crate) fn denominator(&self, row: u32) -> i64
+    pub(crate) fn denominator(&self, row: u32) -> i32
         requires { row < length self.now.rows }
         ensures value { result ≡ (row_of self.now row).denominator }
         ensures positive { pos 0 <ℤ result }
@@ -174,14 +174,14 @@ impl SmallDictionary {
         self.row_at(row).denominator
     }
 
-    pub(crate) fn constant(&self, row: u32) -> i64
+    pub(crate) fn constant(&self, row: u32) -> i32
         requires { row < length self.now.rows }
         ensures { result ≡ (row_of self.now row).constant }
     {
         self.row_at(row).constant
     }
 
-    pub(crate) fn cell(&self, row: u32, column: u32) -> i64
+    pub(crate) fn cell(&self, row: u32, column: u32) -> i32
         requires row { row < length self.now.rows }
         requires column { column < length self.now.non_basic }
         ensures { result ≡ cell_of (row_of self.now row) column }
@@ -235,7 +235,7 @@ impl SmallDictionary {
         SmallPivot::of_row(alloc, row, column, self.row_at(row))
     }
 
-    /// The dictionary of a longer system, where kept pivots are of 64-bit numbers and bounds show
+    /// The dictionary of a longer system, where kept pivots are of 32-bit numbers and bounds show
     /// that the new rows stay so.
     pub(crate) fn extend(
         &self,
@@ -265,7 +265,7 @@ impl SmallDictionary {
     }
 
     /// The dictionary after the pivot, or the same dictionary where bounds don't show that all of
-    /// the pivot fits 64 bits.
+    /// the pivot fits 32 bits.
     pub(crate) fn pivot(self, row: u32, column: u32) -> Result<SmallDictionary, SmallDictionary>
         requires row { row < length self.rows }
         requires column { column < length self.non_basic }

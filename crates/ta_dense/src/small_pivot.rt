@@ -1,4 +1,4 @@
-//! Kept pivots of 64-bit numbers.
+//! Kept pivots of 32-bit numbers.
 
 ghost use Rattle.std.specs.Prelude.{◌≡◌, ◌≤◌, length, IfOk};
 ghost use Rattle.ta_dense.specs.Kept.{chosen_row};
@@ -12,15 +12,15 @@ use crate::small::widened_row;
 use std::alloc::{AllocError, Global};
 use std::marker::Model;
 
-/// A pivot of a dictionary whose numbers fit 64 bits.
+/// A pivot of a dictionary whose numbers fit 32 bits.
 #[derive(Drop)]
 pub(crate) struct SmallPivot {
     row: u32,
     column: u32,
-    denominator: i64,
-    constant: i64,
+    denominator: i32,
+    constant: i32,
     cells: KeptCells,
-    bound: u64,
+    bound: u32,
 }
 
 impl Model for SmallPivot {
@@ -104,7 +104,7 @@ pub(crate) enum PivotForm {
     Wide(DensePivot),
 }
 
-/// A pivot of a dictionary that is narrow as long as its numbers fit 64 bits.
+/// A pivot of a dictionary that is narrow as long as its numbers fit 32 bits.
 #[derive(Drop)]
 pub struct NarrowPivot {
     pub(crate) form: PivotForm,

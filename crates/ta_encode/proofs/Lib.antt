@@ -29,9 +29,11 @@ pub mod Safety
 pub mod Segment
 pub mod Values
 mod Unwind
-mod Begin
+pub mod Begin
 mod Starts
-mod Realize
+pub mod Realize
+pub mod Fallen
 mod Naming
 pub mod Samples
 pub mod SystemsExist
+pub mod Ended

@@ -2,24 +2,27 @@
 use Rattle.std.proofs.Common.{◌≡◌, ℕ, ◌<◌, ◌≤◌, List, [], ◌∷◌, ◌++◌, map, length, drop, true, arith, refl, sym, ap, ◌∙◌, subst, slice_get, get_or, Some}
 use Rattle.std.proofs.lemmas.List.{length-map}
 use Rattle.std.proofs.lemmas.Option.{slice_get_within, slice_get-get_or}
+use Rattle.ta_linear.specs.Values.{RowHolds}
+use Rattle.ta_linear.specs.declared.row.Row.{Row}
 use Rattle.ta_automaton.specs.declared.automaton.Automaton.{Automaton}
 use Rattle.ta_automaton.specs.declared.pattern.Pattern.{Pattern}
 use Rattle.ta_automaton.specs.Masks.{numbers_from}
-use Rattle.ta_automaton.specs.Runs.{InScope, Steps}
+use Rattle.ta_automaton.specs.Runs.{Config, InScope, Steps, value_at}
 use Rattle.ta_automaton.proofs.Rearranged.{rearrange}
 use Rattle.ta_words.specs.declared.element.Element.{Element}
 use Rattle.ta_words.specs.declared.element.Element.TheVariants.{Event, Rise, Fall}
-use Rattle.ta_words.specs.Words.{Legal, allowed_rules, is_complete, has_event}
+use Rattle.ta_words.specs.Words.{Legal, allowed_rules, is_complete, has_event, has_rise}
 use Rattle.ta_encode.specs.Unknowns.{Count, start_meanings, meanings, counts_after, place_coefficient}
 use Rattle.ta_encode.specs.System.{word_rows, fall_rows, AllHold}
-use Rattle.ta_encode.specs.Laws.{Fires, FiresFall, WordFires, RunsThrough, position_in}
+use Rattle.ta_encode.specs.Laws.{Fires, FiresFall, WordFires, RunsThrough, position_in, steps_of}
 use Rattle.ta_automaton.proofs.MaskTests.{all_below-at, bit_true}
-use Rattle.ta_automaton.proofs.Fire.{length_numbers, at_index}
-use Rattle.ta_encode.proofs.Values.{condition_back, AllHold-right, left_part, unfolded, unfolded-total, unfolded-may, allowed_may}
+use Rattle.ta_automaton.proofs.Fire.{Whole, length_numbers, at_index}
+use Rattle.ta_encode.proofs.Values.{place_value, condition_back, AllHold-right, left_part, unfolded, unfolded-total, unfolded-may, allowed_may}
 use Rattle.ta_encode.proofs.Forward.{forward_of}
 use Rattle.ta_encode.proofs.Singles.{only_item, one_single, single_one, singles_hold}
 use Rattle.ta_encode.proofs.Segment.{EachMay, may_at, may_from, may_rules}
 use Rattle.ta_encode.proofs.Reorder.{AfterEarlier}
+use Rattle.ta_encode.proofs.Switch.{KeptEmpty}
 use Rattle.ta_encode.proofs.Unwind.{unwind}
 use Rattle.ta_encode.proofs.Begin.{first_of, first_rows_of, first_initial, first_values, begin_at, begin_rows}
 use Rattle.ta_encode.proofs.Starts.{first_starts}
@@ -102,4 +105,28 @@ solution_runs a p earlier start past vs firings fires legal complete rows enough
             omega (arith, at_index position n e b, at_index position n f (let z : f < n = omega arith in z), w.1);
       };
       there = refl;
+    }
+
+-- what stands at the end of a solution's run: a configuration with the values of the word's end, where the locations that are to be
+-- kept empty are
+pub record RunEnd (a : Automaton) (p : Pattern) (start : ℕ) (past : List Element) (vs : List ℕ) (firings : List (List ℕ)) (run : RunsThrough a p past vs firings) : Type 0 where
+  pub config : Config
+  pub there : slice_get (run.first ∷ run.occurs.later) (length (steps_of firings)) ≡ Some config
+  pub whole : Whole a config
+  pub values : (i : ℕ) → value_at config i ≡ place_value a (meanings a p start past) vs i
+  pub rises : (i : ℕ) (row : Row) → slice_get a.rise i ≡ Some row → has_rise past i ≡ true → RowHolds (value_at config) row
+  pub empty : KeptEmpty p config
+
+pub solution_end : (a : Automaton) (p : Pattern) (earlier : AfterEarlier p) (start : ℕ) (past : List Element) (vs : List ℕ) (firings : List (List ℕ)) (fires : WordFires a p start past vs firings) (legal : Legal a p start past) (complete : is_complete p past ≡ true) (rows : AllHold vs (word_rows a p start past)) (enough : length (start_meanings a p) ≤ length vs) → RunEnd a p start past vs firings (solution_runs a p earlier start past vs firings fires legal complete rows enough)
+unfolding solution_runs
+solution_end a p earlier start past vs firings fires legal complete rows enough =
+    let c = first_of a p vs in
+    let u = unwind a p start past vs c firings fires (begin_at a p start vs) legal rows in
+    record {
+      config = u.config;
+      there = ap (λ (rules : List ℕ). slice_get (c ∷ u.trail.later) (length rules)) (sym u.is) ∙ u.trail.last;
+      whole = u.whole;
+      values = u.values;
+      rises = u.rises;
+      empty = u.trail.all_good (length u.trail.rules) u.config u.trail.last;
     }

@@ -7,6 +7,7 @@ pub mod Laws
 pub mod Code
 pub mod Lines
 pub mod Marks
+pub mod Ends
 pub mod Named
 pub mod InPreorder
 pub mod Sample

@@ -29,7 +29,7 @@ pub(crate) fn push_rise(
         ++ guard_rows automaton.now meanings.now (λ j. not (has_bit fallen j)) 0 automaton.now.fall)) (length meanings.now) rows.old.items rows.new.items) }
 {
     let guards = automaton.rise.as_slice();
-    push_counters(alloc, automaton, meanings, empty, rows)?;
+    push_counters(alloc, automaton, meanings, empty, Sense::Same, rows)?;
     push_guards(
         alloc,
         automaton,
@@ -90,7 +90,7 @@ pub(crate) fn push_event(
         ++ (event_rows automaton.now meanings.now (slice_get pattern.now.events event)
         ++ guard_rows automaton.now meanings.now (λ j. not (has_bit fallen j)) 0 automaton.now.fall)) (length meanings.now) rows.old.items rows.new.items) }
 {
-    push_counters(alloc, automaton, meanings, pattern.empty, rows)?;
+    push_counters(alloc, automaton, meanings, pattern.empty, Sense::Same, rows)?;
     push_happening(alloc, automaton, meanings, pattern, event, rows)?;
     push_standing(alloc, automaton, meanings, fallen, rows)?;
     Ok(())
@@ -130,7 +130,7 @@ pub(crate) fn push_falling(
 {
     let guards = automaton.fall.as_slice();
     let mask = u32::from(falls);
-    push_counters(alloc, automaton, meanings, empty, rows)?;
+    push_counters(alloc, automaton, meanings, empty, Sense::Same, rows)?;
     push_guards(alloc, automaton, meanings, guards, mask, Sense::Same, rows)?;
     Ok(())
 }
@@ -152,7 +152,7 @@ pub(crate) fn push_fallen(
 {
     let guards = automaton.fall.as_slice();
     let mask = u32::from(falls);
-    push_counters(alloc, automaton, meanings, empty, rows)?;
+    push_counters(alloc, automaton, meanings, empty, Sense::Same, rows)?;
     push_guards(
         alloc,
         automaton,

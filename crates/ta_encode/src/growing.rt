@@ -5,6 +5,7 @@ ghost use Rattle.std.specs.Prelude.{ℕ, ◌+◌, ◌-◌, ◌^◌, ◌<◌, ◌
 ghost use Rattle.ta_words.specs.Calls.{OfPattern};
 ghost use Rattle.ta_words.specs.Words.{Legal};
 ghost use Rattle.ta_encode.specs.Code.{SystemOf};
+ghost use Rattle.ta_encode.specs.Ends.{EndedSystem};
 ghost use Rattle.ta_encode.specs.Inside.Draft.{Drafted};
 ghost use Rattle.ta_encode.specs.Lines.{BoundsWithin};
 ghost use Rattle.ta_encode.specs.Inside.Lines.{IsBehind};
@@ -16,6 +17,7 @@ ghost use Rattle.ta_automaton.specs.declared.pattern.Pattern.{Pattern};
 ghost use Rattle.ta_words.specs.declared.element.Element.{Element};
 
 use crate::draft::{push_element, push_start};
+use crate::ending::{WordEnd, push_end};
 use crate::meaning::{Bound, Meaning};
 use crate::rows::push_bounds;
 use crate::unknowns::start_meanings;
@@ -210,13 +212,14 @@ fn part_of(
     begin(alloc, file, pattern, start_mask)
 }
 
-/// The rest of a word, and its bounds.
+/// The rest of a word, the rows of its end, and its bounds.
 fn finish(
     alloc: Global,
     file: &File,
     pattern: u32,
     start_mask: u8,
     elements: &[Element],
+    end: Option<WordEnd>,
     bounds: &[Bound],
     part: Part,
 ) -> Result<Grown, AllocError>
@@ -225,7 +228,7 @@ fn finish(
     requires bounds { OfPattern file.now pattern (λ p. BoundsWithin (length (meanings file.now.automaton p start_mask (reverse elements.now))) bounds.now) }
     requires part { OfPattern file.now pattern (λ p. IsPart file.now.automaton p start_mask elements.now part.rows.items part) }
     ensures encoding { IfOk result (λ grown. OfPattern file.now pattern (λ p. IsEncoding file.now.automaton p grown.encoding)) }
-    ensures system { IfOk result (λ grown. OfPattern file.now pattern (λ p. SystemOf file.now.automaton p start_mask (reverse elements.now) bounds.now grown.encoding.system)) }
+    ensures system { IfOk result (λ grown. OfPattern file.now pattern (λ p. EndedSystem file.now.automaton p start_mask (reverse elements.now) end bounds.now grown.encoding.system)) }
     ensures same { IfOk result (λ grown. (grown.same ≡ part.same) × IsBehind part.rows.items grown.encoding.system.rows) }
 {
     let Part {
@@ -246,6 +249,7 @@ fn finish(
         &mut meanings,
         &mut rows,
     )?;
+    push_end(alloc, &file.automaton, meanings.as_slice(), end, &mut rows)?;
     let unknowns = meanings.len();
     push_bounds(alloc, unknowns, bounds, &mut rows)?;
     let encoding = Encoding {
@@ -297,8 +301,33 @@ impl Encoding {
         ensures system { IfOk result (λ grown. OfPattern file.now pattern (λ p. SystemOf file.now.automaton p start_mask (reverse word.now) bounds.now grown.encoding.system)) }
         ensures same { IfOk result (λ grown. SameRows self.system.rows grown.same grown.encoding.system.rows) }
     {
+        self.grown_to(alloc, file, pattern, start_mask, word, None, bounds)
+    }
+
+    /// As `grown`, with rows of the word's end, where anything is asked of it, between those of the
+    /// word and those of the bounds.
+    pub fn grown_to(
+        self,
+        alloc: Global,
+        file: &File,
+        pattern: u32,
+        start_mask: u8,
+        word: &Word,
+        end: Option<WordEnd>,
+        bounds: &[Bound],
+    ) -> Result<Grown, AllocError>
+        requires exists { pattern < length file.now.patterns }
+        requires legal { OfPattern file.now pattern (λ p. Legal file.now.automaton p start_mask (reverse word.now)) }
+        requires bounds { OfPattern file.now pattern (λ p. BoundsWithin (length (meanings file.now.automaton p start_mask (reverse word.now))) bounds.now) }
+        requires encoding { OfPattern file.now pattern (λ p. IsEncoding file.now.automaton p self) }
+        ensures encoding { IfOk result (λ grown. OfPattern file.now pattern (λ p. IsEncoding file.now.automaton p grown.encoding)) }
+        ensures system { IfOk result (λ grown. OfPattern file.now pattern (λ p. EndedSystem file.now.automaton p start_mask (reverse word.now) end bounds.now grown.encoding.system)) }
+        ensures same { IfOk result (λ grown. SameRows self.system.rows grown.same grown.encoding.system.rows) }
+    {
         let elements = word.elements();
         let part = part_of(alloc, file, pattern, start_mask, elements, self)?;
-        finish(alloc, file, pattern, start_mask, elements, bounds, part)
+        finish(
+            alloc, file, pattern, start_mask, elements, end, bounds, part,
+        )
     }
 }

@@ -5,6 +5,7 @@ mod count;
 mod draft;
 mod elements;
 mod encoded;
+mod ending;
 mod growing;
 mod laws;
 mod line;
@@ -17,6 +18,7 @@ mod unknowns;
 
 pub use count::unknown_count;
 pub use encoded::{Encoded, Solution, encode};
+pub use ending::WordEnd;
 pub use growing::{Encoding, Grown, Mark};
 pub use laws::{
     proofs_leave_no_solution, proofs_read_in_order, proofs_show_safety, runs_reorder,

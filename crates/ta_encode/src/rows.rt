@@ -136,39 +136,41 @@ fn sense_at_start(start_mask: u8, number: usize) -> Sense
     }
 }
 
-/// The counters of the locations outside a set.
+/// The counters of the locations outside a set, or their opposites.
 pub(crate) fn push_counters(
     alloc: Global,
     automaton: &Automaton,
     meanings: &[Meaning],
     empty: u32,
+    sense: Sense,
     rows: &mut Vec<Row>,
 ) -> Result<(), AllocError>
     requires { length meanings.now < 2 ^ 32 }
-    ensures { OnOk result (Adds (map (counter_row automaton.now meanings.now) (filter (λ l. not (has_bit empty l)) (numbers_from 0 (length automaton.now.locations)))) (length meanings.now) rows.old.items rows.new.items) }
+    ensures { OnOk result (Adds (map (λ l. turned_row sense (counter_row automaton.now meanings.now l)) (filter (λ l. not (has_bit empty l)) (numbers_from 0 (length automaton.now.locations)))) (length meanings.now) rows.old.items rows.new.items) }
 {
     for location in 0..automaton.locations.as_slice().len() {
         if empty & (1 << location) == 0 {
-            push_counter(alloc, automaton, meanings, location as u32, rows)?;
+            push_counter(alloc, automaton, meanings, location as u32, sense, rows)?;
         }
     }
     Ok(())
 }
 
-/// The counter of a location.
+/// The counter of a location, or its opposite.
 fn push_counter(
     alloc: Global,
     automaton: &Automaton,
     meanings: &[Meaning],
     location: u32,
+    sense: Sense,
     rows: &mut Vec<Row>,
 ) -> Result<(), AllocError>
     requires exists { location < length automaton.now.locations }
     requires numbers { length meanings.now < 2 ^ 32 }
-    ensures { OnOk result (Adds (counter_row automaton.now meanings.now location ∷ []) (length meanings.now) rows.old.items rows.new.items) }
+    ensures { OnOk result (Adds (turned_row sense (counter_row automaton.now meanings.now location) ∷ []) (length meanings.now) rows.old.items rows.new.items) }
 {
     let terms = [(first_location(automaton) + location, 1)];
-    let row = line(alloc, automaton, meanings, &terms, false, Sense::Same, 0)?;
+    let row = line(alloc, automaton, meanings, &terms, false, sense, 0)?;
     rows.push(row)?;
     Ok(())
 }

@@ -1,5 +1,5 @@
 -- A row that is merged place by place
-use Rattle.std.proofs.Common.{◌≡◌, ◌≢◌, inl, inr, ℕ, zero, suc, ℤ, pos, negsuc, ◌+◌, ◌*ℤ◌, ◌-ℤ◌, ◌<ℤ◌, ◌/◌, ◌<◌, ◌≤◌, length, arith, sym, ap, ◌∙◌, refl, subst, Option, Some, None, IfSome, IfNone}
+use Rattle.std.proofs.Common.{◌≡◌, ◌≢◌, inl, inr, ℕ, zero, suc, ℤ, pos, negsuc, ◌+◌, ◌*ℤ◌, ◌-ℤ◌, ◌<ℤ◌, ◌/◌, ◌<◌, ◌≤◌, List, length, arith, sym, ap, ◌∙◌, refl, subst, Option, Some, None, IfSome, IfNone}
 use Rattle.std.specs.Prelude.{unsigned_abs, int_div}
 use Rattle.std.proofs.lemmas.Int.{ints}
 use Rattle.std.proofs.lemmas.Bool.Decides.{eqb_tells}
@@ -8,6 +8,7 @@ use Rattle.ta_linear.specs.Numbers.{InRange}
 use Rattle.ta_dense.specs.Merge.{CombinesInRange}
 use Rattle.ta_dense.proofs.Divide.{unsigned_abs-neg}
 use Rattle.ta_dense.proofs.MergedRow.{pos_out}
+use Rattle.ta_links.specs.declared.cell.Cell.{Cell}
 use Rattle.ta_links.specs.declared.linked_cells.LinkedCells.{LinkedCells}
 use Rattle.ta_links.specs.Chains.{along_rows}
 use Rattle.ta_links.specs.Values.{value_in, fills, filled}
@@ -43,23 +44,29 @@ merged_same p q column turned f g f' g' j e h = elim (is_or_not j column) [
 pub merges_same : (p q : ℤ) (column : ℕ) (f g f' g' : ℕ → ℤ) (j : ℕ) → f j ≡ f' j → g j ≡ g' j → MergesAt p q column f g j → MergesAt p q column f' g' j
 merges_same p q column f g f' g' j e h m ne = subst (λ (z : ℤ). CombinesInRange p z q (g' j)) e (subst (λ (z : ℤ). CombinesInRange p (f j) q z) h (m ne))
 
+-- what stands before a place stands before the next one
+pub may_before_next : (cells : List Cell) (row place : ℕ) (o : Option ℕ) → MayBefore along_rows cells row place o → MayBefore along_rows cells row (place + 1) o
+may_before_next cells row place o m h e = let b = m h e in let under = b.low in record { live = b.live; here = b.here; low = omega arith }
+
 -- a row was merged as far as a place
-pub record Rewritten (old : LinkedCells) (columns row at : ℕ) (p q : ℤ) (column : ℕ) (turned divisor : ℤ) (place : ℕ) (left : Option ℕ) (now : LinkedCells) : Type 0 where
+pub record Rewritten (old : LinkedCells) (columns row at : ℕ) (p q : ℤ) (column : ℕ) (turned divisor : ℤ) (place : ℕ) (left chosen : Option ℕ) (now : LinkedCells) : Type 0 where
   pub sound : AreSound now
   pub rows : length now.row_heads.items ≡ length old.row_heads.items
   pub same_columns : length now.column_heads.items ≡ length old.column_heads.items
   pub start : MayBefore along_rows now.cells.items at place left
+  pub front : MayBefore along_rows now.cells.items row place chosen
   pub others : (r c : ℕ) → r ≢ at → value_in now.cells.items r c ≡ value_in old.cells.items r c
   pub done : (j : ℕ) → j < place → value_in now.cells.items at j ≡ int_div (merged_cell p q column turned (value_in old.cells.items at) (value_in old.cells.items row) j) divisor
   pub rest : (j : ℕ) → place ≤ j → value_in now.cells.items at j ≡ value_in old.cells.items at j
   pub held : length now.cells.items ≤ length old.cells.items + filled columns (value_in old.cells.items at) (value_in now.cells.items at)
 
-pub rewriting : (old : LinkedCells) (columns row at : ℕ) (p q : ℤ) (column : ℕ) (turned divisor : ℤ) → AreSound old → Rewritten old columns row at p q column turned divisor 0 None old
+pub rewriting : (old : LinkedCells) (columns row at : ℕ) (p q : ℤ) (column : ℕ) (turned divisor : ℤ) → AreSound old → Rewritten old columns row at p q column turned divisor 0 None None old
 rewriting old columns row at p q column turned divisor sound = record {
   sound = sound;
   rows = refl;
   same_columns = refl;
   start = λ h e. absurd (cc);
+  front = λ h e. absurd (cc);
   others = λ r c ne. refl;
   done = λ j b. absurd (omega arith);
   rest = λ j b. refl;
@@ -67,20 +74,20 @@ rewriting old columns row at p q column turned divisor sound = record {
 }
 
 -- the chosen row's number at the next place is as before, also if it is the row that is written
-pub chosen_kept : (old : LinkedCells) (columns row at : ℕ) (p q : ℤ) (column : ℕ) (turned divisor : ℤ) (place : ℕ) (left : Option ℕ) (now : LinkedCells) → Rewritten old columns row at p q column turned divisor place left now →
+pub chosen_kept : (old : LinkedCells) (columns row at : ℕ) (p q : ℤ) (column : ℕ) (turned divisor : ℤ) (place : ℕ) (left chosen : Option ℕ) (now : LinkedCells) → Rewritten old columns row at p q column turned divisor place left chosen now →
     value_in now.cells.items row place ≡ value_in old.cells.items row place
-chosen_kept old columns row at p q column turned divisor place left now w = elim (is_or_not row at) [
+chosen_kept old columns row at p q column turned divisor place left chosen now w = elim (is_or_not row at) [
   | inl e ↦ ap (λ (r : ℕ). value_in now.cells.items r place) e ∙ w.rest place (omega arith) ∙ ap (λ (r : ℕ). value_in old.cells.items r place) (sym e)
   | inr ne ↦ w.others row place ne
 ]
 
-pub rewritten_more : (old : LinkedCells) (columns row at : ℕ) (p q : ℤ) (column : ℕ) (turned divisor : ℤ) (place : ℕ) (left : Option ℕ) (now : LinkedCells) (cell : ℤ) (left' : Option ℕ) (new : LinkedCells) → Rewritten old columns row at p q column turned divisor place left now → place < columns →
-    cell ≡ merged_cell p q column turned (value_in now.cells.items at) (value_in now.cells.items row) place → PutOver now at place (int_div cell divisor) left' new → Rewritten old columns row at p q column turned divisor (place + 1) left' new
-rewritten_more old columns row at p q column turned divisor place left now cell left' new w inside is o =
+pub rewritten_more : (old : LinkedCells) (columns row at : ℕ) (p q : ℤ) (column : ℕ) (turned divisor : ℤ) (place : ℕ) (left chosen : Option ℕ) (now : LinkedCells) (cell : ℤ) (left' chosen' : Option ℕ) (new : LinkedCells) → Rewritten old columns row at p q column turned divisor place left chosen now → place < columns →
+    cell ≡ merged_cell p q column turned (value_in now.cells.items at) (value_in now.cells.items row) place → PutOver now at place (int_div cell divisor) left' new → MayBefore along_rows new.cells.items row place chosen' → Rewritten old columns row at p q column turned divisor (place + 1) left' chosen' new
+rewritten_more old columns row at p q column turned divisor place left chosen now cell left' chosen' new w inside is o front =
     let f = value_in now.cells.items in
     let v = int_div cell divisor in
     let was = w.rest place (omega arith) in
-    let kept = chosen_kept old columns row at p q column turned divisor place left now w in
+    let kept = chosen_kept old columns row at p q column turned divisor place left chosen now w in
     let here : value_in new.cells.items at place ≡ v = o.values at place ∙ written_here f at place v at place refl refl in
     let elsewhere : (c : ℕ) → c ≢ place → value_in new.cells.items at c ≡ f at c = λ c ne. o.values at c ∙ written_elsewhere f at place v at c (inr (λ e. ne (sym e))) in
     let target : cell ≡ merged_cell p q column turned (value_in old.cells.items at) (value_in old.cells.items row) place = is ∙ merged_same p q column turned (f at) (f row) (value_in old.cells.items at) (value_in old.cells.items row) place was kept in
@@ -88,7 +95,8 @@ rewritten_more old columns row at p q column turned divisor place left now cell 
       sound = o.sound;
       rows = o.rows ∙ w.rows;
       same_columns = o.columns ∙ w.same_columns;
-      start = λ k e. let b = o.before k e in let under = b.low in record { live = b.live; here = b.here; low = omega arith };
+      start = may_before_next new.cells.items at place left' o.before;
+      front = may_before_next new.cells.items row place chosen' front;
       others = λ r c ne. o.values r c ∙ written_elsewhere f at place v r c (inl (λ e. ne (sym e))) ∙ w.others r c ne;
       done = λ j b. elim (is_or_not j place) [
         | inl e ↦ ap (value_in new.cells.items at) e ∙ here ∙ ap (λ (z : ℤ). int_div z divisor) target ∙ ap (λ (k : ℕ). int_div (merged_cell p q column turned (value_in old.cells.items at) (value_in old.cells.items row) k) divisor) (sym e)

@@ -112,8 +112,8 @@ before_kept cells new row column h b s = record {
   low = let a = s.column in let d = b.low in omega arith;
 }
 
-pub before_apart : (cells : List Cell) (row column at h : ℕ) → IsAt cells row column at → IsBefore along_rows cells row column h → h ≢ at
-before_apart cells row column at h i b e = let a = i.column in let d = b.low in let s = ap (λ (k : ℕ). (cell_at cells k).column) e in omega arith
+pub before_apart : (cells : List Cell) (row r column at h : ℕ) → IsAt cells row column at → IsBefore along_rows cells r column h → h ≢ at
+before_apart cells row r column at h i b e = let a = i.column in let d = b.low in let s = ap (λ (k : ℕ). (cell_at cells k).column) e in omega arith
 
 -- where the place is vacant, a cell that was sought in its column has a gap behind it
 pub sought_gap : (cells : List Cell) (row_heads column_heads : List (Option ℕ)) (free : Option ℕ) (row column : ℕ) (left above : Option ℕ) → AreLinked cells row_heads column_heads free → IsGap along_rows cells row_heads row column left →

@@ -4,13 +4,15 @@ ghost use Rattle.std.specs.Prelude.{◌≡◌, ◌≢◌, ◌<◌, ◌≤◌, �
 ghost use Rattle.std.specs.Option.{SomeIff};
 ghost use Rattle.ta_linear.specs.Numbers.{InRange};
 ghost use Rattle.ta_dense.specs.Merge.{CombinesInRange};
+ghost use Rattle.ta_links.specs.Chains.{along_rows};
 ghost use Rattle.ta_links.specs.Values.{value_in, filled};
-ghost use Rattle.ta_links.specs.Gaps.{AreSound};
+ghost use Rattle.ta_links.specs.Gaps.{AreSound, IsSought, MayBefore};
 ghost use Rattle.ta_links.specs.Merging.{merged_cell, MergesAt, RefusedAt, gcd_below};
 
 use crate::linked_cells::LinkedCells;
 use crate::putting::put;
-use crate::reading::number;
+use crate::reading::number_behind;
+use crate::seeking::seek_in_row;
 use std::alloc::AllocError;
 use ta_linear::{gcd_natural, minus, multiply};
 
@@ -23,11 +25,35 @@ pub(crate) fn combined(p: i128, a: i128, q: i128, c: i128) -> Option<i128>
     minus(left, right)
 }
 
+/// The last cells before a place in the row that is merged and in the chosen one.
+#[derive(Clone, Copy)]
+struct Cursors {
+    at: Option<usize>,
+    chosen: Option<usize>,
+}
+
+// Moves the cursors on to a place.
+fn moved(links: &LinkedCells, row: u32, at: u32, cursors: Cursors, place: u32) -> Cursors
+    requires sound { AreSound links.now }
+    requires row { row < length links.now.row_heads.items }
+    requires at { at < length links.now.row_heads.items }
+    requires before_at { MayBefore along_rows links.now.cells.items at place cursors.at }
+    requires before_chosen { MayBefore along_rows links.now.cells.items row place cursors.chosen }
+    ensures at { IsSought along_rows links.now.cells.items links.now.row_heads.items at place result.at }
+    ensures chosen { IsSought along_rows links.now.cells.items links.now.row_heads.items row place result.chosen }
+{
+    Cursors {
+        at: seek_in_row(links, at, place, cursors.at),
+        chosen: seek_in_row(links, row, place, cursors.chosen),
+    }
+}
+
 // The number at a place of row `at`, merged with `row`, where it is in range.
 fn merged_number(
     links: &LinkedCells,
     row: u32,
     at: u32,
+    cursors: Cursors,
     p: i128,
     q: i128,
     column: u32,
@@ -38,6 +64,8 @@ fn merged_number(
     requires row { row < length links.now.row_heads.items }
     requires at { at < length links.now.row_heads.items }
     requires turned { InRange turned }
+    requires sought_at { IsSought along_rows links.now.cells.items links.now.row_heads.items at place cursors.at }
+    requires sought_chosen { IsSought along_rows links.now.cells.items links.now.row_heads.items row place cursors.chosen }
     ensures value { IfSome result (λ z. z ≡ merged_cell p q column turned (value_in links.now.cells.items at) (value_in links.now.cells.items row) place) }
     ensures fits { IfSome result InRange }
     ensures within { IfSome result (λ _. MergesAt p q column (value_in links.now.cells.items at) (value_in links.now.cells.items row) place) }
@@ -46,8 +74,8 @@ fn merged_number(
     if place == column {
         return Some(turned);
     }
-    let number_at = number(links, at, place);
-    let chosen_at = number(links, row, place);
+    let number_at = number_behind(links, at, place, cursors.at);
+    let chosen_at = number_behind(links, row, place, cursors.chosen);
     combined(p, number_at, q, chosen_at)
 }
 
@@ -84,8 +112,13 @@ pub(crate) fn divisor_of_merged(
     ensures refused { IfNone result (RefusedAt p q column (value_in links.now.cells.items at) (value_in links.now.cells.items row) columns) }
 {
     let mut divisor = first;
+    let mut cursors = Cursors {
+        at: None,
+        chosen: None,
+    };
     for place in 0..columns {
-        let Some(cell) = merged_number(links, row, at, p, q, column, turned, place) else {
+        cursors = moved(links, row, at, cursors, place);
+        let Some(cell) = merged_number(links, row, at, cursors, p, q, column, turned, place) else {
             return None;
         };
         divisor = gcd_natural(divisor, cell.unsigned_abs());
@@ -119,12 +152,17 @@ pub(crate) fn write_merged(
     ensures values { IfOk result (λ _. (j : ℕ) → j < columns → value_in links.new.cells.items at j ≡ int_div (merged_cell p q column turned (value_in links.old.cells.items at) (value_in links.old.cells.items row) j) divisor) }
     ensures held { IfOk result (λ _. length links.new.cells.items ≤ length links.old.cells.items + filled columns (value_in links.old.cells.items at) (value_in links.new.cells.items at)) }
 {
-    let mut left = None;
+    let mut cursors = Cursors {
+        at: None,
+        chosen: None,
+    };
     for place in 0..columns {
-        let Some(cell) = merged_number(links, row, at, p, q, column, turned, place) else {
+        cursors = moved(links, row, at, cursors, place);
+        let Some(cell) = merged_number(links, row, at, cursors, p, q, column, turned, place) else {
             return Ok(());
         };
-        left = put(links, left, at, place, quotient(cell, divisor))?;
+        let left = put(links, cursors.at, at, place, quotient(cell, divisor))?;
+        cursors.at = left;
     }
     Ok(())
 }

@@ -2,11 +2,11 @@
 
 ghost use Rattle.std.specs.Prelude.{◌≡◌, ◌<◌, ◌≤◌, ℕ, length, Some, IfSome, IfNone};
 ghost use Rattle.ta_links.specs.Chains.{IsChained, place_at, along_rows};
-ghost use Rattle.ta_links.specs.Gaps.{IsGap, IsSought, IsBefore, MayBefore, IsAt, spot};
+ghost use Rattle.ta_links.specs.Gaps.{AreSound, IsGap, IsSought, IsBefore, MayBefore, IsAt, spot};
 ghost use Rattle.ta_links.specs.Links.{direction, following};
 
 use crate::cell::Cell;
-use crate::linked_cells::cell_behind;
+use crate::linked_cells::{LinkedCells, cell_behind};
 use crate::linking::cell_of;
 use crate::way::Way;
 
@@ -55,6 +55,29 @@ pub(crate) fn seek(
         before = Some(next);
     }
     before
+}
+
+// The last cell of a row before a column, sought from a cell before the column on, or from the row's
+// beginning.
+pub(crate) fn seek_in_row(
+    links: &LinkedCells,
+    row: u32,
+    column: u32,
+    start: Option<usize>,
+) -> Option<usize>
+    requires sound { AreSound links.now }
+    requires row { row < length links.now.row_heads.items }
+    requires start { MayBefore along_rows links.now.cells.items row column start }
+    ensures { IsSought along_rows links.now.cells.items links.now.row_heads.items row column result }
+{
+    seek(
+        Way::Rows,
+        &links.cells,
+        &links.row_heads,
+        row,
+        column,
+        start,
+    )
 }
 
 // The cell at a place of a row, whose last cell before it is `left`.

@@ -21,11 +21,11 @@ use Rattle.ta_program.specs.declared.pieces.Pieces.{Pieces}
 use Rattle.ta_program.specs.Certified.{AreTrees, SafeOne, safe_ones, tree_size, with_safe}
 use Rattle.ta_encode.specs.PatternSearch.{pattern_search}
 use Rattle.ta_program.specs.Verify.{UnderOrders}
-use Rattle.ta_program.specs.Inside.Drafts.{AddsTree, DraftKeeps, Drafted, HasProofs, HasText, HasTrees, ended_line, pieces_text}
+use Rattle.ta_program.specs.Inside.Drafts.{AddsTree, DraftBegins, DraftKeeps, Drafted, HasProofs, HasText, HasTrees, ended_line, pieces_text}
 
-nodes_more : (ns : List Node) (n : Node) → nodes_text (ns ++ n ∷ []) ≡ nodes_text ns ++ ended_line (line.Tree n)
-nodes_more [] n = refl
-nodes_more (m ∷ ns) n = ap (λ (xs : List ℕ). node_text m ++ (10 ∷ xs)) (nodes_more ns n) ∙ sym (append_assoc (node_text m) (10 ∷ nodes_text ns) (ended_line (line.Tree n)))
+nodes_joined : (ns ms : List Node) → nodes_text (ns ++ ms) ≡ nodes_text ns ++ nodes_text ms
+nodes_joined [] ms = refl
+nodes_joined (n ∷ ns) ms = ap (λ (xs : List ℕ). node_text n ++ (10 ∷ xs)) (nodes_joined ns ms) ∙ sym (append_assoc (node_text n) (10 ∷ nodes_text ns) (nodes_text ms))
 
 -- without nodes it is what it was
 pub keeps_none : (draft : Draft) → DraftKeeps draft draft []
@@ -42,13 +42,38 @@ keeps_line first now next ns n same more k = record {
   text = λ begun h w.
       more ∙ ap (λ (xs : List ℕ). xs ++ ended_line (line.Tree n)) (k.text begun h (sym same ∙ w))
       ∙ append_assoc begun (nodes_text ns) (ended_line (line.Tree n))
-      ∙ ap (λ (xs : List ℕ). begun ++ xs) (sym (nodes_more ns n));
+      ∙ ap (λ (xs : List ℕ). begun ++ xs) (sym (nodes_joined ns (n ∷ [])));
 }
 
 -- what a write of its line answers
 pub keeps_written : (written : Result (Unit {0}) AllocError) (first now : Draft) (lines : Pieces) (ns : List Node) (n : Node) → OnOk written (pieces_text lines ≡ pieces_text now.lines ++ ended_line (line.Tree n)) → DraftKeeps first now ns → OnOk written (DraftKeeps first (record { wanted = now.wanted; lines = lines }) (ns ++ n ∷ []))
 keeps_written (Ok u) first now lines ns n more k = keeps_line first now (record { wanted = now.wanted; lines = lines }) ns n refl more k
 keeps_written (Err e) first now lines ns n more k = tt
+
+-- a draft of a later part, without lines
+pub begun_draft : (now part : Draft) → part.wanted ≡ now.wanted → pieces_text part.lines ≡ [] → (first : Draft) (ns : List Node) → DraftKeeps first now ns → DraftBegins first part
+begun_draft now part same none first ns k = record { wanted = same ∙ k.wanted; empty = none }
+
+-- the lines of a later part behind those before it
+keeps_joined : (first begun now part : Draft) (lines : Pieces) (ns ms : List Node) → pieces_text lines ≡ pieces_text now.lines ++ pieces_text part.lines → DraftKeeps first now ns → DraftBegins first begun → DraftKeeps begun part ms → DraftKeeps first (record { wanted = now.wanted; lines = lines }) (ns ++ ms)
+keeps_joined first begun now part lines ns ms added k b m = record {
+  wanted = k.wanted;
+  text = λ text h w.
+      let own = k.text text h w in
+      let other : pieces_text part.lines ≡ nodes_text ms = m.text [] (λ u. b.empty) (m.wanted ∙ b.wanted ∙ sym k.wanted ∙ w) in
+      added ∙ ap (λ (xs : List ℕ). xs ++ pieces_text part.lines) own ∙ ap (λ (xs : List ℕ). (text ++ nodes_text ns) ++ xs) other
+      ∙ append_assoc text (nodes_text ns) (nodes_text ms)
+      ∙ ap (λ (xs : List ℕ). text ++ xs) (sym (nodes_joined ns ms));
+}
+
+-- what an append of them answers
+pub keeps_appended : (done : Result (Unit {0}) AllocError) (first begun now part : Draft) (lines : Pieces) (ns ms : List Node) → OnOk done (pieces_text lines ≡ pieces_text now.lines ++ pieces_text part.lines) → DraftKeeps first now ns → DraftBegins first begun → DraftKeeps begun part ms → OnOk done (DraftKeeps first (record { wanted = now.wanted; lines = lines }) (ns ++ ms))
+keeps_appended (Ok u) first begun now part lines ns ms added k b m = keeps_joined first begun now part lines ns ms added k b m
+keeps_appended (Err e) first begun now part lines ns ms added k b m = tt
+
+-- and where no lines are wanted
+pub joined_unwanted : (first now : Draft) (ns ms : List Node) → now.wanted ≡ false → DraftKeeps first now ns → DraftKeeps first now (ns ++ ms)
+joined_unwanted first now ns ms not k = record { wanted = k.wanted; text = λ begun h w. absurd (false≢true (sym not ∙ w)) }
 
 proofs_more : (ps qs : List Proof) → proofs_text (ps ++ qs) ≡ proofs_text ps ++ proofs_text qs
 proofs_more [] qs = refl

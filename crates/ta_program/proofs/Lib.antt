@@ -18,3 +18,6 @@ mod Accepted
 mod RunsReplayed
 mod PiecesJudged
 mod Benching
+mod OneLine
+mod FaultsOnce
+mod FaultsNamed

@@ -17,11 +17,12 @@ use Rattle.ta_encode.specs.InPreorder.{Pending}
 use Rattle.ta_encode.specs.declared.encoded.Solution.{Solution}
 use Rattle.ta_encode.proofs.Switch.{some_at}
 use Rattle.ta_walk.specs.declared.end.PlaceKind.{PlaceKind}
-use Rattle.ta_walk.specs.Ends.{NodeOf, SolutionAt, TreeIs, leaf_count}
+use Rattle.ta_walk.specs.Ends.{IsSpent, NodeOf, SolutionAt, TreeIs, leaf_count}
 use Rattle.ta_walk.specs.FoundOrders.{FoundOrders}
 use Rattle.ta_walk.specs.Visit.{LeavesAt}
 use Rattle.ta_walk.proofs.OrdersSound.{orders_sound}
 use Rattle.ta_walk.proofs.ProofsMade.{refuted_safe}
+use Rattle.ta_walk.proofs.SpentSplits.{spent_split}
 use Rattle.ta_walk.proofs.WordsSolved.{found_solved}
 use Rattle.ta_report.specs.declared.verdict.ReportKind.{ReportKind}
 use Rattle.ta_report.specs.declared.verdict.ReportKind.TheVariants as kind
@@ -29,7 +30,7 @@ use Rattle.ta_report.specs.declared.verdict.Verdict.{Verdict}
 use Rattle.ta_report.specs.Report.{VerdictFits}
 use Rattle.ta_witness.specs.Witness.{IsSolution, WitnessLeaves}
 use Rattle.ta_encode.specs.PatternSearch.{pattern_search}
-use Rattle.ta_program.specs.Verify.{AreVerdicts, LeavesIn, RunLeaves, SafeHolds, UnderOrders, VerdictHolds, VerdictsHold, place_of}
+use Rattle.ta_program.specs.Verify.{AreVerdicts, LeavesIn, RunLeaves, SafeHolds, SpentHolds, UnderOrders, VerdictHolds, VerdictsHold, place_of}
 
 -- a fact under the pairs of the orders that are found
 pub under : (file : File) (fact : List (ℕ × ℕ) → Type 0) (orders : List Order) (pairs : List (ℕ × ℕ)) → FoundOrders file.automaton orders → pairs ≡ map pair_of orders → fact pairs → UnderOrders file fact
@@ -41,6 +42,10 @@ safe_holds file number p at loops orders pairs found same budget within tree nod
     let good = subst (Good file.automaton) (sym same) (orders_sound file.automaton orders found).good in
     under file (λ ps. SafeHolds file ps p budget nodes leaves) orders pairs found same
     (record { safe = (refuted_safe file number p at loops pairs good budget within tree nodes is).1; tree = tree; is = is; counted = counted })
+
+-- a budget that is spent
+pub spent_holds : (file : File) (pairs : List (ℕ × ℕ)) (p : Pattern) (budget nodes : ℕ) → IsSpent (pattern_search file.automaton p pairs) budget nodes → SpentHolds file pairs p budget nodes
+spent_holds file pairs p budget nodes spent = record { is = spent; split = λ most. spent_split file.automaton p pairs budget nodes most spent }
 
 -- what a walk finds is a solution
 pub solution_is : (file : File) (number : ℕ) (p : Pattern) → slice_get file.patterns number ≡ Some p → (pairs : List (ℕ × ℕ)) (budget nodes : ℕ) (solution : Solution) → NodeOf (pattern_search file.automaton p pairs) budget nodes (SolutionAt file.automaton p pairs number solution) → IsSolution file solution

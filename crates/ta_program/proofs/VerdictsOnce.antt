@@ -55,7 +55,7 @@ record EndOf (file : File) (pairs : List (ℕ × ℕ)) (budget number : ℕ) (p 
 end_of : (file : File) (pairs : List (ℕ × ℕ)) (budget number : ℕ) (p : Pattern) (v : Verdict) → HoldsUnder file pairs budget number p v → EndOf file pairs budget number p v
 end_of file pairs budget number p (Safe nodes leaves) h = record { end = walk.Refuted h.tree nodes; is = h.is; gives = ap (Safe nodes) h.counted }
 end_of file pairs budget number p (Unsafe nodes run) h = record { end = walk.Found nodes h.solution; is = h.node; gives = inl record { run = run; says = refl; is = h.is; stays = h.stays } }
-end_of file pairs budget number p (Spent nodes) h = record { end = walk.Spent nodes; is = h; gives = refl }
+end_of file pairs budget number p (Spent nodes) h = record { end = walk.Spent nodes; is = h.is; gives = refl }
 end_of file pairs budget number p (Overflow node (kind.Pivot pivot)) h = record { end = walk.Overflow node (place.Pivot pivot); is = h; gives = refl }
 end_of file pairs budget number p (Overflow node kind.Leaf) h = record { end = walk.Overflow node place.Leaf; is = h; gives = refl }
 end_of file pairs budget number p (Overflow node kind.Run) h =

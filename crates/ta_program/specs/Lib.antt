@@ -22,4 +22,5 @@ pub mod Headline
 pub mod Printed
 pub mod Program
 pub mod Laws
+pub mod Faults
 pub mod Inside

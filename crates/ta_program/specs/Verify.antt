@@ -22,6 +22,7 @@ use Rattle.ta_walk.specs.declared.end.PlaceKind.TheVariants as place
 use Rattle.ta_walk.specs.Visit.{LeavesAt}
 use Rattle.ta_walk.specs.Ends.{IsSpent, NodeOf, SolutionAt, TreeIs, leaf_count}
 use Rattle.ta_walk.specs.FoundOrders.{FoundOrders}
+use Rattle.ta_walk.specs.Splits.{HasAtMost, WasSplit}
 use Rattle.ta_report.specs.declared.verdict.ReportKind.{ReportKind}
 use Rattle.ta_report.specs.declared.verdict.ReportKind.TheVariants as kind
 use Rattle.ta_report.specs.declared.verdict.Verdict.{Verdict}
@@ -60,6 +61,12 @@ pub record UnsafeHolds (file : File) (pairs : List (ℕ × ℕ)) (number : ℕ) 
   pub shows : Shows file run
   pub stays : ReplayStays file run
   pub short : IsShortRun file run
+
+-- as many nodes as the budget allows are visited, and a word is left; where there are no more pairs of a start set and a legal word than
+-- nodes, one of these was split
+pub record SpentHolds (file : File) (pairs : List (ℕ × ℕ)) (p : Pattern) (budget nodes : ℕ) : Type 0 where
+  pub is : IsSpent (pattern_search file.automaton p pairs) budget nodes
+  pub split : HasAtMost file.automaton p pairs budget → WasSplit (pattern_search file.automaton p pairs) budget
 
 -- the word is that of a whole node, and a number of the replay of its run leaves the range
 pub record RunLeaves (file : File) (pairs : List (ℕ × ℕ)) (number : ℕ) (p : Pattern) (w : Pending) : Type 0 where
@@ -107,7 +114,7 @@ SamplesAreDetermined = (file : File) (budget : ℕ) (s t : ReportSample) → IsS
 abbrev pub HoldsUnder : File → List (ℕ × ℕ) → ℕ → ℕ → Pattern → Verdict → Type 0
 HoldsUnder file pairs budget number p (Safe nodes leaves) = SafeHolds file pairs p budget nodes leaves
 HoldsUnder file pairs budget number p (Unsafe nodes run) = UnsafeHolds file pairs number p budget nodes run
-HoldsUnder file pairs budget number p (Spent nodes) = IsSpent (pattern_search file.automaton p pairs) budget nodes
+HoldsUnder file pairs budget number p (Spent nodes) = SpentHolds file pairs p budget nodes
 HoldsUnder file pairs budget number p (Overflow node kind) = NodeOf (pattern_search file.automaton p pairs) budget node (LeavesIn file pairs number p kind)
 
 -- it holds under the pairs of the orders that are found

@@ -25,6 +25,7 @@ use crate::values::name_of;
 use crate::word_asked::{asked_of, find_whole};
 use crate::words::take_words;
 use std::alloc::{AllocError, Global};
+use std::thread::Threads;
 use ta_automaton::File;
 use ta_replay::{Run, print_run};
 use ta_scope::ScopedFile;
@@ -55,7 +56,13 @@ impl<'a> Command for Admit<'a> {
 
     ghost meaning = { λ command. admit_meaning (admit_seen command.asked command.values.now) };
 
-    fn judge<S: Shelf>(&self, alloc: Global, shelf: &mut S) -> Result<Answer, Refusal<'_>> {
+    fn judge<R: Threads + Sync, S: Shelf>(
+        &self,
+        rt: &R,
+        alloc: Global,
+        shelf: &mut S,
+    ) -> Result<Answer, Refusal<'_>> {
+        let _ = rt;
         judge_admit(alloc, shelf, &self.asked, self.values)
     }
 }

@@ -19,6 +19,7 @@ use crate::request::Request;
 use crate::verify::{is_unknown, is_unsafe, verdicts_on};
 use crate::words::take_words;
 use std::alloc::{AllocError, Global};
+use std::thread::Threads;
 use ta_automaton::Pattern;
 use ta_cert::CertFault;
 use ta_check::{Accepted, Checker};
@@ -53,9 +54,14 @@ impl Command for Bench {
 
     ghost meaning = { λ command. bench_meaning command.k };
 
-    fn judge<S: Shelf>(&self, alloc: Global, shelf: &mut S) -> Result<Answer, Refusal<'_>> {
+    fn judge<R: Threads + Sync, S: Shelf>(
+        &self,
+        rt: &R,
+        alloc: Global,
+        shelf: &mut S,
+    ) -> Result<Answer, Refusal<'_>> {
         let _ = shelf;
-        answer_bench(alloc, self.k)
+        answer_bench(rt, alloc, self.k)
     }
 }
 
@@ -85,25 +91,25 @@ fn family_number(word: &str) -> Option<u32>
 /// The answer of `bench`. A fault of the family's text, an unsafe pattern or a certificate that is
 /// refused would be an error of this program and does not come about; then it is as for want of
 /// memory.
-fn answer_bench<'a>(alloc: Global, k: u32) -> Result<Answer, Refusal<'a>>
+fn answer_bench<'a, R: Threads + Sync>(rt: &R, alloc: Global, k: u32) -> Result<Answer, Refusal<'a>>
     ensures says { (files : Option Told) → Says (bench_meaning k) files result [] }
     ensures cause { ReadCause result 0 0 }
 {
-    match bench_family(alloc, k) {
+    match bench_family(rt, alloc, k) {
         Ok(answer) => Ok(answer),
         Err(AllocError) => Err(Refusal::Memory),
     }
 }
 
 /// Makes the automaton of a number, prints and reads it, verifies it, and checks its certificate.
-fn bench_family(alloc: Global, k: u32) -> Result<Answer, AllocError>
+fn bench_family<R: Threads + Sync>(rt: &R, alloc: Global, k: u32) -> Result<Answer, AllocError>
     ensures { IfOk result (SaysBench k) }
 {
     let scoped = read_family(alloc, k)?;
     let budget = Budget { nodes: 1_000_000 };
     let found = find_orders::<NarrowDictionary>(alloc, &scoped)?;
     let mut draft = Draft::certificate(alloc, true, found.list.as_slice())?;
-    let verdicts = verdicts_on(alloc, &scoped, &found, &budget, &mut draft)?;
+    let verdicts = verdicts_on(rt, alloc, &scoped, &found, &budget, &mut draft)?;
     let certificate = draft.end(alloc)?;
     if accept(alloc, &scoped, certificate.as_slice()).is_err() {
         return Err(AllocError);

@@ -20,6 +20,7 @@ use crate::reading::read_legal;
 use crate::request::Request;
 use crate::values::{TwoNames, two_names};
 use std::alloc::{AllocError, Global};
+use std::thread::Threads;
 use ta_automaton::File;
 use ta_cert::CertFault;
 use ta_check::{Accepted, Checker};
@@ -52,7 +53,13 @@ impl<'a> Command for Check<'a> {
 
     ghost meaning = { λ command. check_meaning command.names.file.now command.names.other.now };
 
-    fn judge<S: Shelf>(&self, alloc: Global, shelf: &mut S) -> Result<Answer, Refusal<'_>> {
+    fn judge<R: Threads + Sync, S: Shelf>(
+        &self,
+        rt: &R,
+        alloc: Global,
+        shelf: &mut S,
+    ) -> Result<Answer, Refusal<'_>> {
+        let _ = rt;
         judge_check(alloc, shelf, self.names.file, self.names.other)
     }
 }

@@ -21,6 +21,7 @@ use crate::reading::read_legal;
 use crate::request::Request;
 use crate::values::{TwoNames, two_names};
 use std::alloc::{AllocError, Global};
+use std::thread::Threads;
 use ta_automaton::File;
 use ta_compress::{CompressFault, compress};
 use ta_replay::{Run, RunFault, print_run, read_run};
@@ -50,7 +51,13 @@ impl<'a> Command for Compress<'a> {
 
     ghost meaning = { λ command. compress_meaning command.names.file.now command.names.other.now };
 
-    fn judge<S: Shelf>(&self, alloc: Global, shelf: &mut S) -> Result<Answer, Refusal<'_>> {
+    fn judge<R: Threads + Sync, S: Shelf>(
+        &self,
+        rt: &R,
+        alloc: Global,
+        shelf: &mut S,
+    ) -> Result<Answer, Refusal<'_>> {
+        let _ = rt;
         judge_compress(alloc, shelf, self.names.file, self.names.other)
     }
 }

@@ -11,7 +11,7 @@ use crate::pieces::Pieces;
 use std::alloc::{AllocError, Global};
 use ta_cert::{Line, Node, Order};
 use ta_shelf::{List, Text};
-use ta_walk::Keeper;
+use ta_walk::{Keeper, PartKeeper};
 
 /// The lines of a certificate, or of the proof of a pattern, as they are made; none where no
 /// certificate is asked for.
@@ -82,5 +82,25 @@ impl Keeper for Draft {
             return Ok(());
         }
         self.lines.write(alloc, &Line::Tree(node))
+    }
+}
+
+impl PartKeeper for Draft {
+    ghost use Rattle.ta_program.specs.Inside.Drafts.{DraftBegins};
+
+    ghost begins = { DraftBegins };
+
+    fn later(&self, alloc: Global) -> Result<Draft, AllocError> {
+        Ok(Draft {
+            wanted: self.wanted,
+            lines: Pieces::new(alloc),
+        })
+    }
+
+    fn append(&mut self, alloc: Global, part: Draft) -> Result<(), AllocError> {
+        if !self.wanted {
+            return Ok(());
+        }
+        self.lines.append(alloc, part.lines)
     }
 }

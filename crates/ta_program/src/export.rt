@@ -17,6 +17,7 @@ use crate::spelled::WordAsked;
 use crate::word_asked::{asked_of, find_word};
 use crate::words::take_words;
 use std::alloc::{AllocError, Global};
+use std::thread::Threads;
 use ta_automaton::File;
 use ta_shelf::{Shelf, Text};
 use ta_shell::{Answer, Command, Refusal};
@@ -44,7 +45,13 @@ impl<'a> Command for Export<'a> {
 
     ghost meaning = { λ command. export_meaning (asked_seen command.asked) };
 
-    fn judge<S: Shelf>(&self, alloc: Global, shelf: &mut S) -> Result<Answer, Refusal<'_>> {
+    fn judge<R: Threads + Sync, S: Shelf>(
+        &self,
+        rt: &R,
+        alloc: Global,
+        shelf: &mut S,
+    ) -> Result<Answer, Refusal<'_>> {
+        let _ = rt;
         judge_export(alloc, shelf, &self.asked)
     }
 }

@@ -9,6 +9,7 @@ mod check;
 mod compress;
 mod draft;
 mod export;
+mod fault_laws;
 mod laws;
 mod limits;
 mod pieces;
@@ -22,6 +23,7 @@ mod verify;
 mod word_asked;
 mod words;
 
+pub use fault_laws::{faults_are_determined, faults_are_named};
 pub use laws::{
     printed_runs_are_replayed, verdicts_are_determined, written_certificates_are_accepted,
 };

@@ -20,6 +20,7 @@ use crate::reading::read_legal;
 use crate::request::Request;
 use crate::values::{TwoNames, two_names};
 use std::alloc::{AllocError, Global};
+use std::thread::Threads;
 use ta_automaton::File;
 use ta_replay::{Run, RunFault, Shown, read_run, replay};
 use ta_report::{run_fault_phrase, shown_line};
@@ -47,7 +48,13 @@ impl<'a> Command for Replay<'a> {
 
     ghost meaning = { λ command. replay_meaning command.names.file.now command.names.other.now };
 
-    fn judge<S: Shelf>(&self, alloc: Global, shelf: &mut S) -> Result<Answer, Refusal<'_>> {
+    fn judge<R: Threads + Sync, S: Shelf>(
+        &self,
+        rt: &R,
+        alloc: Global,
+        shelf: &mut S,
+    ) -> Result<Answer, Refusal<'_>> {
+        let _ = rt;
         judge_replay(alloc, shelf, self.names.file, self.names.other)
     }
 }

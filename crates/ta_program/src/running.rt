@@ -17,6 +17,7 @@ use crate::replay::Replay;
 use crate::request::Request;
 use crate::verify::Verify;
 use std::alloc::Global;
+use std::thread::Threads;
 use ta_shelf::{Shelf, Sink};
 use ta_shell::{perform, tell_line};
 
@@ -32,7 +33,8 @@ const USAGE: &str =
 /// A file is read and judged whole before the next one is opened, and a text is made whole before
 /// it is written. A certificate is put on the shelf before the report is written, and nothing else is
 /// ever put there. A failing `err` changes nothing.
-pub fn run<S: Shelf, O: Sink, E: Sink>(
+pub fn run<R: Threads + Sync, S: Shelf, O: Sink, E: Sink>(
+    rt: &R,
     alloc: Global,
     words: &[&str],
     shelf: &mut S,
@@ -66,11 +68,12 @@ pub fn run<S: Shelf, O: Sink, E: Sink>(
         (state (S.files shelf.old) (S.calls shelf.old) (S.faults shelf.old) (O.written out.old) (O.faults out.old) (O.stalls out.old) (E.written err.old) (E.faults err.old) (E.stalls err.old))
         (state (S.files shelf.new) (S.calls shelf.new) (S.faults shelf.new) (O.written out.new) (O.faults out.new) (O.stalls out.new) (E.written err.new) (E.faults err.new) (E.stalls err.new)) }
 {
-    obey(alloc, words, shelf, out, err)
+    obey(rt, alloc, words, shelf, out, err)
 }
 
 /// Does what is asked for, where something is: one row a command.
-fn obey<S: Shelf, O: Sink, E: Sink>(
+fn obey<R: Threads + Sync, S: Shelf, O: Sink, E: Sink>(
+    rt: &R,
     alloc: Global,
     words: &[&str],
     shelf: &mut S,
@@ -85,19 +88,20 @@ fn obey<S: Shelf, O: Sink, E: Sink>(
         return refuse(err);
     };
     match *name {
-        "admit" => attempt::<Admit<'_>, S, O, E>(alloc, words, shelf, out, err),
-        "bench" => attempt::<Bench, S, O, E>(alloc, words, shelf, out, err),
-        "check" => attempt::<Check<'_>, S, O, E>(alloc, words, shelf, out, err),
-        "compress" => attempt::<Compress<'_>, S, O, E>(alloc, words, shelf, out, err),
-        "export" => attempt::<Export<'_>, S, O, E>(alloc, words, shelf, out, err),
-        "replay" => attempt::<Replay<'_>, S, O, E>(alloc, words, shelf, out, err),
-        "verify" => attempt::<Verify<'_>, S, O, E>(alloc, words, shelf, out, err),
+        "admit" => attempt::<Admit<'_>, R, S, O, E>(rt, alloc, words, shelf, out, err),
+        "bench" => attempt::<Bench, R, S, O, E>(rt, alloc, words, shelf, out, err),
+        "check" => attempt::<Check<'_>, R, S, O, E>(rt, alloc, words, shelf, out, err),
+        "compress" => attempt::<Compress<'_>, R, S, O, E>(rt, alloc, words, shelf, out, err),
+        "export" => attempt::<Export<'_>, R, S, O, E>(rt, alloc, words, shelf, out, err),
+        "replay" => attempt::<Replay<'_>, R, S, O, E>(rt, alloc, words, shelf, out, err),
+        "verify" => attempt::<Verify<'_>, R, S, O, E>(rt, alloc, words, shelf, out, err),
         _ => refuse(err),
     }
 }
 
 /// Does a command, where the words behind its name are of its form.
-fn attempt<'a, C: Request<'a>, S: Shelf, O: Sink, E: Sink>(
+fn attempt<'a, C: Request<'a>, R: Threads + Sync, S: Shelf, O: Sink, E: Sink>(
+    rt: &R,
     alloc: Global,
     words: &[&'a str],
     shelf: &mut S,
@@ -109,7 +113,7 @@ fn attempt<'a, C: Request<'a>, S: Shelf, O: Sink, E: Sink>(
         (state (S.files shelf.new) (S.calls shelf.new) (S.faults shelf.new) (O.written out.new) (O.faults out.new) (O.stalls out.new) (E.written err.new) (E.faults err.new) (E.stalls err.new)) }
 {
     match C::read(words) {
-        Some(command) => perform(alloc, &command, shelf, out, err),
+        Some(command) => perform(rt, alloc, &command, shelf, out, err),
         None => refuse(err),
     }
 }

@@ -32,6 +32,7 @@ use crate::request::Request;
 use crate::values::{budget_of, name_of, out_of};
 use crate::words::{OptionWord, Taken, take_words};
 use std::alloc::{AllocError, Global};
+use std::thread::Threads;
 use ta_automaton::File;
 use ta_cert::Line;
 use ta_dense::NarrowDictionary;
@@ -68,8 +69,21 @@ impl<'a> Command for Verify<'a> {
 
     ghost meaning = { λ command. verify_meaning command.file.now command.budget.nodes command.json (option_map (λ w. w.now) command.out) };
 
-    fn judge<S: Shelf>(&self, alloc: Global, shelf: &mut S) -> Result<Answer, Refusal<'_>> {
-        judge_verify(alloc, shelf, self.file, &self.budget, self.json, self.out)
+    fn judge<R: Threads + Sync, S: Shelf>(
+        &self,
+        rt: &R,
+        alloc: Global,
+        shelf: &mut S,
+    ) -> Result<Answer, Refusal<'_>> {
+        judge_verify(
+            rt,
+            alloc,
+            shelf,
+            self.file,
+            &self.budget,
+            self.json,
+            self.out,
+        )
     }
 }
 
@@ -120,7 +134,8 @@ fn verify_taken(taken: Taken<'_>) -> Option<Verify<'_>>
 
 /// Reads a file, gives a sample of its parameters and a verdict on each of its patterns, and puts the certificate of those that are
 /// safe in the file OUT, where that is asked for.
-fn judge_verify<'a, S: Shelf>(
+fn judge_verify<'a, R: Threads + Sync, S: Shelf>(
+    rt: &R,
     alloc: Global,
     shelf: &mut S,
     file: &'a str,
@@ -133,13 +148,14 @@ fn judge_verify<'a, S: Shelf>(
     ensures kept { S.files shelf.new ≡ S.files shelf.old }
 {
     match read_legal(alloc, shelf, file) {
-        Ok(scoped) => answer_report(alloc, &scoped, budget, json, out),
+        Ok(scoped) => answer_report(rt, alloc, &scoped, budget, json, out),
         Err(refusal) => Err(refusal),
     }
 }
 
 /// The answer with a sample of the parameters and a verdict on each pattern of a file, and the certificate that is asked for.
-fn answer_report<'a>(
+fn answer_report<'a, R: Threads + Sync>(
+    rt: &R,
     alloc: Global,
     scoped: &ScopedFile,
     budget: &Budget,
@@ -155,7 +171,7 @@ fn answer_report<'a>(
     let Ok(mut draft) = Draft::certificate(alloc, out.is_some(), found.list.as_slice()) else {
         return Err(Refusal::Memory);
     };
-    let Ok(verdicts) = verdicts_on(alloc, scoped, &found, budget, &mut draft) else {
+    let Ok(verdicts) = verdicts_on(rt, alloc, scoped, &found, budget, &mut draft) else {
         return Err(Refusal::Memory);
     };
     let number = number_of(verdicts.as_slice());
@@ -233,7 +249,8 @@ pub(crate) fn is_unknown(verdict: &Verdict) -> bool
 
 /// A verdict on each pattern of a file, in order, under the orders that were found. The trees of those
 /// that are safe are added to a draft.
-pub(crate) fn verdicts_on(
+pub(crate) fn verdicts_on<R: Threads + Sync>(
+    rt: &R,
     alloc: Global,
     scoped: &ScopedFile,
     found: &OrdersFound,
@@ -249,13 +266,14 @@ pub(crate) fn verdicts_on(
     let count = scoped.file.patterns.as_slice().len() as u32;
     let mut verdicts = Vec::new(alloc);
     for pattern in 0..count {
-        verdicts.push(next_verdict(alloc, scoped, found, pattern, budget, draft)?)?;
+        verdicts.push(next_verdict(rt, alloc, scoped, found, pattern, budget, draft)?)?;
     }
     Ok(verdicts)
 }
 
 /// The verdict on the pattern of a number, whose tree is added to a draft where it is safe.
-fn next_verdict(
+fn next_verdict<R: Threads + Sync>(
+    rt: &R,
     alloc: Global,
     scoped: &ScopedFile,
     found: &OrdersFound,
@@ -272,7 +290,7 @@ fn next_verdict(
     ensures wanted { IfOk result (λ verdict. draft.new.wanted ≡ draft.old.wanted) }
 {
     let mut proof = Draft::begin(alloc, draft.wanted, &Line::Pattern(pattern))?;
-    let verdict = verdict_on(alloc, scoped, found, pattern, budget, &mut proof)?;
+    let verdict = verdict_on(rt, alloc, scoped, found, pattern, budget, &mut proof)?;
     if !is_safe(&verdict) {
         return Ok(verdict);
     }
@@ -289,7 +307,8 @@ fn is_safe(verdict: &Verdict) -> bool
 
 /// The verdict on the pattern of a number. The lines of its tree, if it is safe, stand at the end of
 /// a draft then.
-fn verdict_on(
+fn verdict_on<R: Threads + Sync>(
+    rt: &R,
     alloc: Global,
     scoped: &ScopedFile,
     found: &OrdersFound,
@@ -304,7 +323,8 @@ fn verdict_on(
     ensures fits { IfOk result (VerdictFits scoped.now.file) }
     ensures drafted { IfOk result (λ verdict. OfPattern scoped.now.file pattern (λ p. Drafted scoped.now.file budget.now.nodes pattern p verdict draft.old draft.new)) }
 {
-    match visit::<NarrowDictionary, Draft>(
+    match visit::<NarrowDictionary, Draft, R>(
+        rt,
         alloc,
         scoped,
         pattern,

@@ -28,6 +28,6 @@ pub mod Showing
 pub mod Refusing
 mod Naming
 mod TextAnswers
-mod FirstBad
+pub mod FirstBad
 pub mod OneRefusal
 pub mod Once

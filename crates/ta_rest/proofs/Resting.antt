@@ -1,5 +1,5 @@
 -- a run that has come to rest solves the system of rest of its word
-use Rattle.std.proofs.Common.{◌≡◌, inl, inr, ℕ, zero, suc, ◌+◌, ◌≤◌, ◌^◌, pos, List, [], ◌∷◌, map, length, eqb, cond, Bool, true, false, not, arith, sym, ap, ◌∙◌, refl, subst, slice_get, get_or, Some, None, Option, reverse}
+use Rattle.std.proofs.Common.{◌≡◌, inl, inr, ℕ, zero, suc, ◌+◌, ◌-◌, ◌≤◌, ◌^◌, pos, List, [], ◌∷◌, map, length, eqb, cond, Bool, true, false, not, arith, sym, ap, ◌∙◌, refl, subst, slice_get, get_or, Some, None, Option, reverse}
 use Rattle.std.specs.Prelude.{filter}
 use Rattle.std.proofs.lemmas.Int.{ints}
 use Rattle.std.proofs.lemmas.List.{append-nil}
@@ -33,7 +33,8 @@ use Rattle.ta_encode.proofs.Switch.{all_below-false, false_not}
 use Rattle.ta_encode.proofs.Theorems.{reordered_to}
 use Rattle.ta_rest.specs.Rest.{AtRest}
 use Rattle.ta_rest.specs.RestSearch.{end_rows, leads_out, must_be_left, rest_rows, rest_search}
-use Rattle.ta_rest.specs.Laws.{RestingRunsSolve, RefutedEndingsRest}
+use Rattle.ta_rest.specs.Laws.{RestingRunsSolve, RefutedEndingsRest, RefutedEndingsShow}
+use Rattle.ta_rest.proofs.EndingLaws.{ending_early, ending_has, endings_rest}
 
 -- each configuration of a run has a value for each place
 step_whole : (a : Automaton) (r : ℕ) (c d : Config) → Whole a c → Step a r c d → Whole a d
@@ -119,16 +120,16 @@ no_pairs_good a = record { pairs_are = tt; implied = tt; distinct = tt; acyclic 
 
 pub resting_solves : RestingRunsSolve
 unfolding rest_rows
-resting_solves a p early loops first rules o =
+resting_solves a p early some loops first rules o =
     let occurs = o.occurs in
-    let to = reordered_to a p early loops [] (no_pairs_good a) (let l = o.is_last in omega arith) first rules occurs in
+    let to = reordered_to a p early loops [] (no_pairs_good a) (omega arith) first rules occurs in
     let ends = to.ends in
     let start = to.reordered.start in
     let past = reverse to.reordered.word in
     let vs = to.reordered.values in
     let within = slice_get_within (first ∷ occurs.later) ends.place ends.config ends.there in
     let long = run_length a first rules occurs.later occurs.run.steps in
-    let high : length rules ≤ ends.place = (let g = ends.greatest o.last (let l = o.is_last in omega arith) in let e = o.at_end in omega arith) in
+    let high : length rules ≤ ends.place = (let g = ends.greatest (length p.events - 1) (omega arith) in let e = o.at_end (length p.events - 1) (omega arith) in omega arith) in
     let place : ends.place ≡ length rules = omega (arith, within, long, high) in
     let at : slice_get (first ∷ occurs.later) (length rules) ≡ Some ends.config = subst (λ k. slice_get (first ∷ occurs.later) k ≡ Some ends.config) place ends.there in
     let begin : Whole a first = record { parameters = occurs.run.initial.admissible.count; shared = occurs.run.initial.shared_count; counters = occurs.run.initial.locations_count } in
@@ -155,7 +156,7 @@ cond_child : {X : Type 0} (x : X) (b : Bool) (xs : List X) → In x (cond b [] x
 cond_child x true xs h = absurd h
 cond_child x false xs h = refl
 
-not_followed : (a : Automaton) (p : Pattern) (start : ℕ) (past : List Element) (e : Element) → In e (children a p [] start past) → is_complete p past ≡ false
+pub not_followed : (a : Automaton) (p : Pattern) (start : ℕ) (past : List Element) (e : Element) → In e (children a p [] start past) → is_complete p past ≡ false
 unfolding children
 not_followed a p start past e i = cond_child e (is_complete p past) _ i
 
@@ -169,8 +170,8 @@ rest_along a p start vs past (e ∷ future) legal complete words rows =
 
 pub refuted_rests : RefutedEndingsRest
 unfolding rest_rows
-refuted_rests a p early loops trees proof first rules o =
-    let s = resting_solves a p early loops first rules o in
+refuted_rests a p early some loops trees proof first rules o =
+    let s = resting_solves a p early some loops first rules o in
     let f = take_apart s.past [] in
     let rows : AllHold s.values (rest_rows a p s.start s.past) = AllHold-left s.values (rest_rows a p s.start s.past) [] s.solves.rows_hold in
     let words : AllHold s.values (word_rows a p s.start s.past) = AllHold-left s.values (word_rows a p s.start s.past) (cond (is_complete p s.past) (end_rows a p s.start s.past) []) rows in
@@ -180,3 +181,7 @@ refuted_rests a p early loops trees proof first rules o =
     (ap (is_complete p) f.1 ∙ s.complete)
     (subst (λ (q : List Element). AllHold s.values (word_rows a p s.start q)) (sym f.1) words)
     (subst (λ (q : List Element). AllHold s.values (rest_rows a p s.start q)) (sym f.1) rows))
+
+pub refuted_show : RefutedEndingsShow
+refuted_show a p q h early loops trees proof first rules o =
+    refuted_rests a q (ending_early p q h early) (ending_has p q h) loops trees proof first rules ((endings_rest a p q h first rules).0 o)

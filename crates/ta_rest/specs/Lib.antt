@@ -1,3 +1,6 @@
 pub mod Rest
 pub mod RestSearch
+pub mod Endings
+pub mod Faults
+pub mod Moves
 pub mod Laws

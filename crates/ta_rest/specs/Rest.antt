@@ -9,12 +9,10 @@ use Rattle.ta_automaton.specs.Runs.{At, Config, Occurs, Step}
 abbrev pub AtRest : Automaton → Config → Type 0
 AtRest a c = (r : ℕ) (next : Config) (step : Step a r c next) → step.rule.from ≡ step.rule.to
 
--- the pattern occurs in a run, its last event at the run's end, where the run has come to rest
+-- the pattern occurs in a run that has come to rest at its end, where the pattern's last event happens if it has events
 pub record RestOccurs (a : Automaton) (p : Pattern) (first : Config) (rules : List ℕ) : Type 0 where
   pub occurs : Occurs a p first rules
-  pub last : ℕ
-  pub is_last : last + 1 ≡ length p.events
-  pub at_end : slice_index occurs.positions last ≡ length rules
+  pub at_end : (last : ℕ) → last + 1 ≡ length p.events → slice_index occurs.positions last ≡ length rules
   pub rests : (c : Config) → At first occurs.later (length rules) c → AtRest a c
 
 -- it does so in no run, for any admissible parameters and any number of steps

@@ -1,6 +1,16 @@
-//! Runs that have come to rest, and the systems of the words that describe them.
+//! Runs that have come to rest, the endings of patterns, and the systems of the words that describe such runs.
 #![tactic(auto)]
 
+mod endings;
+mod fault;
 mod laws;
+mod rest_file;
+mod scoping;
 
-pub use laws::{refuted_endings_rest, resting_runs_solve};
+pub use fault::RestFault;
+pub use laws::{
+    endings_rest_alike, moves_are_bounded, refuted_endings_rest, resting_runs_solve,
+    solutions_come_to_rest,
+};
+pub use rest_file::RestFile;
+pub use scoping::rest_scope;

@@ -5,9 +5,10 @@ pub mod Judging
 pub mod ArrangedOnce
 pub mod Arranging
 pub mod ArrangedLaws
-mod Places
+pub mod Places
 mod Cycles
-mod OrderLaws
+mod LongerCycles
+pub mod OrderLaws
 mod FirstPaths
 mod Stepping
 mod Taken

@@ -10,7 +10,8 @@ use Rattle.ta_scope.specs.Order.{Blocks, Next, Built, IsOrder, rank_of, Forward}
 use Rattle.ta_scope.proofs.Places.{contains_or, each_from, distinct_from, distinct_length, times_once, times_contains, before-at, before-least, taken_at}
 use Rattle.ta_scope.proofs.Cycles.{NoneReady, none_remains}
 
-push_cases : (xs : List ℕ) (y k x : ℕ) → slice_get (xs ++ y ∷ []) k ≡ Some x → ((k < length xs) × (slice_get xs k ≡ Some x)) ⊎ ((k ≡ length xs) × (y ≡ x))
+-- an item of a list that has one item more at its end
+pub push_cases : {X : Type 0} (xs : List X) (y : X) (k : ℕ) (x : X) → slice_get (xs ++ y ∷ []) k ≡ Some x → ((k < length xs) × (slice_get xs k ≡ Some x)) ⊎ ((k ≡ length xs) × (y ≡ x))
 push_cases [] y zero x e = inr (refl, cc)
 push_cases [] y (suc k) x e = absurd (cc)
 push_cases (z ∷ zs) y zero x e = inl (omega arith, e)

@@ -4,4 +4,5 @@ pub mod Faults
 pub mod Answers
 pub mod Arranged
 pub mod Legal
+pub mod LongerCycles
 pub mod Inside

@@ -26,6 +26,13 @@ impl ScopedFile {
     {
         &self.file
     }
+
+    /// The file again. It takes no memory.
+    pub fn into_file(self) -> File
+        ensures { result ≡ self.file }
+    {
+        self.file
+    }
 }
 
 /// The file, if no rule on a cycle has an update; else the file is dropped.

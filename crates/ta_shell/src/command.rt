@@ -3,6 +3,7 @@
 
 use crate::answer::{Answer, Refusal};
 use std::alloc::Global;
+use std::thread::Threads;
 use ta_shelf::Shelf;
 
 /// A command, with its words read.
@@ -11,12 +12,19 @@ pub trait Command {
     ghost use Rattle.ta_shell.specs.Commands.{Meaning, Says};
     ghost use Rattle.ta_shell.specs.Reading.{ReadCause};
     ghost use Rattle.ta_shelf.specs.Calls.{Grew};
+    ghost use denote.Param.Send.{IsSync};
 
     // what it says
     ghost meaning: { Self → Meaning };
 
     /// Reads what it needs, and answers. It puts nothing on the shelf.
-    fn judge<S: Shelf>(&self, alloc: Global, shelf: &mut S) -> Result<Answer, Refusal<'_>>
+    fn judge<R: Threads + Sync, S: Shelf>(
+        &self,
+        rt: &R,
+        alloc: Global,
+        shelf: &mut S,
+    ) -> Result<Answer, Refusal<'_>>
+        requires sync { IsSync R.row }
         ensures says { Grew (Says (meaning self.now) (S.files shelf.old) result) (S.calls shelf.old) (S.calls shelf.new) }
         ensures cause { ReadCause result (S.faults shelf.old) (S.faults shelf.new) }
         ensures kept { S.files shelf.new ≡ S.files shelf.old };

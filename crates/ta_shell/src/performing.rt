@@ -8,12 +8,14 @@ use crate::command::Command;
 use crate::putting::put_all;
 use crate::telling::{tell_line, tell_refusal};
 use std::alloc::Global;
+use std::thread::Threads;
 use ta_shelf::{Shelf, Sink, write_whole};
 
 /// Does a command, and answers the number that the process ends with: that of its answer, once the
 /// files are put and the text is written; 3 or 4 where a file hinders; 6 where the shelf or the
 /// output failed; and 7 for want of memory.
-pub fn perform<C: Command, S: Shelf, O: Sink, E: Sink>(
+pub fn perform<R: Threads + Sync, C: Command, S: Shelf, O: Sink, E: Sink>(
+    rt: &R,
     alloc: Global,
     command: &C,
     shelf: &mut S,
@@ -24,7 +26,7 @@ pub fn perform<C: Command, S: Shelf, O: Sink, E: Sink>(
         (state (S.files shelf.old) (S.calls shelf.old) (S.faults shelf.old) (O.written out.old) (O.faults out.old) (O.stalls out.old) (E.written err.old) (E.faults err.old) (E.stalls err.old))
         (state (S.files shelf.new) (S.calls shelf.new) (S.faults shelf.new) (O.written out.new) (O.faults out.new) (O.stalls out.new) (E.written err.new) (E.faults err.new) (E.stalls err.new)) }
 {
-    match command.judge(alloc, shelf) {
+    match command.judge(rt, alloc, shelf) {
         Ok(answer) => match put_all(shelf, answer.puts.as_slice()) {
             Ok(()) => write_answer(&answer, out, err),
             Err(refusal) => tell_refusal(&refusal, err),

@@ -20,10 +20,10 @@ use Rattle.ta_counter.proofs.Rows.{all_at}
 use Rattle.ta_words.specs.declared.element.Element.{Element}
 use Rattle.ta_words.specs.Calls.{OfPattern}
 use Rattle.ta_words.specs.Words.{Legal, is_complete}
-use Rattle.ta_encode.specs.Code.{SystemOf}
+use Rattle.ta_encode.specs.Code.{RowsOf, SystemOf}
 use Rattle.ta_encode.specs.PatternSearch.{pattern_search}
 use Rattle.ta_encode.specs.Search.{Pending}
-use Rattle.ta_encode.specs.System.{bound_row, system_rows, word_rows}
+use Rattle.ta_encode.specs.System.{LinearRow, bound_row, system_rows, word_rows}
 use Rattle.ta_encode.proofs.CodeRows.{rows_count, solution_back, solution_of as solves_of, unbounded}
 use Rattle.ta_cursor.proofs.RowCounts.{few_rows}
 use Rattle.ta_replay.proofs.Lines.{some_at}
@@ -46,15 +46,25 @@ abbrev pub pending : Asked → Pending
 pending word = record { start = word.start; past = reverse word.elements; bounds = [] }
 
 -- a number names one pattern
-one_pattern : (file : File) (n : ℕ) (p q : Pattern) → slice_get file.patterns n ≡ Some p → slice_get file.patterns n ≡ Some q → p ≡ q
+pub one_pattern : (file : File) (n : ℕ) (p q : Pattern) → slice_get file.patterns n ≡ Some p → slice_get file.patterns n ≡ Some q → p ≡ q
 one_pattern file n p q is are = same_Some p q (sym is ∙ are)
+
+-- two systems of a word: they have the same unknowns, and rows for the same linear ones
+pub record Twins (s z : System) : Type 0 where
+  pub unknowns : s.unknowns ≡ z.unknowns
+  pub linear : List LinearRow
+  pub is : RowsOf linear s.rows
+  pub are : RowsOf linear z.rows
+
+pub twins : (file : File) (word : Asked) (s z : System) → SystemAsked file word s → SystemAsked file word z → Twins s z
+twins file word s z is are =
+    let same = one_pattern file word.pattern are.pattern is.pattern are.named is.named in
+    let of = subst (λ (p : Pattern). SystemOf file.automaton p word.start (reverse word.elements) [] z) same are.is in
+    record { unknowns = is.is.unknowns ∙ sym of.unknowns; linear = system_rows file.automaton is.pattern word.start (reverse word.elements) []; is = is.is.rows; are = of.rows }
 
 -- the rows of every system of a word stay where those of one do
 pub stay_alike : (file : File) (word : Asked) (values : List ℤ) (s z : System) → SystemAsked file word s → SystemAsked file word z → RowsStay values s → RowsStay values z
-stay_alike file word values s z is are stay =
-    let same = one_pattern file word.pattern are.pattern is.pattern are.named is.named in
-    let of = subst (λ (p : Pattern). SystemOf file.automaton p word.start (reverse word.elements) [] z) same are.is in
-    rows_stay (point_of values) (system_rows file.automaton is.pattern word.start (reverse word.elements) []) s.rows z.rows is.is.rows of.rows stay
+stay_alike file word values s z is are stay = let t = twins file word s z is are in rows_stay t.linear s.rows z.rows t.is t.are (point_of values) stay
 
 -- rows that pass hold
 pass_all : (P : Row → Type 0) (rows : List Row) → ((j : ℕ) (row : Row) → slice_get rows j ≡ Some row → P row) → All P rows
@@ -124,7 +134,7 @@ run_fault file word bytes values fault.Memory complete spelled passes solution b
 run_fault file word bytes values _ complete spelled passes solution bad = absurd bad
 
 -- a solution has as many values as there are unknowns, and each row of a system holds at them
-solution_counts : (file : File) (word : Asked) (values : List ℤ) (s : System) → SystemAsked file word s → IsSolution file (solution_of word values) → (length values ≡ s.unknowns) × All (RowHolds (point_of values)) s.rows
+pub solution_counts : (file : File) (word : Asked) (values : List ℤ) (s : System) → SystemAsked file word s → IsSolution file (solution_of word values) → (length values ≡ s.unknowns) × All (RowHolds (point_of values)) s.rows
 solution_counts file word values s is solution =
     let same = one_pattern file word.pattern is.pattern solution.pattern is.named solution.named in
     let of = subst (λ (p : Pattern). SystemOf file.automaton p word.start (reverse word.elements) [] s) same is.is in

@@ -6,4 +6,5 @@ mod Forms
 mod Spelled
 pub mod Admitted
 pub mod WordsNamed
+pub mod FaultsOnce
 mod ElementTexts

@@ -1,8 +1,8 @@
 -- Elements that make a word, one by one.
-use Rattle.std.proofs.Common.{◌≡◌, ◌<◌, ◌≤◌, ℕ, zero, suc, ◌+◌, Bool, true, false, cond, List, [], ◌∷◌, ◌++◌, length, reverse, take, slice_get, get_or, Some, arith, refl, sym, ap, subst, ◌∙◌}
+use Rattle.std.proofs.Common.{◌≡◌, ◌<◌, ◌≤◌, ℕ, zero, suc, ◌+◌, Bool, true, false, cond, List, [], ◌∷◌, ◌++◌, length, reverse, take, slice_get, get_or, Some, arith, inl, inr, refl, sym, ap, subst, ◌∙◌}
 use Rattle.std.specs.Prelude.{◌↔◌, IsTrue}
-use Rattle.std.proofs.lemmas.Bool.{false≢true}
-use Rattle.std.proofs.lemmas.List.{length-reverse}
+use Rattle.std.proofs.lemmas.Bool.{cases_order, false≢true}
+use Rattle.std.proofs.lemmas.List.{length-reverse, take-take}
 use Rattle.std.proofs.lemmas.Option.{slice_get-get_or}
 use Rattle.ta_automaton.specs.declared.automaton.Automaton.{Automaton}
 use Rattle.ta_automaton.specs.declared.file.File.{File}
@@ -14,7 +14,7 @@ use Rattle.ta_words.specs.Words.{Legal, children}
 use Rattle.ta_words.proofs.Counts.{legal_length}
 use Rattle.ta_words.proofs.Lists.{events_named}
 use Rattle.ta_encode.proofs.InOrder.{past_push, prefix_is_legal}
-use Rattle.ta_replay.proofs.Lines.{some_at, take_all, take_next}
+use Rattle.ta_replay.proofs.Lines.{front_get, some_at, take_all, take_next}
 use Rattle.ta_smt.specs.Spelling.{FirstStranger}
 
 -- a legal word so far
@@ -48,6 +48,22 @@ no_stranger a p start elements k legal first =
     let more = prefix_is_legal a p start elements legal (k + 1) in
     let split : reverse (take (k + 1) elements) ≡ first.element ∷ reverse (take k elements) = ap reverse (take_next elements k first.element first.at) ∙ past_push (take k elements) first.element in
     first.stranger (subst (Legal a p start) split more).0
+
+-- the first one is at one place
+no_earlier : (a : Automaton) (p : Pattern) (start : ℕ) (elements : List Element) (j k : ℕ) → FirstStranger a p start elements j → FirstStranger a p start elements k → j < k → ⊥
+no_earlier a p start elements j k first later less =
+    no_stranger a p start (take k elements) j later.legal (record {
+      legal = subst (λ es. Legal a p start (reverse es)) (sym (take-take j k elements (omega arith))) first.legal;
+      element = first.element;
+      at = front_get elements k j first.element less first.at;
+      stranger = subst (λ es. ¬ In first.element (children a p [] start (reverse es))) (sym (take-take j k elements (omega arith))) first.stranger;
+    })
+
+pub stranger_once : (a : Automaton) (p : Pattern) (start : ℕ) (elements : List Element) (j k : ℕ) → FirstStranger a p start elements j → FirstStranger a p start elements k → j ≡ k
+stranger_once a p start elements j k first other = elim (cases_order j k) [
+  | inl same ↦ same
+  | inr apart ↦ elim apart [ inl less ↦ absurd (no_earlier a p start elements j k first other less) | inr more ↦ absurd (no_earlier a p start elements k j other first more) ]
+]
 
 -- a legal word is short
 pub short_word : (file : File) (number start : ℕ) (word : List Element) → number < length file.patterns → OfPattern file number (λ p. Legal file.automaton p start (reverse word)) → length word ≤ 30

@@ -43,7 +43,7 @@ one_place (x ∷ xs) (suc i) (suc j) p q distinct at there same = ap suc (one_pl
 one_number : (file : File) (name : List ℕ) (i j : ℕ) (p q : Pattern) → IsNamed file.patterns name i p → IsNamed file.patterns name j q → i ≡ j
 one_number file name i j p q is are = one_place file.patterns i j p q file.shape.distinct is.at are.at (is.named ∙ sym are.named)
 
-one_named : (file : File) (name : List ℕ) (i j : ℕ) (p q : Pattern) → IsNamed file.patterns name i p → IsNamed file.patterns name j q → p ≡ q
+pub one_named : (file : File) (name : List ℕ) (i j : ℕ) (p q : Pattern) → IsNamed file.patterns name i p → IsNamed file.patterns name j q → p ≡ q
 one_named file name i j p q is are = same_Some p q (sym is.at ∙ ap (slice_get file.patterns) (one_number file name i j p q is are) ∙ are.at)
 
 same_asked : (p q s t : ℕ) (xs ys : List Element) → p ≡ q → s ≡ t → xs ≡ ys → asked p s xs ≡ asked q t ys
@@ -56,7 +56,7 @@ word_once file spelled word other is are =
     (are.start ∙ sym is.start)
     (are.elements ∙ sym is.elements)
 
-no_word_fault : (file : File) (spelled : Spelling) (word : Asked) (found : WordFault) → IsWordOf file spelled word → WordFaultOf file spelled found → ⊥
+pub no_word_fault : (file : File) (spelled : Spelling) (word : Asked) (found : WordFault) → IsWordOf file spelled word → WordFaultOf file spelled found → ⊥
 no_word_fault file spelled word fault.Pattern is bad = bad word.pattern is.pattern is.named
 no_word_fault file spelled word fault.Start is bad = let within = is.begins in let beyond = bad.beyond in omega arith
 no_word_fault file spelled word (fault.Element k) is bad =

@@ -5,5 +5,6 @@ pub mod Spelling
 pub mod Values
 pub mod Admit
 pub mod Named
+pub mod Determined
 pub mod WordText
 pub mod Inside

@@ -3,6 +3,7 @@
 
 ghost use Rattle.ta_smt.specs.Admit.{AdmitsAreExact};
 ghost use Rattle.ta_smt.specs.Denotes.{ScriptsAreDetermined};
+ghost use Rattle.ta_smt.specs.Determined.{AdmitFaultsAreDetermined, WholeFaultsAreDetermined, WordFaultsAreDetermined};
 ghost use Rattle.ta_smt.specs.Named.{WholeWordsAreExact, WordsAreExact};
 
 /// A text is that of at most one script.
@@ -20,4 +21,12 @@ pub fn admits_are_exact()
 pub fn words_are_exact()
     ensures words { WordsAreExact }
     ensures whole { WholeWordsAreExact }
+{}
+
+/// Bytes have at most one fault as the values of a word, and there is at most one reason why a file
+/// hasn't a word, or not a complete one.
+pub fn faults_are_determined()
+    ensures values { AdmitFaultsAreDetermined }
+    ensures words { WordFaultsAreDetermined }
+    ensures whole { WholeFaultsAreDetermined }
 {}

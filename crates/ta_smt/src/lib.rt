@@ -14,7 +14,7 @@ mod values;
 pub use admitting::admit;
 pub use export::smt_text;
 pub use fault::{AdmitFault, WordFault};
-pub use laws::{admits_are_exact, scripts_are_determined, words_are_exact};
+pub use laws::{admits_are_exact, faults_are_determined, scripts_are_determined, words_are_exact};
 pub use named::{NamedWord, named_word, whole_word, word_text};
 pub use reading::{are_elements, is_name, read_elements, start_of};
 pub use spelling::word_of;

@@ -7,6 +7,7 @@ pub mod WordsVisited
 pub mod SamplesFound
 pub mod OrdersOnce
 pub mod OrdersSound
+pub mod SpentSplits
 mod TableausInRange
 mod SplitsFit
 mod NodesWritten
@@ -28,3 +29,5 @@ mod EndsBehind
 mod RootsListed
 mod PartsMerged
 mod WordSoFar
+mod ChildrenOnce
+mod SubtreesApart

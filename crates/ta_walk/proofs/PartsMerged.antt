@@ -17,6 +17,14 @@ part_end_behind : (s : Search) (ws us : List Pending) (ns : List Node) (count le
 part_end_behind s ws us ns count leaves budget later Keeps Kept None to within enough on is = tt
 part_end_behind s ws us ns count leaves budget later Keeps Kept (Some end) to within enough on is = end_behind s ws us ns count leaves budget later Keeps Kept end to within enough on is
 
+-- the nodes of a refuted part lead to the words behind it
+leads_to : (Keeps : List Node → Type 0) (s : Search) (ws vs : List Pending) (nodes count leaves : ℕ) → (t : TreeKept (beginning s ws) nodes Keeps count leaves) → LeadsTo s (ws ++ vs) vs t.nodes count leaves
+leads_to Keeps s ws vs nodes count leaves t = record {
+  visits = visits_before (beginning s (ws ++ vs)) ws t.nodes [] vs (moved_visits s ws (ws ++ vs) ws t.nodes [] t.is.visits);
+  counted = sym t.is.counted;
+  leaves_are = sym t.counted;
+}
+
 -- a refuted part, and one behind it
 pub merged_parts : {K : Type 0} (Keeps : K → K → List Node → Type 0) (begins : K → K → Type 0) (s : Search) (ws vs : List Pending) (nodes count leaves : ℕ) (begun late first second kept : K) (end : Option TreeEnd)
     → PartVisited Keeps (beginning s ws) nodes begun first (Some (tree.Refuted count leaves)) → PartVisited Keeps (beginning s vs) nodes late second end → Begins begins Keeps begun late
@@ -24,14 +32,21 @@ pub merged_parts : {K : Type 0} (Keeps : K → K → List Node → Type 0) (begi
     → PartVisited Keeps (beginning s (ws ++ vs)) nodes begun kept (part_behind nodes count leaves end)
 merged_parts Keeps begins s ws vs nodes count leaves begun late first second kept end one other fresh append = λ f before has.
     let t = one f before has in
-    let to : LeadsTo s (ws ++ vs) vs t.nodes count leaves = record {
-      visits = visits_before (beginning s (ws ++ vs)) ws t.nodes [] vs (moved_visits s ws (ws ++ vs) ws t.nodes [] t.is.visits);
-      counted = sym t.is.counted;
-      leaves_are = sym t.counted;
-    } in
+    let to = leads_to (λ ms. Keeps f first (before ++ ms)) s ws vs nodes count leaves t in
     part_end_behind s (ws ++ vs) vs t.nodes count leaves nodes nodes (λ ms. Keeps late second ([] ++ ms)) (λ ms. Keeps f kept (before ++ ms)) end to t.is.within (omega arith)
     (λ ms has_more. subst (Keeps f kept) (append_assoc before t.nodes ms) (append f late (before ++ t.nodes) ms t.kept (fresh.0 f before has) has_more))
     (other late [] fresh.1)
+
+-- a refuted part, and one behind it that had what was left of the budget and gave its nodes to the same keeper
+pub followed_part : {K : Type 0} (Keeps : K → K → List Node → Type 0) (s : Search) (ws vs : List Pending) (nodes later count leaves : ℕ) (begun first kept : K) (end : Option TreeEnd) → nodes ≤ later + count
+    → PartVisited Keeps (beginning s ws) nodes begun first (Some (tree.Refuted count leaves)) → PartVisited Keeps (beginning s vs) later first kept end
+    → PartVisited Keeps (beginning s (ws ++ vs)) nodes begun kept (part_behind nodes count leaves end)
+followed_part Keeps s ws vs nodes later count leaves begun first kept end left one other = λ f before has.
+    let t = one f before has in
+    let to = leads_to (λ ms. Keeps f first (before ++ ms)) s ws vs nodes count leaves t in
+    part_end_behind s (ws ++ vs) vs t.nodes count leaves nodes later (λ ms. Keeps f kept ((before ++ t.nodes) ++ ms)) (λ ms. Keeps f kept (before ++ ms)) end to t.is.within left
+    (λ ms has_more. subst (Keeps f kept) (append_assoc before t.nodes ms) has_more)
+    (other f (before ++ t.nodes) t.kept)
 
 -- where a part isn't refuted, what comes behind it doesn't matter
 visited_before : (s : Search) (ws vs : List Pending) (count : ℕ) (w : Pending) → Visited (beginning s ws) count w → Visited (beginning s (ws ++ vs)) count w

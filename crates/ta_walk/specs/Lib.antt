@@ -3,4 +3,5 @@ pub mod Ends
 pub mod Samples
 pub mod FoundOrders
 pub mod Answers
+pub mod Splits
 pub mod Inside

@@ -10,10 +10,9 @@ use crate::end::{TreeEnd, VisitEnd, WalkEnd};
 use crate::forking::visit_list;
 use crate::gate::{Gate, Idle};
 use crate::keeper::{Keeper, Nodes, PartKeeper};
-use crate::part::{Part, Watch};
+use crate::part::{Board, Part, Watch};
 use crate::roots::roots_of;
 use std::alloc::{AllocError, Global};
-use std::sync::atomic::AtomicU64;
 use std::thread::Threads;
 use ta_cert::List;
 use ta_cursor::PatternTree;
@@ -26,9 +25,32 @@ use ta_scope::ScopedFile;
 /// more where it begins with one.
 const LEVELS: u32 = 0;
 
-/// Visits the tree of a pattern as `walk` does, its parts beside each other; the end is that of one
-/// thread which visits them in order. Each half of a fork goes through the gate before its first
-/// node.
+/// Visits the tree of a pattern under pairs of rise guards, at most so many nodes of it. Each start set begins with the empty
+/// word. A node whose system is refuted is a leaf. At a vertex the word goes on to its children;
+/// where it is complete, the least unknown that isn't whole is split. The visit ends where no word
+/// is left, at the first whole node, at the first number that leaves 128 bits, or where the budget
+/// is spent.
+///
+/// Parts of the tree are visited beside each other, where there are threads; the end is that of one
+/// thread which visits it in order. The nodes are kept in memory: `visit` hands them on.
+pub fn walk<D: Dictionary, R: Threads + Sync>(
+    rt: &R,
+    alloc: Global,
+    scoped: &ScopedFile,
+    pattern: u32,
+    orders: &Orders,
+    nodes: u64,
+) -> Result<WalkEnd, AllocError>
+    requires exists { pattern < length scoped.now.file.patterns }
+    requires some { 0 < nodes }
+    requires limit { nodes ≤ 1000000000 }
+    ensures { IfOk result (λ end. OfPattern scoped.now.file pattern (λ p. IsEnd scoped.now.file.automaton p orders.now pattern nodes end)) }
+{
+    walk_gated::<D, R, Idle>(rt, alloc, scoped, pattern, orders, nodes, &Idle {})
+}
+
+/// Visits the tree of a pattern as `walk` does. Each half of a fork goes through the gate before its
+/// first node.
 pub fn walk_gated<D: Dictionary, R: Threads + Sync, G: Gate>(
     rt: &R,
     alloc: Global,
@@ -59,9 +81,9 @@ pub fn walk_gated<D: Dictionary, R: Threads + Sync, G: Gate>(
     }
 }
 
-/// Visits the tree of a pattern as `walk` does, and hands the nodes on in order: those of the first
-/// part as they come, those of a later one when the parts before it ended.
-pub fn visit_forked<D: Dictionary, K: PartKeeper, R: Threads + Sync>(
+/// Visits the tree of a pattern as `walk` does, and hands the nodes on in order: no node stays in
+/// memory but those that the keepers of the parts keep.
+pub fn visit<D: Dictionary, K: PartKeeper, R: Threads + Sync>(
     rt: &R,
     alloc: Global,
     scoped: &ScopedFile,
@@ -79,7 +101,7 @@ pub fn visit_forked<D: Dictionary, K: PartKeeper, R: Threads + Sync>(
     visit_gated::<D, K, R, Idle>(rt, alloc, scoped, pattern, orders, nodes, &Idle {}, keeper)
 }
 
-/// Visits the tree of a pattern as `visit_forked` does, through a gate.
+/// Visits the tree of a pattern as `visit` does, through a gate.
 fn visit_gated<D: Dictionary, K: PartKeeper, R: Threads + Sync, G: Gate>(
     rt: &R,
     alloc: Global,
@@ -161,8 +183,8 @@ fn visit_parts<D: Dictionary, K: PartKeeper, R: Threads + Sync, G: Gate>(
     ensures patient { patient ≡ true → IfOk result (λ end. is_some end ≡ true) }
     ensures kept { IfOk result (λ end. is_some end ≡ false → keeper.new ≡ keeper.old) }
 {
-    let decided = AtomicU64::new(u64::MAX);
-    let watch = Watch::new(&decided, patient);
+    let board = Board::new();
+    let watch = Watch::new(&board, patient);
     let late = keeper.later(alloc)?;
     let words = roots_of(alloc, tree)?;
     let levels = if words.len() > 1 { LEVELS } else { LEVELS + 1 };

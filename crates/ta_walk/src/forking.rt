@@ -9,11 +9,12 @@ ghost use Rattle.ta_walk.specs.Inside.Parts.{Begins, ComesTo, IsSmallEnd, PartVi
 use crate::end::TreeEnd;
 use crate::gate::Gate;
 use crate::keeper::{Keeper, PartKeeper};
-use crate::merging::{end_behind, merge};
+use crate::merging::{end_behind, merge, refuted};
 use crate::part::{Part, Watch};
 use crate::roots::{children_of, is_open};
 use crate::visiting::visit_word;
 use std::alloc::{AllocError, Global};
+use std::sync::atomic::AtomicU64;
 use std::thread::{Threads, join};
 use ta_cert::Node;
 use ta_cursor::{PatternTree, Root, Tree};
@@ -61,9 +62,42 @@ pub(crate) fn visit_list<D: Dictionary, K: PartKeeper, R: Threads + Sync, G: Gat
     )
 }
 
-/// Visits the words of the halves of a list beside each other.
+/// Visits the words of the halves of a list, beside each other where that may be.
 #[cycle(forks)]
 fn visit_halves<D: Dictionary, K: PartKeeper, R: Threads + Sync, G: Gate>(
+    rt: &R,
+    alloc: Global,
+    tree: &PatternTree<'_>,
+    gate: &G,
+    watch: Watch<'_>,
+    words: Vec<Root>,
+    others: Vec<Root>,
+    levels: u32,
+    nodes: u64,
+    keeper: K,
+) -> Result<Part<K>, AllocError>
+    requires first { Each (ComesTo (search_of tree.now)) words.items }
+    requires second { Each (ComesTo (search_of tree.now)) others.items }
+    requires some { (0 < vec_len words) × (0 < vec_len others) }
+    requires few { vec_len words + vec_len others ≤ 2 ^ 31 }
+    requires limit { nodes ≤ 1000000000 }
+    ensures visited { IfOk result (λ part. PartVisited K.keeps (beginning (search_of tree.now) (map root_word words.items ++ map root_word others.items)) nodes keeper part.keeper part.end) }
+    ensures small { IfOk result (λ part. IsSmallEnd nodes part.end) }
+    ensures patient { watch.entry.patient ≡ true → IfOk result (λ part. is_some part.end ≡ true) }
+{
+    if watch.goes_beside() {
+        return visit_beside::<D, K, R, G>(
+            rt, alloc, tree, gate, watch, words, others, levels, nodes, keeper,
+        );
+    }
+    visit_in_turn::<D, K, R, G>(
+        rt, alloc, tree, gate, watch, words, others, levels, nodes, keeper,
+    )
+}
+
+/// Visits the words of the halves of a list beside each other.
+#[cycle(forks)]
+fn visit_beside<D: Dictionary, K: PartKeeper, R: Threads + Sync, G: Gate>(
     rt: &R,
     alloc: Global,
     tree: &PatternTree<'_>,
@@ -87,6 +121,8 @@ fn visit_halves<D: Dictionary, K: PartKeeper, R: Threads + Sync, G: Gate>(
     let late = keeper.later(alloc)?;
     let low = watch.first_half();
     let high = watch.second_half();
+    let ended = AtomicU64::new(0);
+    let ended = &ended;
     let front = move || -> Result<Part<K>, AllocError>
         requires { IsSync R.row × IsSync G.row × IsSend K.row × Each (ComesTo (search_of tree.now)) words.items × (vec_len words ≤ 2 ^ 31) × (nodes ≤ 1000000000) }
         ensures visited { IfOk result (λ part. PartVisited K.keeps (beginning (search_of tree.entry.now) (map root_word words.items)) nodes keeper part.keeper part.end) }
@@ -94,7 +130,11 @@ fn visit_halves<D: Dictionary, K: PartKeeper, R: Threads + Sync, G: Gate>(
         ensures patient { low.entry.patient ≡ true → IfOk result (λ part. is_some part.end ≡ true) }
     {
         gate.enter();
-        visit_list::<D, K, R, G>(rt, alloc, tree, gate, low, words, levels, nodes, keeper)
+        let part = visit_list::<D, K, R, G>(
+            rt, alloc, tree, gate, low, words, levels, nodes, keeper,
+        );
+        low.came_back(ended);
+        part
     };
     let back = move || -> Result<Part<K>, AllocError>
         requires { IsSync R.row × IsSync G.row × IsSend K.row × Each (ComesTo (search_of tree.now)) others.items × (vec_len others ≤ 2 ^ 31) × (nodes ≤ 1000000000) }
@@ -103,10 +143,61 @@ fn visit_halves<D: Dictionary, K: PartKeeper, R: Threads + Sync, G: Gate>(
         ensures patient { high.entry.patient ≡ true → IfOk result (λ part. is_some part.end ≡ true) }
     {
         gate.enter();
-        visit_list::<D, K, R, G>(rt, alloc, tree, gate, high, others, levels, nodes, late)
+        let part = visit_list::<D, K, R, G>(
+            rt, alloc, tree, gate, high, others, levels, nodes, late,
+        );
+        high.came_back(ended);
+        part
     };
     let (first, second) = join(rt, front, back);
     merge(alloc, nodes, first?, second?)
+}
+
+/// Visits the words of the halves of a list one after the other: the second half has the budget that
+/// the first one left.
+#[cycle(forks)]
+fn visit_in_turn<D: Dictionary, K: PartKeeper, R: Threads + Sync, G: Gate>(
+    rt: &R,
+    alloc: Global,
+    tree: &PatternTree<'_>,
+    gate: &G,
+    watch: Watch<'_>,
+    words: Vec<Root>,
+    others: Vec<Root>,
+    levels: u32,
+    nodes: u64,
+    keeper: K,
+) -> Result<Part<K>, AllocError>
+    requires first { Each (ComesTo (search_of tree.now)) words.items }
+    requires second { Each (ComesTo (search_of tree.now)) others.items }
+    requires some { (0 < vec_len words) × (0 < vec_len others) }
+    requires few { vec_len words + vec_len others ≤ 2 ^ 31 }
+    requires limit { nodes ≤ 1000000000 }
+    ensures visited { IfOk result (λ part. PartVisited K.keeps (beginning (search_of tree.now) (map root_word words.items ++ map root_word others.items)) nodes keeper part.keeper part.end) }
+    ensures small { IfOk result (λ part. IsSmallEnd nodes part.end) }
+    ensures patient { watch.entry.patient ≡ true → IfOk result (λ part. is_some part.end ≡ true) }
+{
+    let low = watch.first_half();
+    let high = watch.second_half();
+    let first = visit_list::<D, K, R, G>(rt, alloc, tree, gate, low, words, levels, nodes, keeper)?;
+    let Some((count, leaves)) = refuted(&first.end) else {
+        return Ok(first);
+    };
+    let second = visit_list::<D, K, R, G>(
+        rt,
+        alloc,
+        tree,
+        gate,
+        high,
+        others,
+        levels,
+        nodes - count,
+        first.keeper,
+    )?;
+    Ok(Part {
+        end: end_behind(nodes, count, leaves, second.end),
+        keeper: second.keeper,
+    })
 }
 
 /// Visits the tree of a word. The list of its children is forked, so many levels deep.

@@ -4,6 +4,7 @@
 ghost use Rattle.ta_walk.specs.Answers.{SearchesHaveEnds, WalksHaveEnds, WordsHaveSystems};
 ghost use Rattle.ta_walk.specs.Ends.{EndingsAreDetermined, EndsAreDetermined, FoundWordsAreSolved, RefutedPatternsAreSafe, WholeNodesSolve};
 ghost use Rattle.ta_walk.specs.Samples.{SampleEndsAreDetermined, SamplesAreReal};
+ghost use Rattle.ta_walk.specs.Splits.{SpentNeedsSplits};
 
 /// A search has one tree, and one end within a budget.
 pub fn endings_are_determined()
@@ -51,4 +52,11 @@ pub fn searches_have_ends()
 pub fn walks_have_ends()
     ensures systems { WordsHaveSystems }
     ensures ends { WalksHaveEnds }
+{}
+
+/// Where there are no more pairs of a start set and a word that is legal under the pairs of rise guards
+/// than the budget allows nodes, the visit spends it only where it split a node: without splits no two
+/// nodes have the same start set and word.
+pub fn spent_needs_splits()
+    ensures { SpentNeedsSplits }
 {}

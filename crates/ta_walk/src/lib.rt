@@ -22,14 +22,14 @@ mod walking;
 
 pub use end::{PlaceKind, SampleEnd, TreeEnd, VisitEnd, WalkEnd};
 pub use finding::{OrdersFound, find_orders};
-pub use forked::{visit_forked, walk_gated};
+pub use forked::{visit, walk, walk_gated};
 pub use gate::{Gate, Idle};
 pub use keeper::{Keeper, PartKeeper};
 pub use laws::{
     endings_are_determined, ends_are_determined, found_words_are_solved, refuted_patterns_are_safe,
-    sample_ends_are_determined, samples_are_real, searches_have_ends, walks_have_ends,
-    whole_nodes_solve,
+    sample_ends_are_determined, samples_are_real, searches_have_ends, spent_needs_splits,
+    walks_have_ends, whole_nodes_solve,
 };
 pub use orders_laws::{found_orders_are_determined, found_orders_are_sound};
 pub use sampling::sample;
-pub use walking::{visit, visit_tree, walk};
+pub use walking::visit_tree;

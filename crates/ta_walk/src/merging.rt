@@ -42,7 +42,7 @@ pub(crate) fn merge<K: PartKeeper>(
 }
 
 /// How many nodes and leaves a part has that is refuted.
-fn refuted(end: &Option<TreeEnd>) -> Option<(u64, u64)>
+pub(crate) fn refuted(end: &Option<TreeEnd>) -> Option<(u64, u64)>
     ensures some { IfSome result (λ size. end.now ≡ Some (Refuted size.0 size.1)) }
     ensures none { IfNone result (IsNotRefuted end.now) }
 {

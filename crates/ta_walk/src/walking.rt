@@ -1,96 +1,21 @@
-//! The walk.
+//! The visit of a search, by one thread.
 #![tactic(auto)]
 
-ghost use Rattle.std.specs.Prelude.{◌+◌, ◌<◌, ◌≤◌, ◌≡◌, [], ◌∷◌, ◌++◌, IfOk, List, length};
+ghost use Rattle.std.specs.Prelude.{◌+◌, ◌<◌, ◌≤◌, ◌≡◌, [], ◌∷◌, ◌++◌, IfOk, List};
 ghost use Rattle.ta_automaton.specs.Lists.{Each};
-ghost use Rattle.ta_words.specs.Calls.{OfPattern};
 ghost use Rattle.ta_encode.specs.Search.{Pending, parts};
 ghost use Rattle.ta_cursor.specs.InTrees.{AllGoOn, AllWithin, IsAllWithin, here_at};
 ghost use Rattle.ta_walk.specs.Visit.{NodeAt};
-ghost use Rattle.ta_walk.specs.Ends.{IsEnd, IsTreeEnd, IsUnbounded, IsVisitEnd, leaf_count};
+ghost use Rattle.ta_walk.specs.Ends.{IsTreeEnd, IsUnbounded, leaf_count};
 
-use crate::end::{TreeEnd, VisitEnd, WalkEnd};
-use crate::keeper::{Keeper, Nodes};
+use crate::end::TreeEnd;
+use crate::keeper::Keeper;
 use crate::node::{Solved, grow, solve_node};
 use std::alloc::{AllocError, Global};
-use ta_cert::{List, Node};
-use ta_cursor::{PatternTree, Place, Tree, Written};
+use ta_cert::Node;
+use ta_cursor::{Place, Tree, Written};
 use ta_dense::Dictionary;
-use ta_encode::Solution;
-use ta_implied::Orders;
-use ta_scope::ScopedFile;
 use ta_simplex::Branch;
-
-/// Visits the tree of a pattern under pairs of rise guards, at most so many nodes of it. Each start set begins with the empty
-/// word. A node whose system is refuted is a leaf. At a vertex the word goes on to its children;
-/// where it is complete, the least unknown that isn't whole is split. The visit ends where no word
-/// is left, at the first whole node, at the first number that leaves 128 bits, or where the budget
-/// is spent.
-///
-/// The nodes are kept in memory: `visit` hands them on as they come.
-pub fn walk<D: Dictionary>(
-    alloc: Global,
-    scoped: &ScopedFile,
-    pattern: u32,
-    orders: &Orders,
-    nodes: u64,
-) -> Result<WalkEnd, AllocError>
-    requires exists { pattern < length scoped.now.file.patterns }
-    requires some { 0 < nodes }
-    requires limit { nodes ≤ 1000000000 }
-    ensures { IfOk result (λ end. OfPattern scoped.now.file pattern (λ p. IsEnd scoped.now.file.automaton p orders.now pattern nodes end)) }
-{
-    let mut kept = Nodes {
-        items: Vec::new(alloc),
-    };
-    match visit::<D, Nodes>(alloc, scoped, pattern, orders, nodes, &mut kept)? {
-        VisitEnd::Refuted { count, .. } => Ok(WalkEnd::Refuted {
-            nodes: List::from_vec(kept.items),
-            count,
-        }),
-        VisitEnd::Found { count, solution } => Ok(WalkEnd::Found { count, solution }),
-        VisitEnd::Spent { count } => Ok(WalkEnd::Spent { count }),
-        VisitEnd::Overflow { node, kind } => Ok(WalkEnd::Overflow { node, kind }),
-    }
-}
-
-/// Visits the tree of a pattern as `walk` does, and hands each node on as it comes: no node stays in
-/// memory but those that the keeper keeps.
-pub fn visit<D: Dictionary, K: Keeper>(
-    alloc: Global,
-    scoped: &ScopedFile,
-    pattern: u32,
-    orders: &Orders,
-    nodes: u64,
-    keeper: &mut K,
-) -> Result<VisitEnd, AllocError>
-    requires exists { pattern < length scoped.now.file.patterns }
-    requires some { 0 < nodes }
-    requires limit { nodes ≤ 1000000000 }
-    requires keeps { K.keeps keeper.old keeper.old [] }
-    ensures { IfOk result (λ end. OfPattern scoped.now.file pattern (λ p. IsVisitEnd scoped.now.file.automaton p orders.now pattern nodes (K.keeps keeper.old keeper.new) end)) }
-{
-    let tree = PatternTree::new(&scoped.file, pattern, orders);
-    match visit_tree::<D, PatternTree, K>(alloc, &tree, nodes, keeper)? {
-        TreeEnd::Refuted { count, leaves } => Ok(VisitEnd::Refuted { count, leaves }),
-        TreeEnd::Found {
-            count,
-            start_mask,
-            word,
-            values,
-        } => Ok(VisitEnd::Found {
-            count,
-            solution: Solution {
-                pattern,
-                start_mask,
-                word,
-                values,
-            },
-        }),
-        TreeEnd::Spent { count } => Ok(VisitEnd::Spent { count }),
-        TreeEnd::Overflow { node, kind } => Ok(VisitEnd::Overflow { node, kind }),
-    }
-}
 
 /// Visits the trees of a search, one for each word with which it begins, at most so many nodes of
 /// them, and hands each node on as it comes.

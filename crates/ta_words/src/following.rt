@@ -1,16 +1,17 @@
 //! What may follow a word.
 #![tactic(auto)]
 
-ghost use Rattle.std.specs.Prelude.{ℕ, ◌≡◌, ◌<◌, length, reverse, slice_get};
-ghost use Rattle.ta_automaton.specs.Masks.{has_bit};
+ghost use Rattle.std.specs.Prelude.{ℕ, ◌≡◌, ◌<◌, ◌&&◌, length, not, reverse, slice_get};
+ghost use Rattle.ta_automaton.specs.Masks.{all_below, has_bit, implies};
+ghost use Rattle.ta_automaton.specs.Shape.{RuleWithin};
 ghost use Rattle.ta_words.specs.Calls.{OfPattern};
-ghost use Rattle.ta_words.specs.Words.{children, has_fallen, is_complete, may_fire};
+ghost use Rattle.ta_words.specs.Words.{children, has_fallen, has_rise, is_complete, may_fire};
 
 use crate::child_list::Children;
 use crate::element::Element;
 use crate::seen::Seen;
 use crate::word::Word;
-use ta_automaton::File;
+use ta_automaton::{Automaton, File, Rule};
 use ta_implied::Orders;
 
 /// The elements that may follow a word under pairs of rise guards, in order; a complete word has
@@ -68,4 +69,21 @@ pub fn fallen_after(start_mask: u8, elements: &[Element]) -> u32
     ensures { (j : ℕ) → has_bit result j ≡ has_fallen start_mask (reverse elements.now) j }
 {
     Seen::of(start_mask, elements).fallen
+}
+
+/// The rise guards that are in some elements: bit i for rise guard i.
+pub fn risen_after(elements: &[Element]) -> u32
+    ensures { (i : ℕ) → i < 32 → has_bit result i ≡ has_rise (reverse elements.now) i }
+{
+    Seen::of(0, elements).rises
+}
+
+/// Whether the rise guards of a rule are in some elements, and none of its fall guards is in the
+/// start set or has fallen.
+pub fn is_unlocked(automaton: &Automaton, start_mask: u8, elements: &[Element], rule: &Rule) -> bool
+    requires { RuleWithin (length automaton.now.shared) (length automaton.now.locations) (length automaton.now.rise) (length automaton.now.fall) rule.now }
+    ensures { result ≡ (all_below (length automaton.now.rise) (λ i. implies (has_bit rule.now.rise i) (has_rise (reverse elements.now) i))
+        && all_below (length automaton.now.fall) (λ j. implies (has_bit rule.now.fall j) (not (has_fallen start_mask (reverse elements.now) j)))) }
+{
+    Seen::of(start_mask, elements).is_unlocked(automaton, rule)
 }

@@ -10,5 +10,7 @@ mod word;
 
 pub use child_list::Children;
 pub use element::Element;
-pub use following::{allowed_after, allowed_rules, children, fallen_after, is_complete};
+pub use following::{
+    allowed_after, allowed_rules, children, fallen_after, is_complete, is_unlocked, risen_after,
+};
 pub use word::Word;

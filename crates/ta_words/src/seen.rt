@@ -98,7 +98,7 @@ impl Seen {
     }
 
     /// Whether the rise guards of a rule are in the word, and none of its fall guards has fallen.
-    fn is_unlocked(self, automaton: &Automaton, rule: &Rule) -> bool
+    pub(crate) fn is_unlocked(self, automaton: &Automaton, rule: &Rule) -> bool
         requires { RuleWithin (length automaton.now.shared) (length automaton.now.locations) (length automaton.now.rise) (length automaton.now.fall) rule.now }
         ensures { (start : ℕ) (past : List Element) → IsSeen self start past
             → result ≡ (all_below (length automaton.now.rise) (λ i. implies (has_bit rule.now.rise i) (has_rise past i))

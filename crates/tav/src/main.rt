@@ -22,7 +22,7 @@ fn main(rt: HostRuntime) -> ExitCode {
             if error.kind() == ErrorKind::OutOfMemory {
                 return ExitCode::from(7);
             }
-            return ExitCode::from(run(rt.alloc(), &[], &mut shelf, &mut out, &mut err));
+            return ExitCode::from(run(&rt, rt.alloc(), &[], &mut shelf, &mut out, &mut err));
         }
     };
     let mut owned = Vec::new(rt.alloc());
@@ -37,5 +37,12 @@ fn main(rt: HostRuntime) -> ExitCode {
             return ExitCode::from(7);
         }
     }
-    ExitCode::from(run(rt.alloc(), words.as_slice(), &mut shelf, &mut out, &mut err))
+    ExitCode::from(run(
+        &rt,
+        rt.alloc(),
+        words.as_slice(),
+        &mut shelf,
+        &mut out,
+        &mut err,
+    ))
 }

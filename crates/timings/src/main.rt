@@ -21,7 +21,7 @@ fn main(rt: HostRuntime) -> io::Result<()> {
         "judging" => judging::print(&rt, words),
         "pivots" => pivots::print(&rt),
         "reading" => reading::print(&rt),
-        "walk" => walking::print(&rt, words),
+        "walk" => walking::print(&rt, &rt, words),
         _ => usage(&rt),
     }
 }

@@ -1,4 +1,4 @@
-//! How long 200 pivots on a dictionary of 200 rows and 400 columns take, dense and in 64 bits.
+//! How long 200 pivots on a dictionary of 200 rows and 400 columns take, dense and in 32 bits.
 #![tactic(auto)]
 
 ghost use Rattle.std.specs.Prelude.{◌≤◌, ◌<◌, ◌^◌, IfOk};
@@ -27,7 +27,7 @@ pub(crate) fn print(rt: &HostRuntime) -> io::Result<()> {
     let start = Instant::now(rt)?;
     let done = pivots(rt.alloc(), narrow);
     let taken = start.elapsed(rt)?.as_micros();
-    println!(rt; "{done} of them in 64 bits in {taken} us")
+    println!(rt; "{done} of them in 32 bits in {taken} us")
 }
 
 /// Makes one pivot in each row, the last row first, and says in how many. Each changes all rows

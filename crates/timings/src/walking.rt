@@ -3,6 +3,7 @@
 
 use std::alloc::{AllocError, Global};
 use std::rt::Clock;
+use std::thread::Threads;
 use std::time::Instant;
 use std::{fs, io};
 use ta_dense::{DenseDictionary, Dictionary, NarrowDictionary};
@@ -19,7 +20,11 @@ const MOST: u64 = 1_000_000_000;
 
 /// Walks the pattern of a number, from 0, of a file, and visits so many nodes at most: the words say
 /// which, and a fourth may name the rows that are taken, if not narrow ones.
-pub(crate) fn print(rt: &HostRuntime, words: &[String]) -> io::Result<()> {
+pub(crate) fn print<R: Threads + Sync>(
+    threads: &R,
+    rt: &HostRuntime,
+    words: &[String],
+) -> io::Result<()> {
     if words.len() < 3 || words.len() > 4 {
         return println!(rt; "timings: walk FILE PATTERN NODES [dense|linked]");
     }
@@ -36,17 +41,32 @@ pub(crate) fn print(rt: &HostRuntime, words: &[String]) -> io::Result<()> {
     }
     match read_file(rt.alloc(), bytes.as_slice()) {
         Ok(scoped) => match rows {
-            "dense" => time::<_, DenseDictionary>(rt, rt.alloc(), &scoped, pattern, nodes),
-            "linked" => time::<_, LinkedDictionary>(rt, rt.alloc(), &scoped, pattern, nodes),
-            _ => time::<_, NarrowDictionary>(rt, rt.alloc(), &scoped, pattern, nodes),
+            "dense" => time::<_, _, DenseDictionary>(
+                threads,
+                rt,
+                rt.alloc(),
+                &scoped,
+                pattern,
+                nodes,
+            ),
+            "linked" => time::<_, _, LinkedDictionary>(
+                threads,
+                rt,
+                rt.alloc(),
+                &scoped,
+                pattern,
+                nodes,
+            ),
+            _ => time::<_, _, NarrowDictionary>(threads, rt, rt.alloc(), &scoped, pattern, nodes),
         },
         Err(_) => println!(rt; "timings: the file is refused"),
     }
 }
 
 /// Walks the tree of a pattern and prints how it ends, and the time.
-fn time<R: Clock + Print, D: Dictionary>(
-    rt: &R,
+fn time<R: Threads + Sync, C: Clock + Print, D: Dictionary>(
+    threads: &R,
+    rt: &C,
     alloc: Global,
     scoped: &ScopedFile,
     pattern: u32,
@@ -59,7 +79,7 @@ fn time<R: Clock + Print, D: Dictionary>(
         return println!(rt; "memory ran out");
     };
     let start = Instant::now(rt)?;
-    let end = walk::<D>(alloc, scoped, pattern, &found.orders, nodes);
+    let end = walk::<D, R>(threads, alloc, scoped, pattern, &found.orders, nodes);
     let taken = start.elapsed(rt)?.as_micros();
     match end {
         Ok(WalkEnd::Refuted { count, .. }) => println!(rt; "refuted: {count} nodes in {taken} us"),

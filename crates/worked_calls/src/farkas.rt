@@ -10,7 +10,8 @@ use ta_linear::{Form, List, Row, System};
 
 const M: i128 = i128::MAX;
 
-fn row(constant: i128, terms: Vec<(u32, i128)>) -> Row
+/// A row over three unknowns.
+pub(crate) fn row(constant: i128, terms: Vec<(u32, i128)>) -> Row
     requires constant { InRange constant }
     requires terms { IsNormal 0 3 terms.items }
     ensures { IsNormal 0 3 result.form.terms }

@@ -11,10 +11,16 @@ mod linear;
 #[cfg(test)]
 mod maker;
 #[cfg(test)]
+mod messages;
+#[cfg(test)]
 mod report;
 #[cfg(test)]
 mod shelf;
 #[cfg(test)]
 mod simplex;
+#[cfg(test)]
+mod smt;
+#[cfg(test)]
+mod template;
 #[cfg(test)]
 mod walk;

@@ -3,6 +3,7 @@
 use std::test::Fail;
 use ta_dense::DenseDictionary;
 use ta_linear::{List, System};
+use ta_links::LinkedDictionary;
 use ta_simplex::{End, solve};
 
 #[test]
@@ -11,7 +12,9 @@ fn ends(rt: HostRuntime) -> Result<(), Fail> {
         unknowns: 0,
         rows: List::from_vec(Vec::new(rt.alloc())),
     };
-    let end = solve::<DenseDictionary>(rt.alloc(), &system);
-    assert!(rt; matches!(&end, Ok(End::Vertex(values)) if values.as_slice().is_empty()));
+    let dense = solve::<DenseDictionary>(rt.alloc(), &system);
+    assert!(rt; matches!(&dense, Ok(End::Vertex(values)) if values.as_slice().is_empty()));
+    let linked = solve::<LinkedDictionary>(rt.alloc(), &system);
+    assert!(rt; matches!(&linked, Ok(End::Vertex(values)) if values.as_slice().is_empty()));
     Ok(())
 }

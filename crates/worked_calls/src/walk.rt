@@ -1,12 +1,17 @@
-//! A walk over a dictionary for which there is never memory.
+//! Walks over a dictionary for which there is never memory, and through a gate.
 
 use std::alloc::{AllocError, Global};
+use std::sync::atomic::{AtomicU64, Ordering};
 use std::test::Fail;
-use ta_dense::{DenseDictionary, DensePivot, Dictionary, ExtendFault, PivotFault};
+use ta_dense::{
+    DenseDictionary, DensePivot, Dictionary, ExtendFault, NarrowDictionary, PivotFault,
+};
 use ta_implied::Orders;
 use ta_linear::System;
+use ta_maker::make_family;
 use ta_meaning::read_file;
-use ta_walk::walk;
+use ta_syntax::print_tree;
+use ta_walk::{Gate, WalkEnd, walk, walk_gated};
 
 const FILE: &[u8] =
     b"automaton first; parameters n; shared; locations A initial, B; processes n; resilience n >= 1; rule r: A -> B; pattern reached { event done: B >= 1; }";
@@ -97,7 +102,66 @@ impl Dictionary for NoRoom {
 fn walks_without_room(rt: HostRuntime) -> Result<(), Fail> {
     let scoped = read_file(rt.alloc(), FILE)?;
     assert!(rt; !scoped.file().patterns.as_slice().is_empty());
-    assert!(rt; walk::<NoRoom>(rt.alloc(), &scoped, 0, &Orders::new(), 10).is_err());
-    assert!(rt; walk::<DenseDictionary>(rt.alloc(), &scoped, 0, &Orders::new(), 10).is_ok());
+    assert!(rt;
+        walk::<NoRoom, HostRuntime>(&rt, rt.alloc(), &scoped, 0, &Orders::new(), 10).is_err()
+    );
+    assert!(rt;
+        walk::<DenseDictionary, HostRuntime>(
+            &rt,
+            rt.alloc(),
+            &scoped,
+            0,
+            &Orders::new(),
+            10
+        ).is_ok()
+    );
+    Ok(())
+}
+
+/// A gate at which each half waits until another one came, for so long that it may be said that none
+/// comes.
+#[derive(Drop)]
+struct Meeting {
+    came: AtomicU64,
+    vain: AtomicU64,
+}
+
+impl Gate for Meeting {
+    fn enter(&self) {
+        let _before = self.came.fetch_add(1, Ordering::SeqCst);
+        for _look in 0..1_073_741_824u64 {
+            if self.came.load(Ordering::SeqCst) >= 2 {
+                return;
+            }
+        }
+        let _before = self.vain.fetch_add(1, Ordering::SeqCst);
+    }
+}
+
+// Halves that are visited one after the other never meet.
+#[test]
+fn halves_meet(rt: HostRuntime) -> Result<(), Fail> {
+    let tree = make_family(rt.alloc(), 2)?;
+    let text = print_tree(rt.alloc(), &tree)?;
+    let bytes = text.as_str().as_bytes();
+    assert!(rt; bytes.len() <= 1_048_576);
+    let scoped = read_file(rt.alloc(), bytes)?;
+    assert!(rt; !scoped.file().patterns.as_slice().is_empty());
+    let gate = Meeting {
+        came: AtomicU64::new(0),
+        vain: AtomicU64::new(0),
+    };
+    let orders = Orders::new();
+    let end = walk_gated::<NarrowDictionary, HostRuntime, Meeting>(
+        &rt,
+        rt.alloc(),
+        &scoped,
+        0,
+        &orders,
+        1_000,
+        &gate,
+    )?;
+    assert!(rt; matches!(end, WalkEnd::Refuted { count: 10, .. }));
+    assert!(rt; gate.vain.load(Ordering::SeqCst) == 0);
     Ok(())
 }

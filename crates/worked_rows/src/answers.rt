@@ -7,12 +7,14 @@ use crate::layers::of_file;
 use crate::lines::lines;
 use crate::table::Row;
 use crate::texts::{fault, meaning};
-use crate::towers::pivots;
 use crate::trees;
 use std::alloc::{AllocError, Global};
+use std::thread::Threads;
+use worked_beside::pivots;
 
 /// What a row gives; nothing, where it gives a file, which is kept.
-pub fn answer(
+pub fn answer<R: Threads + Sync>(
+    rt: &R,
     alloc: Global,
     files: &mut Files,
     row: &Row<'_>,
@@ -22,16 +24,16 @@ pub fn answer(
         return Ok(None);
     }
     let given = match what {
-        "run" => perform(alloc, files, rest, false),
-        "calls" => perform(alloc, files, rest, true),
-        "cuts" => cut(alloc, files, rest),
-        "grown" => grown(alloc, files, rest),
+        "run" => perform(rt, alloc, files, rest, false),
+        "calls" => perform(rt, alloc, files, rest, true),
+        "cuts" => cut(rt, alloc, files, rest),
+        "grown" => grown(rt, alloc, files, rest),
         "means" => meaning(alloc, files, rest),
         "pivots" => pivots(alloc, rest),
         "reads" | "lines" | "tree" | "tree-cuts" | "tree-limit" | "prints" => {
             of_text(alloc, what, rest)
         }
-        _ => of_file(alloc, files, what, rest),
+        _ => of_file(rt, alloc, files, what, rest),
     };
     Ok(Some(given?))
 }

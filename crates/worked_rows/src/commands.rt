@@ -5,6 +5,7 @@ use crate::files::Files;
 use crate::growing::Growing;
 use crate::noting::Noting;
 use std::alloc::{AllocError, Global};
+use std::thread::Threads;
 use ta_program::run;
 use ta_shelf::{List, MemoryShelf, MemorySink, Text, are_distinct};
 
@@ -28,7 +29,8 @@ const CALM: Setting = Setting {
 
 /// What words give: the output, the line on standard error behind `! `, the calls that read behind
 /// `@`, where they are asked for, and the number behind `=> `.
-pub fn perform(
+pub fn perform<R: Threads + Sync>(
+    rt: &R,
     alloc: Global,
     files: &Files,
     rest: &str,
@@ -37,7 +39,7 @@ pub fn perform(
     let mut setting = CALM;
     let words = words_of(alloc, rest, &mut setting)?;
     match shelf_of(alloc, files, setting.shelf)? {
-        Some(shelf) => perform_over(alloc, shelf, setting, words.as_slice(), noted),
+        Some(shelf) => perform_over(rt, alloc, shelf, setting, words.as_slice(), noted),
         None => String::from_str(alloc, "files of one name"),
     }
 }
@@ -58,7 +60,8 @@ fn words_of<'a>(
 }
 
 /// What words give over a shelf.
-fn perform_over(
+fn perform_over<R: Threads + Sync>(
+    rt: &R,
     alloc: Global,
     mut shelf: Noting<MemoryShelf>,
     setting: Setting,
@@ -67,14 +70,19 @@ fn perform_over(
 ) -> Result<String, AllocError> {
     let mut out = sink_of(alloc, setting.room, setting.piece, setting.out)?;
     let mut err = sink_of(alloc, 4096, 4096, 0)?;
-    let number = run(alloc, words, &mut shelf, &mut out, &mut err);
+    let number = run(rt, alloc, words, &mut shelf, &mut out, &mut err);
     let calls = noted.then_some(shelf.noted.as_str());
     told(alloc, out.as_slice(), err.as_slice(), calls, number)
 }
 
 /// What words give where a file goes on with spaces behind its text, up to so many bytes, which are
 /// made as they are asked for.
-pub fn grown(alloc: Global, files: &Files, rest: &str) -> Result<String, AllocError> {
+pub fn grown<R: Threads + Sync>(
+    rt: &R,
+    alloc: Global,
+    files: &Files,
+    rest: &str,
+) -> Result<String, AllocError> {
     let (name, rest) = rest.split_once(" ").unwrap_or((rest, ""));
     let (length, words) = rest.split_once(" ").unwrap_or((rest, ""));
     let mut setting = CALM;
@@ -82,7 +90,7 @@ pub fn grown(alloc: Global, files: &Files, rest: &str) -> Result<String, AllocEr
     let mut shelf = Growing::new(files, name, length.parse::<u64>().unwrap_or(0));
     let mut out = sink_of(alloc, setting.room, setting.piece, setting.out)?;
     let mut err = sink_of(alloc, 4096, 4096, 0)?;
-    let number = run(alloc, words.as_slice(), &mut shelf, &mut out, &mut err);
+    let number = run(rt, alloc, words.as_slice(), &mut shelf, &mut out, &mut err);
     told(alloc, out.as_slice(), err.as_slice(), None, number)
 }
 
@@ -112,15 +120,21 @@ fn told(
 
 /// What words give where a file ends after its first bytes, for each length below its own; an answer
 /// stands once, behind the first length that has it.
-pub fn cut(alloc: Global, files: &mut Files, rest: &str) -> Result<String, AllocError> {
+pub fn cut<R: Threads + Sync>(
+    rt: &R,
+    alloc: Global,
+    files: &mut Files,
+    rest: &str,
+) -> Result<String, AllocError> {
     let (name, words) = rest.split_once(" ").unwrap_or((rest, ""));
     let whole = String::from_str(alloc, files.text(name))?;
-    let given = cuts_of(alloc, files, name, words, whole.as_str())?;
+    let given = cuts_of(rt, alloc, files, name, words, whole.as_str())?;
     files.set(alloc, name, whole)?;
     Ok(given)
 }
 
-fn cuts_of(
+fn cuts_of<R: Threads + Sync>(
+    rt: &R,
     alloc: Global,
     files: &mut Files,
     name: &str,
@@ -132,7 +146,7 @@ fn cuts_of(
     for length in 0..whole.len() {
         let part = whole.get(..length).unwrap_or("");
         files.set(alloc, name, String::from_str(alloc, part)?)?;
-        let answer = perform(alloc, files, words, false)?;
+        let answer = perform(rt, alloc, files, words, false)?;
         if answer.as_str() != last.as_str() {
             writeln!(given, "from {length}\n{}", answer.as_str())?;
             last = answer;

@@ -16,20 +16,20 @@ mod steps;
 mod systems;
 mod table;
 mod texts;
-mod towers;
 mod trees;
 mod walks;
 
 use crate::answers::answer;
 use crate::files::Files;
 use crate::table::{Row, Tally, row_of};
+use std::thread::Threads;
 use std::{env, fs, io};
 
 fn main(rt: HostRuntime) -> io::Result<()> {
     let mut tally = Tally { right: 0, wrong: 0 };
     for name in env::args(&rt)?.skip(1) {
         let text = fs::read_to_string(&rt, name.as_str())?;
-        judge_table(&rt, text.as_str(), &mut tally)?;
+        judge_table(&rt, &rt, text.as_str(), &mut tally)?;
     }
     if tally.wrong == 0 && tally.right > 0 {
         println!(rt; "all rows hold")
@@ -39,11 +39,16 @@ fn main(rt: HostRuntime) -> io::Result<()> {
 }
 
 /// Tries each row of a table.
-fn judge_table(rt: &HostRuntime, text: &str, tally: &mut Tally) -> io::Result<()> {
+fn judge_table<R: Threads + Sync>(
+    threads: &R,
+    rt: &HostRuntime,
+    text: &str,
+    tally: &mut Tally,
+) -> io::Result<()> {
     let mut files = Files::new(rt.alloc());
     for paragraph in text.split("\n\n") {
         if let Some(row) = row_of(paragraph) {
-            if let Some(given) = answer(rt.alloc(), &mut files, &row)? {
+            if let Some(given) = answer(threads, rt.alloc(), &mut files, &row)? {
                 judge_row(rt, &row, given.as_str(), tally)?;
             }
         }

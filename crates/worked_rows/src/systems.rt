@@ -1,21 +1,26 @@
 //! Rows of words: their systems, their children and the rules that they allow.
 #![tactic(auto)]
 
-ghost use Rattle.std.specs.Prelude.{◌<◌, IfSome, length, reverse};
+ghost use Rattle.std.specs.Prelude.{◌<◌, ◌^◌, IfOk, IfSome, length, reverse};
+ghost use Rattle.ta_dense.specs.Slack.{variables};
 ghost use Rattle.ta_words.specs.Calls.{OfPattern};
 ghost use Rattle.ta_words.specs.Words.{Legal};
 
 use crate::forms::{write_number, write_rows};
 use std::alloc::{AllocError, Global};
 use ta_automaton::File;
-use ta_dense::DenseDictionary;
 use ta_encode::{Bound, Encoded, Meaning, Side, encode, unknown_count};
 use ta_implied::Orders;
+use ta_linear::System;
 use ta_simplex::{End, SolveFault, solve};
 use ta_words::{Element, Word, allowed_rules, children, is_complete};
+use worked_beside::{Beside, cells_held};
 
 /// What is said of words that are no word of pattern 0.
 const NO_WORD: &str = "no word of pattern 0";
+
+/// What is said where there is no small system.
+const NO_SYSTEM: &str = "no small system of a word of pattern 0";
 
 /// The elements that words name: `e0` is an event, `r0` a rise and `f0` a fall.
 pub fn elements_of(alloc: Global, rest: &str) -> Result<Vec<Element>, AllocError> {
@@ -112,6 +117,28 @@ pub fn bounded(
     describe(alloc, &encode(alloc, file, 0, start_mask, &word, &bounds)?)
 }
 
+/// The system of a word, if it has fewer than 100 unknowns and rows.
+fn small_system(
+    alloc: Global,
+    file: &File,
+    start_mask: u8,
+    elements: &[Element],
+) -> Result<Option<System>, AllocError>
+    ensures { IfOk result (λ found. IfSome found (λ system. variables system < 2 ^ 32)) }
+{
+    if file.patterns.as_slice().is_empty() {
+        return Ok(None);
+    }
+    let Some(word) = word_of(file, start_mask, elements) else {
+        return Ok(None);
+    };
+    let system = encode(alloc, file, 0, start_mask, &word, &[])?.system;
+    if system.unknowns >= 100 || system.row_count() >= 100 {
+        return Ok(None);
+    }
+    Ok(Some(system))
+}
+
 /// What the solver says of the system of a word: the rows with their multipliers, or the values of a
 /// vertex, or the pivot at which numbers left 128 bits.
 pub fn solved(
@@ -120,17 +147,27 @@ pub fn solved(
     start_mask: u8,
     elements: &[Element],
 ) -> Result<String, AllocError> {
-    if file.patterns.as_slice().is_empty() {
-        return String::from_str(alloc, NO_WORD);
+    match small_system(alloc, file, start_mask, elements)? {
+        Some(system) => end_text(alloc, solve::<Beside>(alloc, &system)),
+        None => String::from_str(alloc, NO_SYSTEM),
     }
-    let Some(word) = word_of(file, start_mask, elements) else {
-        return String::from_str(alloc, NO_WORD);
-    };
-    let encoded = encode(alloc, file, 0, start_mask, &word, &[])?;
-    if encoded.system.unknowns >= 100 || encoded.system.row_count() >= 100 {
-        return String::from_str(alloc, "too large a system");
+}
+
+/// What is left of a pivot in the system of a word that is made and taken back a hundred times: whether
+/// the rows are those of the start each time, and how many cells are held at the start, after the first
+/// time and after the last.
+pub fn taken_back(
+    alloc: Global,
+    file: &File,
+    start_mask: u8,
+    elements: &[Element],
+    row: u32,
+    column: u32,
+) -> Result<String, AllocError> {
+    match small_system(alloc, file, start_mask, elements)? {
+        Some(system) => cells_held(alloc, &system, row, column),
+        None => String::from_str(alloc, NO_SYSTEM),
     }
-    end_text(alloc, solve::<DenseDictionary>(alloc, &encoded.system))
 }
 
 fn end_text(alloc: Global, end: Result<End, SolveFault>) -> Result<String, AllocError> {

@@ -2,16 +2,19 @@
 #![tactic(auto)]
 
 use std::alloc::{AllocError, Global};
+use std::thread::Threads;
 use ta_cert::{Order, Proof, write_cert};
-use ta_dense::{DenseDictionary, NarrowDictionary};
+use ta_dense::NarrowDictionary;
 use ta_scope::ScopedFile;
 use ta_walk::{PlaceKind, WalkEnd, find_orders, walk};
+use worked_beside::Beside;
 
 /// How many nodes a walk visits at most.
 const MOST: u64 = 1_000_000_000;
 
 /// How the walk of pattern 0 ends under the orders that are found, and the certificate of a refutation.
-pub fn end(
+pub fn end<R: Threads + Sync>(
+    rt: &R,
     alloc: Global,
     scoped: &ScopedFile,
     nodes: u64,
@@ -22,9 +25,9 @@ pub fn end(
     }
     let found = find_orders::<NarrowDictionary>(alloc, scoped)?;
     let end = if narrow {
-        walk::<NarrowDictionary>(alloc, scoped, 0, &found.orders, nodes)?
+        walk::<NarrowDictionary, R>(rt, alloc, scoped, 0, &found.orders, nodes)?
     } else {
-        walk::<DenseDictionary>(alloc, scoped, 0, &found.orders, nodes)?
+        walk::<Beside, R>(rt, alloc, scoped, 0, &found.orders, nodes)?
     };
     describe(alloc, found.list.as_slice(), end)
 }
@@ -47,14 +50,18 @@ fn describe(alloc: Global, orders: &[Order], end: WalkEnd) -> Result<String, All
 }
 
 /// The values of the solution that the walk of pattern 0 finds.
-pub fn solution(alloc: Global, scoped: &ScopedFile) -> Result<String, AllocError> {
+pub fn solution<R: Threads + Sync>(
+    rt: &R,
+    alloc: Global,
+    scoped: &ScopedFile,
+) -> Result<String, AllocError> {
     let mut text = String::from_str(alloc, "values")?;
     if scoped.file().patterns.as_slice().is_empty() {
         return Ok(text);
     }
     let orders = find_orders::<NarrowDictionary>(alloc, scoped)?.orders;
-    if let WalkEnd::Found { solution, .. } = walk::<NarrowDictionary>(
-        alloc, scoped, 0, &orders, MOST,
+    if let WalkEnd::Found { solution, .. } = walk::<NarrowDictionary, R>(
+        rt, alloc, scoped, 0, &orders, MOST,
     )? {
         for value in solution.values.as_slice() {
             write!(text, " {value}")?;

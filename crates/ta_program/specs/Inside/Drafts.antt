@@ -29,6 +29,11 @@ pub record DraftKeeps (first now : Draft) (nodes : List Node) : Type 0 where
   pub wanted : now.wanted ≡ first.wanted
   pub text : (begun : List ℕ) → HasText first begun → HasText now (begun ++ nodes_text nodes)
 
+-- the second is a draft of a later part, which has no line yet
+pub record DraftBegins (first part : Draft) : Type 0 where
+  pub wanted : part.wanted ≡ first.wanted
+  pub empty : pieces_text part.lines ≡ []
+
 -- the text of a line, with its line feed
 abbrev pub ended_line : Line → List ℕ
 ended_line l = line_text l ++ (10 ∷ [])

@@ -2,9 +2,9 @@ use Rattle.std.proofs.Common.{ℕ, arith, sym, ◌∙◌, ap, subst, pos, ◌-�
 use Rattle.std.proofs.lemmas.Int.{to_z-of_z}
 use Rattle.std.proofs.lemmas.List.{ext_get_or}
 use mir.Val.{SFits}
-use mir.Syntax.{w64}
+use mir.Syntax.{w32}
 use Rattle.ta_dense.specs.Tableau.{combine}
-use Rattle.ta_dense.specs.Bounds.{CombinesIn64}
+use Rattle.ta_dense.specs.Bounds.{CombinesIn32}
 use Rattle.ta_dense.proofs.ListSteps.{done_more, rest_more}
 use Rattle.ta_dense.proofs.PivotLaws.{get_or-combine, length-combine}
 use Rattle.ta_dense.proofs.narrow_cells.combine_by.Goals as goal
@@ -13,21 +13,21 @@ pub overflow_mul-cells : goal.overflow_mul-cells
 overflow_mul-cells c =
     let fp = c.ranges.p in
     let fq = c.ranges.q in
-    let fx : SFits w64 (get_or c.loop-j.cells c.loop-j.j (pos 0)) = search rules in
+    let fx : SFits w32 (get_or c.loop-j.cells c.loop-j.j (pos 0)) = search rules in
     let e = c.loop-j.invariant.rest c.loop-j.j (omega arith) in
     let fit0 = c.requires.fit c.loop-j.j c.loop-j-test.true in
-    let fit = subst (λ (z : ℤ). CombinesIn64 c.args.p z c.args.q (get_or c.args.chosen.now c.loop-j.j (pos 0))) (sym e) fit0 in
+    let fit = subst (λ (z : ℤ). CombinesIn32 c.args.p z c.args.q (get_or c.args.chosen.now c.loop-j.j (pos 0))) (sym e) fit0 in
     simp to_z-of_z fit.left
 
 pub overflow_sub-cells : goal.overflow_sub-cells
 overflow_sub-cells c =
     let fp = c.ranges.p in
     let fq = c.ranges.q in
-    let fx : SFits w64 (get_or c.loop-j.cells c.loop-j.j (pos 0)) = search rules in
-    let fc : SFits w64 (get_or c.args.chosen.now c.loop-j.j (pos 0)) = search rules in
+    let fx : SFits w32 (get_or c.loop-j.cells c.loop-j.j (pos 0)) = search rules in
+    let fc : SFits w32 (get_or c.args.chosen.now c.loop-j.j (pos 0)) = search rules in
     let e = c.loop-j.invariant.rest c.loop-j.j (omega arith) in
     let fit0 = c.requires.fit c.loop-j.j c.loop-j-test.true in
-    let fit = subst (λ (z : ℤ). CombinesIn64 c.args.p z c.args.q (get_or c.args.chosen.now c.loop-j.j (pos 0))) (sym e) fit0 in
+    let fit = subst (λ (z : ℤ). CombinesIn32 c.args.p z c.args.q (get_or c.args.chosen.now c.loop-j.j (pos 0))) (sym e) fit0 in
     let fl = fit.left in
     let fr = fit.right in
     simp to_z-of_z fit.difference
@@ -36,12 +36,12 @@ pub loop-j-preserved : goal.loop-j-preserved
 loop-j-preserved c =
     let fp = c.ranges.p in
     let fq = c.ranges.q in
-    let fx : SFits w64 (get_or c.loop-j.cells c.loop-j.j (pos 0)) = search rules in
-    let fc : SFits w64 (get_or c.args.chosen.now c.loop-j.j (pos 0)) = search rules in
+    let fx : SFits w32 (get_or c.loop-j.cells c.loop-j.j (pos 0)) = search rules in
+    let fc : SFits w32 (get_or c.args.chosen.now c.loop-j.j (pos 0)) = search rules in
     let inv = simp to_z-of_z at c.loop-j.invariant in
     let e = inv.rest c.loop-j.j (omega arith) in
     let fit0 = c.requires.fit c.loop-j.j c.loop-j-test.true in
-    let fit = subst (λ (z : ℤ). CombinesIn64 c.args.p z c.args.q (get_or c.args.chosen.now c.loop-j.j (pos 0))) (sym e) fit0 in
+    let fit = subst (λ (z : ℤ). CombinesIn32 c.args.p z c.args.q (get_or c.args.chosen.now c.loop-j.j (pos 0))) (sym e) fit0 in
     let fl = fit.left in
     let fr = fit.right in
     let fd = fit.difference in

@@ -4,14 +4,14 @@ use Rattle.std.proofs.lemmas.Int.{to_z-of_z}
 use Rattle.std.proofs.lemmas.List.Edits.{map_over_more}
 use Rattle.std.proofs.lemmas.List.{get_or_default}
 use mir.Val.{SFits}
-use mir.Syntax.{w64}
+use mir.Syntax.{w32}
 use Rattle.ta_dense.proofs.narrow_cells.divide_by.Goals as goal
 
 pub loop-cell-preserved : goal.loop-cell-preserved
 loop-cell-preserved c =
     let fd = c.ranges.divisor in
-    let fx : SFits w64 (get_or c.loop-cell.cells c.loop-cell.cell-index (pos 0)) = search rules in
-    let fr : SFits w64 c.quotient.result = search rules in
+    let fx : SFits w32 (get_or c.loop-cell.cells c.loop-cell.cell-index (pos 0)) = search rules in
+    let fr : SFits w32 c.quotient.result = search rules in
     let e = simp to_z-of_z at c.quotient.ensures in
     let inv = simp to_z-of_z at c.loop-cell.invariant in
     simp to_z-of_z (rw e (map_over_more (λ (z : ℤ). int_div z c.args.divisor) c.args.cells.now c.loop-cell.cells c.loop-cell.cell-index (get_or c.loop-cell.cells c.loop-cell.cell-index (pos 0)) c.loop-cell-test.true inv (get_or_default c.loop-cell.cells c.loop-cell.cell-index (pos 0) (get_or c.loop-cell.cells c.loop-cell.cell-index (pos 0)) (omega arith))))

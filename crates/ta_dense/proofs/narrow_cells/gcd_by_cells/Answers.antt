@@ -2,14 +2,14 @@ use Rattle.std.proofs.Common.{ap, ◌∙◌, sym, drop, pos, get_or, rules}
 use Rattle.std.proofs.lemmas.Int.{to_z-of_z}
 use Rattle.std.proofs.lemmas.List.{at_drop_more}
 use mir.Val.{SFits}
-use mir.Syntax.{w64}
+use mir.Syntax.{w32}
 use Rattle.ta_dense.specs.Tableau.{gcd_with}
 use Rattle.ta_dense.proofs.Divide.{gcd_with-one}
 use Rattle.ta_dense.proofs.narrow_cells.gcd_by_cells.Goals as goal
 
 pub loop-cell-preserved : goal.loop-cell-preserved
 loop-cell-preserved c =
-    let fx : SFits w64 (get_or c.args.cells.now c.loop-cell.cell-index (pos 0)) = search rules in
+    let fx : SFits w32 (get_or c.args.cells.now c.loop-cell.cell-index (pos 0)) = search rules in
     let v = simp to_z-of_z at c.gcd_with_cell-divisor.ensures in
     rw v (sym (at_drop_more (gcd_with c.loop-cell.divisor) c.args.cells.now c.loop-cell.cell-index (pos 0) c.loop-cell-test.true) ∙ c.loop-cell.invariant)
 

@@ -1,14 +1,14 @@
 use Rattle.std.proofs.Common.{ap, ◌∙◌, sym, unsigned_abs}
 use Rattle.std.proofs.lemmas.Int.{to_z-of_z}
 use mir.Val.{to_z}
-use mir.Syntax.{w64}
+use mir.Syntax.{w32}
 use Rattle.ta_linear.proofs.GcdLemmas.{gcd_of-zero}
 use Rattle.ta_linear.specs.Gcd.{gcd_of}
 use Rattle.ta_dense.proofs.narrow_cells.gcd_with_cell.Goals as goal
 
 pub returns-then-cell-eq0 : goal.returns-then-cell-eq0
 returns-then-cell-eq0 c =
-    let zero = sym (to_z-of_z w64 c.args.cell c.ranges.cell) ∙ ap (to_z w64) c.if-cell-eq0.true in
+    let zero = sym (to_z-of_z w32 c.args.cell c.ranges.cell) ∙ ap (to_z w32) c.if-cell-eq0.true in
     sym (gcd_of-zero c.args.divisor (unsigned_abs c.args.cell) (ap unsigned_abs zero))
 
 pub returns-else-cell-eq0 : goal.returns-else-cell-eq0

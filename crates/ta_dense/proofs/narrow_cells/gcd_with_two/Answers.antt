@@ -2,13 +2,13 @@ use Rattle.std.proofs.Common.{◌∙◌, sym, pos, get_or, rules}
 use Rattle.std.proofs.lemmas.Int.{to_z-of_z}
 use Rattle.std.proofs.lemmas.List.{at_drop_more}
 use mir.Val.{SFits}
-use mir.Syntax.{w64}
+use mir.Syntax.{w32}
 use Rattle.ta_dense.specs.Tableau.{gcd_with}
 use Rattle.ta_dense.proofs.narrow_cells.gcd_with_two.Goals as goal
 
 pub loop-cell-preserved : goal.loop-cell-preserved
 loop-cell-preserved c =
-    let fx : SFits w64 (get_or c.args.cells.now c.loop-cell.cell-index (pos 0)) = search rules in
+    let fx : SFits w32 (get_or c.args.cells.now c.loop-cell.cell-index (pos 0)) = search rules in
     let v = simp to_z-of_z at c.halved-divisor.ensures.value in
     record {
       some = c.halved-divisor.ensures.some;

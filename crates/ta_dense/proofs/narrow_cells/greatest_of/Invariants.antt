@@ -4,6 +4,6 @@ use Rattle.ta_dense.proofs.narrow_cells.greatest_of.Given as goal
 abbrev pub invariant-loop-cell : goal.invariant-loop-cell
 invariant-loop-cell l = record {
   above : l.start ≤ l.greatest;
-  below : l.greatest < 2 ^ 63;
+  below : l.greatest < 2 ^ 31;
   bound : (k : ℕ) → k < l.cell-index → unsigned_abs (get_or l.cells k (pos 0)) ≤ l.greatest;
 }

@@ -2,11 +2,11 @@ use Rattle.std.proofs.Common.{ℕ, arith, sym, ◌∙◌, ap, pos, neg_ℤ, ◌-
 use Rattle.std.proofs.lemmas.Int.{to_z-of_z}
 use Rattle.std.proofs.lemmas.List.{ext_get_or, length-map}
 use mir.Val.{SFits}
-use mir.Syntax.{w64}
+use mir.Syntax.{w32}
 use Rattle.ta_dense.proofs.ListSteps.{done_more, rest_more}
 use Rattle.ta_dense.proofs.PivotLaws.{get_or-neg}
 use Rattle.ta_dense.proofs.ReduceFacts.{zero_minus}
-use Rattle.ta_dense.proofs.Bounded.{IsSmall, fits_minus64}
+use Rattle.ta_dense.proofs.Bounded.{IsSmall, fits_minus32}
 use Rattle.ta_dense.proofs.narrow_cells.negate_narrow.Goals as goal
 
 pub loop-j-preserved : goal.loop-j-preserved
@@ -14,8 +14,8 @@ loop-j-preserved c =
     let x = get_or c.loop-j.cells c.loop-j.j (pos 0) in
     let inv = c.loop-j.invariant in
     let range = subst IsSmall (sym (inv.rest c.loop-j.j (omega arith))) (c.requires c.loop-j.j (pos 0) c.loop-j-test.true) in
-    let f1 : SFits w64 (get_or c.loop-j.cells c.loop-j.j (pos 0)) = search rules in
-    let f2 : SFits w64 (pos 0 -ℤ get_or c.loop-j.cells c.loop-j.j (pos 0)) = fits_minus64 x range in
+    let f1 : SFits w32 (get_or c.loop-j.cells c.loop-j.j (pos 0)) = search rules in
+    let f2 : SFits w32 (pos 0 -ℤ get_or c.loop-j.cells c.loop-j.j (pos 0)) = fits_minus32 x range in
     let e = zero_minus x ∙ ap neg_ℤ (inv.rest c.loop-j.j (omega arith)) ∙ sym (get_or-neg c.args.cells.now c.loop-j.j) in
     simp to_z-of_z record {
       done = done_more (λ (k : ℕ). get_or (map neg_ℤ c.args.cells.now) k (pos 0)) (pos 0) c.loop-j.cells c.loop-j.j (pos 0 -ℤ x) (omega arith) e inv.done;

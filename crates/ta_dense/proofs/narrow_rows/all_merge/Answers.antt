@@ -1,7 +1,7 @@
 use Rattle.std.proofs.Common.{arith, ◌∙◌, length}
 use Rattle.std.proofs.Math.Seq.{map-set_same}
 use Rattle.std.proofs.lemmas.List.Elements.{All-set, AllWithin-more_set}
-use Rattle.ta_dense.specs.Narrow.{narrow_view, IsNarrow, MergesIn64}
+use Rattle.ta_dense.specs.Narrow.{narrow_view, IsNarrow, MergesIn32}
 use Rattle.ta_dense.proofs.narrow_rows.all_merge.Goals as goal
 
 pub returns-then-not-merges-clause-views : goal.returns-then-not-merges-clause-views
@@ -15,5 +15,5 @@ loop-at-preserved c =
     record {
       views = map-set_same narrow_view c.loop-at.rows c.loop-at.at c.merges.new.row c.index-rows-at.result c.if-not-merges.ensures.view ∙ inv.views;
       narrow = All-set (IsNarrow n) c.loop-at.rows c.loop-at.at c.merges.new.row c.if-not-merges.ensures.narrow inv.narrow;
-      within = AllWithin-more_set c.loop-at.rows c.loop-at.at c.merges.new.row (omega arith) (MergesIn64 c.args.column c.args.chosen.now) inv.within c.if-not-merges.ensures.within;
+      within = AllWithin-more_set c.loop-at.rows c.loop-at.at c.merges.new.row (omega arith) (MergesIn32 c.args.column c.args.chosen.now) inv.within c.if-not-merges.ensures.within;
     }

@@ -1,11 +1,11 @@
 use Rattle.std.proofs.Common.{◌≡◌, length}
 use Rattle.std.specs.List.{AllWithin}
-use Rattle.ta_dense.specs.Narrow.{narrow_views, AreNarrow, MergesIn64}
+use Rattle.ta_dense.specs.Narrow.{narrow_views, AreNarrow, MergesIn32}
 use Rattle.ta_dense.proofs.narrow_rows.all_merge.Given as goal
 
 abbrev pub invariant-loop-at : goal.invariant-loop-at
 invariant-loop-at l = record {
   views : narrow_views l.rows ≡ narrow_views l.initial.rows;
   narrow : AreNarrow (length l.chosen.cells.items) l.rows;
-  within : AllWithin (MergesIn64 l.column l.chosen) l.rows 0 l.at;
+  within : AllWithin (MergesIn32 l.column l.chosen) l.rows 0 l.at;
 }

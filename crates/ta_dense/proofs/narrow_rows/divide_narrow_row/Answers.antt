@@ -3,7 +3,7 @@ use Rattle.std.specs.Prelude.{int_div}
 use Rattle.std.proofs.lemmas.Int.{to_z-of_z, quot_fits}
 use Rattle.std.proofs.lemmas.List.{with_items_is}
 use mir.Val.{SFits}
-use mir.Syntax.{w64}
+use mir.Syntax.{w32}
 use Rattle.ta_dense.proofs.RowFacts.{row_same}
 use Rattle.ta_dense.proofs.ReduceFacts.{pos_abs}
 use Rattle.ta_dense.proofs.narrow_rows.divide_narrow_row.Goals as goal
@@ -11,10 +11,10 @@ use Rattle.ta_dense.proofs.narrow_rows.divide_narrow_row.Goals as goal
 pub returns-clause-value : goal.returns-clause-value
 returns-clause-value c =
     let fd = c.ranges.divisor in
-    let f1 : SFits w64 c.args.row.now.denominator = search rules in
-    let f2 : SFits w64 c.args.row.now.constant = search rules in
-    let g1 : SFits w64 (int_div c.args.row.now.denominator c.args.divisor) = quot_fits w64 _ _ f1 c.requires in
-    let g2 : SFits w64 (int_div c.args.row.now.constant c.args.divisor) = quot_fits w64 _ _ f2 c.requires in
+    let f1 : SFits w32 c.args.row.now.denominator = search rules in
+    let f2 : SFits w32 c.args.row.now.constant = search rules in
+    let g1 : SFits w32 (int_div c.args.row.now.denominator c.args.divisor) = quot_fits w32 _ _ f1 c.requires in
+    let g2 : SFits w32 (int_div c.args.row.now.constant c.args.divisor) = quot_fits w32 _ _ f2 c.requires in
     let e = rw c.deref_mut.ensures.value at (simp to_z-of_z at c.divide_narrow.ensures) in
     let items = with_items_is c.args.row.now.cells c.divide_narrow.new.cells (c.divide_narrow.auto.cells ∙ ap length c.deref_mut.ensures.value ∙ search rules) in
     simp to_z-of_z

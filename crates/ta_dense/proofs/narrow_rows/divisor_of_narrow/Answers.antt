@@ -1,7 +1,7 @@
 use Rattle.std.proofs.Common.{◌≡◌, ◌∷◌, ap, sym, ◌∙◌, pos, unsigned_abs, ℤ, rules}
 use Rattle.std.proofs.lemmas.Int.{to_z-of_z}
 use mir.Val.{SFits, to_z}
-use mir.Syntax.{w64}
+use mir.Syntax.{w32}
 use Rattle.ta_dense.specs.Narrow.{narrow_view}
 use Rattle.ta_dense.specs.Tableau.{divisor_of, gcd_with}
 use Rattle.ta_linear.proofs.GcdLemmas.{gcd_of_is}
@@ -11,8 +11,8 @@ use Rattle.ta_dense.proofs.narrow_rows.divisor_of_narrow.Goals as goal
 
 value : (c : goal.After-gcd_of_narrow) → c.gcd_of_narrow.result ≡ divisor_of (narrow_view c.args.row.now)
 value c =
-    let f1 : SFits w64 c.args.row.now.denominator = search rules in
-    let f2 : SFits w64 c.args.row.now.constant = search rules in
+    let f1 : SFits w32 c.args.row.now.denominator = search rules in
+    let f2 : SFits w32 c.args.row.now.constant = search rules in
     let a = simp to_z-of_z at c.unsigned_abs.ensures.value in
     let b = simp to_z-of_z at c.unsigned_abs-2.ensures.value in
     let first = rw (a, b) at (gcd_of_is _ _ _ c.gcd_narrow-first.ensures) in
@@ -26,7 +26,7 @@ returns-clause-positive c = rw (value c) (divisor_positive (narrow_view c.args.r
 
 pub returns-then-row-eq1-clause-value : goal.returns-then-row-eq1-clause-value
 returns-then-row-eq1-clause-value c =
-    let f1 : SFits w64 c.args.row.now.denominator = search rules in
-    let one : c.args.row.now.denominator ≡ pos 1 = sym (to_z-of_z w64 c.args.row.now.denominator f1) ∙ ap (to_z w64) c.if-row-eq1.true in
+    let f1 : SFits w32 c.args.row.now.denominator = search rules in
+    let one : c.args.row.now.denominator ≡ pos 1 = sym (to_z-of_z w32 c.args.row.now.denominator f1) ∙ ap (to_z w32) c.if-row-eq1.true in
     let rest = c.args.row.now.constant ∷ c.args.row.now.cells.items in
     sym (ap (λ (z : ℤ). gcd_with (unsigned_abs z) rest) one ∙ gcd_with-one rest)

@@ -2,7 +2,7 @@ use Rattle.std.proofs.Common.{◌≡◌, ap, arith, pos, ◌<ℤ◌, sym, ◌∙
 use Rattle.std.specs.Prelude.{int_div}
 use Rattle.std.proofs.lemmas.Int.{to_z-of_z, to_z_pos, quot_fits, ints, fits_signed_from_abs}
 use mir.Val.{SFits, to_z}
-use mir.Syntax.{w64}
+use mir.Syntax.{w32}
 use Rattle.ta_linear.proofs.GcdLemmas.{gcd_of_is}
 use Rattle.ta_dense.specs.Tableau.{factor_divisor}
 use Rattle.ta_dense.proofs.Bounded.{factor_small, first_one, second_one}
@@ -10,12 +10,12 @@ use Rattle.ta_dense.proofs.ReduceFacts.{div-one}
 use Rattle.ta_dense.proofs.narrow_rows.narrow_factors.Goals as goal
 
 pub returns-then-c-eq1-clause-first : goal.returns-then-c-eq1-clause-first
-returns-then-c-eq1-clause-first c = first_one c.args.c c.args.a (sym (to_z-of_z w64 c.args.c c.ranges.c) ∙ ap (to_z w64) c.if-c-eq1.true)
+returns-then-c-eq1-clause-first c = first_one c.args.c c.args.a (sym (to_z-of_z w32 c.args.c c.ranges.c) ∙ ap (to_z w32) c.if-c-eq1.true)
 
 pub returns-then-c-eq1-clause-second : goal.returns-then-c-eq1-clause-second
 returns-then-c-eq1-clause-second c =
     let fa = c.ranges.a in
-    simp to_z-of_z (second_one c.args.c c.args.a (sym (to_z-of_z w64 c.args.c c.ranges.c) ∙ ap (to_z w64) c.if-c-eq1.true))
+    simp to_z-of_z (second_one c.args.c c.args.a (sym (to_z-of_z w32 c.args.c c.ranges.c) ∙ ap (to_z w32) c.if-c-eq1.true))
 
 pub overflow_cast-divisor : goal.overflow_cast-divisor
 overflow_cast-divisor c =
@@ -27,7 +27,7 @@ overflow_cast-divisor c =
     let s = factor_small c.args.c c.args.a c.gcd_narrow-divisor.result d c.requires.positive fc in
     let below = s.1 in
     let some = s.0 in
-    fits_signed_from_abs w64 (pos c.gcd_narrow-divisor.result) below
+    fits_signed_from_abs w32 (pos c.gcd_narrow-divisor.result) below
 
 pub nonzero_div-result : goal.nonzero_div-result
 nonzero_div-result c =
@@ -39,9 +39,9 @@ nonzero_div-result c =
     let s = factor_small c.args.c c.args.a c.gcd_narrow-divisor.result d c.requires.positive fc in
     let below = s.1 in
     let some = s.0 in
-    let z = to_z_pos w64 c.gcd_narrow-divisor.result below in
+    let z = to_z_pos w32 c.gcd_narrow-divisor.result below in
     let above : pos 0 <ℤ pos c.gcd_narrow-divisor.result = omega (arith, ints, some) in
-    (some, simp to_z-of_z (rw z (quot_fits w64 c.args.c (pos c.gcd_narrow-divisor.result) fc above)))
+    (some, simp to_z-of_z (rw z (quot_fits w32 c.args.c (pos c.gcd_narrow-divisor.result) fc above)))
 
 pub nonzero_div-result-2 : goal.nonzero_div-result-2
 nonzero_div-result-2 c =
@@ -53,9 +53,9 @@ nonzero_div-result-2 c =
     let s = factor_small c.args.c c.args.a c.gcd_narrow-divisor.result d c.requires.positive fc in
     let below = s.1 in
     let some = s.0 in
-    let z = to_z_pos w64 c.gcd_narrow-divisor.result below in
+    let z = to_z_pos w32 c.gcd_narrow-divisor.result below in
     let above : pos 0 <ℤ pos c.gcd_narrow-divisor.result = omega (arith, ints, some) in
-    (some, simp to_z-of_z (rw z (quot_fits w64 c.args.a (pos c.gcd_narrow-divisor.result) fa above)))
+    (some, simp to_z-of_z (rw z (quot_fits w32 c.args.a (pos c.gcd_narrow-divisor.result) fa above)))
 
 pub returns-clause-first : goal.returns-clause-first
 returns-clause-first c =
@@ -67,9 +67,9 @@ returns-clause-first c =
     let s = factor_small c.args.c c.args.a c.gcd_narrow-divisor.result d c.requires.positive fc in
     let below = s.1 in
     let some = s.0 in
-    let z = to_z_pos w64 c.gcd_narrow-divisor.result below in
+    let z = to_z_pos w32 c.gcd_narrow-divisor.result below in
     let above : pos 0 <ℤ pos c.gcd_narrow-divisor.result = omega (arith, ints, some) in
-    let fq : SFits w64 (int_div c.args.c (pos c.gcd_narrow-divisor.result)) = quot_fits w64 c.args.c (pos c.gcd_narrow-divisor.result) fc above in
+    let fq : SFits w32 (int_div c.args.c (pos c.gcd_narrow-divisor.result)) = quot_fits w32 c.args.c (pos c.gcd_narrow-divisor.result) fc above in
     rw z (simp to_z-of_z (ap (λ (n : ℕ). int_div c.args.c (pos n)) d))
 
 pub returns-clause-second : goal.returns-clause-second
@@ -82,9 +82,9 @@ returns-clause-second c =
     let s = factor_small c.args.c c.args.a c.gcd_narrow-divisor.result d c.requires.positive fc in
     let below = s.1 in
     let some = s.0 in
-    let z = to_z_pos w64 c.gcd_narrow-divisor.result below in
+    let z = to_z_pos w32 c.gcd_narrow-divisor.result below in
     let above : pos 0 <ℤ pos c.gcd_narrow-divisor.result = omega (arith, ints, some) in
-    let fq : SFits w64 (int_div c.args.a (pos c.gcd_narrow-divisor.result)) = quot_fits w64 c.args.a (pos c.gcd_narrow-divisor.result) fa above in
+    let fq : SFits w32 (int_div c.args.a (pos c.gcd_narrow-divisor.result)) = quot_fits w32 c.args.a (pos c.gcd_narrow-divisor.result) fa above in
     rw z (simp to_z-of_z (ap (λ (n : ℕ). int_div c.args.a (pos n)) d))
 
 pub returns-then-divisor-eq1-clause-first : goal.returns-then-divisor-eq1-clause-first

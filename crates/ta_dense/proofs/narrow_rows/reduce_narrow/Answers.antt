@@ -1,6 +1,6 @@
 use Rattle.std.proofs.Common.{◌≡◌, arith, ap, ◌∙◌, sym, ℕ, pos, ◌<◌, ◌^◌}
 use Rattle.std.specs.Prelude.{unsigned_abs}
-use Rattle.std.specs.Int.{w64}
+use Rattle.std.specs.Int.{w32}
 use Rattle.std.proofs.lemmas.Int.{ints, to_z_pos, fits_signed_from_abs}
 use Rattle.ta_dense.specs.Narrow.{narrow_view}
 use Rattle.ta_dense.specs.Tableau.{divided}
@@ -14,8 +14,8 @@ overflow_cast-divisor c =
     let e = c.divisor_of_narrow-divisor.ensures.value in
     let d = c.requires.bounded.denominator in
     let f = c.requires.fits in
-    let b : c.divisor_of_narrow-divisor.result < 2 ^ 63 = omega (arith, e) in
-    fits_signed_from_abs w64 (pos c.divisor_of_narrow-divisor.result) b
+    let b : c.divisor_of_narrow-divisor.result < 2 ^ 31 = omega (arith, e) in
+    fits_signed_from_abs w32 (pos c.divisor_of_narrow-divisor.result) b
 
 pub divide_narrow_row-requires : goal.divide_narrow_row-requires
 divide_narrow_row-requires c =
@@ -23,9 +23,9 @@ divide_narrow_row-requires c =
     let e = c.divisor_of_narrow-divisor.ensures.value in
     let d = c.requires.bounded.denominator in
     let f = c.requires.fits in
-    let b : c.divisor_of_narrow-divisor.result < 2 ^ 63 = omega (arith, e) in
+    let b : c.divisor_of_narrow-divisor.result < 2 ^ 31 = omega (arith, e) in
     let p = c.divisor_of_narrow-divisor.ensures.positive in
-    rw (to_z_pos w64 c.divisor_of_narrow-divisor.result b) (omega (arith, ints, p))
+    rw (to_z_pos w32 c.divisor_of_narrow-divisor.result b) (omega (arith, ints, p))
 
 pub returns-else-divisor-gt1-clause-value : goal.returns-else-divisor-gt1-clause-value
 returns-else-divisor-gt1-clause-value c =
@@ -40,5 +40,5 @@ returns-then-divisor-gt1-clause-value c =
     let e = c.divisor_of_narrow-divisor.ensures.value in
     let d = c.requires.bounded.denominator in
     let f = c.requires.fits in
-    let b : c.divisor_of_narrow-divisor.result < 2 ^ 63 = omega (arith, e) in
-    c.divide_narrow_row.ensures.value ∙ ap (λ (g : ℕ). divided g (narrow_view c.args.row.now)) (ap unsigned_abs (to_z_pos w64 c.divisor_of_narrow-divisor.result b) ∙ c.divisor_of_narrow-divisor.ensures.value)
+    let b : c.divisor_of_narrow-divisor.result < 2 ^ 31 = omega (arith, e) in
+    c.divide_narrow_row.ensures.value ∙ ap (λ (g : ℕ). divided g (narrow_view c.args.row.now)) (ap unsigned_abs (to_z_pos w32 c.divisor_of_narrow-divisor.result b) ∙ c.divisor_of_narrow-divisor.ensures.value)

@@ -2,7 +2,7 @@ use Rattle.std.proofs.Common.{◌<◌, ◌+◌, ◌^◌, pos, length, get_or, dr
 use Rattle.std.proofs.lemmas.Int.{to_z-of_z}
 use Rattle.std.proofs.lemmas.List.Elements.{All-set, All-replicate}
 use mir.Val.{SFits}
-use mir.Syntax.{w128, w64}
+use mir.Syntax.{w128, w32}
 use Rattle.ta_dense.specs.Bounds.{AreSmall}
 use Rattle.ta_dense.proofs.FillSteps.{Filling, fill-start, fill-inside, fill-more, fill-end}
 use Rattle.ta_dense.proofs.narrow_slack.fill_narrow.Goals as goal
@@ -10,7 +10,7 @@ use Rattle.ta_dense.proofs.narrow_slack.fill_narrow.Goals as goal
 pub loop-unknown-init : goal.loop-unknown-init
 loop-unknown-init c = record {
   filling = fill-start (length c.args.cells.now) c.args.terms.now c.args.cells.now c.requires.terms refl c.requires.cells;
-  small = subst AreSmall (sym c.requires.cells) (All-replicate (λ (x : ℤ). unsigned_abs x < 2 ^ 63) (length c.args.cells.now) (pos 0) (omega arith));
+  small = subst AreSmall (sym c.requires.cells) (All-replicate (λ (x : ℤ). unsigned_abs x < 2 ^ 31) (length c.args.cells.now) (pos 0) (omega arith));
 }
 
 pub bounds-cells-unknown : goal.bounds-cells-unknown
@@ -24,11 +24,11 @@ loop-unknown-preserved c =
     let cells = c.loop-unknown.cells in
     let place = (get_or c.args.terms.now c.loop-unknown.unknown-index (0, pos 0)).0 in
     let f : SFits w128 (get_or c.args.terms.now c.loop-unknown.unknown-index (0, pos 0)).1 = search rules in
-    let g : SFits w64 c.in-Some.number = search rules in
+    let g : SFits w32 c.in-Some.number = search rules in
     let value = simp to_z-of_z at c.in-Some.ensures.value in
     simp to_z-of_z (record {
       filling = subst (λ (z : ℤ). Filling n ts (drop (i + 1) ts) (set cells place z)) (sym value) (fill-more n ts ts i (0, pos 0) cells c.loop-unknown.invariant.filling c.loop-unknown-test.true);
-      small = All-set (λ (x : ℤ). unsigned_abs x < 2 ^ 63) cells place c.in-Some.number c.in-Some.ensures.small c.loop-unknown.invariant.small;
+      small = All-set (λ (x : ℤ). unsigned_abs x < 2 ^ 31) cells place c.in-Some.number c.in-Some.ensures.small c.loop-unknown.invariant.small;
     })
 
 pub returns : goal.returns

@@ -6,7 +6,7 @@ use Rattle.ta_linear.specs.Gcd.{gcd_of}
 use Rattle.ta_linear.proofs.GcdLemmas.{gcd_of_is}
 use Rattle.ta_links.specs.Values.{value_in}
 use Rattle.ta_links.specs.Merging.{merged_cell}
-use Rattle.ta_links.proofs.MergeSteps.{gcd_more}
+use Rattle.ta_links.proofs.MergeSteps.{gcd_more, may_before_next}
 use Rattle.ta_links.proofs.merging.divisor_of_merged.Goals as goal
 
 pub returns-in_default-clause-refused : goal.returns-in_default-clause-refused
@@ -29,6 +29,8 @@ loop-place-preserved c =
     let v = gcd_of_is _ _ _ c.gcd_natural-divisor.ensures.value ∙ ap (gcd_of c.loop-place.divisor) u in
     simp to_z-of_z (record {
       value = gcd_more c.args.first (merged_cell c.args.p c.args.q c.args.column c.args.turned (value_in c.args.links.now.cells.items c.args.at) (value_in c.args.links.now.cells.items c.args.row)) c.loop-place.place c.loop-place.divisor c.in-Some.cell c.gcd_natural-divisor.result inv.value e.value v;
+      before_at = may_before_next c.args.links.now.cells.items c.args.at c.loop-place.place c.moved-cursors.result.at c.moved-cursors.ensures.at.may;
+      before_chosen = may_before_next c.args.links.now.cells.items c.args.row c.loop-place.place c.moved-cursors.result.chosen c.moved-cursors.ensures.chosen.may;
       bound = c.gcd_natural-divisor.ensures.fits;
       within = below_more _ _ inv.within e.within;
     })

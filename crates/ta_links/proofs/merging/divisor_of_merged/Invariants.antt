@@ -1,4 +1,6 @@
 use Rattle.std.proofs.Common.{◌≡◌, ℕ, ◌<◌, ◌^◌}
+use Rattle.ta_links.specs.Chains.{along_rows}
+use Rattle.ta_links.specs.Gaps.{MayBefore}
 use Rattle.ta_links.specs.Values.{value_in}
 use Rattle.ta_links.specs.Merging.{merged_cell, MergesAt, gcd_below}
 use Rattle.ta_links.proofs.merging.divisor_of_merged.Given as goal
@@ -6,6 +8,8 @@ use Rattle.ta_links.proofs.merging.divisor_of_merged.Given as goal
 abbrev pub invariant-loop-place : goal.invariant-loop-place
 invariant-loop-place l = record {
   value : l.divisor ≡ gcd_below l.first (merged_cell l.p l.q l.column l.turned (value_in l.links.cells.items l.at) (value_in l.links.cells.items l.row)) l.place;
+  before_at : MayBefore along_rows l.links.cells.items l.at l.place l.cursors.at;
+  before_chosen : MayBefore along_rows l.links.cells.items l.row l.place l.cursors.chosen;
   bound : l.divisor < 2 ^ 127;
   within : (j : ℕ) → j < l.place → MergesAt l.p l.q l.column (value_in l.links.cells.items l.at) (value_in l.links.cells.items l.row) j;
 }

@@ -4,6 +4,8 @@ use Rattle.std.proofs.lemmas.Int.{to_z-of_z}
 use mir.Val.{SFits}
 use mir.Syntax.{w128}
 use Rattle.ta_links.specs.Values.{value_in}
+use Rattle.ta_links.specs.Chains.{along_rows}
+use Rattle.ta_links.specs.Gaps.{MayBefore}
 use Rattle.ta_links.proofs.ColumnSteps.{PutOver}
 use Rattle.ta_links.proofs.MergeSteps.{chosen_kept, merges_same, rewritten_more}
 use Rattle.ta_links.proofs.merging.write_merged.Goals as goal
@@ -18,7 +20,7 @@ returns-in_default-clause-values c j b =
     let inv = simp to_z-of_z at c.loop-place.invariant in
     let e = simp to_z-of_z at c.in_default.ensures in
     let was = inv.rest c.loop-place.place (omega arith) in
-    let kept = chosen_kept old c.args.columns c.args.row c.args.at c.args.p c.args.q c.args.column c.args.turned c.args.divisor c.loop-place.place c.loop-place.left c.loop-place.links inv in
+    let kept = chosen_kept old c.args.columns c.args.row c.args.at c.args.p c.args.q c.args.column c.args.turned c.args.divisor c.loop-place.place c.loop-place.cursors.at c.loop-place.cursors.chosen c.loop-place.links inv in
     absurd (e.refused (merges_same c.args.p c.args.q c.args.column (value_in old.cells.items c.args.at) (value_in old.cells.items c.args.row) (value_in c.loop-place.links.cells.items c.args.at) (value_in c.loop-place.links.cells.items c.args.row) c.loop-place.place (sym was) (sym kept) (c.requires.within c.loop-place.place c.loop-place-test.true)))
 
 pub loop-place-preserved : goal.loop-place-preserved
@@ -37,4 +39,8 @@ loop-place-preserved c =
     let o = simp to_z-of_z at c.in_ok-left.ensures in
     let put_ : PutOver now c.args.at c.loop-place.place c.quotient.result c.in_ok-left.left c.put.new.links = record { sound = o.sound; rows = o.rows; columns = o.columns; values = o.values; before = o.before; fresh = o.fresh; held = o.held } in
     let over = subst (λ (z : ℤ). PutOver now c.args.at c.loop-place.place z c.in_ok-left.left c.put.new.links) v put_ in
-    simp to_z-of_z (rewritten_more old c.args.columns c.args.row c.args.at c.args.p c.args.q c.args.column c.args.turned c.args.divisor c.loop-place.place c.loop-place.left now c.in-Some.cell c.in_ok-left.left c.put.new.links inv c.loop-place-test.true e.value over)
+    let front : MayBefore along_rows c.put.new.links.cells.items c.args.row c.loop-place.place c.moved-cursors.result.chosen = λ h e. o.kept c.args.row h (c.moved-cursors.ensures.chosen.may h e) in
+    simp to_z-of_z (rewritten_more old c.args.columns c.args.row c.args.at c.args.p c.args.q c.args.column c.args.turned c.args.divisor c.loop-place.place c.loop-place.cursors.at c.loop-place.cursors.chosen now c.in-Some.cell c.in_ok-left.left c.moved-cursors.result.chosen c.put.new.links inv c.loop-place-test.true e.value over front)
+
+pub put-requires-clause-start : goal.put-requires-clause-start
+put-requires-clause-start c = c.moved-cursors.ensures.at.may

@@ -2,4 +2,4 @@ use Rattle.ta_links.proofs.MergeSteps.{Rewritten}
 use Rattle.ta_links.proofs.merging.write_merged.Given as goal
 
 abbrev pub invariant-loop-place : goal.invariant-loop-place
-invariant-loop-place l = Rewritten l.fn.links l.columns l.row l.at l.p l.q l.column l.turned l.divisor l.place l.left l.links
+invariant-loop-place l = Rewritten l.fn.links l.columns l.row l.at l.p l.q l.column l.turned l.divisor l.place l.cursors.at l.cursors.chosen l.links

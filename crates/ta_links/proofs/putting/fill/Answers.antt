@@ -39,7 +39,7 @@ returns c =
       rows = e.rows;
       columns = e.columns;
       values = written_by (value_in l.cells.items) (value_in n.cells.items) c.args.row c.args.column c.args.value c.args.value e.values (omega (arith, ints, none));
-      kept = λ h b. before_kept l.cells.items n.cells.items c.args.row c.args.column h b (e.kept h b.live);
+      kept = λ r h b. before_kept l.cells.items n.cells.items r c.args.column h b (e.kept h b.live);
       fresh = e.fresh;
       held = omega arith;
     }

@@ -10,7 +10,7 @@ use Rattle.ta_program.proofs.Benching.{says_ok}
 use Rattle.ta_program.proofs.bench.bench_family.Goals as goal
 
 pub returns-in-Some-Some : goal.returns-in-Some-Some
-returns-in-Some-Some c =
+returns-in-Some-Some g c =
     let s = c.in_ok-scoped.scoped in
     let vs = c.in_ok-verdicts.verdicts.items in
     let orders = c.in_ok-found.found.list in

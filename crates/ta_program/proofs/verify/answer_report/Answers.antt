@@ -11,10 +11,10 @@ use Rattle.ta_program.proofs.Certifying.{cert_written, certified_says}
 use Rattle.ta_program.proofs.verify.answer_report.Goals as goal
 
 pub report-requires : goal.report-requires
-report-requires c = subst (AreVerdicts c.args.scoped.now.file c.args.budget.now.nodes) (sym c.as_slice-3.ensures.value) c.in-Ok-verdicts_on.ensures.verdicts
+report-requires g c = subst (AreVerdicts c.args.scoped.now.file c.args.budget.now.nodes) (sym c.as_slice-3.ensures.value) c.in-Ok-verdicts_on.ensures.verdicts
 
 pub returns-clause-says : goal.returns-clause-says
-returns-clause-says c = λ files.
+returns-clause-says g c = λ files.
     let s = c.args.scoped.now in
     let budget = c.args.budget.now in
     let vs = c.in-Ok-verdicts_on.verdicts.items in

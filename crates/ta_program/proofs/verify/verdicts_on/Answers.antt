@@ -4,7 +4,7 @@ use Rattle.ta_program.proofs.VerdictsMade.{so_far_more, so_many}
 use Rattle.ta_program.proofs.verify.verdicts_on.Goals as goal
 
 pub loop-pattern-preserved : goal.loop-pattern-preserved
-loop-pattern-preserved c =
+loop-pattern-preserved g c =
     let l = c.loop-pattern in
     let file = c.args.scoped.now.file in
     let budget = c.args.budget.now.nodes in

@@ -1,24 +1,17 @@
-use Rattle.std.proofs.Common.{◌≤◌, length, reverse, arith, ap}
-use Rattle.std.proofs.lemmas.List.{length-reverse}
-use Rattle.ta_words.proofs.Counts.{legal_length}
-use Rattle.ta_words.proofs.Lists.{events_named}
-use Rattle.ta_encode.specs.Marks.{SameRows}
-use Rattle.ta_encode.proofs.Marking.{named_pattern, on_ok, same_on_part}
+use Rattle.std.proofs.Common.{◌++◌, List, map, reverse, subst}
+use Rattle.std.proofs.lemmas.List.{append-nil}
+use Rattle.ta_words.specs.Calls.{OfPattern}
+use Rattle.ta_encode.specs.Code.{RowsOf, SystemOf}
+use Rattle.ta_encode.specs.System.{LinearRow, bound_row, word_rows}
+use Rattle.ta_encode.proofs.Marking.{on_ok}
 use Rattle.ta_encode.proofs.growing.Encoding.grown.Goals as goal
 
-pub finish-requires-clause-few : goal.finish-requires-clause-few
-finish-requires-clause-few c =
+pub returns-clause-system : goal.returns-clause-system
+returns-clause-system c =
     let file = c.args.file.now in
-    let named = named_pattern file.patterns c.args.pattern c.requires.exists in
-    let short : length (reverse c.args.word.now) ≤ 30 = legal_length file.automaton named.0 c.args.start_mask (reverse c.args.word.now) (events_named file c.args.pattern named.0 named.1).limit (c.requires.legal named.0 named.1) in
-    let same = ap length c.elements-elements.ensures in
-    let turned = length-reverse c.args.word.now in
-    omega arith
-
-pub returns-clause-same : goal.returns-clause-same
-returns-clause-same c =
-    let file = c.args.file.now in
-    let named = named_pattern file.patterns c.args.pattern c.requires.exists in
-    let part = c.in_ok-part.ensures named.0 named.1 in
-    on_ok c.finish.result _ (λ grown. SameRows c.args.self.system.rows grown.same grown.encoding.system.rows)
-    (λ grown h. same_on_part c.args.self.system.rows c.in_ok-part.part.rows.items grown.encoding.system.rows c.in_ok-part.part.same grown.same h.0 part.same part.rows_are h.1) c.finish.ensures.same
+    let start = c.args.start_mask in
+    let past = reverse c.args.word.now in
+    let bounds = c.args.bounds.now in
+    on_ok c.grown_to.result _ (λ grown. OfPattern file c.args.pattern (λ p. SystemOf file.automaton p start past bounds grown.encoding.system))
+    (λ grown h p named. let is = h p named in record { unknowns = is.unknowns; rows = subst (λ (ls : List LinearRow). RowsOf (ls ++ map bound_row bounds) grown.encoding.system.rows) (append-nil (word_rows file.automaton p start past)) is.rows })
+    c.grown_to.ensures.system

@@ -1,0 +1,172 @@
+-- What is told names the fault.
+use Rattle.std.proofs.Common.{◌≡◌, ◌∙◌, ◌≤◌, ℕ, Bool, true, false, List, [], ◌∷◌, Option, None, Some, refl, sym, ap, subst, inl, inr, arith}
+use Rattle.std.specs.Prelude.{◌⊎◌, codes}
+use Rattle.std.specs.Str.{bytes_eq}
+use Rattle.ta_automaton.specs.declared.file.File.{File}
+use Rattle.ta_meaning.proofs.OneTree.{one_legal}
+use Rattle.ta_meaning.specs.Laws.{FirstFaultsAreUnique}
+use Rattle.ta_report.specs.Check.{check_text}
+use Rattle.ta_replay.specs.declared.run.Run.{Run}
+use Rattle.ta_replay.specs.RunText.{run_text}
+use Rattle.ta_shelf.specs.Put.{Told}
+use Rattle.ta_shell.proofs.Read.{replies_monotone}
+use Rattle.ta_shell.proofs.Views.{Monotone}
+use Rattle.ta_shell.specs.Commands.{Decides, Meaning}
+use Rattle.ta_shell.specs.Ends.{Performs, State, Tells}
+use Rattle.ta_shell.specs.Lines.{file_line}
+use Rattle.ta_shell.specs.Sights.{in_files, seen}
+use Rattle.ta_shell.specs.Stages.{Writes, after, replies}
+use Rattle.ta_smt.proofs.FaultsOnce.{whole_faults_once, word_faults_once}
+use Rattle.ta_smt.proofs.WordsNamed.{whole_exact, words_exact}
+use Rattle.ta_smt.specs.Admit.{Asked as Word}
+use Rattle.ta_smt.specs.Named.{IsWholeWordOf, IsWordOf, Spelling, WholeFaultOf, WordFaultOf}
+use Rattle.ta_smt.specs.declared.fault.WordFault.{WordFault}
+use Rattle.ta_program.specs.Admit.{AdmitAsked, admit_meaning, admit_words, run_meaning, values_kind, values_meaning}
+use Rattle.ta_program.specs.Asked.{Asked, Runs, ask, choose, row}
+use Rattle.ta_program.specs.Asked.Asked.{Command, NoCommand}
+use Rattle.ta_program.specs.Bench.{SaysBench, bench_asked, bench_meaning, bench_words}
+use Rattle.ta_program.specs.Certified.{HindersCertificate, long_line, may_put}
+use Rattle.ta_program.specs.Check.{check_meaning, proved_meaning}
+use Rattle.ta_program.specs.Compress.{SaysShort, compress_meaning, long_kind, short_meaning}
+use Rattle.ta_program.specs.Export.{SaysSystem, WordHinders, export_meaning, export_words, system_meaning, word_fault_text}
+use Rattle.ta_program.specs.Faults.{FaultsAreNamed, HinderOnce, NamesFault, OfCommand}
+use Rattle.ta_program.specs.Kinds.{certificate_kind, file_kind, run_kind}
+use Rattle.ta_program.specs.Replay.{SaysShown, replay_meaning, shown_meaning}
+use Rattle.ta_program.specs.Reporting.{Reports, report_meaning, verify_meaning}
+use Rattle.ta_program.specs.Requests.{request_of}
+use Rattle.ta_program.specs.Values.{two_names}
+use Rattle.ta_program.specs.VerifyWords.{verify_words}
+use Rattle.ta_program.specs.WordAsked.{WordAsked}
+use Rattle.ta_program.proofs.FaultsOnce.{certificate_settled, long_once, run_once, settled, values_once}
+use Rattle.ta_program.proofs.Meanings.{hinders_long, proved_monotone, report_monotone, short_monotone, shown_monotone}
+use Rattle.ta_program.proofs.OneLine.{after_last, after_once, finds_once, replies_hinder, settles_once}
+use Rattle.ta_program.proofs.WordMeanings.{run_monotone, system_monotone}
+
+-- a line that says why a file hasn't a word
+module _ (Of : WordFault → Type 0) (name : List ℕ) where
+  word_ranged : (number : ℕ) (line : List ℕ) → WordHinders Of name number line → (3 ≤ number) × (number ≤ 4)
+  word_ranged number line h = let is : number ≡ 4 = h.numbered in (omega (arith, is), omega (arith, is))
+
+  word_line : ((e f : WordFault) → Of e → Of f → e ≡ f) → (number other : ℕ) (line words : List ℕ) → WordHinders Of name number line → WordHinders Of name other words → (number ≡ other) × (line ≡ words)
+  word_line one number other line words h k = (
+    h.numbered ∙ sym k.numbered,
+    h.said ∙ ap (λ (f : WordFault). file_line name (word_fault_text f)) (one h.found k.found h.is k.is) ∙ sym k.said,
+  )
+
+-- a line that says that a certificate is too long
+long_certificate : (file : File) (budget : ℕ) (out : Option (List ℕ)) (line words : List ℕ) (number other : ℕ) → HindersCertificate file budget out number line → HindersCertificate file budget out other words → line ≡ words
+long_certificate file budget None line words number other h k = absurd h
+long_certificate file budget (Some out) line words number other h k = h.said ∙ sym k.said
+
+module _ (unique : FirstFaultsAreUnique) (told : Told) where
+  -- of a command that reads FILE first
+  file_first : (name : List ℕ) (puts : List (List ℕ)) (rest : File → Meaning) → ((file : File) → Monotone (rest file)) → ((file : File) → HinderOnce (rest file) told) → HinderOnce (after file_kind name puts rest) told
+  file_first name puts rest rests later =
+      after_once file_kind (settled file_kind (λ bytes f none. none) unique) name puts rest rests told 3 refl (omega arith) (omega arith) (λ bytes file fault legal found. legal.no_fault fault found) later one_legal
+
+  report_once : (file : File) (budget : ℕ) (json : Bool) (out : Option (List ℕ)) → HinderOnce (report_meaning file budget json out) told
+  report_once file budget json out =
+      settles_once (may_put out) (Reports file budget json out) (HindersCertificate file budget out) told
+      (λ number line h. let is = (hinders_long file budget out number line h).0 in (omega (arith, is), omega (arith, is)))
+      (λ number other line words h k. ((hinders_long file budget out number line h).0 ∙ sym (hinders_long file budget out other words k).0, long_certificate file budget out line words number other h k))
+
+  verify_once : (name : List ℕ) (budget : ℕ) (json : Bool) (out : Option (List ℕ)) → HinderOnce (verify_meaning name budget json out) told
+  verify_once name budget json out = file_first name (may_put out) (λ file. report_meaning file budget json out) (λ file. report_monotone file budget json out) (λ file. report_once file budget json out)
+
+  check_once : (name certificate : List ℕ) → HinderOnce (check_meaning name certificate) told
+  check_once name certificate =
+      file_first name [] (λ file. proved_meaning file certificate) (λ file. proved_monotone file certificate) (λ file.
+      after_last (certificate_kind file) (certificate_settled file) certificate [] (λ numbers. replies [] (Writes 0 (check_text file numbers))) (λ numbers. replies_monotone [] (Writes 0 (check_text file numbers))) told 4 refl (omega arith) (omega arith)
+      (λ bytes numbers fault proves found. found.no_certificate numbers proves.accepted) (λ numbers number line none. none))
+
+  replay_once : (name run : List ℕ) → HinderOnce (replay_meaning name run) told
+  replay_once name run =
+      file_first name [] (λ file. shown_meaning file run) (λ file. shown_monotone file run) (λ file.
+      after_last (run_kind file) (settled (run_kind file) (λ bytes f none. none) (run_once file)) run [] (λ shown. replies [] (SaysShown file shown)) (λ shown. replies_monotone [] (SaysShown file shown)) told 4 refl (omega arith) (omega arith)
+      (λ bytes shown fault shows found. found.shows_nothing shown shows) (λ shown number line none. none))
+
+  compress_once : (name run : List ℕ) → HinderOnce (compress_meaning name run) told
+  compress_once name run =
+      file_first name [] (λ file. short_meaning file run) (λ file. short_monotone file run) (λ file.
+      after_last (long_kind file) (settled (long_kind file) (λ bytes f none. none) (long_once file)) run [] (λ long. replies [] (SaysShort file long)) (λ long. replies_monotone [] (SaysShort file long)) told 4 refl (omega arith) (omega arith)
+      (λ bytes long fault able found. found.compresses_nothing long able) (λ long number line none. none))
+
+  system_once : (name : List ℕ) (spelled : Spelling) (file : File) → HinderOnce (system_meaning name spelled file) told
+  system_once name spelled file =
+      finds_once (IsWordOf file spelled) (WordHinders (WordFaultOf file spelled) name) [] (λ word. replies [] (SaysSystem file word)) told
+      (word_ranged (WordFaultOf file spelled) name) (word_line (WordFaultOf file spelled) name (word_faults_once file spelled))
+      (λ word number line is h. (words_exact file spelled word is).0 h.found h.is)
+      (λ v w is are. (words_exact file spelled v is).1 w are)
+      (λ word. replies_hinder [] (SaysSystem file word) told)
+
+  export_once : (asked : WordAsked) → HinderOnce (export_meaning asked) told
+  export_once asked = file_first asked.file [] (system_meaning asked.file asked.word) (system_monotone asked.file asked.word) (system_once asked.file asked.word)
+
+  values_line : (values : List ℕ) (file : File) (word : Word) → HinderOnce (values_meaning values file word) told
+  values_line values file word =
+      after_last (values_kind file word) (settled (values_kind file word) (λ bytes f none. none) (values_once file word)) values [] (λ run. replies [] (Writes 0 (run_text file run))) (λ run. replies_monotone [] (Writes 0 (run_text file run))) told 4 refl (omega arith) (omega arith)
+      (λ bytes run fault admits found. found.gives_no_run run admits) (λ run number line none. none)
+
+  run_line : (name : List ℕ) (spelled : Spelling) (values : List ℕ) (file : File) → HinderOnce (run_meaning name spelled values file) told
+  run_line name spelled values file =
+      finds_once (IsWholeWordOf file spelled) (WordHinders (WholeFaultOf file spelled) name) [] (values_meaning values file) told
+      (word_ranged (WholeFaultOf file spelled) name) (word_line (WholeFaultOf file spelled) name (whole_faults_once file spelled))
+      (λ word number line is h. whole_exact file spelled word is h.found h.is)
+      (λ v w is are. (words_exact file spelled v is.is).1 w are.is)
+      (values_line values file)
+
+  admit_once : (all : AdmitAsked) → HinderOnce (admit_meaning all) told
+  admit_once all = file_first all.asked.file [] (run_meaning all.asked.file all.asked.word all.values) (run_monotone all.asked.file all.asked.word all.values) (run_line all.asked.file all.asked.word all.values)
+
+  -- what words ask for, row by row
+  asked_once : {W : Type 0} (file : W → Option (List ℕ)) (says : W → Meaning) (words : Option W) → ((w : W) → HinderOnce (says w) told) → OfCommand (λ m. HinderOnce m told) (ask file says words)
+  asked_once file says None once = tt
+  asked_once file says (Some w) once = once w
+
+  row_once : (named : Bool) (asked others : Asked) → OfCommand (λ m. HinderOnce m told) asked → OfCommand (λ m. HinderOnce m told) others → OfCommand (λ m. HinderOnce m told) (choose named asked others)
+  row_once true asked others once more = once
+  row_once false asked others once more = more
+
+  request_once : (words : List (List ℕ)) → OfCommand (λ m. HinderOnce m told) (request_of words)
+  request_once [] = tt
+  request_once (word ∷ words) =
+      row_once (bytes_eq word (codes "admit")) _ _ (asked_once (λ all. Some all.asked.file) admit_meaning (admit_words words) admit_once)
+      (row_once (bytes_eq word (codes "bench")) _ _ (asked_once (λ k. None) bench_meaning (bench_words words) (λ k. replies_hinder [] (SaysBench k) told))
+      (row_once (bytes_eq word (codes "check")) _ _ (asked_once (λ names. Some names.file) (λ names. check_meaning names.file names.other) (two_names words) (λ names. check_once names.file names.other))
+      (row_once (bytes_eq word (codes "compress")) _ _ (asked_once (λ names. Some names.file) (λ names. compress_meaning names.file names.other) (two_names words) (λ names. compress_once names.file names.other))
+      (row_once (bytes_eq word (codes "export")) _ _ (asked_once (λ asked. Some asked.file) export_meaning (export_words words) export_once)
+      (row_once (bytes_eq word (codes "replay")) _ _ (asked_once (λ names. Some names.file) (λ names. replay_meaning names.file names.other) (two_names words) (λ names. replay_once names.file names.other))
+      (row_once (bytes_eq word (codes "verify")) _ NoCommand (asked_once (λ asked. Some asked.file) (λ asked. verify_meaning asked.file asked.nodes asked.json asked.out) (verify_words words) (λ asked. verify_once asked.file asked.nodes asked.json asked.out)) tt))))))
+
+-- what a run tells of told files
+module _ (m : Meaning) (told : Told) (number : ℕ) (before after : State) (is : before.shelf.files ≡ Some told) (performs : Performs m number before after) (decides : Decides m) (once : HinderOnce m told) where
+  told_line : 3 ≤ number → number ≤ 4 → (line : List ℕ) × m.refuses (in_files told) number line × Tells line before.err after.err
+  told_line three four =
+      let h = performs.telling.hindered three four in
+      let line = h.such.0 in
+      (line, decides.refuses told h.added number line (subst (λ (files : Option Told). m.refuses (seen files h.added) number line) is h.such.1), h.such.2)
+
+  just : (expected : ℕ) (line : List ℕ) → m.refuses (in_files told) expected line → ((number ≡ expected) × Tells line before.err after.err) ⊎ ((number ≡ 6) ⊎ (number ≡ 7))
+  just expected line refuses = elim (performs.exact decides told is expected (inr (line, refuses))) [
+    | inl same ↦
+        let range = once.ranged expected line refuses in
+        let three = range.0 in
+        let four = range.1 in
+        let t = told_line (omega (arith, same, three)) (omega (arith, same, four)) in
+        let one = (once.one number expected t.0 line t.1 refuses).1 in
+        inl (same, subst (λ (l : List ℕ). Tells l before.err after.err) one t.2)
+    | inr other ↦ inr other
+  ]
+
+  names_fault : NamesFault m told number before.err after.err
+  names_fault = record { hindered = told_line; just = just }
+
+named_by : (asked : Asked) (told : Told) (number : ℕ) (before after : State) → Runs asked number before after → before.shelf.files ≡ Some told → OfCommand (λ m. HinderOnce m told) asked → OfCommand (λ m. NamesFault m told number before.err after.err) asked
+named_by NoCommand told number before after h is once = tt
+named_by (Command file m) told number before after h is once = names_fault m told number before after is h.performs h.decides once
+
+pub faults_named : FirstFaultsAreUnique → FaultsAreNamed
+faults_named unique = record {
+  one = λ words told. request_once unique told words;
+  named = λ words number before after h told is. named_by (request_of words) told number before after h is (request_once unique told words);
+}

@@ -1,0 +1,32 @@
+//! What the files that a command refuses have to do with what it tells. The functions do nothing but
+//! cite the laws of the crates below: their contracts state the laws.
+#![tactic(auto)]
+
+ghost use Rattle.ta_automaton.specs.declared.file.File.{File};
+ghost use Rattle.ta_smt.specs.Admit.{Asked};
+ghost use Rattle.ta_program.specs.Admit.{values_kind};
+ghost use Rattle.ta_program.specs.Compress.{long_kind};
+ghost use Rattle.ta_program.specs.Faults.{FaultsAreNamed, OneFault};
+ghost use Rattle.ta_program.specs.Kinds.{certificate_kind, file_kind, run_kind};
+
+use ta_meaning::meanings_are_unique;
+
+/// The bytes of FILE, of CERT, of RUN for `replay` and for `compress`, and of VALUES have one fault at
+/// most, which is the first.
+pub fn faults_are_determined()
+    ensures file { OneFault file_kind }
+    ensures certificate { (file : File) → OneFault (certificate_kind file) }
+    ensures replayed { (file : File) → OneFault (run_kind file) }
+    ensures compressed { (file : File) → OneFault (long_kind file) }
+    ensures values { (file : File) (word : Asked) → OneFault (values_kind file word) }
+{
+    meanings_are_unique()
+}
+
+/// Told files hinder a command with one number and one line at most, and its run ends with that number
+/// and tells that line, 6 and 7 aside.
+pub fn faults_are_named()
+    ensures { FaultsAreNamed }
+{
+    meanings_are_unique()
+}

@@ -1,0 +1,8 @@
+use Rattle.std.proofs.Common.{ℕ, ◌<◌, ◌≡◌, slice_get, Some}
+use Rattle.ta_automaton.specs.declared.rule.Rule.{Rule}
+use Rattle.ta_scope.specs.LongerCycles.{OnLongerCycle}
+use Rattle.ta_scope.proofs.longer.first_by_table.Given as goal
+
+-- no earlier rule is on such a cycle
+abbrev pub invariant-loop-number : goal.invariant-loop-number
+invariant-loop-number l = (q : ℕ) (rule : Rule) → q < l.number → slice_get l.automaton.rules q ≡ Some rule → ¬ OnLongerCycle l.automaton rule

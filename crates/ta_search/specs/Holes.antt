@@ -1,0 +1,86 @@
+-- Holes for coefficients, and the lines that declare them (this project's profile)
+use Rattle.std.specs.Prelude.{ℕ, suc, ◌-◌, ◌*◌, ◌^◌, ◌<◌, ◌≤◌, ◌==◌, ◌≡◌, ◌⊎◌, ◌&&◌, ◌++◌, Bool, true, not, List, [], ◌∷◌, length, map, take, codes, decimal, Option, None, Some, if◌then◌else◌, option_map}
+use Rattle.std.specs.List.{list_any, prefix_len}
+use Rattle.std.specs.Str.{bytes_eq}
+use Rattle.std.proofs.Props.{props}
+use Rattle.ta_syntax.specs.Kinds.{is_word}
+use Rattle.ta_automaton.specs.Lists.{Each, Each-prop, Distinct, Distinct-prop}
+use Rattle.ta_replay.specs.RunText.{lines_text}
+use Rattle.ta_smt.specs.WordText.{is_name}
+use Rattle.ta_search.specs.declared.template.Hole.{Hole}
+
+-- the names of holes
+abbrev pub hole_names : List Hole → List (List ℕ)
+hole_names hs = map (λ h. h.name) hs
+
+-- a name of the grammar of at most 64 bytes, and two numbers of at most 10 digits
+pub record IsSpelled (h : Hole) : Type 0 where
+  pub name : is_name h.name ≡ true
+  pub short : length h.name ≤ 64
+  pub low_digits : h.low < 10 ^ 10
+  pub high_digits : h.high < 10 ^ 10
+
+-- some value, and none above 1,000,000,000
+pub record InRange (h : Hole) : Type 0 where
+  pub some : h.low ≤ h.high
+  pub small : h.high ≤ 1000000000
+
+-- how many values a hole has
+abbrev pub value_count : Hole → ℕ
+value_count h = suc h.high - h.low
+
+-- how many choices there are of a value for each hole
+abbrev pub vector_count : List Hole → ℕ
+vector_count [] = 1
+vector_count (h ∷ hs) = value_count h * vector_count hs
+
+-- at most four holes, each spelled so and in range, no two of a name, with at most 10,000 choices
+pub record AreHoles (hs : List Hole) : Type 0 where
+  pub spelled : Each IsSpelled hs
+  pub ranges : Each InRange hs
+  pub distinct : Distinct (hole_names hs)
+  pub few : length hs ≤ 4
+  pub vectors : vector_count hs ≤ 10000
+
+-- there is a fifth hole, or there are more than 10,000 choices
+abbrev pub AreTooMany : List Hole → Type 0
+AreTooMany hs = (4 < length hs) ⊎ (10000 < vector_count hs)
+
+-- the letters, digits and `_` that stand first
+abbrev pub word_at : List ℕ → List ℕ
+word_at bs = take (prefix_len is_word bs) bs
+
+-- whether a word is the name of one of these holes
+abbrev pub is_among : List Hole → List ℕ → Bool
+is_among hs word = list_any (λ h. bytes_eq word h.name) hs
+
+-- the place of the first `$` of a body behind which no name of a hole stands
+abbrev pub unknown_place : List Hole → List ℕ → Option ℕ
+unknown_place hs [] = None
+unknown_place hs (b ∷ bs) = if b == 36 && not (is_among hs (word_at bs)) then Some 0 else option_map suc (unknown_place hs bs)
+
+-- the line of a hole, without its line feed
+abbrev pub hole_line : Hole → List ℕ
+hole_line h = codes "hole " ++ (h.name ++ (32 ∷ (decimal h.low ++ (32 ∷ decimal h.high))))
+
+-- the lines of holes
+abbrev pub hole_lines : List Hole → List ℕ
+hole_lines hs = lines_text (map hole_line hs)
+
+-- the lines of holes, and the line `begin`
+abbrev pub head_text : List Hole → List ℕ
+head_text hs = hole_lines hs ++ (codes "begin" ++ (10 ∷ []))
+
+spelled-prop : (h : Hole) → IsProp (IsSpelled h)
+spelled-prop h = hlevel props
+
+range-prop : (h : Hole) → IsProp (InRange h)
+range-prop h = hlevel props
+
+-- that holes are legal is a proposition
+pub AreHoles-prop : (hs : List Hole) → IsProp (AreHoles hs)
+AreHoles-prop hs = hlevel (props, Each-prop IsSpelled spelled-prop hs, Each-prop InRange range-prop hs, Distinct-prop (hole_names hs))
+
+-- so is that a body has no `$` but before names of holes
+pub unknown-prop : (hs : List Hole) (body : List ℕ) → IsProp (unknown_place hs body ≡ None)
+unknown-prop hs body = hlevel props

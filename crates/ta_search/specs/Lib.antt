@@ -1,0 +1,6 @@
+pub mod Holes
+pub mod Templates
+pub mod TemplateFaults
+pub mod Filling
+pub mod Laws
+pub mod Inside

@@ -1,0 +1,43 @@
+-- That a budget which is large enough for the words of a pattern is spent only where a node was split (this project's profile)
+use Rattle.std.specs.Prelude.{ℕ, ℤ, ◌<◌, ◌≤◌, ◌^◌, ◌≡◌, List, length, slice_get, Some}
+use Rattle.ta_automaton.specs.declared.automaton.Automaton.{Automaton}
+use Rattle.ta_automaton.specs.declared.file.File.{File}
+use Rattle.ta_automaton.specs.declared.pattern.Pattern.{Pattern}
+use Rattle.ta_automaton.specs.Masks.{In}
+use Rattle.ta_cert.specs.declared.line.Node.{Node}
+use Rattle.ta_cert.specs.declared.line.Node.TheVariants as node
+use Rattle.ta_words.specs.declared.element.Element.{Element}
+use Rattle.ta_words.specs.Words.{LegalUnder}
+use Rattle.ta_encode.specs.PatternSearch.{pattern_search}
+use Rattle.ta_encode.specs.Search.{Pending, Search}
+use Rattle.ta_walk.specs.Ends.{IsSpent, Visited}
+use Rattle.ta_walk.specs.Visit.{Visits}
+
+-- there are at most so many pairs of a start set and a word that is legal under pairs of rise guards: a list of no more items has each of them
+pub record HasAtMost (a : Automaton) (p : Pattern) (pairs : List (ℕ × ℕ)) (most : ℕ) : Type 0 where
+  pub words : List (ℕ × List Element)
+  pub short : length words ≤ most
+  pub each : (start : ℕ) (past : List Element) → start < 2 ^ length a.fall → LegalUnder a p pairs start past → In (start, past) words
+
+-- one of some nodes is a split
+pub record HasSplit (nodes : List Node) : Type 0 where
+  pub unknown : ℕ
+  pub floor : ℤ
+  pub is : In (node.Split unknown floor) nodes
+
+-- so many nodes were visited, and one of them was split
+pub record WasSplit (s : Search) (count : ℕ) : Type 0 where
+  pub nodes : List Node
+  pub left : List Pending
+  pub visits : Visits s s.roots nodes left
+  pub counted : length nodes ≡ count
+  pub split : HasSplit nodes
+
+-- a pattern of a file has at most some number of such pairs; where there are no more than the budget, it is spent only where one of the
+-- visited nodes was split; for without splits no two visited nodes have the same start set and word
+pub record SpentNeedsSplits : Type 0 where
+  pub number : (file : File) (number : ℕ) (p : Pattern) → slice_get file.patterns number ≡ Some p → (pairs : List (ℕ × ℕ)) → (most : ℕ) × HasAtMost file.automaton p pairs most
+  pub split : (a : Automaton) (p : Pattern) (pairs : List (ℕ × ℕ)) (budget count : ℕ) → HasAtMost a p pairs budget → IsSpent (pattern_search a p pairs) budget count → WasSplit (pattern_search a p pairs) budget
+  pub apart :
+      (a : Automaton) (p : Pattern) (pairs : List (ℕ × ℕ)) (before later : ℕ) (v w : Pending) → before < later → Visited (pattern_search a p pairs) before v
+      → (at : Visited (pattern_search a p pairs) later w) → ¬ HasSplit at.nodes → v.start ≡ w.start → v.past ≡ w.past → ⊥

@@ -1,0 +1,170 @@
+//! Rows of pivots, over each kind of rows side by side.
+
+ghost use Rattle.std.specs.Prelude.{IsTrue, ◌≡◌, ◌≢◌, ◌<◌, ◌+◌, ◌^◌, pos, length, IfOk, OnOk};
+ghost use Rattle.ta_linear.specs.Numbers.{InRange};
+ghost use Rattle.ta_linear.specs.Terms.{IsNormal};
+ghost use Rattle.ta_linear.specs.Rows.{AllBelow};
+ghost use Rattle.ta_dense.specs.Slack.{variables};
+
+use crate::beside::{Beside, are_same};
+use std::alloc::{AllocError, Global};
+use ta_dense::{Dictionary, NarrowDictionary, PivotFault};
+use ta_linear::{Form, List, Row, System};
+
+#[derive(Clone, Copy, Debug, PartialEq, Eq)]
+enum End {
+    Vertex,
+    Stuck,
+    Overflow(u32),
+    Apart,
+}
+
+/// How many pivots were made, after how many the numbers were of 128 bits, and how it ended.
+#[derive(Clone, Copy)]
+struct Course {
+    pivots: u32,
+    wide_at: Option<u32>,
+    end: End,
+}
+
+#[derive(Drop)]
+enum Step<D: Dictionary> {
+    Next(D),
+    Ended(End),
+}
+
+// Adds a row.
+fn push_row(
+    rows: &mut Vec<Row>,
+    unknowns: u32,
+    constant: i128,
+    terms: Vec<(u32, i128)>,
+) -> Result<(), AllocError>
+    requires constant { InRange constant }
+    requires terms { IsNormal 0 unknowns terms.items }
+    requires rows { AllBelow unknowns rows.old.items }
+    ensures below { OnOk result (AllBelow unknowns rows.new.items) }
+    ensures long { OnOk result (length rows.new.items ≡ length rows.old.items + 1) }
+{
+    let form = Form {
+        constant,
+        terms: List::from_vec(terms),
+    };
+    rows.push(Row { form })?;
+    Ok(())
+}
+
+// Parameters, each `up` times the one before, and as many processes as the first is.
+fn tower(alloc: Global, levels: u32, up: i128, down: i128) -> Result<System, AllocError>
+    requires levels { levels < 50 }
+    requires up { up ≢ pos 0 }
+    requires up_fits { InRange up }
+    requires down { down ≢ pos 0 }
+    requires down_fits { InRange down }
+    ensures { IfOk result (λ s. variables s < 2 ^ 32) }
+{
+    let unknowns = levels + 2;
+    let mut rows = Vec::new(alloc);
+    push_row(&mut rows, unknowns, -1, vec![in alloc; (0, 1)]?)?;
+    for lower in 0..levels {
+        let first = vec![in alloc; (lower, down), (lower + 1, 1)]?;
+        push_row(&mut rows, unknowns, 0, first)?;
+        let second = vec![in alloc; (lower, up), (lower + 1, -1)]?;
+        push_row(&mut rows, unknowns, 0, second)?;
+    }
+    let last = unknowns - 1;
+    push_row(&mut rows, unknowns, 0, vec![in alloc; (0, 1), (last, -1)]?)?;
+    push_row(&mut rows, unknowns, 0, vec![in alloc; (0, -1), (last, 1)]?)?;
+    Ok(System {
+        unknowns,
+        rows: List::from_vec(rows),
+    })
+}
+
+// One pivot of the least-index rule.
+fn next_step<D: Dictionary>(alloc: Global, dictionary: D) -> Result<Step<D>, AllocError> {
+    let Some(row) = dictionary.leaving() else {
+        return Ok(Step::Ended(End::Vertex));
+    };
+    let Some(column) = dictionary.entering(row) else {
+        return Ok(Step::Ended(End::Stuck));
+    };
+    match dictionary.pivot(alloc, row, column) {
+        Ok(next) => Ok(Step::Next(next)),
+        Err(PivotFault::Overflow { row }) => Ok(Step::Ended(End::Overflow(row))),
+        Err(PivotFault::Memory) => Err(AllocError),
+    }
+}
+
+// The pivots of the least-index rule over each kind of rows, as long as these are the same.
+fn course_of(alloc: Global, system: &System) -> Result<Course, AllocError>
+    requires { variables system.now < 2 ^ 32 }
+{
+    let mut wide = Beside::from_system(alloc, system)?;
+    let mut narrow = NarrowDictionary::from_system(alloc, system)?;
+    let mut wide_at = None;
+    for pivots in 0..50 {
+        if wide_at.is_none() && narrow.is_wide() {
+            wide_at = Some(pivots);
+        }
+        if !are_same(&wide, &narrow) {
+            return Ok(Course {
+                pivots,
+                wide_at,
+                end: End::Apart,
+            });
+        }
+        let first = next_step(alloc, wide)?;
+        let second = next_step(alloc, narrow)?;
+        match (first, second) {
+            (Step::Next(next), Step::Next(other)) => {
+                wide = next;
+                narrow = other;
+            }
+            (Step::Ended(end), Step::Ended(other)) => {
+                let end = if end == other { end } else { End::Apart };
+                return Ok(Course {
+                    pivots,
+                    wide_at,
+                    end,
+                });
+            }
+            _ => {
+                return Ok(Course {
+                    pivots,
+                    wide_at,
+                    end: End::Apart,
+                });
+            }
+        }
+    }
+    Ok(Course {
+        pivots: 50,
+        wide_at,
+        end: End::Apart,
+    })
+}
+
+/// The pivots of a tower: how many were made, how it ended, and whether the numbers got 128 bits. The
+/// words are the number of levels and the two coefficients of each.
+pub fn pivots(alloc: Global, rest: &str) -> Result<String, AllocError> {
+    let mut words = rest.split(" ");
+    let levels = words.next().unwrap_or("").parse::<u32>().unwrap_or(50);
+    let up = words.next().unwrap_or("").parse::<i128>().unwrap_or(0);
+    let down = words.next().unwrap_or("").parse::<i128>().unwrap_or(0);
+    if levels >= 50 || !is_coefficient(up) || !is_coefficient(down) {
+        return String::from_str(alloc, "no such tower");
+    }
+    let made = course_of(alloc, &tower(alloc, levels, up, down)?)?;
+    let mut text = format!(in alloc; "{} pivots, {:?}", made.pivots, made.end)?;
+    if let Some(pivots) = made.wide_at {
+        write!(text, ", wide after {pivots}")?;
+    }
+    Ok(text)
+}
+
+fn is_coefficient(number: i128) -> bool
+    ensures { IsTrue result → (number ≢ pos 0) × InRange number }
+{
+    number != 0 && number > i128::MIN
+}

@@ -1,0 +1,109 @@
+//! The message of each fault: its name.
+
+use std::alloc::{AllocError, Global};
+use std::fmt::Display;
+use std::process::Abort;
+use ta_cert::CertFault;
+use ta_linear::LinearFault;
+use ta_maker::MakerFault;
+use ta_replay::RunFault;
+use ta_syntax::FileFault;
+
+/// Compares the message of each fault of a table with the one beside it.
+fn expect<F: Display>(
+    rt: &impl Abort,
+    alloc: Global,
+    faults: &[(F, &str)],
+) -> Result<(), AllocError> {
+    for (fault, message) in faults {
+        assert_eq!(rt; format!(in alloc; "{fault}")?.as_str(), *message);
+    }
+    Ok(())
+}
+
+#[test]
+fn names_faults_of_files(rt: HostRuntime) -> Result<(), AllocError> {
+    expect(
+        &rt,
+        rt.alloc(),
+        &[
+            (FileFault::Byte(7), "Byte"),
+            (FileFault::Syntax(7), "Syntax"),
+            (FileFault::Duplicate(7), "Duplicate"),
+            (FileFault::Unknown(7), "Unknown"),
+            (FileFault::WrongKind(7), "WrongKind"),
+            (FileFault::TooLarge(7), "TooLarge"),
+            (FileFault::TooMany(7), "TooMany"),
+            (FileFault::TooDeep(7), "TooDeep"),
+            (FileFault::NotThreshold(7), "NotThreshold"),
+            (FileFault::CycleUpdates(7), "CycleUpdates"),
+            (FileFault::NoInitial(7), "NoInitial"),
+            (FileFault::Memory, "Memory"),
+        ],
+    )
+}
+
+#[test]
+fn names_faults_of_certificates(rt: HostRuntime) -> Result<(), AllocError> {
+    let (line, row, unknown, column) = (1, 2, 3, 4);
+    expect(
+        &rt,
+        rt.alloc(),
+        &[
+            (CertFault::Line(line), "Line"),
+            (CertFault::Truncated(line), "Truncated"),
+            (CertFault::UnknownPattern(line), "UnknownPattern"),
+            (CertFault::Row { line, row }, "Row"),
+            (CertFault::Positive { line, unknown }, "Positive"),
+            (CertFault::NotNegative(line), "NotNegative"),
+            (CertFault::Overflow { line, column }, "Overflow"),
+            (CertFault::ExtendComplete(line), "ExtendComplete"),
+            (CertFault::SplitVariable(line), "SplitVariable"),
+            (CertFault::Trailing(line), "Trailing"),
+            (CertFault::RepeatedPattern(line), "RepeatedPattern"),
+            (CertFault::Pair(line), "Pair"),
+            (CertFault::Failed, "Failed"),
+            (CertFault::Memory, "Memory"),
+        ],
+    )
+}
+
+#[test]
+fn names_faults_of_runs(rt: HostRuntime) -> Result<(), AllocError> {
+    expect(
+        &rt,
+        rt.alloc(),
+        &[
+            (RunFault::Line(1), "Line"),
+            (RunFault::Name(1), "Name"),
+            (RunFault::Resilience(1), "Resilience"),
+            (RunFault::Processes, "Processes"),
+            (RunFault::Start(1), "Start"),
+            (RunFault::NotEmpty(1), "NotEmpty"),
+            (RunFault::Guard { line: 1, guard: 2 }, "Guard"),
+            (RunFault::Count(1), "Count"),
+            (RunFault::Event(1), "Event"),
+            (RunFault::MissingEvent(1), "MissingEvent"),
+            (RunFault::Overflow(1), "Overflow"),
+            (RunFault::Order(1), "Order"),
+            (RunFault::Memory, "Memory"),
+        ],
+    )
+}
+
+#[test]
+fn names_other_faults(rt: HostRuntime) -> Result<(), AllocError> {
+    expect(
+        &rt,
+        rt.alloc(),
+        &[
+            (LinearFault::Overflow, "Overflow"),
+            (LinearFault::Memory, "Memory"),
+        ],
+    )?;
+    expect(
+        &rt,
+        rt.alloc(),
+        &[(MakerFault::Range, "Range"), (MakerFault::Memory, "Memory")],
+    )
+}
