@@ -5,6 +5,7 @@
 #include <stdio.h>
 #include <stdlib.h>
 #include <string.h>
+#include <sys/syscall.h>
 #include <unistd.h>
 
 extern void *__libc_malloc(size_t size);
@@ -32,6 +33,14 @@ __attribute__((destructor)) static void end(void)
     char line[32];
     snprintf(line, sizeof line, "%ld\n", requests);
     tell(line);
+}
+
+/* A program may end without its destructors. */
+void _exit(int status)
+{
+    end();
+    syscall(SYS_exit_group, status);
+    __builtin_unreachable();
 }
 
 static int is_refused(void)
