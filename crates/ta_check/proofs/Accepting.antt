@@ -1,5 +1,5 @@
 -- certificates and the lines that may follow each other
-use Rattle.std.proofs.Common.{◌≡◌, inl, inr, ℕ, ◌≤◌, List, [], ◌∷◌, ◌++◌, map, length, reverse, Some, slice_get, arith, sym, ap, ◌∙◌, refl, subst, append-nil, codes, lit<, lit≤}
+use Rattle.std.proofs.Common.{◌≡◌, inl, inr, ℕ, zero, suc, ◌≤◌, List, [], ◌∷◌, ◌++◌, map, length, reverse, Some, slice_get, arith, sym, ap, ◌∙◌, refl, subst, append-nil, codes, lit<, lit≤}
 use Rattle.std.proofs.lemmas.Fmt.{decimal_digit}
 use Rattle.std.proofs.lemmas.Bool.{false≢true}
 use Rattle.std.proofs.lemmas.List.{reverse-reverse}
@@ -16,18 +16,24 @@ use Rattle.ta_cert.specs.declared.line.Order.{Order}
 use Rattle.ta_cert.specs.Tree.{Tree}
 use Rattle.ta_cert.specs.Lines.{IsVersion, line_text, lines_text}
 use Rattle.ta_cert.specs.Streams.{AreLater, IsComplete, line_limit}
-use Rattle.ta_cert.specs.Certificates.{cert_lines, order_lines, pair_of, proof_lines, proofs_of, version_of}
+use Rattle.ta_cert.specs.Certificates.{AreOrders, cert_lines, order_lines, pair_of, proof_lines, proofs_of, version_of}
 use Rattle.ta_cert.specs.Laws.{AreShort}
 use Rattle.ta_cert.proofs.CertLines.{cert_complete}
 use Rattle.ta_implied.specs.Implied.{Good}
 use Rattle.ta_implied.proofs.Chains.{nothing_leads}
 use Rattle.ta_encode.specs.Refutes.{IsLeaf, ProofBy}
-use Rattle.ta_encode.specs.InPreorder.{Search, pattern_search}
+use Rattle.ta_encode.specs.InPreorder.{Search}
 use Rattle.ta_encode.proofs.Preorders.{weaker_proof}
-use Rattle.ta_encode.proofs.Theorems.{no_solution, runs, safety}
+use Rattle.ta_encode.proofs.Theorems.{no_solution, runs}
 use Rattle.ta_cursor.specs.Range.{IsJudged}
-use Rattle.ta_check.specs.Certificate.{ProvesPattern, ShowsPair, number_of, Certificate, CertificatesShow, AllSafe, AllUnsolved, PatternUnsolved}
-use Rattle.ta_check.specs.Lines.{Standing, at_first, LeadThrough, MayFollow}
+use Rattle.ta_claim.specs.Claims.{MayClaim, search_for}
+use Rattle.ta_claim.proofs.ClaimsShown.{proofs_show}
+use Rattle.ta_claim.specs.declared.claim.Claim.{Claim}
+use Rattle.ta_claim.specs.declared.claim.Claim.TheVariants.{Safe, RestSafe}
+use Rattle.ta_rest.specs.Endings.{ComesLast}
+use Rattle.ta_check.specs.Subjects.{HasVersion, Subject, claiming}
+use Rattle.ta_check.specs.Certificate.{AllHold, AllSafe, AllUnsolved, Certificate, CertificateFor, CertificatesShow, ClaimsHold, MayClaimAll, MayHave, PatternUnsolved, ProvesClaim, ProvesPattern, ShowsPair, number_of}
+use Rattle.ta_check.specs.Lines.{Standing, Opens, at_first, LeadThrough, MayFollow}
 use Rattle.ta_check.proofs.Searches.{searched}
 use Rattle.ta_check.proofs.Behind.{lead_proofs, standing}
 use Rattle.ta_check.proofs.Heads.{OrdersBehind, heads, lead_orders}
@@ -37,38 +43,68 @@ leaves_proof : (search : Search) (trees : List Tree) → ProofBy search (IsJudge
 leaves_proof search trees proves = weaker_proof (IsJudged search) (IsLeaf search) (λ w ts judged. judged.leaf) search trees proves
 
 -- the pattern that is proved
-record Proven (file : File) (pairs : List (ℕ × ℕ)) (numbered : ℕ × List Tree) : Type 0 where
+record Proven (subject : Subject) (pairs : List (ℕ × ℕ)) (numbered : ℕ × List Tree) : Type 0 where
   pub pattern : Pattern
-  pub named : slice_get file.patterns numbered.0 ≡ Some pattern
-  pub proof : ProofBy (pattern_search file.automaton pattern pairs) (IsLeaf (pattern_search file.automaton pattern pairs)) numbered.1
+  pub named : slice_get subject.file.patterns numbered.0 ≡ Some pattern
+  pub proof : ProofBy (search_for subject.claim subject.file.automaton pattern pairs) (IsLeaf (search_for subject.claim subject.file.automaton pattern pairs)) numbered.1
 
-proven : (file : File) (pairs : List (ℕ × ℕ)) (q : ℕ × List Tree) → ProvesPattern file pairs q → Proven file pairs q
-proven file pairs q one =
-    let found = searched file pairs q.0 one.search one.searched in
+proven : (subject : Subject) (pairs : List (ℕ × ℕ)) (q : ℕ × List Tree) → ProvesClaim subject pairs q → Proven subject pairs q
+proven subject pairs q one =
+    let found = searched subject pairs q.0 one.search one.searched in
     record {
       pattern = found.pattern;
       named = found.named;
       proof = subst (λ (s : Search). ProofBy s (IsLeaf s) q.1) (sym found.is) (leaves_proof one.search q.1 one.proves);
     }
 
--- what is proved is safe
-each_safe : (file : File) (pairs : List (ℕ × ℕ)) (proofs : List (ℕ × List Tree)) → LoopsPure file.automaton → Good file.automaton pairs → Each (ProvesPattern file pairs) proofs → AllSafe file (map number_of proofs)
-each_safe file pairs [] loops good prove = tt
-each_safe file pairs (q ∷ qs) loops good prove =
-    let one = proven file pairs q prove.0 in (
-      record { pattern = one.pattern; named = one.named; safe = safety file q.0 one.pattern one.named loops pairs good q.1 one.proof },
-      each_safe file pairs qs loops good prove.1,
+-- what may be claimed of each pattern may be of that of a number
+may_of : (claim : Claim) (ps : List Pattern) (k : ℕ) (p : Pattern) → Each (MayClaim claim) ps → slice_get ps k ≡ Some p → MayClaim claim p
+may_of claim [] k p may named = absurd (cc)
+may_of claim (q ∷ ps) zero p may named = let same : q ≡ p = cc in subst (MayClaim claim) same may.0
+may_of claim (q ∷ ps) (suc k) p may named = may_of claim ps k p may.1 named
+
+-- what is proved holds
+each_holds : (subject : Subject) (pairs : List (ℕ × ℕ)) (proofs : List (ℕ × List Tree)) → MayClaimAll subject → LoopsPure subject.file.automaton → Good subject.file.automaton pairs → Each (ProvesClaim subject pairs) proofs → AllHold subject (map number_of proofs)
+each_holds subject pairs [] may loops good prove = tt
+each_holds subject pairs (q ∷ qs) may loops good prove =
+    let one = proven subject pairs q prove.0 in (
+      record {
+        pattern = one.pattern;
+        named = one.named;
+        safe = proofs_show subject.claim subject.file q.0 one.pattern one.named (may_of subject.claim subject.file.patterns q.0 one.pattern may one.named) loops pairs good q.1 one.proof;
+      },
+      each_holds subject pairs qs may loops good prove.1,
     )
 
--- the patterns of a certificate are safe
-pub certificate_safe : (file : File) (text numbers : List ℕ) → LoopsPure file.automaton → Certificate file text numbers → AllSafe file numbers
-certificate_safe file text numbers loops c = subst (AllSafe file) (sym c.named) (each_safe file (map pair_of c.orders) c.proofs loops c.good c.prove)
+-- what is claimed of a certificate's patterns holds
+pub claims_hold : ClaimsHold
+claims_hold subject text numbers may loops c = subst (AllHold subject) (sym c.named) (each_holds subject (map pair_of c.orders) c.proofs may loops c.good c.prove)
+
+-- that patterns are safe may be claimed of all
+pub may_be_safe : (file : File) → MayClaimAll (claiming Safe file)
+may_be_safe file = each file.patterns
+  where
+    each : (ps : List Pattern) → Each (MayClaim Safe) ps
+    each [] = tt
+    each (p ∷ ps) = (tt, each ps)
+
+-- that they are safe at rest, of those that have events
+pub may_rest : (file : File) → Each ComesLast file.patterns → MayClaimAll (claiming RestSafe file)
+may_rest file last = each file.patterns last
+  where
+    each : (ps : List Pattern) → Each ComesLast ps → Each (MayClaim RestSafe) ps
+    each [] last = tt
+    each (p ∷ ps) last = (last.0.some, each ps last.1)
+
+-- the patterns of a certificate that they are safe are so
+certificate_safe : (file : File) (text numbers : List ℕ) → LoopsPure file.automaton → Certificate file text numbers → AllSafe file numbers
+certificate_safe file text numbers loops c = claims_hold (claiming Safe file) text numbers (may_be_safe file) loops c
 
 -- no word of what is proved that is legal under the pairs has a solution
 each_unsolved : (file : File) (pairs : List (ℕ × ℕ)) (proofs : List (ℕ × List Tree)) → Each (ProvesPattern file pairs) proofs → Each (PatternUnsolved file pairs) (map number_of proofs)
 each_unsolved file pairs [] prove = tt
 each_unsolved file pairs (q ∷ qs) prove =
-    let one = proven file pairs q prove.0 in
+    let one = proven (claiming Safe file) pairs q prove.0 in
     (record { pattern = one.pattern; named = one.named; none = λ start below word values. no_solution file.automaton one.pattern pairs q.1 one.proof start below word values }, each_unsolved file pairs qs prove.1)
 
 -- where a solution gives a run, no legal word of a safe pattern has one
@@ -114,9 +150,15 @@ version_same version [] (inl one) some second = one
 version_same version [] (inr two) some second = absurd (some two refl)
 version_same version (o ∷ os) is some second = second (λ e. cc)
 
+-- a version that a certificate may have allows its pairs
+may_have : (claim : Claim) (version : ℕ) (orders : List Order) → HasVersion claim version → ((orders ≡ [] → ⊥) → version ≡ 2) → AreOrders orders → MayHave claim orders
+may_have Safe version orders has second ordered = ordered
+may_have RestSafe version [] has second ordered = refl
+may_have RestSafe version (o ∷ os) has second ordered = absurd (let one : version ≡ 1 = has in let two = second (λ e. cc) in omega arith)
+
 -- the certificate that the lines behind the header are
-certificate_behind : (file : File) (text : List ℕ) (version : ℕ) (ls : List Line) (s : Standing) → IsVersion version → length (line_text (line.Header version)) ≤ line_limit → AreLater ls → text ≡ lines_text (line.Header version ∷ ls) → OrdersBehind file version [] ls s → Certificate file text (reverse s.begun)
-certificate_behind file text version ls s is fits later written h =
+certificate_behind : (subject : Subject) (text : List ℕ) (version : ℕ) (ls : List Line) (s : Standing) → HasVersion subject.claim version → IsVersion version → length (line_text (line.Header version)) ≤ line_limit → AreLater ls → text ≡ lines_text (line.Header version ∷ ls) → OrdersBehind subject version [] ls s → CertificateFor subject text (reverse s.begun)
+certificate_behind subject text version ls s has is fits later written h =
     let b = h.behind in
     let none : b.nodes ≡ [] = b.none refl in
     let proofs : h.rest ≡ proof_lines (proofs_of b.proofs) = b.lines ∙ ap (λ (ns : List Node). map line.Tree ns ++ proof_lines (proofs_of b.proofs)) none in
@@ -128,11 +170,11 @@ certificate_behind file text version ls s is fits later written h =
       orders = h.orders;
       proofs = b.proofs;
       written = written ∙ ap lines_text all;
-      ordered = h.ordered;
+      ordered = may_have subject.claim version h.orders has h.second h.ordered;
       legal = b.writable;
       short = subst AreShort all (fits, short_later ls later);
       shown = h.shown;
-      good = h.good (none_good file.automaton);
+      good = h.good (none_good subject.file.automaton);
       prove = b.prove;
       named = named;
       distinct = subst (λ (ks : List ℕ). Distinct ks) (sym named) b.distinct;
@@ -144,17 +186,17 @@ version_short version (inl one) = subst (λ (v : ℕ). length (line_text (line.H
 version_short version (inr two) = subst (λ (v : ℕ). length (line_text (line.Header v)) ≤ line_limit) (sym two) (subst (λ (xs : List ℕ). length (codes "threshold-certificate " ++ xs) ≤ line_limit) (sym (decimal_digit 2 (lit< tt))) (lit≤ tt))
 
 -- a complete text whose lines may follow each other is a certificate of the patterns that began
-pub certificate_of : (file : File) (text : List ℕ) (ls : List Line) (s : Standing) → IsComplete text ls → LeadThrough file at_first ls s → Certificate file text (reverse s.begun)
-certificate_of file text [] s complete lead = absurd (false≢true complete.ended)
-certificate_of file text (line.Order j i ∷ ls) s complete lead = absurd (false≢true complete.reads.legal.0.1)
-certificate_of file text (line.Pattern k ∷ ls) s complete lead = absurd (false≢true complete.reads.legal.0.1)
-certificate_of file text (line.Tree n ∷ ls) s complete lead = absurd (false≢true complete.reads.legal.0.1)
-certificate_of file text (line.End ∷ ls) s complete lead = absurd (false≢true complete.reads.legal.0.1)
-certificate_of file text (line.Header version ∷ ls) s complete lead =
+pub certificate_of : (subject : Subject) (text : List ℕ) (ls : List Line) (s : Standing) → IsComplete text ls → LeadThrough subject at_first ls s → CertificateFor subject text (reverse s.begun)
+certificate_of subject text [] s complete lead = absurd (false≢true complete.ended)
+certificate_of subject text (line.Order j i ∷ ls) s complete lead = absurd (false≢true complete.reads.legal.0.1)
+certificate_of subject text (line.Pattern k ∷ ls) s complete lead = absurd (false≢true complete.reads.legal.0.1)
+certificate_of subject text (line.Tree n ∷ ls) s complete lead = absurd (false≢true complete.reads.legal.0.1)
+certificate_of subject text (line.End ∷ ls) s complete lead = absurd (false≢true complete.reads.legal.0.1)
+certificate_of subject text (line.Header version ∷ ls) s complete lead =
     let form : IsVersion version = complete.reads.legal.0.0 in
     let later = complete.reads.legal.1 in
-    let through : LeadThrough file (standing version [] [] []) ls s = subst (λ (t : Standing). LeadThrough file t ls s) lead.1 lead.2 in
-    certificate_behind file text version ls s form (version_short version form) later (complete.reads.whole ∙ append-nil (lines_text (line.Header version ∷ ls))) (heads file version [] ls s later complete.ended through)
+    let through : LeadThrough subject (standing version [] [] []) ls s = subst (λ (t : Standing). LeadThrough subject t ls s) lead.1.leads lead.2 in
+    certificate_behind subject text version ls s lead.1.has form (version_short version form) later (complete.reads.whole ∙ append-nil (lines_text (line.Header version ∷ ls))) (heads subject version [] ls s later complete.ended through)
 
 -- before any proof all are new
 none_begun : (ks : List ℕ) → Each (λ (k : ℕ). In k [] → ⊥) ks
@@ -162,14 +204,26 @@ none_begun [] = tt
 none_begun (k ∷ ks) = ((λ i. i), none_begun ks)
 
 -- the lines behind the first one lead to the end
-lead_all : (file : File) (orders : List Order) (proofs : List (ℕ × List Tree)) → Good file.automaton (map pair_of orders) → Each (ShowsPair file.automaton) orders → Each (ProvesPattern file (map pair_of orders)) proofs → Distinct (map number_of proofs) → (after : Standing) × LeadThrough file (standing (version_of orders) [] [] []) (order_lines orders ++ proof_lines (proofs_of proofs)) after
-lead_all file [] proofs good shown prove distinct = lead_proofs file 1 [] proofs [] (λ two. let e : 1 ≡ 2 = two in absurd (omega arith)) prove distinct (none_begun (map number_of proofs))
-lead_all file (o ∷ os) proofs good shown prove distinct = lead_orders file [] (o ∷ os) (proof_lines (proofs_of proofs)) good shown (lead_proofs file 2 (map pair_of (o ∷ os)) proofs [] (λ two empty. cc) prove distinct (none_begun (map number_of proofs)))
+lead_all : (subject : Subject) (orders : List Order) (proofs : List (ℕ × List Tree)) → Good subject.file.automaton (map pair_of orders) → Each (ShowsPair subject.file.automaton) orders → Each (ProvesClaim subject (map pair_of orders)) proofs → Distinct (map number_of proofs) → (after : Standing) × LeadThrough subject (standing (version_of orders) [] [] []) (order_lines orders ++ proof_lines (proofs_of proofs)) after
+lead_all subject [] proofs good shown prove distinct = lead_proofs subject 1 [] proofs [] (λ two. let e : 1 ≡ 2 = two in absurd (omega arith)) prove distinct (none_begun (map number_of proofs))
+lead_all subject (o ∷ os) proofs good shown prove distinct = lead_orders subject [] (o ∷ os) (proof_lines (proofs_of proofs)) good shown (lead_proofs subject 2 (map pair_of (o ∷ os)) proofs [] (λ two empty. cc) prove distinct (none_begun (map number_of proofs)))
+
+-- pairs that a certificate may have are such pairs, and so is their version
+have_orders : (claim : Claim) (orders : List Order) → MayHave claim orders → AreOrders orders
+have_orders Safe orders have = have
+have_orders RestSafe [] have = tt
+have_orders RestSafe (o ∷ os) have = absurd (cc)
+
+have_version : (claim : Claim) (orders : List Order) → MayHave claim orders → HasVersion claim (version_of orders)
+have_version Safe orders have = tt
+have_version RestSafe [] have = refl
+have_version RestSafe (o ∷ os) have = absurd (cc)
 
 -- a certificate is a complete text, and its lines may follow each other
-pub lines_of : (file : File) (text numbers : List ℕ) → Certificate file text numbers → (ls : List Line) × IsComplete text ls × MayFollow file ls
-lines_of file text numbers c =
+pub lines_of : (subject : Subject) (text numbers : List ℕ) → CertificateFor subject text numbers → (ls : List Line) × IsComplete text ls × MayFollow subject ls
+lines_of subject text numbers c =
     let ls = cert_lines c.orders (proofs_of c.proofs) in
     let distinct = subst (λ (ks : List ℕ). Distinct ks) c.named c.distinct in
-    let lead = lead_all file c.orders c.proofs c.good c.shown c.prove distinct in
-    (ls, subst (λ (t : List ℕ). IsComplete t ls) (sym c.written) (cert_complete c.orders (proofs_of c.proofs) c.ordered c.legal c.short), (lead.0, (standing (version_of c.orders) [] [] [], refl, lead.1)))
+    let lead = lead_all subject c.orders c.proofs c.good c.shown c.prove distinct in
+    let opens : Opens subject at_first (version_of c.orders) (standing (version_of c.orders) [] [] []) = record { has = have_version subject.claim c.orders c.ordered; leads = refl } in
+    (ls, subst (λ (t : List ℕ). IsComplete t ls) (sym c.written) (cert_complete c.orders (proofs_of c.proofs) (have_orders subject.claim c.orders c.ordered) c.legal c.short), (lead.0, (standing (version_of c.orders) [] [] [], opens, lead.1)))

@@ -4,7 +4,6 @@ use Rattle.std.specs.List.{AllByRecursion}
 use Rattle.std.proofs.lemmas.Bool.{false≢true}
 use Rattle.std.proofs.lemmas.List.{reverse-append}
 use Rattle.std.proofs.lemmas.Option.{slice_get_cases, slice_get_within}
-use Rattle.ta_automaton.specs.declared.file.File.{File}
 use Rattle.ta_automaton.specs.declared.pattern.Pattern.{Pattern}
 use Rattle.ta_automaton.specs.Lists.{Each, Distinct}
 use Rattle.ta_automaton.specs.Masks.{In}
@@ -15,28 +14,30 @@ use Rattle.ta_cert.specs.Tree.{Tree, all_preorder}
 use Rattle.ta_cert.specs.Lines.{IsNode, has_end}
 use Rattle.ta_cert.specs.Streams.{AreLater}
 use Rattle.ta_cert.specs.Certificates.{AreWritable, proof_lines, proofs_of}
-use Rattle.ta_encode.specs.InPreorder.{Pending, Search, all_starts, parts, pattern_search, RefutedInOrder}
+use Rattle.ta_encode.specs.InPreorder.{Pending, Search, all_starts, parts, RefutedInOrder}
 use Rattle.ta_encode.proofs.Preorders.{in_order}
 use Rattle.ta_cursor.specs.Range.{IsJudged}
-use Rattle.ta_check.specs.Certificate.{ProvesPattern, number_of}
-use Rattle.ta_check.specs.Lines.{Standing, AtWord, IsFree, Begins, Stands, Ends, LeadThrough, search_at}
+use Rattle.ta_claim.specs.Claims.{search_for}
+use Rattle.ta_check.specs.Subjects.{Subject, search_at}
+use Rattle.ta_check.specs.Certificate.{ProvesClaim, number_of}
+use Rattle.ta_check.specs.Lines.{Standing, AtWord, IsFree, Begins, Stands, Ends, LeadThrough}
 use Rattle.ta_check.proofs.Following.{not_waiting}
-use Rattle.ta_check.proofs.Searches.{searched, search_named}
+use Rattle.ta_check.proofs.Searches.{same_roots, searched, search_named}
 
 -- where a certificate stands where no pair waits
 abbrev pub standing : ℕ → List (ℕ × ℕ) → List ℕ → List Pending → Standing
 standing version pairs numbers words = record { version = version; pairs = pairs; waiting = None; begun = numbers; pending = words }
 
 -- lines behind a standing where no pair waits: nodes that refute what is pending for the newest pattern, and then proofs of other patterns
-pub record Behind (file : File) (s : Standing) (ls : List Line) (after : Standing) : Type 0 where
+pub record Behind (subject : Subject) (s : Standing) (ls : List Line) (after : Standing) : Type 0 where
   pub nodes : List Node
   pub proofs : List (ℕ × List Tree)
   pub lines : ls ≡ map line.Tree nodes ++ proof_lines (proofs_of proofs)
-  pub refute : (number : ℕ) (older : List ℕ) (p : Search) → s.begun ≡ number ∷ older → search_at file s.pairs number ≡ Some p → RefutedInOrder p (IsJudged p) s.pending nodes
+  pub refute : (number : ℕ) (older : List ℕ) (p : Search) → s.begun ≡ number ∷ older → search_at subject s.pairs number ≡ Some p → RefutedInOrder p (IsJudged p) s.pending nodes
   pub none : s.pending ≡ [] → nodes ≡ []
   pub forms : AllByRecursion IsNode nodes
   pub writable : AreWritable (proofs_of proofs)
-  pub prove : Each (ProvesPattern file s.pairs) proofs
+  pub prove : Each (ProvesClaim subject s.pairs) proofs
   pub begun : after.begun ≡ reverse (map number_of proofs) ++ s.begun
   pub new : Each (λ k. In k s.begun → ⊥) (map number_of proofs)
   pub distinct : Distinct (map number_of proofs)
@@ -49,8 +50,8 @@ item_at ps k h = elim ((slice_get_cases ps k).1) [
 ]
 
 -- nothing is left
-pub behind_end : (file : File) (s after : Standing) → s.pending ≡ [] → after ≡ s → Behind file s (line.End ∷ []) after
-behind_end file s after done same = record {
+pub behind_end : (subject : Subject) (s after : Standing) → s.pending ≡ [] → after ≡ s → Behind subject s (line.End ∷ []) after
+behind_end subject s after done same = record {
   nodes = [];
   proofs = [];
   lines = refl;
@@ -65,16 +66,16 @@ behind_end file s after done same = record {
 }
 
 -- the newest search is one
-same_search : (file : File) (pairs : List (ℕ × ℕ)) (k number : ℕ) (ks older : List ℕ) (p q : Search) → (k ∷ ks) ≡ (number ∷ older) → search_at file pairs k ≡ Some p → search_at file pairs number ≡ Some q → p ≡ q
-same_search file pairs k number ks older p q e f g =
+same_search : (subject : Subject) (pairs : List (ℕ × ℕ)) (k number : ℕ) (ks older : List ℕ) (p q : Search) → (k ∷ ks) ≡ (number ∷ older) → search_at subject pairs k ≡ Some p → search_at subject pairs number ≡ Some q → p ≡ q
+same_search subject pairs k number ks older p q e f g =
     let same : k ≡ number = cc in
-    let both : Some p ≡ Some q = sym f ∙ ap (search_at file pairs) same ∙ g in
+    let both : Some p ≡ Some q = sym f ∙ ap (search_at subject pairs) same ∙ g in
     cc
 
 -- one more node
-behind_node : (file : File) (s : Standing) (node : Node) (between : Standing) (ls : List Line) (after : Standing) → IsNode node → Stands file s node between → Behind file between ls after → Behind file s (line.Tree node ∷ ls) after
-behind_node file s node between ls after form stands b =
-    let rest : Behind file (record s { pending = parts stands.search stands.word node ++ stands.words }) ls after = subst (λ (t : Standing). Behind file t ls after) stands.leads b in
+behind_node : (subject : Subject) (s : Standing) (node : Node) (between : Standing) (ls : List Line) (after : Standing) → IsNode node → Stands subject s node between → Behind subject between ls after → Behind subject s (line.Tree node ∷ ls) after
+behind_node subject s node between ls after form stands b =
+    let rest : Behind subject (record s { pending = parts stands.search stands.word node ++ stands.words }) ls after = subst (λ (t : Standing). Behind subject t ls after) stands.leads b in
     let first = stands.at in
     let refuted : RefutedInOrder stands.search (IsJudged stands.search) (stands.word ∷ stands.words) (node ∷ rest.nodes) = (stands.may, rest.refute first.number first.older stands.search first.begun first.searched) in
     record {
@@ -83,7 +84,7 @@ behind_node file s node between ls after form stands b =
       lines = ap (λ (xs : List Line). line.Tree node ∷ xs) rest.lines;
       refute = λ number older p begun named.
           subst (λ (q : Search). RefutedInOrder q (IsJudged q) s.pending (node ∷ rest.nodes))
-          (same_search file s.pairs first.number number first.older older stands.search p (sym first.begun ∙ begun) first.searched named)
+          (same_search subject s.pairs first.number number first.older older stands.search p (sym first.begun ∙ begun) first.searched named)
           (subst (λ (ws : List Pending). RefutedInOrder stands.search (IsJudged stands.search) ws (node ∷ rest.nodes)) (sym first.pending) refuted);
       none = λ e. let left = first.pending in absurd (cc);
       forms = (form, rest.forms);
@@ -109,13 +110,14 @@ reverse_first : (k : ℕ) (ks begun : List ℕ) → reverse ks ++ (k ∷ begun) 
 reverse_first k ks begun = sym (ap (λ (xs : List ℕ). xs ++ begun) (reverse-append (k ∷ []) ks) ∙ append_assoc (reverse ks) (k ∷ []) begun)
 
 -- one more proof
-pub behind_pattern : (file : File) (s : Standing) (number : ℕ) (between : Standing) (ls : List Line) (after : Standing) → number < 2 ^ 32 → Begins file s number between → Behind file between ls after → Behind file s (line.Pattern number ∷ ls) after
-behind_pattern file s number between ls after form begins b =
-    let rest : Behind file (record s { begun = number ∷ s.begun; pending = all_starts file.automaton }) ls after = subst (λ (t : Standing). Behind file t ls after) begins.leads b in
-    let found = item_at file.patterns number begins.exists in
-    let search = pattern_search file.automaton found.0 s.pairs in
-    let named = search_named file s.pairs number found.0 found.1 in
-    let trees = (in_order IsJudged search rest.nodes).0 (rest.refute number s.begun search refl named) in
+pub behind_pattern : (subject : Subject) (s : Standing) (number : ℕ) (between : Standing) (ls : List Line) (after : Standing) → number < 2 ^ 32 → Begins subject s number between → Behind subject between ls after → Behind subject s (line.Pattern number ∷ ls) after
+behind_pattern subject s number between ls after form begins b =
+    let rest : Behind subject (record s { begun = number ∷ s.begun; pending = all_starts subject.file.automaton }) ls after = subst (λ (t : Standing). Behind subject t ls after) begins.leads b in
+    let found = item_at subject.file.patterns number begins.exists in
+    let search = search_for subject.claim subject.file.automaton found.0 s.pairs in
+    let named = search_named subject s.pairs number found.0 found.1 in
+    let starts = same_roots subject.claim subject.file.automaton found.0 s.pairs in
+    let trees = (in_order IsJudged search rest.nodes).0 (subst (λ (ws : List Pending). RefutedInOrder search (IsJudged search) ws rest.nodes) (sym starts) (rest.refute number s.begun search refl named)) in
     record {
       nodes = [];
       proofs = (number, trees.0) ∷ rest.proofs;
@@ -131,34 +133,34 @@ behind_pattern file s number between ls after form begins b =
     }
 
 -- the end behind a standing
-pub behind_last : (file : File) (s next : Standing) (ls : List Line) (after : Standing) → AreLater (line.End ∷ ls) → Ends s next → LeadThrough file next ls after → Behind file s (line.End ∷ ls) after
-behind_last file s next ls after later ends lead =
+pub behind_last : (subject : Subject) (s next : Standing) (ls : List Line) (after : Standing) → AreLater (line.End ∷ ls) → Ends s next → LeadThrough subject next ls after → Behind subject s (line.End ∷ ls) after
+behind_last subject s next ls after later ends lead =
     let last = later.3 refl in
-    let rest : LeadThrough file next [] after = subst (λ (xs : List Line). LeadThrough file next xs after) last lead in
-    subst (λ (xs : List Line). Behind file s (line.End ∷ xs) after) (sym last) (behind_end file s after ends.free.done (rest ∙ ends.leads))
+    let rest : LeadThrough subject next [] after = subst (λ (xs : List Line). LeadThrough subject next xs after) last lead in
+    subst (λ (xs : List Line). Behind subject s (line.End ∷ xs) after) (sym last) (behind_end subject s after ends.free.done (rest ∙ ends.leads))
 
 -- lines behind the line of a proof
-pub behind : (file : File) (s : Standing) (ls : List Line) (after : Standing) → s.waiting ≡ None → (s.begun ≡ [] → ⊥) → AreLater ls → has_end ls ≡ true → LeadThrough file s ls after → Behind file s ls after
-behind file s [] after none some later ended lead = absurd (false≢true ended)
-behind file s (line.Header version ∷ ls) after none some later ended lead = absurd (false≢true (sym later.2))
-behind file s (line.Order before second ∷ ls) after none some later ended (next, waits, lead) = absurd (some waits.takes.early)
-behind file s (line.Pattern number ∷ ls) after none some later ended (next, begins, lead) =
+pub behind : (subject : Subject) (s : Standing) (ls : List Line) (after : Standing) → s.waiting ≡ None → (s.begun ≡ [] → ⊥) → AreLater ls → has_end ls ≡ true → LeadThrough subject s ls after → Behind subject s ls after
+behind subject s [] after none some later ended lead = absurd (false≢true ended)
+behind subject s (line.Header version ∷ ls) after none some later ended lead = absurd (false≢true (sym later.2))
+behind subject s (line.Order before second ∷ ls) after none some later ended (next, waits, lead) = absurd (some waits.takes.early)
+behind subject s (line.Pattern number ∷ ls) after none some later ended (next, begins, lead) =
     let began = ap (λ (t : Standing). t.begun) begins.leads in
-    behind_pattern file s number next ls after later.0 begins (behind file next ls after (ap (λ (t : Standing). t.waiting) begins.leads ∙ none) (λ e. let gone : number ∷ s.begun ≡ [] = sym began ∙ e in cc) later.4 ended lead)
-behind file s (line.Tree node ∷ ls) after none some later ended (next, inl stands, lead) =
-    behind_node file s node next ls after later.0 stands (behind file next ls after (ap (λ (t : Standing). t.waiting) stands.leads ∙ none) (λ e. some (sym (ap (λ (t : Standing). t.begun) stands.leads) ∙ e)) later.4 ended lead)
-behind file s (line.Tree node ∷ ls) after none some later ended (next, inr shows, lead) = absurd (not_waiting s.waiting shows.pair none shows.waits)
-behind file s (line.End ∷ ls) after none some later ended (next, ends, lead) = behind_last file s next ls after later ends lead
+    behind_pattern subject s number next ls after later.0 begins (behind subject next ls after (ap (λ (t : Standing). t.waiting) begins.leads ∙ none) (λ e. let gone : number ∷ s.begun ≡ [] = sym began ∙ e in cc) later.4 ended lead)
+behind subject s (line.Tree node ∷ ls) after none some later ended (next, inl stands, lead) =
+    behind_node subject s node next ls after later.0 stands (behind subject next ls after (ap (λ (t : Standing). t.waiting) stands.leads ∙ none) (λ e. some (sym (ap (λ (t : Standing). t.begun) stands.leads) ∙ e)) later.4 ended lead)
+behind subject s (line.Tree node ∷ ls) after none some later ended (next, inr shows, lead) = absurd (not_waiting s.waiting shows.pair none shows.waits)
+behind subject s (line.End ∷ ls) after none some later ended (next, ends, lead) = behind_last subject s next ls after later ends lead
 
 -- nodes that refute what is pending lead through it
-lead_nodes : (file : File) (version : ℕ) (pairs : List (ℕ × ℕ)) (p : Search) (number : ℕ) (older : List ℕ) (ws : List Pending) (ns : List Node) (ls : List Line) → search_at file pairs number ≡ Some p → RefutedInOrder p (IsJudged p) ws ns → ((after : Standing) × LeadThrough file (standing version pairs (number ∷ older) []) ls after) → (after : Standing) × LeadThrough file (standing version pairs (number ∷ older) ws) (map line.Tree ns ++ ls) after
-lead_nodes file version pairs p number older ws [] ls named refuted lead = (lead.0, subst (λ (vs : List Pending). LeadThrough file (standing version pairs (number ∷ older) vs) ls lead.0) (sym refuted) lead.1)
-lead_nodes file version pairs p number older [] (n ∷ ns) ls named refuted lead = absurd refuted
-lead_nodes file version pairs p number older (w ∷ ws) (n ∷ ns) ls named refuted lead =
+lead_nodes : (subject : Subject) (version : ℕ) (pairs : List (ℕ × ℕ)) (p : Search) (number : ℕ) (older : List ℕ) (ws : List Pending) (ns : List Node) (ls : List Line) → search_at subject pairs number ≡ Some p → RefutedInOrder p (IsJudged p) ws ns → ((after : Standing) × LeadThrough subject (standing version pairs (number ∷ older) []) ls after) → (after : Standing) × LeadThrough subject (standing version pairs (number ∷ older) ws) (map line.Tree ns ++ ls) after
+lead_nodes subject version pairs p number older ws [] ls named refuted lead = (lead.0, subst (λ (vs : List Pending). LeadThrough subject (standing version pairs (number ∷ older) vs) ls lead.0) (sym refuted) lead.1)
+lead_nodes subject version pairs p number older [] (n ∷ ns) ls named refuted lead = absurd refuted
+lead_nodes subject version pairs p number older (w ∷ ws) (n ∷ ns) ls named refuted lead =
     let next = parts p w n ++ ws in
-    let rest = lead_nodes file version pairs p number older next ns ls named refuted.1 lead in
-    let first : AtWord file (standing version pairs (number ∷ older) (w ∷ ws)) p w ws = record { none = refl; number = number; older = older; begun = refl; searched = named; pending = refl } in
-    let stands : Stands file (standing version pairs (number ∷ older) (w ∷ ws)) n (standing version pairs (number ∷ older) next) = record { search = p; word = w; words = ws; at = first; may = refuted.0; leads = refl } in
+    let rest = lead_nodes subject version pairs p number older next ns ls named refuted.1 lead in
+    let first : AtWord subject (standing version pairs (number ∷ older) (w ∷ ws)) p w ws = record { none = refl; number = number; older = older; begun = refl; searched = named; pending = refl } in
+    let stands : Stands subject (standing version pairs (number ∷ older) (w ∷ ws)) n (standing version pairs (number ∷ older) next) = record { search = p; word = w; words = ws; at = first; may = refuted.0; leads = refl } in
     (rest.0, (standing version pairs (number ∷ older) next, inl stands, rest.1))
 
 -- numbers that differ from one that began and from the older are new
@@ -167,19 +169,19 @@ still_new number begun [] apart new = tt
 still_new number begun (k ∷ ks) apart new = ((λ i. elim i [ inl e ↦ apart.0 (sym e) | inr j ↦ new.0 j ]), still_new number begun ks apart.1 new.1)
 
 -- the lines of proofs lead to the end
-pub lead_proofs : (file : File) (version : ℕ) (pairs : List (ℕ × ℕ)) (proofs : List (ℕ × List Tree)) (begun : List ℕ) → (version ≡ 2 → pairs ≡ [] → ⊥) → Each (ProvesPattern file pairs) proofs → Distinct (map number_of proofs) → Each (λ k. In k begun → ⊥) (map number_of proofs) → (after : Standing) × LeadThrough file (standing version pairs begun []) (proof_lines (proofs_of proofs)) after
-lead_proofs file version pairs [] begun some prove distinct new =
+pub lead_proofs : (subject : Subject) (version : ℕ) (pairs : List (ℕ × ℕ)) (proofs : List (ℕ × List Tree)) (begun : List ℕ) → (version ≡ 2 → pairs ≡ [] → ⊥) → Each (ProvesClaim subject pairs) proofs → Distinct (map number_of proofs) → Each (λ k. In k begun → ⊥) (map number_of proofs) → (after : Standing) × LeadThrough subject (standing version pairs begun []) (proof_lines (proofs_of proofs)) after
+lead_proofs subject version pairs [] begun some prove distinct new =
     let free : IsFree (standing version pairs begun []) = record { none = refl; some = some; done = refl } in
     let ends : Ends (standing version pairs begun []) (standing version pairs begun []) = record { free = free; leads = refl } in
     (standing version pairs begun [], (standing version pairs begun [], ends, refl))
-lead_proofs file version pairs (q ∷ qs) begun some prove distinct new =
+lead_proofs subject version pairs (q ∷ qs) begun some prove distinct new =
     let one = prove.0 in
-    let found = searched file pairs q.0 one.search one.searched in
-    let starts = all_starts file.automaton in
+    let found = searched subject pairs q.0 one.search one.searched in
+    let starts = all_starts subject.file.automaton in
     let refuted = (in_order IsJudged one.search (all_preorder q.1)).1 (q.1, one.proves, refl) in
-    let same : one.search.roots ≡ starts = sym (ap (λ (p : Search). p.roots) found.is) in
-    let rest = lead_proofs file version pairs qs (q.0 ∷ begun) some prove.1 distinct.1 (still_new q.0 begun (map number_of qs) distinct.0 new.1) in
-    let through = lead_nodes file version pairs one.search q.0 begun starts (all_preorder q.1) (proof_lines (proofs_of qs)) one.searched (subst (λ (ws : List Pending). RefutedInOrder one.search (IsJudged one.search) ws (all_preorder q.1)) same refuted) rest in
+    let same : one.search.roots ≡ starts = sym (ap (λ (p : Search). p.roots) found.is) ∙ same_roots subject.claim subject.file.automaton found.pattern pairs in
+    let rest = lead_proofs subject version pairs qs (q.0 ∷ begun) some prove.1 distinct.1 (still_new q.0 begun (map number_of qs) distinct.0 new.1) in
+    let through = lead_nodes subject version pairs one.search q.0 begun starts (all_preorder q.1) (proof_lines (proofs_of qs)) one.searched (subst (λ (ws : List Pending). RefutedInOrder one.search (IsJudged one.search) ws (all_preorder q.1)) same refuted) rest in
     let free : IsFree (standing version pairs begun []) = record { none = refl; some = some; done = refl } in
-    let begins : Begins file (standing version pairs begun []) q.0 (standing version pairs (q.0 ∷ begun) starts) = record { free = free; exists = slice_get_within file.patterns q.0 found.pattern found.named; new = new.0; leads = refl } in
+    let begins : Begins subject (standing version pairs begun []) q.0 (standing version pairs (q.0 ∷ begun) starts) = record { free = free; exists = slice_get_within subject.file.patterns q.0 found.pattern found.named; new = new.0; leads = refl } in
     (through.0, (standing version pairs (q.0 ∷ begun) starts, begins, through.1))

@@ -1,7 +1,6 @@
 -- Lines lead to one standing, and those that lead on are not at fault
 use Rattle.std.proofs.Common.{◌≡◌, ◌⊎◌, inl, inr, ℕ, ◌<◌, ℤ, List, [], ◌∷◌, ◌++◌, length, false, Option, None, Some, refl, sym, ap, subst, ◌∙◌, arith}
 use Rattle.std.proofs.lemmas.Bool.{false≢true}
-use Rattle.ta_automaton.specs.declared.file.File.{File}
 use Rattle.ta_cert.specs.declared.line.Line.{Line}
 use Rattle.ta_cert.specs.declared.line.Line.TheVariants as line
 use Rattle.ta_cert.specs.declared.line.Node.{Node}
@@ -14,7 +13,8 @@ use Rattle.ta_encode.proofs.CodeRows.{leaf_back}
 use Rattle.ta_farkas.specs.declared.LeafFault.{LeafFault}
 use Rattle.ta_farkas.proofs.Judging.{no_fault}
 use Rattle.ta_cursor.specs.Range.{IsJudged}
-use Rattle.ta_check.specs.Lines.{Standing, AtWord, Shows, Stands, Leads, LeadThrough, search_at}
+use Rattle.ta_check.specs.Subjects.{Subject, search_at}
+use Rattle.ta_check.specs.Lines.{Standing, AtWord, Shows, Stands, Leads, LeadThrough}
 use Rattle.ta_check.specs.Faults.{AtSomeWord, IsMisplaced, IsNoLeaf, FirstLeafFault, LeafFails, PairFails, IsAtFault}
 use Rattle.ta_cursor.proofs.Ranges.{check_stays}
 use Rattle.ta_check.proofs.LeafFaults.{shows_or_fails}
@@ -29,18 +29,18 @@ pub record SameWord (p q : Search) (w v : Pending) (ws vs : List Pending) : Type
   pub word : w ≡ v
   pub words : ws ≡ vs
 
-pub word_once : (file : File) (s : Standing) (p q : Search) (w v : Pending) (ws vs : List Pending) → AtWord file s p w ws → AtWord file s q v vs → SameWord p q w v ws vs
-word_once file s p q w v ws vs a b =
+pub word_once : (subject : Subject) (s : Standing) (p q : Search) (w v : Pending) (ws vs : List Pending) → AtWord subject s p w ws → AtWord subject s q v vs → SameWord p q w v ws vs
+word_once subject s p q w v ws vs a b =
     let begun : (a.number ∷ a.older) ≡ (b.number ∷ b.older) = sym a.begun ∙ b.begun in
     let number : a.number ≡ b.number = cc in
-    let some : Some p ≡ Some q = sym a.searched ∙ ap (search_at file s.pairs) number ∙ b.searched in
+    let some : Some p ≡ Some q = sym a.searched ∙ ap (search_at subject s.pairs) number ∙ b.searched in
     let pending : (w ∷ ws) ≡ (v ∷ vs) = sym a.pending ∙ b.pending in
     record { search = cc; word = cc; words = cc }
 
 -- a node leads to one standing
-stands_once : (file : File) (s : Standing) (n : Node) (x y : Standing) → Stands file s n x → Stands file s n y → x ≡ y
-stands_once file s n x y a b =
-    let same = word_once file s a.search b.search a.word b.word a.words b.words a.at b.at in
+stands_once : (subject : Subject) (s : Standing) (n : Node) (x y : Standing) → Stands subject s n x → Stands subject s n y → x ≡ y
+stands_once subject s n x y a b =
+    let same = word_once subject s a.search b.search a.word b.word a.words b.words a.at b.at in
     let left : List Pending → Standing = λ ws. record s { pending = ws } in
     a.leads
     ∙ ap (λ p. left (parts p a.word n ++ a.words)) same.search
@@ -53,98 +53,98 @@ pub waits_once : (s : Standing) (pair other : ℕ × ℕ) → s.waiting ≡ Some
 waits_once s pair other a b = let e : Some pair ≡ Some other = sym a ∙ b in cc
 
 -- a leaf of a pair leads to one standing
-shows_once : (file : File) (s : Standing) (n : Node) (x y : Standing) → Shows file s n x → Shows file s n y → x ≡ y
-shows_once file s n x y a b =
+shows_once : (subject : Subject) (s : Standing) (n : Node) (x y : Standing) → Shows subject s n x → Shows subject s n y → x ≡ y
+shows_once subject s n x y a b =
     let more : ℕ × ℕ → Standing = λ pair. record s { pairs = s.pairs ++ pair ∷ []; waiting = None } in
     a.leads ∙ ap more (waits_once s a.pair b.pair a.waits b.waits) ∙ sym b.leads
 
 -- a line leads to one standing
-pub leads_once : (file : File) (s : Standing) (l : Line) (x y : Standing) → Leads file s l x → Leads file s l y → x ≡ y
-leads_once file s (line.Header version) x y a b = a ∙ sym b
-leads_once file s (line.Order before later) x y a b = a.leads ∙ sym b.leads
-leads_once file s (line.Pattern number) x y a b = a.leads ∙ sym b.leads
-leads_once file s (line.Tree n) x y (inl a) (inl b) = stands_once file s n x y a b
-leads_once file s (line.Tree n) x y (inl a) (inr b) = absurd (not_waiting s.waiting b.pair a.at.none b.waits)
-leads_once file s (line.Tree n) x y (inr a) (inl b) = absurd (not_waiting s.waiting a.pair b.at.none a.waits)
-leads_once file s (line.Tree n) x y (inr a) (inr b) = shows_once file s n x y a b
-leads_once file s line.End x y a b = a.leads ∙ sym b.leads
+pub leads_once : (subject : Subject) (s : Standing) (l : Line) (x y : Standing) → Leads subject s l x → Leads subject s l y → x ≡ y
+leads_once subject s (line.Header version) x y a b = a.leads ∙ sym b.leads
+leads_once subject s (line.Order before later) x y a b = a.leads ∙ sym b.leads
+leads_once subject s (line.Pattern number) x y a b = a.leads ∙ sym b.leads
+leads_once subject s (line.Tree n) x y (inl a) (inl b) = stands_once subject s n x y a b
+leads_once subject s (line.Tree n) x y (inl a) (inr b) = absurd (not_waiting s.waiting b.pair a.at.none b.waits)
+leads_once subject s (line.Tree n) x y (inr a) (inl b) = absurd (not_waiting s.waiting a.pair b.at.none a.waits)
+leads_once subject s (line.Tree n) x y (inr a) (inr b) = shows_once subject s n x y a b
+leads_once subject s line.End x y a b = a.leads ∙ sym b.leads
 
 -- so do lines
-pub leads_through_once : (file : File) (s : Standing) (ls : List Line) (x y : Standing) → LeadThrough file s ls x → LeadThrough file s ls y → x ≡ y
-leads_through_once file s [] x y a b = a ∙ sym b
-leads_through_once file s (l ∷ ls) x y (m, a, rest) (n, b, other) =
-    let same = leads_once file s l m n a b in
-    leads_through_once file n ls x y (subst (λ t. LeadThrough file t ls x) same rest) other
+pub leads_through_once : (subject : Subject) (s : Standing) (ls : List Line) (x y : Standing) → LeadThrough subject s ls x → LeadThrough subject s ls y → x ≡ y
+leads_through_once subject s [] x y a b = a ∙ sym b
+leads_through_once subject s (l ∷ ls) x y (m, a, rest) (n, b, other) =
+    let same = leads_once subject s l m n a b in
+    leads_through_once subject n ls x y (subst (λ t. LeadThrough subject t ls x) same rest) other
 
 -- lines that lead on do so in two parts
-pub through_parts : (file : File) (s : Standing) (ls ms : List Line) (after : Standing) → LeadThrough file s (ls ++ ms) after → (between : Standing) × LeadThrough file s ls between × LeadThrough file between ms after
-through_parts file s [] ms after h = (s, refl, h)
-through_parts file s (l ∷ ls) ms after (next, first, rest) =
-    let parts = through_parts file next ls ms after rest in
+pub through_parts : (subject : Subject) (s : Standing) (ls ms : List Line) (after : Standing) → LeadThrough subject s (ls ++ ms) after → (between : Standing) × LeadThrough subject s ls between × LeadThrough subject between ms after
+through_parts subject s [] ms after h = (s, refl, h)
+through_parts subject s (l ∷ ls) ms after (next, first, rest) =
+    let parts = through_parts subject next ls ms after rest in
     (parts.0, (next, first, parts.1), parts.2)
 
 -- a node that stands does so at the first word that is left
-may_stand : (file : File) (s : Standing) (n : Node) (after : Standing) (p : Search) (w : Pending) (ws : List Pending) → AtWord file s p w ws → Stands file s n after → MayStand p (IsJudged p) w n
-may_stand file s n after p w ws at stands =
-    let same = word_once file s stands.search p stands.word w stands.words ws stands.at at in
+may_stand : (subject : Subject) (s : Standing) (n : Node) (after : Standing) (p : Search) (w : Pending) (ws : List Pending) → AtWord subject s p w ws → Stands subject s n after → MayStand p (IsJudged p) w n
+may_stand subject s n after p w ws at stands =
+    let same = word_once subject s stands.search p stands.word w stands.words ws stands.at at in
     subst (λ v. MayStand p (IsJudged p) v n) same.word (subst (λ q. MayStand q (IsJudged q) stands.word n) same.search stands.may)
 
 -- so does a node that leads on there
-may_lead : (file : File) (s : Standing) (n : Node) (after : Standing) (p : Search) (w : Pending) (ws : List Pending) → AtWord file s p w ws → Stands file s n after ⊎ Shows file s n after → MayStand p (IsJudged p) w n
-may_lead file s n after p w ws at (inl stands) = may_stand file s n after p w ws at stands
-may_lead file s n after p w ws at (inr shows) = absurd (not_waiting s.waiting shows.pair at.none shows.waits)
+may_lead : (subject : Subject) (s : Standing) (n : Node) (after : Standing) (p : Search) (w : Pending) (ws : List Pending) → AtWord subject s p w ws → Stands subject s n after ⊎ Shows subject s n after → MayStand p (IsJudged p) w n
+may_lead subject s n after p w ws at (inl stands) = may_stand subject s n after p w ws at stands
+may_lead subject s n after p w ws at (inr shows) = absurd (not_waiting s.waiting shows.pair at.none shows.waits)
 
 -- a line that leads on is not misplaced
-in_place : (file : File) (s : Standing) (l : Line) (after : Standing) → IsMisplaced s l → Leads file s l after → ⊥
-in_place file s (line.Header version) after m leads = m
-in_place file s (line.Order before later) after m leads = m leads.takes
-in_place file s (line.Pattern number) after m leads = m leads.free
-in_place file s (line.Tree n) after (inl idle) (inl stands) = let none : [] ≡ (stands.word ∷ stands.words) = sym idle.done ∙ stands.at.pending in cc
-in_place file s (line.Tree n) after (inl idle) (inr shows) = not_waiting s.waiting shows.pair idle.none shows.waits
-in_place file s (line.Tree n) after (inr (waits, none)) (inl stands) = not_waiting s.waiting waits.pair stands.at.none waits.waits
-in_place file s (line.Tree n) after (inr (waits, none)) (inr shows) = let leaf : IsNoLeaf (node.Leaf shows.multipliers) = subst IsNoLeaf shows.is none in leaf
-in_place file s line.End after m leads = m leads.free
+in_place : (subject : Subject) (s : Standing) (l : Line) (after : Standing) → IsMisplaced subject.claim s l → Leads subject s l after → ⊥
+in_place subject s (line.Header version) after m leads = m leads.has
+in_place subject s (line.Order before later) after m leads = m leads.takes
+in_place subject s (line.Pattern number) after m leads = m leads.free
+in_place subject s (line.Tree n) after (inl idle) (inl stands) = let none : [] ≡ (stands.word ∷ stands.words) = sym idle.done ∙ stands.at.pending in cc
+in_place subject s (line.Tree n) after (inl idle) (inr shows) = not_waiting s.waiting shows.pair idle.none shows.waits
+in_place subject s (line.Tree n) after (inr (waits, none)) (inl stands) = not_waiting s.waiting waits.pair stands.at.none waits.waits
+in_place subject s (line.Tree n) after (inr (waits, none)) (inr shows) = let leaf : IsNoLeaf (node.Leaf shows.multipliers) = subst IsNoLeaf shows.is none in leaf
+in_place subject s line.End after m leads = m leads.free
 
 leaf_of_leaf : (ts us : List (ℕ × ℤ)) → node.Leaf ts ≡ node.Leaf us → ts ≡ us
 leaf_of_leaf ts us e = cc
 
 -- a leaf that leads on has no fault
-leaf_leads : (file : File) (s : Standing) (ts : List (ℕ × ℤ)) (f : LeafFault) (after : Standing) → AtSomeWord file s (λ search w. FirstLeafFault search w ts f) ⊎ PairFails file s ts f → Stands file s (node.Leaf ts) after ⊎ Shows file s (node.Leaf ts) after → ⊥
-leaf_leads file s ts f after (inl at) leads =
+leaf_leads : (subject : Subject) (s : Standing) (ts : List (ℕ × ℤ)) (f : LeafFault) (after : Standing) → AtSomeWord subject s (λ search w. FirstLeafFault search w ts f) ⊎ PairFails subject s ts f → Stands subject s (node.Leaf ts) after ⊎ Shows subject s (node.Leaf ts) after → ⊥
+leaf_leads subject s ts f after (inl at) leads =
     let wrong : FirstLeafFault at.search at.word ts f = at.holds in
-    let judged : IsJudged at.search at.word ts = may_lead file s (node.Leaf ts) after at.search at.word at.words at.at leads in
+    let judged : IsJudged at.search at.word ts = may_lead subject s (node.Leaf ts) after at.search at.word at.words at.at leads in
     no_fault wrong.system ts f wrong.first (
       leaf_back at.search at.word wrong.system ts wrong.is judged.leaf,
       check_stays at.search at.word wrong.system ts wrong.is judged.in_range,
     )
-leaf_leads file s ts f after (inr fails) (inl stands) = not_waiting s.waiting fails.pair stands.at.none fails.waits
-leaf_leads file s ts f after (inr fails) (inr shows) =
+leaf_leads subject s ts f after (inr fails) (inl stands) = not_waiting s.waiting fails.pair stands.at.none fails.waits
+leaf_leads subject s ts f after (inr fails) (inr shows) =
     let pair : shows.pair ≡ fails.pair = waits_once s shows.pair fails.pair shows.waits fails.waits in
     let same : shows.multipliers ≡ ts = sym (leaf_of_leaf ts shows.multipliers shows.is) in
-    shows_or_fails file.automaton fails.pair ts f (subst (λ q. IsShown file.automaton q ts) pair (subst (λ us. IsShown file.automaton shows.pair us) same shows.shown)) fails.fails
+    shows_or_fails subject.file.automaton fails.pair ts f (subst (λ q. IsShown subject.file.automaton q ts) pair (subst (λ us. IsShown subject.file.automaton shows.pair us) same shows.shown)) fails.fails
 
-leaf_holds : (file : File) (s : Standing) (l : Line) (f : LeafFault) (after : Standing) → LeafFails file s l f → Leads file s l after → ⊥
-leaf_holds file s l f after fails leads = leaf_leads file s fails.multipliers f after fails.at (subst (λ m. Leads file s m after) fails.is leads)
+leaf_holds : (subject : Subject) (s : Standing) (l : Line) (f : LeafFault) (after : Standing) → LeafFails subject s l f → Leads subject s l after → ⊥
+leaf_holds subject s l f after fails leads = leaf_leads subject s fails.multipliers f after fails.at (subst (λ m. Leads subject s m after) fails.is leads)
 
 -- a line that leads on is not at fault
-pub not_both : (file : File) (s : Standing) (number : ℕ) (l : Line) (f : CertFault) (after : Standing) → IsAtFault file s number l f → Leads file s l after → ⊥
-not_both file s number l (fault.Line n) after at leads = in_place file s l after at.1 leads
-not_both file s number l (fault.UnknownPattern n) after (place, k, here, beyond) leads =
-    let begins = subst (λ m. Leads file s m after) here.is leads in
-    let exists : k < length file.patterns = begins.exists in
+pub not_both : (subject : Subject) (s : Standing) (number : ℕ) (l : Line) (f : CertFault) (after : Standing) → IsAtFault subject s number l f → Leads subject s l after → ⊥
+not_both subject s number l (fault.Line n) after at leads = in_place subject s l after at.1 leads
+not_both subject s number l (fault.UnknownPattern n) after (place, k, here, beyond) leads =
+    let begins = subst (λ m. Leads subject s m after) here.is leads in
+    let exists : k < length subject.file.patterns = begins.exists in
     omega arith
-not_both file s number l (fault.RepeatedPattern n) after (place, k, here, old) leads = (subst (λ m. Leads file s m after) here.is leads).new old
-not_both file s number l (fault.Pair n) after (place, bad) leads = bad.bad (subst (λ m. Leads file s m after) bad.is leads).may
-not_both file s number l (fault.ExtendComplete n) after (place, is, at) leads =
-    let may : at.search.complete at.word.start at.word.past ≡ false = may_lead file s node.Extend after at.search at.word at.words at.at (subst (λ m. Leads file s m after) is leads) in
+not_both subject s number l (fault.RepeatedPattern n) after (place, k, here, old) leads = (subst (λ m. Leads subject s m after) here.is leads).new old
+not_both subject s number l (fault.Pair n) after (place, bad) leads = bad.bad (subst (λ m. Leads subject s m after) bad.is leads).may
+not_both subject s number l (fault.ExtendComplete n) after (place, is, at) leads =
+    let may : at.search.complete at.word.start at.word.past ≡ false = may_lead subject s node.Extend after at.search at.word at.words at.at (subst (λ m. Leads subject s m after) is leads) in
     false≢true (sym may ∙ at.holds)
-not_both file s number l (fault.SplitVariable n) after (place, splits) leads =
+not_both subject s number l (fault.SplitVariable n) after (place, splits) leads =
     let at = splits.at in
-    let may : splits.unknown < at.search.unknowns at.word.start at.word.past = may_lead file s (node.Split splits.unknown splits.floor) after at.search at.word at.words at.at (subst (λ m. Leads file s m after) splits.is leads) in
+    let may : splits.unknown < at.search.unknowns at.word.start at.word.past = may_lead subject s (node.Split splits.unknown splits.floor) after at.search at.word at.words at.at (subst (λ m. Leads subject s m after) splits.is leads) in
     let beyond = at.holds in
     omega arith
-not_both file s number l (fault.Row n row) after at leads = leaf_holds file s l _ after at.1 leads
-not_both file s number l (fault.Overflow n column) after at leads = leaf_holds file s l _ after at.1 leads
-not_both file s number l (fault.Positive n unknown) after at leads = leaf_holds file s l _ after at.1 leads
-not_both file s number l (fault.NotNegative n) after at leads = leaf_holds file s l _ after at.1 leads
-not_both file s number l _ after at leads = absurd at
+not_both subject s number l (fault.Row n row) after at leads = leaf_holds subject s l _ after at.1 leads
+not_both subject s number l (fault.Overflow n column) after at leads = leaf_holds subject s l _ after at.1 leads
+not_both subject s number l (fault.Positive n unknown) after at leads = leaf_holds subject s l _ after at.1 leads
+not_both subject s number l (fault.NotNegative n) after at leads = leaf_holds subject s l _ after at.1 leads
+not_both subject s number l _ after at leads = absurd at

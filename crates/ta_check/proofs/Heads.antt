@@ -1,7 +1,6 @@
 -- lines behind the first line of a certificate: its pairs with their leaves, and then its proofs
 use Rattle.std.proofs.Common.{◌≡◌, inl, inr, ℕ, suc, ℤ, true, List, [], ◌∷◌, ◌++◌, map, None, Some, sym, ap, ◌∙◌, refl, subst, append_assoc, append-nil}
 use Rattle.std.proofs.lemmas.Bool.{false≢true}
-use Rattle.ta_automaton.specs.declared.file.File.{File}
 use Rattle.ta_automaton.specs.Lists.{Each, Distinct}
 use Rattle.ta_automaton.specs.Masks.{In}
 use Rattle.ta_automaton.proofs.MaskTests.{In-left, In-right}
@@ -18,40 +17,41 @@ use Rattle.ta_implied.specs.Implied.{Good, IsPair}
 use Rattle.ta_implied.specs.Orders.{IsShown, MayJoin}
 use Rattle.ta_implied.proofs.Chains.{leads_along}
 use Rattle.ta_implied.proofs.Joining.{good_behind}
+use Rattle.ta_check.specs.Subjects.{Subject}
 use Rattle.ta_check.specs.Certificate.{ShowsPair}
 use Rattle.ta_check.specs.Lines.{Standing, IsFree, Shows, TakesOrder, Waits, LeadThrough}
 use Rattle.ta_check.proofs.Following.{not_waiting, waits_once}
 use Rattle.ta_check.proofs.Behind.{Behind, behind, behind_last, behind_pattern, standing}
 
 -- lines behind the first line and some pairs: more pairs with their leaves, and then proofs
-pub record OrdersBehind (file : File) (version : ℕ) (pairs : List (ℕ × ℕ)) (ls : List Line) (after : Standing) : Type 0 where
+pub record OrdersBehind (subject : Subject) (version : ℕ) (pairs : List (ℕ × ℕ)) (ls : List Line) (after : Standing) : Type 0 where
   pub orders : List Order
   pub rest : List Line
   pub lines : ls ≡ order_lines orders ++ rest
   pub ordered : AreOrders orders
-  pub shown : Each (ShowsPair file.automaton) orders
-  pub good : Good file.automaton pairs → Good file.automaton (pairs ++ map pair_of orders)
+  pub shown : Each (ShowsPair subject.file.automaton) orders
+  pub good : Good subject.file.automaton pairs → Good subject.file.automaton (pairs ++ map pair_of orders)
   pub some : version ≡ 2 → pairs ++ map pair_of orders ≡ [] → ⊥
   pub second : (orders ≡ [] → ⊥) → version ≡ 2
-  pub behind : Behind file (standing version (pairs ++ map pair_of orders) [] []) rest after
+  pub behind : Behind subject (standing version (pairs ++ map pair_of orders) [] []) rest after
 
 -- no more pairs
-none_more : (file : File) (version : ℕ) (pairs : List (ℕ × ℕ)) (ls : List Line) (after : Standing) → IsFree (standing version pairs [] []) → Behind file (standing version pairs [] []) ls after → OrdersBehind file version pairs ls after
-none_more file version pairs ls after free b = record {
+none_more : (subject : Subject) (version : ℕ) (pairs : List (ℕ × ℕ)) (ls : List Line) (after : Standing) → IsFree (standing version pairs [] []) → Behind subject (standing version pairs [] []) ls after → OrdersBehind subject version pairs ls after
+none_more subject version pairs ls after free b = record {
   orders = [];
   rest = ls;
   lines = refl;
   ordered = tt;
   shown = tt;
-  good = λ good. subst (Good file.automaton) (sym (append-nil pairs)) good;
+  good = λ good. subst (Good subject.file.automaton) (sym (append-nil pairs)) good;
   some = λ two empty. free.some two (sym (append-nil pairs) ∙ empty);
   second = λ more. absurd (more refl);
-  behind = subst (λ (xs : List (ℕ × ℕ)). Behind file (standing version xs [] []) ls after) (sym (append-nil pairs)) b;
+  behind = subst (λ (xs : List (ℕ × ℕ)). Behind subject (standing version xs [] []) ls after) (sym (append-nil pairs)) b;
 }
 
 -- one pair more
-pub one_order : (file : File) (version : ℕ) (pairs : List (ℕ × ℕ)) (before later : ℕ) (n : Node) (ls : List Line) (after next : Standing) (ts : List (ℕ × ℤ)) → IsLine (line.Order before later) → IsNode n → Waits file (standing version pairs [] []) (before, later) next → n ≡ node.Leaf ts → IsShown file.automaton (before, later) ts → OrdersBehind file version (pairs ++ (before, later) ∷ []) ls after → OrdersBehind file version pairs (line.Order before later ∷ line.Tree n ∷ ls) after
-one_order file version pairs before later n ls after next ts form leaf waits is shown b =
+pub one_order : (subject : Subject) (version : ℕ) (pairs : List (ℕ × ℕ)) (before later : ℕ) (n : Node) (ls : List Line) (after next : Standing) (ts : List (ℕ × ℤ)) → IsLine (line.Order before later) → IsNode n → Waits subject (standing version pairs [] []) (before, later) next → n ≡ node.Leaf ts → IsShown subject.file.automaton (before, later) ts → OrdersBehind subject version (pairs ++ (before, later) ∷ []) ls after → OrdersBehind subject version pairs (line.Order before later ∷ line.Tree n ∷ ls) after
+one_order subject version pairs before later n ls after next ts form leaf waits is shown b =
     let pair : ℕ × ℕ = (before, later) in
     let one : Order = record { before = before; after = later; multipliers = ts } in
     let all : (pairs ++ pair ∷ []) ++ map pair_of b.orders ≡ pairs ++ map pair_of (one ∷ b.orders) = append_assoc pairs (pair ∷ []) (map pair_of b.orders) in
@@ -61,39 +61,39 @@ one_order file version pairs before later n ls after next ts form leaf waits is 
       lines = ap (λ (m : Node). line.Order before later ∷ line.Tree m ∷ ls) is ∙ ap (λ (xs : List Line). line.Order before later ∷ line.Tree (node.Leaf ts) ∷ xs) b.lines;
       ordered = (record { before = form.0; after = form.1; leaf = subst IsNode is leaf }, b.ordered);
       shown = (shown, b.shown);
-      good = λ good. subst (Good file.automaton) all (b.good (good_behind file.automaton pairs pair good waits.may (record { system = shown.system; is = shown.is; multipliers = ts; leaf = shown.leaf })));
+      good = λ good. subst (Good subject.file.automaton) all (b.good (good_behind subject.file.automaton pairs pair good waits.may (record { system = shown.system; is = shown.is; multipliers = ts; leaf = shown.leaf })));
       some = λ two empty. b.some two (all ∙ empty);
       second = λ more. waits.takes.version;
-      behind = subst (λ (xs : List (ℕ × ℕ)). Behind file (standing version xs [] []) b.rest after) all b.behind;
+      behind = subst (λ (xs : List (ℕ × ℕ)). Behind subject (standing version xs [] []) b.rest after) all b.behind;
     }
 
 -- where the leaf of a pair leads
-shown_at : (file : File) (version : ℕ) (pairs : List (ℕ × ℕ)) (pair : ℕ × ℕ) (n : Node) (next last : Standing) → next ≡ record (standing version pairs [] []) { waiting = Some pair } → (shows : Shows file next n last) → (shows.pair ≡ pair) × (last ≡ standing version (pairs ++ pair ∷ []) [] [])
-shown_at file version pairs pair n next last is shows =
+shown_at : (subject : Subject) (version : ℕ) (pairs : List (ℕ × ℕ)) (pair : ℕ × ℕ) (n : Node) (next last : Standing) → next ≡ record (standing version pairs [] []) { waiting = Some pair } → (shows : Shows subject next n last) → (shows.pair ≡ pair) × (last ≡ standing version (pairs ++ pair ∷ []) [] [])
+shown_at subject version pairs pair n next last is shows =
     let waits : next.waiting ≡ Some pair = ap (λ (t : Standing). t.waiting) is in
     let same = waits_once next shows.pair pair shows.waits waits in
     (same, shows.leads ∙ ap (λ (t : Standing). record t { pairs = t.pairs ++ shows.pair ∷ []; waiting = None }) is ∙ ap (λ (q : ℕ × ℕ). standing version (pairs ++ q ∷ []) [] []) same)
 
 -- lines behind the first line
-pub heads : (file : File) (version : ℕ) (pairs : List (ℕ × ℕ)) (ls : List Line) (after : Standing) → AreLater ls → has_end ls ≡ true → LeadThrough file (standing version pairs [] []) ls after → OrdersBehind file version pairs ls after
-heads file version pairs [] after later ended lead = absurd (false≢true ended)
-heads file version pairs (line.Header v ∷ ls) after later ended lead = absurd (false≢true (sym later.2))
-heads file version pairs (line.Pattern k ∷ ls) after later ended (next, begins, lead) =
+pub heads : (subject : Subject) (version : ℕ) (pairs : List (ℕ × ℕ)) (ls : List Line) (after : Standing) → AreLater ls → has_end ls ≡ true → LeadThrough subject (standing version pairs [] []) ls after → OrdersBehind subject version pairs ls after
+heads subject version pairs [] after later ended lead = absurd (false≢true ended)
+heads subject version pairs (line.Header v ∷ ls) after later ended lead = absurd (false≢true (sym later.2))
+heads subject version pairs (line.Pattern k ∷ ls) after later ended (next, begins, lead) =
     let began = ap (λ (t : Standing). t.begun) begins.leads in
-    none_more file version pairs (line.Pattern k ∷ ls) after begins.free (behind_pattern file (standing version pairs [] []) k next ls after later.0 begins (behind file next ls after (ap (λ (t : Standing). t.waiting) begins.leads) (λ e. let gone : k ∷ [] ≡ [] = sym began ∙ e in cc) later.4 ended lead))
-heads file version pairs (line.Tree n ∷ ls) after later ended (next, inl stands, lead) = absurd (let none : [] ≡ (stands.word ∷ stands.words) = stands.at.pending in cc)
-heads file version pairs (line.Tree n ∷ ls) after later ended (next, inr shows, lead) = absurd (let none : None ≡ Some shows.pair = shows.waits in cc)
-heads file version pairs (line.End ∷ ls) after later ended (next, ends, lead) = none_more file version pairs (line.End ∷ ls) after ends.free (behind_last file (standing version pairs [] []) next ls after later ends lead)
-heads file version pairs (line.Order j i ∷ []) after later ended lead = absurd (false≢true ended)
-heads file version pairs (line.Order j i ∷ line.Header v ∷ ls) after later ended lead = absurd (false≢true (sym later.4.2))
-heads file version pairs (line.Order j i ∷ line.Order k l ∷ ls) after later ended (next, waits, (last, second, lead)) = absurd (not_waiting next.waiting (j, i) second.takes.none (ap (λ (t : Standing). t.waiting) waits.leads))
-heads file version pairs (line.Order j i ∷ line.Pattern k ∷ ls) after later ended (next, waits, (last, second, lead)) = absurd (not_waiting next.waiting (j, i) second.free.none (ap (λ (t : Standing). t.waiting) waits.leads))
-heads file version pairs (line.Order j i ∷ line.End ∷ ls) after later ended (next, waits, (last, second, lead)) = absurd (not_waiting next.waiting (j, i) second.free.none (ap (λ (t : Standing). t.waiting) waits.leads))
-heads file version pairs (line.Order j i ∷ line.Tree n ∷ ls) after later ended (next, waits, (last, inl stands, lead)) = absurd (not_waiting next.waiting (j, i) stands.at.none (ap (λ (t : Standing). t.waiting) waits.leads))
-heads file version pairs (line.Order j i ∷ line.Tree n ∷ ls) after later ended (next, waits, (last, inr shows, lead)) =
-    let at = shown_at file version pairs (j, i) n next last waits.leads shows in
-    one_order file version pairs j i n ls after next shows.multipliers later.0 later.4.0 waits shows.is (subst (λ (q : ℕ × ℕ). IsShown file.automaton q shows.multipliers) at.0 shows.shown)
-    (heads file version (pairs ++ (j, i) ∷ []) ls after later.4.4 ended (subst (λ (t : Standing). LeadThrough file t ls after) at.1 lead))
+    none_more subject version pairs (line.Pattern k ∷ ls) after begins.free (behind_pattern subject (standing version pairs [] []) k next ls after later.0 begins (behind subject next ls after (ap (λ (t : Standing). t.waiting) begins.leads) (λ e. let gone : k ∷ [] ≡ [] = sym began ∙ e in cc) later.4 ended lead))
+heads subject version pairs (line.Tree n ∷ ls) after later ended (next, inl stands, lead) = absurd (let none : [] ≡ (stands.word ∷ stands.words) = stands.at.pending in cc)
+heads subject version pairs (line.Tree n ∷ ls) after later ended (next, inr shows, lead) = absurd (let none : None ≡ Some shows.pair = shows.waits in cc)
+heads subject version pairs (line.End ∷ ls) after later ended (next, ends, lead) = none_more subject version pairs (line.End ∷ ls) after ends.free (behind_last subject (standing version pairs [] []) next ls after later ends lead)
+heads subject version pairs (line.Order j i ∷ []) after later ended lead = absurd (false≢true ended)
+heads subject version pairs (line.Order j i ∷ line.Header v ∷ ls) after later ended lead = absurd (false≢true (sym later.4.2))
+heads subject version pairs (line.Order j i ∷ line.Order k l ∷ ls) after later ended (next, waits, (last, second, lead)) = absurd (not_waiting next.waiting (j, i) second.takes.none (ap (λ (t : Standing). t.waiting) waits.leads))
+heads subject version pairs (line.Order j i ∷ line.Pattern k ∷ ls) after later ended (next, waits, (last, second, lead)) = absurd (not_waiting next.waiting (j, i) second.free.none (ap (λ (t : Standing). t.waiting) waits.leads))
+heads subject version pairs (line.Order j i ∷ line.End ∷ ls) after later ended (next, waits, (last, second, lead)) = absurd (not_waiting next.waiting (j, i) second.free.none (ap (λ (t : Standing). t.waiting) waits.leads))
+heads subject version pairs (line.Order j i ∷ line.Tree n ∷ ls) after later ended (next, waits, (last, inl stands, lead)) = absurd (not_waiting next.waiting (j, i) stands.at.none (ap (λ (t : Standing). t.waiting) waits.leads))
+heads subject version pairs (line.Order j i ∷ line.Tree n ∷ ls) after later ended (next, waits, (last, inr shows, lead)) =
+    let at = shown_at subject version pairs (j, i) n next last waits.leads shows in
+    one_order subject version pairs j i n ls after next shows.multipliers later.0 later.4.0 waits shows.is (subst (λ (q : ℕ × ℕ). IsShown subject.file.automaton q shows.multipliers) at.0 shows.shown)
+    (heads subject version (pairs ++ (j, i) ∷ []) ls after later.4.4 ended (subst (λ (t : Standing). LeadThrough subject t ls after) at.1 lead))
 
 -- of a good list of pairs each may join those before it
 apart_before : (xs rest : List (ℕ × ℕ)) (pair : ℕ × ℕ) → Distinct (xs ++ pair ∷ rest) → In pair xs → ⊥
@@ -118,15 +118,15 @@ joins a xs rest pair good = record {
 }
 
 -- the lines of orders lead through them
-pub lead_orders : (file : File) (pairs : List (ℕ × ℕ)) (orders : List Order) (ls : List Line) → Good file.automaton (pairs ++ map pair_of orders) → Each (ShowsPair file.automaton) orders → ((after : Standing) × LeadThrough file (standing 2 (pairs ++ map pair_of orders) [] []) ls after) → (after : Standing) × LeadThrough file (standing 2 pairs [] []) (order_lines orders ++ ls) after
-lead_orders file pairs [] ls good shown lead = (lead.0, subst (λ (xs : List (ℕ × ℕ)). LeadThrough file (standing 2 xs [] []) ls lead.0) (append-nil pairs) lead.1)
-lead_orders file pairs (o ∷ os) ls good shown lead =
+pub lead_orders : (subject : Subject) (pairs : List (ℕ × ℕ)) (orders : List Order) (ls : List Line) → Good subject.file.automaton (pairs ++ map pair_of orders) → Each (ShowsPair subject.file.automaton) orders → ((after : Standing) × LeadThrough subject (standing 2 (pairs ++ map pair_of orders) [] []) ls after) → (after : Standing) × LeadThrough subject (standing 2 pairs [] []) (order_lines orders ++ ls) after
+lead_orders subject pairs [] ls good shown lead = (lead.0, subst (λ (xs : List (ℕ × ℕ)). LeadThrough subject (standing 2 xs [] []) ls lead.0) (append-nil pairs) lead.1)
+lead_orders subject pairs (o ∷ os) ls good shown lead =
     let pair : ℕ × ℕ = pair_of o in
     let all : (pairs ++ pair ∷ []) ++ map pair_of os ≡ pairs ++ map pair_of (o ∷ os) = append_assoc pairs (pair ∷ []) (map pair_of os) in
-    let rest = lead_orders file (pairs ++ pair ∷ []) os ls (subst (Good file.automaton) (sym all) good) shown.1 (lead.0, subst (λ (xs : List (ℕ × ℕ)). LeadThrough file (standing 2 xs [] []) ls lead.0) (sym all) lead.1) in
+    let rest = lead_orders subject (pairs ++ pair ∷ []) os ls (subst (Good subject.file.automaton) (sym all) good) shown.1 (lead.0, subst (λ (xs : List (ℕ × ℕ)). LeadThrough subject (standing 2 xs [] []) ls lead.0) (sym all) lead.1) in
     let at = standing 2 pairs [] [] in
     let takes : TakesOrder at = record { version = refl; none = refl; early = refl } in
     let next : Standing = record at { waiting = Some pair } in
-    let waits : Waits file at pair next = record { takes = takes; may = joins file.automaton pairs (map pair_of os) pair good; leads = refl } in
-    let shows : Shows file next (node.Leaf o.multipliers) (standing 2 (pairs ++ pair ∷ []) [] []) = record { pair = pair; waits = refl; multipliers = o.multipliers; is = refl; shown = shown.0; leads = refl } in
+    let waits : Waits subject at pair next = record { takes = takes; may = joins subject.file.automaton pairs (map pair_of os) pair good; leads = refl } in
+    let shows : Shows subject next (node.Leaf o.multipliers) (standing 2 (pairs ++ pair ∷ []) [] []) = record { pair = pair; waits = refl; multipliers = o.multipliers; is = refl; shown = shown.0; leads = refl } in
     (rest.0, (next, waits, (standing 2 (pairs ++ pair ∷ []) [] [], inr shows, rest.1)))

@@ -2,7 +2,6 @@
 use Rattle.std.proofs.Common.{◌≡◌, ◌≢◌, inl, inr, ℕ, ℤ, List, [], ◌∷◌, ◌++◌, reverse, None, Some, Ok, Err, sym, ap, ◌∙◌, subst, refl}
 use Rattle.std.proofs.lemmas.List.{reverse-reverse}
 use Rattle.ta_automaton.specs.declared.automaton.Automaton.{Automaton}
-use Rattle.ta_automaton.specs.declared.file.File.{File}
 use Rattle.ta_automaton.specs.Masks.{In}
 use Rattle.ta_automaton.proofs.MaskTests.{In-left, In-right}
 use Rattle.ta_cert.specs.declared.line.Line.TheVariants as line
@@ -14,9 +13,10 @@ use Rattle.ta_implied.specs.Refused.{FailsToShow}
 use Rattle.ta_implied.proofs.Members.{in_append}
 use Rattle.ta_implied.proofs.Placing.{in_placed, placed_in}
 use Rattle.ta_implied.proofs.Chains.{leads_along}
-use Rattle.ta_encode.specs.InPreorder.{pattern_search}
 use Rattle.ta_farkas.specs.declared.LeafFault.{LeafFault}
 use Rattle.ta_cursor.proofs.TreesLeft.{here_is}
+use Rattle.ta_claim.specs.Claims.{search_for}
+use Rattle.ta_check.specs.Subjects.{HasVersion, Subject}
 use Rattle.ta_check.specs.declared.position.Position.{Position}
 use Rattle.ta_check.specs.Lines.{Standing, IsFree, Shows, TakesOrder, Waits}
 use Rattle.ta_check.specs.Faults.{IsNoLeaf}
@@ -24,10 +24,10 @@ use Rattle.ta_check.specs.Positions.{Between, IsAt, SamePairs, Taken, fault_at}
 use Rattle.ta_check.proofs.JudgingNodes.{fault_told}
 
 -- the first line
-pub header_taken : (file : File) (s : Position) (at : Standing) (number version : ℕ) → IsAt file s at → Taken file at number (line.Header version) (record s { version = version }) (Ok tt)
-header_taken file s at number version is = (
+pub header_taken : (subject : Subject) (s : Position) (at : Standing) (number version : ℕ) → HasVersion subject.claim version → IsAt subject s at → Taken subject at number (line.Header version) (record s { version = version }) (Ok tt)
+header_taken subject s at number version has is = (
   record at { version = version },
-  refl,
+  record { has = has; leads = refl },
   record {
     version = refl;
     pairs = is.pairs;
@@ -42,8 +42,8 @@ header_taken file s at number version is = (
 )
 
 -- before any proof no proof is being read
-before_proofs : (file : File) (s : Position) (at : Standing) → at.begun ≡ [] → IsAt file s at → Between s at.pending
-before_proofs file s at none is = elim is.place [
+before_proofs : (subject : Subject) (s : Position) (at : Standing) → at.begun ≡ [] → IsAt subject s at → Between s at.pending
+before_proofs subject s at none is = elim is.place [
   | inl between ↦ between
   | inr inside ↦ absurd (let some : [] ≡ (inside.number ∷ inside.older) = sym none ∙ inside.begun in cc)
 ]
@@ -56,8 +56,8 @@ back : (xs ys : List (ℕ × ℕ)) → SamePairs xs ys → SamePairs ys xs
 back xs ys same = λ pair. ((same pair).1, (same pair).0)
 
 -- what is free by a position's fields
-pub free_from : (file : File) (s : Position) (at : Standing) → IsAt file s at → s.waiting ≡ None → s.current ≡ None → (s.version ≡ 2 → s.orders ≢ []) → IsFree at
-free_from file s at is none nowhere some = record {
+pub free_from : (subject : Subject) (s : Position) (at : Standing) → IsAt subject s at → s.waiting ≡ None → s.current ≡ None → (s.version ≡ 2 → s.orders ≢ []) → IsFree at
+free_from subject s at is none nowhere some = record {
   none = is.waiting ∙ none;
   some = λ two empty. some (sym is.version ∙ two) (none_same at.pairs s.orders empty is.pairs);
   done = elim is.place [
@@ -71,19 +71,19 @@ pub record FreeFields (s : Position) : Type 0 where
   pub nowhere : s.current ≡ None
   pub some : s.version ≡ 2 → s.orders ≢ []
 
-pub free_back : (file : File) (s : Position) (at : Standing) → IsAt file s at → IsFree at → FreeFields s
-free_back file s at is free = record {
+pub free_back : (subject : Subject) (s : Position) (at : Standing) → IsAt subject s at → IsFree at → FreeFields s
+free_back subject s at is free = record {
   none = sym is.waiting ∙ free.none;
   nowhere = elim is.place [
     | inl between ↦ between.current
-    | inr inside ↦ absurd (let left = here_is (pattern_search file.automaton inside.pattern s.orders) s.place at.pending inside.within in let gone = sym free.done ∙ left in cc)
+    | inr inside ↦ absurd (let left = here_is (search_for subject.claim subject.file.automaton inside.pattern s.orders) s.place at.pending inside.within in let gone = sym free.done ∙ left in cc)
   ];
   some = λ two empty. free.some (is.version ∙ two) (none_same s.orders at.pairs empty (back at.pairs s.orders is.pairs));
 }
 
 -- whether a pair may come, by a position's fields
-pub takes_from : (file : File) (s : Position) (at : Standing) → IsAt file s at → s.version ≡ 2 → s.waiting ≡ None → s.proved.items ≡ [] → TakesOrder at
-takes_from file s at is two none early = record {
+pub takes_from : (subject : Subject) (s : Position) (at : Standing) → IsAt subject s at → s.version ≡ 2 → s.waiting ≡ None → s.proved.items ≡ [] → TakesOrder at
+takes_from subject s at is two none early = record {
   version = is.version ∙ two;
   none = is.waiting ∙ none;
   early = is.begun ∙ ap reverse early;
@@ -94,8 +94,8 @@ pub record TakingFields (s : Position) : Type 0 where
   pub none : s.waiting ≡ None
   pub early : s.proved.items ≡ []
 
-pub takes_back : (file : File) (s : Position) (at : Standing) → IsAt file s at → TakesOrder at → TakingFields s
-takes_back file s at is takes = record {
+pub takes_back : (subject : Subject) (s : Position) (at : Standing) → IsAt subject s at → TakesOrder at → TakingFields s
+takes_back subject s at is takes = record {
   version = sym is.version ∙ takes.version;
   none = sym is.waiting ∙ takes.none;
   early = sym (reverse-reverse s.proved.items) ∙ ap reverse (sym is.begun ∙ takes.early);
@@ -110,32 +110,32 @@ join_same a xs ys pair same may = record {
 }
 
 -- a pair that may come waits for its leaf
-pub order_taken : (file : File) (s : Position) (at : Standing) (number before later : ℕ) → IsAt file s at → TakesOrder at → MayJoin file.automaton s.orders (before, later) → Taken file at number (line.Order before later) (record s { waiting = Some (before, later) }) (Ok tt)
-order_taken file s at number before later is takes may =
-    let join = join_same file.automaton s.orders at.pairs (before, later) (back at.pairs s.orders is.pairs) may in
-    let between = before_proofs file s at takes.early is in
-    let waits : Waits file at (before, later) (record at { waiting = Some (before, later) }) = record { takes = takes; may = join; leads = refl } in (
+pub order_taken : (subject : Subject) (s : Position) (at : Standing) (number before later : ℕ) → IsAt subject s at → TakesOrder at → MayJoin subject.file.automaton s.orders (before, later) → Taken subject at number (line.Order before later) (record s { waiting = Some (before, later) }) (Ok tt)
+order_taken subject s at number before later is takes may =
+    let join = join_same subject.file.automaton s.orders at.pairs (before, later) (back at.pairs s.orders is.pairs) may in
+    let between = before_proofs subject s at takes.early is in
+    let waits : Waits subject at (before, later) (record at { waiting = Some (before, later) }) = record { takes = takes; may = join; leads = refl } in (
       record at { waiting = Some (before, later) },
       waits,
       record {
         version = is.version;
         pairs = is.pairs;
         waiting = refl;
-        may = λ pair some. (let same : (before, later) ≡ pair = cc in record { join = subst (MayJoin file.automaton at.pairs) same join; early = takes.early });
+        may = λ pair some. (let same : (before, later) ≡ pair = cc in record { join = subst (MayJoin subject.file.automaton at.pairs) same join; early = takes.early });
         begun = is.begun;
         place = inl (record { current = between.current; left = between.left });
       },
     )
 
-pub order_bad : (file : File) (s : Position) (at : Standing) (number before later : ℕ) (new : Position) → IsAt file s at → TakesOrder at → (MayJoin file.automaton s.orders (before, later) → ⊥) → Taken file at number (line.Order before later) new (Err (fault.Pair number))
-order_bad file s at number before later new is takes bad = (
+pub order_bad : (subject : Subject) (s : Position) (at : Standing) (number before later : ℕ) (new : Position) → IsAt subject s at → TakesOrder at → (MayJoin subject.file.automaton s.orders (before, later) → ⊥) → Taken subject at number (line.Order before later) new (Err (fault.Pair number))
+order_bad subject s at number before later new is takes bad = (
   refl,
   record {
     before = before;
     later = later;
     is = refl;
     takes = takes;
-    bad = λ may. bad (join_same file.automaton at.pairs s.orders (before, later) is.pairs may);
+    bad = λ may. bad (join_same subject.file.automaton at.pairs s.orders (before, later) is.pairs may);
   },
 )
 
@@ -153,12 +153,12 @@ same_placed xs ys new pair same whole = λ q. (
 )
 
 -- the leaf that shows a pair
-pub shown_taken : (file : File) (s : Position) (at : Standing) (number before later : ℕ) (ts : List (ℕ × ℤ)) (new : List (ℕ × ℕ)) → s.waiting ≡ Some (before, later) → IsAt file s at → Joined file.automaton (before, later) ts s.orders new → Taken file at number (line.Tree (node.Leaf ts)) (record s { orders = new; waiting = None }) (Ok tt)
-shown_taken file s at number before later ts new waits is joined =
+pub shown_taken : (subject : Subject) (s : Position) (at : Standing) (number before later : ℕ) (ts : List (ℕ × ℤ)) (new : List (ℕ × ℕ)) → s.waiting ≡ Some (before, later) → IsAt subject s at → Joined subject.file.automaton (before, later) ts s.orders new → Taken subject at number (line.Tree (node.Leaf ts)) (record s { orders = new; waiting = None }) (Ok tt)
+shown_taken subject s at number before later ts new waits is joined =
     let pair : ℕ × ℕ = (before, later) in
     let may = is.may pair (is.waiting ∙ waits) in
-    let between = before_proofs file s at may.early is in
-    let shows : Shows file at (node.Leaf ts) (record at { pairs = at.pairs ++ pair ∷ []; waiting = None }) = record {
+    let between = before_proofs subject s at may.early is in
+    let shows : Shows subject at (node.Leaf ts) (record at { pairs = at.pairs ++ pair ∷ []; waiting = None }) = record {
       pair = pair;
       waits = is.waiting ∙ waits;
       multipliers = ts;
@@ -179,17 +179,17 @@ shown_taken file s at number before later ts new waits is joined =
     )
 
 -- a pair that waits may join
-pub waits_join : (file : File) (s : Position) (at : Standing) (before later : ℕ) → s.waiting ≡ Some (before, later) → IsAt file s at → MayJoin file.automaton s.orders (before, later)
-waits_join file s at before later waits is = join_same file.automaton at.pairs s.orders (before, later) is.pairs (is.may (before, later) (is.waiting ∙ waits)).join
+pub waits_join : (subject : Subject) (s : Position) (at : Standing) (before later : ℕ) → s.waiting ≡ Some (before, later) → IsAt subject s at → MayJoin subject.file.automaton s.orders (before, later)
+waits_join subject s at before later waits is = join_same subject.file.automaton at.pairs s.orders (before, later) is.pairs (is.may (before, later) (is.waiting ∙ waits)).join
 
 -- a leaf that doesn't show it
-pub shown_fails : (file : File) (s : Position) (at : Standing) (number before later : ℕ) (ts : List (ℕ × ℤ)) (new : Position) (f : LeafFault) → s.waiting ≡ Some (before, later) → IsAt file s at → FailsToShow file.automaton (before, later) ts f → Taken file at number (line.Tree (node.Leaf ts)) new (Err (fault_at number f))
-shown_fails file s at number before later ts new f waits is fails = fault_told file at number (line.Tree (node.Leaf ts)) new f (record {
+pub shown_fails : (subject : Subject) (s : Position) (at : Standing) (number before later : ℕ) (ts : List (ℕ × ℤ)) (new : Position) (f : LeafFault) → s.waiting ≡ Some (before, later) → IsAt subject s at → FailsToShow subject.file.automaton (before, later) ts f → Taken subject at number (line.Tree (node.Leaf ts)) new (Err (fault_at number f))
+shown_fails subject s at number before later ts new f waits is fails = fault_told subject at number (line.Tree (node.Leaf ts)) new f (record {
   multipliers = ts;
   is = refl;
   at = inr (record { pair = (before, later); waits = is.waiting ∙ waits; fails = fails });
 })
 
 -- another node than a leaf, where a pair waits
-pub no_leaf : (file : File) (s : Position) (at : Standing) (number before later : ℕ) (n : Node) (new : Position) → s.waiting ≡ Some (before, later) → IsAt file s at → IsNoLeaf n → Taken file at number (line.Tree n) new (Err (fault.Line number))
-no_leaf file s at number before later n new waits is none = (refl, inr (record { pair = (before, later); waits = is.waiting ∙ waits }, none))
+pub no_leaf : (subject : Subject) (s : Position) (at : Standing) (number before later : ℕ) (n : Node) (new : Position) → s.waiting ≡ Some (before, later) → IsAt subject s at → IsNoLeaf n → Taken subject at number (line.Tree n) new (Err (fault.Line number))
+no_leaf subject s at number before later n new waits is none = (refl, inr (record { pair = (before, later); waits = is.waiting ∙ waits }, none))

@@ -1,22 +1,24 @@
 -- a position that takes a node
-use Rattle.std.proofs.Common.{◌≡◌, ◌≢◌, ◌⊎◌, ◌<◌, length, slice_get, inl, inr, ℕ, ℤ, Bool, true, false, List, [], ◌∷◌, ◌++◌, reverse, Option, None, Some, Ok, Err, sym, ap, ◌∙◌, subst, refl}
+use Rattle.std.proofs.Common.{◌≡◌, ◌≢◌, ◌⊎◌, ◌<◌, length, slice_get, inl, inr, ℕ, ℤ, Bool, true, false, List, [], ◌∷◌, ◌++◌, reverse, Option, None, Some, Result, Ok, Err, sym, ap, ◌∙◌, subst, refl}
 use Rattle.std.proofs.lemmas.Option.{slice_get_within}
-use Rattle.ta_automaton.specs.declared.file.File.{File}
 use Rattle.ta_automaton.specs.declared.pattern.Pattern.{Pattern}
 use Rattle.ta_cert.specs.declared.line.Line.{Line}
 use Rattle.ta_cert.specs.declared.line.Line.TheVariants as line
 use Rattle.ta_cert.specs.declared.line.Node.{Node}
 use Rattle.ta_cert.specs.declared.line.Node.TheVariants as node
 use Rattle.ta_cert.specs.declared.fault.CertFault.{CertFault}
-use Rattle.ta_words.proofs.Lists.{same_pattern}
-use Rattle.ta_encode.specs.InPreorder.{Pending, Search, parts, pattern_search, MayStand}
+use Rattle.ta_words.specs.declared.element.Element.{Element}
+use Rattle.ta_encode.specs.InPreorder.{Pending, Search, parts, MayStand}
 use Rattle.ta_encode.specs.Marks.{IsEncoding}
 use Rattle.ta_cursor.specs.declared.place.Place.{Place}
-use Rattle.ta_cursor.specs.Cursors.{IsWord}
-use Rattle.ta_cursor.specs.InTrees.{AllGoOn, AllWithin, here_at}
+use Rattle.ta_cursor.specs.Cursors.{IsWord, here}
+use Rattle.ta_cursor.specs.declared.cursor.Cursor.{Cursor}
+use Rattle.ta_cursor.specs.InTrees.{AllGoOn, AllWithin, IsAllWithin, here_at}
 use Rattle.ta_cursor.proofs.TreesLeft.{here_first, here_is, later_words}
 use Rattle.ta_farkas.specs.declared.LeafFault.{LeafFault}
 use Rattle.ta_farkas.specs.declared.LeafFault.TheVariants as leaf
+use Rattle.ta_claim.specs.Claims.{search_for}
+use Rattle.ta_check.specs.Subjects.{Subject}
 use Rattle.ta_check.specs.declared.position.Position.{Position}
 use Rattle.ta_cursor.specs.Range.{IsJudged}
 use Rattle.ta_check.specs.Lines.{Standing, AtWord, Stands}
@@ -46,75 +48,103 @@ head_kept old new at same head = record {
   none = head.none;
 }
 
-pub head_of : (file : File) (s : Position) (at : Standing) → s.waiting ≡ None → IsAt file s at → Head s at
-head_of file s at none is = record { version = is.version; pairs = is.pairs; waiting = is.waiting; none = is.waiting ∙ none }
+pub head_of : (subject : Subject) (s : Position) (at : Standing) → s.waiting ≡ None → IsAt subject s at → Head s at
+head_of subject s at none is = record { version = is.version; pairs = is.pairs; waiting = is.waiting; none = is.waiting ∙ none }
 
 -- before a node of the newest proof, which is that of this pattern of a number
-pub record Newest (file : File) (s : Position) (at : Standing) (number : ℕ) (p : Pattern) : Type 0 where
+pub record Newest (subject : Subject) (s : Position) (at : Standing) (number : ℕ) (p : Pattern) : Type 0 where
   pub head : Head s at
   pub older : List ℕ
   pub begun : at.begun ≡ number ∷ older
-  pub named : slice_get file.patterns number ≡ Some p
-  pub within : AllWithin (pattern_search file.automaton p s.orders) s.place at.pending
-  pub kept : IsEncoding file.automaton p s.encoding
+  pub named : slice_get subject.file.patterns number ≡ Some p
+  pub within : AllWithin (search_for subject.claim subject.file.automaton p s.orders) s.place at.pending
+  pub kept : IsEncoding subject.file.automaton p s.encoding
 
-same_number : (file : File) (s : Position) (at : Standing) (number : ℕ) → Head s at → s.current ≡ Some number → (inside : InNewest file s at) → Newest file s at number inside.pattern
-same_number file s at number head current inside =
+same_number : (subject : Subject) (s : Position) (at : Standing) (number : ℕ) → Head s at → s.current ≡ Some number → (inside : InNewest subject s at) → Newest subject s at number inside.pattern
+same_number subject s at number head current inside =
     let same : inside.number ≡ number = let e : Some inside.number ≡ Some number = sym inside.current ∙ current in cc in
     record {
       head = head;
       older = inside.older;
       begun = subst (λ k. at.begun ≡ k ∷ inside.older) same inside.begun;
-      named = subst (λ k. slice_get file.patterns k ≡ Some inside.pattern) same inside.named;
+      named = subst (λ k. slice_get subject.file.patterns k ≡ Some inside.pattern) same inside.named;
       within = inside.within;
       kept = inside.kept;
     }
 
 -- a position that has a current pattern is in its proof
-some_newest : (file : File) (s : Position) (at : Standing) (number : ℕ) → s.waiting ≡ None → s.current ≡ Some number → IsAt file s at → (p : Pattern) × Newest file s at number p
-some_newest file s at number none current is = elim is.place [
+pub some_newest : (subject : Subject) (s : Position) (at : Standing) (number : ℕ) → s.waiting ≡ None → s.current ≡ Some number → IsAt subject s at → (p : Pattern) × Newest subject s at number p
+some_newest subject s at number none current is = elim is.place [
   | inl between ↦ absurd (let nowhere : None ≡ Some number = sym between.current ∙ current in cc)
-  | inr inside ↦ (inside.pattern, same_number file s at number (head_of file s at none is) current inside)
+  | inr inside ↦ (inside.pattern, same_number subject s at number (head_of subject s at none is) current inside)
 ]
 
-pub newest : (file : File) (s : Position) (at : Standing) (number : ℕ) (p : Pattern) → slice_get file.patterns number ≡ Some p → s.waiting ≡ None → s.current ≡ Some number → IsAt file s at → Newest file s at number p
-newest file s at number p named none current is =
-    let n = some_newest file s at number none current is in
-    subst (Newest file s at number) (same_pattern file number n.0 p n.1.named named) n.1
+pub pattern_there : (subject : Subject) (s : Position) (number : ℕ) → s.waiting ≡ None → s.current ≡ Some number → IsSomewhere subject s → number < length subject.file.patterns
+pattern_there subject s number none current somewhere =
+    let n = some_newest subject s somewhere.0 number none current somewhere.1 in
+    slice_get_within subject.file.patterns number n.0 n.1.named
 
-pub pattern_there : (file : File) (s : Position) (number : ℕ) → s.waiting ≡ None → s.current ≡ Some number → IsSomewhere file s → number < length file.patterns
-pattern_there file s number none current somewhere =
-    let n = some_newest file s somewhere.0 number none current somewhere.1 in
-    slice_get_within file.patterns number n.0 n.1.named
+-- the tree of the pattern whose proof is being read
+abbrev pub IsTree : Subject → Position → ℕ → Search → Type 0
+IsTree subject s number tree = (p : Pattern) → slice_get subject.file.patterns number ≡ Some p → tree ≡ search_for subject.claim subject.file.automaton p s.orders
+
+-- the place is within it
+pub tree_within : (subject : Subject) (s : Position) (number : ℕ) (tree : Search) → s.waiting ≡ None → s.current ≡ Some number → IsTree subject s number tree → IsSomewhere subject s → IsAllWithin tree s.place
+tree_within subject s number tree none current same (at, is) =
+    let n = some_newest subject s at number none current is in
+    (at.pending, subst (λ (q : Search). AllWithin q s.place at.pending) (sym (same n.0 n.1.named)) n.1.within)
+
+-- and its word is one of the tree's
+pub tree_word : (subject : Subject) (s : Position) (number : ℕ) (tree : Search) → s.waiting ≡ None → s.current ≡ Some number → IsTree subject s number tree → IsSomewhere subject s → IsWord tree (here_at s.place)
+tree_word subject s number tree none current same somewhere = (tree_within subject s number tree none current same somewhere).1.within.word
+
+-- what a tree answers of that word
+pub told_at : {X : Type 0} (f : Search → ℕ → List Element → X) (tree search : Search) (answer : X) (start there : ℕ) (word elements : List Element) → tree ≡ search → start ≡ there → word ≡ elements → answer ≡ f tree start (reverse word) → answer ≡ f search there (reverse elements)
+told_at f tree search answer start there word elements same starts words told =
+    told ∙ ap (λ (q : Search). f q start (reverse word)) same ∙ ap (λ (k : ℕ). f search k (reverse word)) starts ∙ ap (λ (es : List Element). f search there (reverse es)) words
+
+-- a place that went on within a tree did so within the search of that tree
+pub went_on : (tree search : Search) (old new : Place) (n : Node) (more : Bool) (words : List Pending) → tree ≡ search
+    → ((w : Pending) (ws : List Pending) → AllWithin tree old (w ∷ ws) → AllGoOn tree new (parts tree w n ++ ws) (Ok more))
+    → AllWithin search old (here_at old ∷ words) → AllGoOn search new (parts search (here_at old) n ++ words) (Ok more)
+went_on tree search old new n more words same told =
+    subst (λ (q : Search). (w : Pending) (ws : List Pending) → AllWithin q old (w ∷ ws) → AllGoOn q new (parts q w n ++ ws) (Ok more)) same told (here_at old) words
+
+-- a split within a tree is one within its search
+pub split_on : (tree search : Search) (old new : Place) (unknown : ℕ) (floor : ℤ) (words : List Pending) → tree ≡ search
+    → ((w : Pending) (ws : List Pending) → AllWithin tree old (w ∷ ws) → AllWithin tree new (parts tree w (node.Split unknown floor) ++ ws))
+    → AllWithin search old (here_at old ∷ words) → AllWithin search new (parts search (here_at old) (node.Split unknown floor) ++ words)
+split_on tree search old new unknown floor words same told =
+    subst (λ (q : Search). (w : Pending) (ws : List Pending) → AllWithin q old (w ∷ ws) → AllWithin q new (parts q w (node.Split unknown floor) ++ ws)) same told (here_at old) words
 
 -- the words behind the first
-abbrev pub later : (file : File) (s : Position) (at : Standing) (number : ℕ) (p : Pattern) → Newest file s at number p → List Pending
-later file s at number p n = later_words (pattern_search file.automaton p s.orders) s.place at.pending n.within
+abbrev pub later : (subject : Subject) (s : Position) (at : Standing) (number : ℕ) (p : Pattern) → Newest subject s at number p → List Pending
+later subject s at number p n = later_words (search_for subject.claim subject.file.automaton p s.orders) s.place at.pending n.within
 
 -- its word is the first that is left
-pub first_within : (file : File) (s : Position) (at : Standing) (number : ℕ) (p : Pattern) (n : Newest file s at number p) → AllWithin (pattern_search file.automaton p s.orders) s.place (here_at s.place ∷ later file s at number p n)
-first_within file s at number p n = here_first (pattern_search file.automaton p s.orders) s.place at.pending n.within
+pub first_within : (subject : Subject) (s : Position) (at : Standing) (number : ℕ) (p : Pattern) (n : Newest subject s at number p) → AllWithin (search_for subject.claim subject.file.automaton p s.orders) s.place (here_at s.place ∷ later subject s at number p n)
+first_within subject s at number p n = here_first (search_for subject.claim subject.file.automaton p s.orders) s.place at.pending n.within
 
-pub word_of : (file : File) (s : Position) (at : Standing) (number : ℕ) (p : Pattern) → Newest file s at number p → IsWord (pattern_search file.automaton p s.orders) (here_at s.place)
-word_of file s at number p n = n.within.within.word
+pub word_of : (subject : Subject) (s : Position) (at : Standing) (number : ℕ) (p : Pattern) → Newest subject s at number p → IsWord (search_for subject.claim subject.file.automaton p s.orders) (here_at s.place)
+word_of subject s at number p n = n.within.within.word
 
-pub at_word : (file : File) (s : Position) (at : Standing) (number : ℕ) (p : Pattern) (n : Newest file s at number p) → AtWord file at (pattern_search file.automaton p s.orders) (here_at s.place) (later file s at number p n)
-at_word file s at number p n = record {
+pub at_word : (subject : Subject) (s : Position) (at : Standing) (number : ℕ) (p : Pattern) (n : Newest subject s at number p) → AtWord subject at (search_for subject.claim subject.file.automaton p s.orders) (here_at s.place) (later subject s at number p n)
+at_word subject s at number p n = record {
   none = n.head.none;
   number = number;
   older = n.older;
   begun = n.begun;
-  searched = search_same file at.pairs s.orders number p n.named n.head.pairs;
-  pending = here_is (pattern_search file.automaton p s.orders) s.place at.pending n.within;
+  searched = search_same subject at.pairs s.orders number p n.named n.head.pairs;
+  pending = here_is (search_for subject.claim subject.file.automaton p s.orders) s.place at.pending n.within;
 }
 
 -- what holds of the newest pattern's search and of the position's word
-pub at_some_word : (file : File) (s : Position) (at : Standing) (number : ℕ) (p : Pattern) (fact : Search → Pending → Type 0) → Newest file s at number p → fact (pattern_search file.automaton p s.orders) (here_at s.place) → AtSomeWord file at fact
-at_some_word file s at number p fact n holds = record {
-  search = pattern_search file.automaton p s.orders;
+pub at_some_word : (subject : Subject) (s : Position) (at : Standing) (number : ℕ) (p : Pattern) (fact : Search → Pending → Type 0) → Newest subject s at number p → fact (search_for subject.claim subject.file.automaton p s.orders) (here_at s.place) → AtSomeWord subject at fact
+at_some_word subject s at number p fact n holds = record {
+  search = search_for subject.claim subject.file.automaton p s.orders;
   word = here_at s.place;
-  words = later file s at number p n;
-  at = at_word file s at number p n;
+  words = later subject s at number p n;
+  at = at_word subject s at number p n;
   holds = holds;
 }
 
@@ -124,8 +154,8 @@ CurrentWhere true number current = current ≡ Some number
 CurrentWhere false number current = current ≡ None
 
 -- a position whose place went on is at what is left
-went_at : (file : File) (s : Position) (at : Standing) (number : ℕ) (p : Pattern) (words : List Pending) (older : List ℕ) (more : Bool) → Head s at → slice_get file.patterns number ≡ Some p → at.begun ≡ number ∷ older → at.begun ≡ reverse s.proved.items → CurrentWhere more number s.current → IsEncoding file.automaton p s.encoding → AllGoOn (pattern_search file.automaton p s.orders) s.place words (Ok more) → IsAt file s (record at { pending = words })
-went_at file s at number p words older more head named newest proved current kept went = record {
+went_at : (subject : Subject) (s : Position) (at : Standing) (number : ℕ) (p : Pattern) (words : List Pending) (older : List ℕ) (more : Bool) → Head s at → slice_get subject.file.patterns number ≡ Some p → at.begun ≡ number ∷ older → at.begun ≡ reverse s.proved.items → CurrentWhere more number s.current → IsEncoding subject.file.automaton p s.encoding → AllGoOn (search_for subject.claim subject.file.automaton p s.orders) s.place words (Ok more) → IsAt subject s (record at { pending = words })
+went_at subject s at number p words older more head named newest proved current kept went = record {
   version = head.version;
   pairs = head.pairs;
   waiting = head.waiting;
@@ -134,7 +164,7 @@ went_at file s at number p words older more head named newest proved current kep
   place = placed words went;
 }
   where
-    placed : (ws : List Pending) → AllGoOn (pattern_search file.automaton p s.orders) s.place ws (Ok more) → Between s ws ⊎ InNewest file s (record at { pending = ws })
+    placed : (ws : List Pending) → AllGoOn (search_for subject.claim subject.file.automaton p s.orders) s.place ws (Ok more) → Between s ws ⊎ InNewest subject s (record at { pending = ws })
     placed [] gone = inl (record {
       current = subst (λ (m : Bool). CurrentWhere m number s.current) gone current;
       left = refl;
@@ -156,48 +186,48 @@ goes_within s t [] some within = absurd (some refl)
 goes_within s t (w ∷ ws) some within = (refl, within)
 
 -- a node that may stand at the word is taken, if the place goes on to its parts
-pub node_taken : (file : File) (old new : Position) (at : Standing) (k number : ℕ) (p : Pattern) (n : Node) (more : Bool) (first : Newest file old at k p)
-    → IsAt file old at
+pub node_taken : (subject : Subject) (old new : Position) (at : Standing) (k number : ℕ) (p : Pattern) (n : Node) (more : Bool) (first : Newest subject old at k p)
+    → IsAt subject old at
     → SameHead old new
-    → MayStand (pattern_search file.automaton p old.orders) (IsJudged (pattern_search file.automaton p old.orders)) (here_at old.place) n
+    → MayStand (search_for subject.claim subject.file.automaton p old.orders) (IsJudged (search_for subject.claim subject.file.automaton p old.orders)) (here_at old.place) n
     → new.proved.items ≡ old.proved.items
     → CurrentWhere more k new.current
-    → IsEncoding file.automaton p new.encoding
-    → AllGoOn (pattern_search file.automaton p old.orders) new.place (parts (pattern_search file.automaton p old.orders) (here_at old.place) n ++ later file old at k p first) (Ok more)
-    → Taken file at number (line.Tree n) new (Ok tt)
-node_taken file old new at k number p n more first is same may proved current kept went =
-    let search = pattern_search file.automaton p old.orders in
-    let words = parts search (here_at old.place) n ++ later file old at k p first in
-    let stands : Stands file at n (record at { pending = words }) = record {
+    → IsEncoding subject.file.automaton p new.encoding
+    → AllGoOn (search_for subject.claim subject.file.automaton p old.orders) new.place (parts (search_for subject.claim subject.file.automaton p old.orders) (here_at old.place) n ++ later subject old at k p first) (Ok more)
+    → Taken subject at number (line.Tree n) new (Ok tt)
+node_taken subject old new at k number p n more first is same may proved current kept went =
+    let search = search_for subject.claim subject.file.automaton p old.orders in
+    let words = parts search (here_at old.place) n ++ later subject old at k p first in
+    let stands : Stands subject at n (record at { pending = words }) = record {
       search = search;
       word = here_at old.place;
-      words = later file old at k p first;
-      at = at_word file old at k p first;
+      words = later subject old at k p first;
+      at = at_word subject old at k p first;
       may = may;
       leads = refl;
     } in
-    let gone = subst (λ (xs : List (ℕ × ℕ)). AllGoOn (pattern_search file.automaton p xs) new.place words (Ok more)) (sym same.orders) went in
-    (record at { pending = words }, inl stands, went_at file new at k p words first.older more (head_kept old new at same first.head) first.named first.begun (is.begun ∙ ap reverse (sym proved)) current kept gone)
+    let gone = subst (λ (xs : List (ℕ × ℕ)). AllGoOn (search_for subject.claim subject.file.automaton p xs) new.place words (Ok more)) (sym same.orders) went in
+    (record at { pending = words }, inl stands, went_at subject new at k p words first.older more (head_kept old new at same first.head) first.named first.begun (is.begun ∙ ap reverse (sym proved)) current kept gone)
 
 -- a leaf's fault is told in its line
-pub fault_told : (file : File) (at : Standing) (number : ℕ) (l : Line) (new : Position) (f : LeafFault) → LeafFails file at l f → Taken file at number l new (Err (fault_at number f))
-fault_told file at number l new (leaf.RowNumber row) fails = (refl, fails)
-fault_told file at number l new (leaf.Overflow column) fails = (refl, fails)
-fault_told file at number l new (leaf.Positive unknown) fails = (refl, fails)
-fault_told file at number l new leaf.NotNegative fails = (refl, fails)
+pub fault_told : (subject : Subject) (at : Standing) (number : ℕ) (l : Line) (new : Position) (f : LeafFault) → LeafFails subject at l f → Taken subject at number l new (Err (fault_at number f))
+fault_told subject at number l new (leaf.RowNumber row) fails = (refl, fails)
+fault_told subject at number l new (leaf.Overflow column) fails = (refl, fails)
+fault_told subject at number l new (leaf.Positive unknown) fails = (refl, fails)
+fault_told subject at number l new leaf.NotNegative fails = (refl, fails)
+
+-- what the judge of a leaf says of a tree's word it says of the search's
+pub leaf_told : (tree search : Search) (there cursor : Cursor) (number : ℕ) (ts : List (ℕ × ℤ)) (answer : Result (Unit {0}) CertFault) → tree ≡ search → there ≡ cursor → LeafTaken tree (here there) number ts answer → LeafTaken search (here cursor) number ts answer
+leaf_told tree search there cursor number ts answer same place told =
+    subst (λ (d : Cursor). LeafTaken search (here d) number ts answer) place (subst (λ (q : Search). LeafTaken q (here there) number ts answer) same told)
 
 -- what the judge of a leaf refuses is refused
-pub leaf_refused : (file : File) (s new : Position) (at : Standing) (k number : ℕ) (p : Pattern) (ts : List (ℕ × ℤ)) (f : CertFault) (n : Newest file s at k p) → LeafTaken (pattern_search file.automaton p []) (here_at s.place) number ts (Err f) → Taken file at number (line.Tree (node.Leaf ts)) new (Err f)
-leaf_refused file s new at k number p ts f n (inl memory) = subst (λ g. Taken file at number (line.Tree (node.Leaf ts)) new (Err g)) (sym memory) tt
-leaf_refused file s new at k number p ts f n (inr told) =
-    let first : FirstLeafFault (pattern_search file.automaton p s.orders) (here_at s.place) ts told.fault = record {
-      system = told.first.system;
-      is = record { unknowns = told.first.is.unknowns; rows = told.first.is.rows };
-      first = told.first.first;
-    } in
-    let fails : LeafFails file at (line.Tree (node.Leaf ts)) told.fault = record {
+pub leaf_refused : (subject : Subject) (s new : Position) (at : Standing) (k number : ℕ) (p : Pattern) (ts : List (ℕ × ℤ)) (f : CertFault) (n : Newest subject s at k p) → LeafTaken (search_for subject.claim subject.file.automaton p s.orders) (here_at s.place) number ts (Err f) → Taken subject at number (line.Tree (node.Leaf ts)) new (Err f)
+leaf_refused subject s new at k number p ts f n (inl memory) = subst (λ g. Taken subject at number (line.Tree (node.Leaf ts)) new (Err g)) (sym memory) tt
+leaf_refused subject s new at k number p ts f n (inr told) =
+    let fails : LeafFails subject at (line.Tree (node.Leaf ts)) told.fault = record {
       multipliers = ts;
       is = refl;
-      at = inl (at_some_word file s at k p (λ search w. FirstLeafFault search w ts told.fault) n first);
+      at = inl (at_some_word subject s at k p (λ search w. FirstLeafFault search w ts told.fault) n told.first);
     } in
-    subst (λ g. Taken file at number (line.Tree (node.Leaf ts)) new (Err g)) (sym told.is) (fault_told file at number (line.Tree (node.Leaf ts)) new told.fault fails)
+    subst (λ g. Taken subject at number (line.Tree (node.Leaf ts)) new (Err g)) (sym told.is) (fault_told subject at number (line.Tree (node.Leaf ts)) new told.fault fails)

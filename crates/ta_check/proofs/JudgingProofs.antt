@@ -3,31 +3,43 @@ use Rattle.std.proofs.Common.{◌≡◌, inl, inr, ℕ, ◌<◌, List, [], ◌�
 use Rattle.std.proofs.lemmas.List.{reverse-append}
 use Rattle.std.proofs.lemmas.Option.{slice_get_cases}
 use Rattle.ta_automaton.specs.Masks.{In}
-use Rattle.ta_automaton.specs.declared.file.File.{File}
 use Rattle.ta_automaton.specs.declared.pattern.Pattern.{Pattern}
-use Rattle.ta_encode.specs.InPreorder.{all_starts, pattern_search}
+use Rattle.ta_automaton.specs.declared.automaton.Automaton.{Automaton}
+use Rattle.ta_claim.specs.declared.claim.Claim.{Claim}
+use Rattle.ta_cursor.specs.declared.place.Place.{Place}
+use Rattle.ta_encode.specs.InPreorder.{Search, all_starts}
+use Rattle.ta_check.proofs.Searches.{same_roots}
 use Rattle.ta_encode.specs.Marks.{IsEncoding}
 use Rattle.ta_cursor.specs.InTrees.{AllWithin}
+use Rattle.ta_claim.specs.Claims.{search_for}
+use Rattle.ta_check.specs.Subjects.{Subject}
 use Rattle.ta_check.specs.declared.position.Position.{Position}
 use Rattle.ta_check.specs.Lines.{Standing, Begins, IsFree}
 use Rattle.ta_check.specs.Positions.{IsAt}
 use Rattle.ta_check.proofs.Following.{not_waiting}
+use Rattle.ta_check.proofs.JudgingHeads.{free_back}
 use Rattle.ta_check.proofs.JudgingNodes.{Head, SameHead, head_kept, head_of}
 
 -- a position that has just begun the proof of a pattern
-pub record Began (file : File) (old : Position) (k : ℕ) (new : Position) : Type 0 where
+pub record Began (subject : Subject) (old : Position) (k : ℕ) (new : Position) : Type 0 where
   pub same : SameHead old new
   pub proved : new.proved.items ≡ old.proved.items ++ k ∷ []
   pub current : new.current ≡ Some k
-  pub first : (p : Pattern) → slice_get file.patterns k ≡ Some p → AllWithin (pattern_search file.automaton p old.orders) new.place (all_starts file.automaton)
-  pub kept : (p : Pattern) → IsEncoding file.automaton p new.encoding
+  pub first : (p : Pattern) → slice_get subject.file.patterns k ≡ Some p → AllWithin (search_for subject.claim subject.file.automaton p old.orders) new.place (all_starts subject.file.automaton)
+  pub kept : (p : Pattern) → IsEncoding subject.file.automaton p new.encoding
 
-pattern_exists : (file : File) (k : ℕ) → k < length file.patterns → (p : Pattern) × (slice_get file.patterns k ≡ Some p)
-pattern_exists file k within = elim ((slice_get_cases file.patterns k).1) [ inl found ↦ (found.0, found.2) | inr past ↦ absurd (let beyond = past.0 in omega arith) ]
+-- the first place of a tree is before the first word of its search
+pub first_of : (claim : Claim) (a : Automaton) (p : Pattern) (pairs : List (ℕ × ℕ)) (tree : Search) (place : Place) → tree ≡ search_for claim a p pairs → AllWithin tree place tree.roots → AllWithin (search_for claim a p pairs) place (all_starts a)
+first_of claim a p pairs tree place same within =
+    let search = search_for claim a p pairs in
+    subst (AllWithin search place) (same_roots claim a p pairs) (subst (λ (q : Search). AllWithin q place q.roots) same within)
 
-began_at : (file : File) (old new : Position) (at : Standing) (k : ℕ) → k < length file.patterns → at.begun ≡ reverse old.proved.items → Head old at → Began file old k new → IsAt file new (record at { begun = k ∷ at.begun; pending = all_starts file.automaton })
-began_at file old new at k exists begun first began =
-    let found = pattern_exists file k exists in
+pattern_exists : (subject : Subject) (k : ℕ) → k < length subject.file.patterns → (p : Pattern) × (slice_get subject.file.patterns k ≡ Some p)
+pattern_exists subject k within = elim ((slice_get_cases subject.file.patterns k).1) [ inl found ↦ (found.0, found.2) | inr past ↦ absurd (let beyond = past.0 in omega arith) ]
+
+began_at : (subject : Subject) (old new : Position) (at : Standing) (k : ℕ) → k < length subject.file.patterns → at.begun ≡ reverse old.proved.items → Head old at → Began subject old k new → IsAt subject new (record at { begun = k ∷ at.begun; pending = all_starts subject.file.automaton })
+began_at subject old new at k exists begun first began =
+    let found = pattern_exists subject k exists in
     let head = head_kept old new at began.same first in
     record {
       version = head.version;
@@ -42,19 +54,41 @@ began_at file old new at k exists begun first began =
         begun = refl;
         pattern = found.0;
         named = found.1;
-        within = subst (λ (xs : List (ℕ × ℕ)). AllWithin (pattern_search file.automaton found.0 xs) new.place (all_starts file.automaton)) (sym began.same.orders) (began.first found.0 found.1);
+        within = subst (λ (xs : List (ℕ × ℕ)). AllWithin (search_for subject.claim subject.file.automaton found.0 xs) new.place (all_starts subject.file.automaton)) (sym began.same.orders) (began.first found.0 found.1);
         kept = began.kept found.0;
       });
     }
 
 -- a proof that may begin begins
-pub begins : (file : File) (old new : Position) (at : Standing) (k : ℕ) → k < length file.patterns → (In k (reverse old.proved.items) → ⊥) → IsAt file old at → IsFree at → Began file old k new → (after : Standing) × Begins file at k after × IsAt file new after
-begins file old new at k exists fresh is free began =
-    let after = record at { begun = k ∷ at.begun; pending = all_starts file.automaton } in
-    let starts : Begins file at k after = record {
+pub begins : (subject : Subject) (old new : Position) (at : Standing) (k : ℕ) → k < length subject.file.patterns → (In k (reverse old.proved.items) → ⊥) → IsAt subject old at → IsFree at → Began subject old k new → (after : Standing) × Begins subject at k after × IsAt subject new after
+begins subject old new at k exists fresh is free began =
+    let after = record at { begun = k ∷ at.begun; pending = all_starts subject.file.automaton } in
+    let starts : Begins subject at k after = record {
       free = free;
       exists = exists;
       new = λ before. fresh (subst (In k) is.begun before);
       leads = refl;
     } in
-    (after, starts, began_at file old new at k exists is.begun (head_of file old at (sym is.waiting ∙ free.none) is) began)
+    (after, starts, began_at subject old new at k exists is.begun (head_of subject old at (sym is.waiting ∙ free.none) is) began)
+
+-- one that has nothing to refute has ended
+pub begins_none : (subject : Subject) (old new : Position) (at : Standing) (k : ℕ) (tree : Search) → k < length subject.file.patterns → (In k (reverse old.proved.items) → ⊥) → IsAt subject old at → IsFree at → SameHead old new → new.current ≡ old.current → new.proved.items ≡ old.proved.items ++ k ∷ []
+    → ((p : Pattern) → slice_get subject.file.patterns k ≡ Some p → tree ≡ search_for subject.claim subject.file.automaton p old.orders) → tree.roots ≡ []
+    → (after : Standing) × Begins subject at k after × IsAt subject new after
+begins_none subject old new at k tree exists fresh is free same current proved search none =
+    let found = pattern_exists subject k exists in
+    let after = record at { begun = k ∷ at.begun; pending = all_starts subject.file.automaton } in
+    let head = head_kept old new at same (head_of subject old at (sym is.waiting ∙ free.none) is) in
+    let starts : Begins subject at k after = record { free = free; exists = exists; new = λ before. fresh (subst (In k) is.begun before); leads = refl } in
+    let empty = sym (same_roots subject.claim subject.file.automaton found.0 old.orders) ∙ sym (ap (λ (q : Search). q.roots) (search found.0 found.1)) ∙ none in (
+      after,
+      starts,
+      record {
+        version = head.version;
+        pairs = head.pairs;
+        waiting = head.waiting;
+        may = λ pair some. absurd (not_waiting at.waiting pair head.none some);
+        begun = ap (λ ns. k ∷ ns) is.begun ∙ sym (reverse-append old.proved.items (k ∷ [])) ∙ ap reverse (sym proved);
+        place = inl (record { current = current ∙ (free_back subject old at is free).nowhere; left = empty });
+      },
+    )

@@ -1,13 +1,13 @@
 -- A fault that lasts
 use Rattle.std.proofs.Common.{◌∙◌, ℕ, List, [], ◌∷◌, ◌++◌, inl, inr, ap, append_assoc}
-use Rattle.ta_automaton.specs.declared.file.File.{File}
 use Rattle.ta_cert.specs.declared.fault.CertFault.{CertFault}
 use Rattle.ta_cert.specs.declared.fault.CertFault.TheVariants as fault
 use Rattle.ta_cert.specs.declared.line.Line.{Line}
 use Rattle.ta_cert.specs.Lines.{lines_text}
 use Rattle.ta_cert.specs.Streams.{AreNoLine, IsMalformed, IsTrailing}
-use Rattle.ta_check.specs.Certificate.{Certificate}
-use Rattle.ta_check.specs.Faults.{IsLasting, LastingFaultsLast, LineAtFault}
+use Rattle.ta_check.specs.Subjects.{Subject}
+use Rattle.ta_check.specs.Certificate.{CertificateFor}
+use Rattle.ta_check.specs.Faults.{IsLastingFor, LastingFaultsLast, LineAtFault}
 use Rattle.ta_check.proofs.Refusing.{no_certificate}
 
 -- bytes that are no line are none in a longer text
@@ -38,8 +38,8 @@ trailing_more text more n t = record {
   place = t.place;
 }
 
-line_more : (file : File) (text more : List ℕ) (f : CertFault) → LineAtFault file text f → LineAtFault file (text ++ more) f
-line_more file text more f e = record {
+line_more : (subject : Subject) (text more : List ℕ) (f : CertFault) → LineAtFault subject text f → LineAtFault subject (text ++ more) f
+line_more subject text more f e = record {
   ls = e.ls;
   line = e.line;
   after = e.after ++ more;
@@ -52,11 +52,11 @@ line_more file text more f e = record {
 
 pub lasting_faults_last : LastingFaultsLast
 unfolding malformed_more trailing_more
-lasting_faults_last file text more (fault.Truncated n) h = absurd h
-lasting_faults_last file text more (fault.Line n) h = elim h [ inl line ↦ inl (line_more file text more (fault.Line n) line) | inr own ↦ inr (malformed_more text more n own.0, own.1) ]
-lasting_faults_last file text more (fault.Trailing n) h = elim h [ inl line ↦ inl (line_more file text more (fault.Trailing n) line) | inr own ↦ inr (trailing_more text more n own.0, own.1) ]
-lasting_faults_last file text more f h = elim h [ inl line ↦ inl (line_more file text more f line) | inr own ↦ absurd own ]
+lasting_faults_last subject text more (fault.Truncated n) h = absurd h
+lasting_faults_last subject text more (fault.Line n) h = elim h [ inl line ↦ inl (line_more subject text more (fault.Line n) line) | inr own ↦ inr (malformed_more text more n own.0, own.1) ]
+lasting_faults_last subject text more (fault.Trailing n) h = elim h [ inl line ↦ inl (line_more subject text more (fault.Trailing n) line) | inr own ↦ inr (trailing_more text more n own.0, own.1) ]
+lasting_faults_last subject text more f h = elim h [ inl line ↦ inl (line_more subject text more f line) | inr own ↦ absurd own ]
 
 -- no text that goes on behind a lasting fault is a certificate
-pub no_longer_certificate : (file : File) (text : List ℕ) (f : CertFault) → IsLasting file text f → (more numbers : List ℕ) → ¬ Certificate file (text ++ more) numbers
-no_longer_certificate file text f h more = no_certificate file (text ++ more) f (lasting_faults_last file text more f h)
+pub no_longer_certificate : (subject : Subject) (text : List ℕ) (f : CertFault) → IsLastingFor subject text f → (more numbers : List ℕ) → ¬ CertificateFor subject (text ++ more) numbers
+no_longer_certificate subject text f h more = no_certificate subject (text ++ more) f (lasting_faults_last subject text more f h)

@@ -20,3 +20,4 @@ mod JudgingNodes
 mod JudgingProofs
 mod JudgingFields
 mod JudgingHeads
+pub mod OwnPatterns

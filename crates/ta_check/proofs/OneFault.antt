@@ -1,51 +1,51 @@
 -- Two first faults of a text are one
 use Rattle.std.proofs.Common.{◌≡◌, ℕ, List, ◌∷◌, ◌++◌, length, inl, inr, sym, ap, subst, ◌∙◌}
-use Rattle.ta_automaton.specs.declared.file.File.{File}
 use Rattle.ta_cert.specs.declared.fault.CertFault.{CertFault}
 use Rattle.ta_cert.specs.declared.fault.CertFault.TheVariants as fault
 use Rattle.ta_cert.specs.Lines.{line_text}
 use Rattle.ta_cert.specs.Streams.{line_number}
 use Rattle.ta_cert.proofs.Unique.{reads_unique, reads_malformed, reads_trailing, malformed_trailing, malformed_place, trailing_place}
+use Rattle.ta_check.specs.Subjects.{Subject}
 use Rattle.ta_check.specs.Lines.{at_first, LeadThrough}
-use Rattle.ta_check.specs.Faults.{IsAtFault, LineAtFault, TextAtFault, IsFirstFault}
+use Rattle.ta_check.specs.Faults.{IsAtFault, LineAtFault, TextAtFault, IsFirstFaultFor}
 use Rattle.ta_check.proofs.Following.{leads_through_once}
 use Rattle.ta_check.proofs.Stopping.{stops_once, line_stops, line_at_front, text_breaks, line_or_text}
 use Rattle.ta_check.proofs.Reasons.{known_through, at_fault_once}
 
 -- the first line at fault is one line with one fault
-lines_once : (file : File) (text : List ℕ) (f g : CertFault) → LineAtFault file text f → LineAtFault file text g → f ≡ g
-lines_once file text f g d e =
-    let same = stops_once file text d.ls e.ls (line_text d.line ++ (10 ∷ d.after)) (line_text e.line ++ (10 ∷ e.after)) (line_stops file text f d) (line_stops file text g e) in
+lines_once : (subject : Subject) (text : List ℕ) (f g : CertFault) → LineAtFault subject text f → LineAtFault subject text g → f ≡ g
+lines_once subject text f g d e =
+    let same = stops_once subject text d.ls e.ls (line_text d.line ++ (10 ∷ d.after)) (line_text e.line ++ (10 ∷ e.after)) (line_stops subject text f d) (line_stops subject text g e) in
     let line : d.line ≡ e.line = line_at_front d.ls e.ls d.line e.line d.after e.after d.legal e.legal same.1 in
-    let standing : d.standing ≡ e.standing = leads_through_once file at_first e.ls d.standing e.standing (subst (λ ls. LeadThrough file at_first ls d.standing) same.0 d.leads) e.leads in
+    let standing : d.standing ≡ e.standing = leads_through_once subject at_first e.ls d.standing e.standing (subst (λ ls. LeadThrough subject at_first ls d.standing) same.0 d.leads) e.leads in
     let number : line_number (length d.ls) ≡ line_number (length e.ls) = ap (λ ls. line_number (length ls)) same.0 in
-    let there : IsAtFault file e.standing (line_number (length d.ls)) d.line f = subst (λ s. IsAtFault file s (line_number (length d.ls)) d.line f) standing d.at_fault in
-    let numbered : IsAtFault file e.standing (line_number (length e.ls)) d.line f = subst (λ n. IsAtFault file e.standing n d.line f) number there in
-    let moved : IsAtFault file e.standing (line_number (length e.ls)) e.line f = subst (λ l. IsAtFault file e.standing (line_number (length e.ls)) l f) line numbered in
-    at_fault_once file e.standing (line_number (length e.ls)) e.line f g (known_through file at_first e.ls e.standing (λ k none. absurd none) e.leads) moved e.at_fault
+    let there : IsAtFault subject e.standing (line_number (length d.ls)) d.line f = subst (λ s. IsAtFault subject s (line_number (length d.ls)) d.line f) standing d.at_fault in
+    let numbered : IsAtFault subject e.standing (line_number (length e.ls)) d.line f = subst (λ n. IsAtFault subject e.standing n d.line f) number there in
+    let moved : IsAtFault subject e.standing (line_number (length e.ls)) e.line f = subst (λ l. IsAtFault subject e.standing (line_number (length e.ls)) l f) line numbered in
+    at_fault_once subject e.standing (line_number (length e.ls)) e.line f g (known_through subject at_first e.ls e.standing (λ k none. absurd none) e.leads) moved e.at_fault
 
 -- a text has one fault of its own
-texts_once : (file : File) (text : List ℕ) (f g : CertFault) → TextAtFault file text f → TextAtFault file text g → f ≡ g
-texts_once file text (fault.Line n) (fault.Line k) d e = ap fault.Line (malformed_place text n k d.0 e.0)
-texts_once file text (fault.Line n) (fault.Trailing k) d e = absurd (malformed_trailing text n k d.0 e.0)
-texts_once file text (fault.Line n) (fault.Truncated k) d e = absurd (reads_malformed text e.0.ls e.0.rest n e.0.reads d.0)
-texts_once file text (fault.Line n) _ d e = absurd e
-texts_once file text (fault.Trailing n) (fault.Line k) d e = absurd (malformed_trailing text k n e.0 d.0)
-texts_once file text (fault.Trailing n) (fault.Trailing k) d e = ap fault.Trailing (trailing_place text n k d.0 e.0)
-texts_once file text (fault.Trailing n) (fault.Truncated k) d e = absurd (reads_trailing text e.0.ls e.0.rest n e.0.reads d.0)
-texts_once file text (fault.Trailing n) _ d e = absurd e
-texts_once file text (fault.Truncated n) (fault.Line k) d e = absurd (reads_malformed text d.0.ls d.0.rest k d.0.reads e.0)
-texts_once file text (fault.Truncated n) (fault.Trailing k) d e = absurd (reads_trailing text d.0.ls d.0.rest k d.0.reads e.0)
-texts_once file text (fault.Truncated n) (fault.Truncated k) d e =
+texts_once : (subject : Subject) (text : List ℕ) (f g : CertFault) → TextAtFault subject text f → TextAtFault subject text g → f ≡ g
+texts_once subject text (fault.Line n) (fault.Line k) d e = ap fault.Line (malformed_place text n k d.0 e.0)
+texts_once subject text (fault.Line n) (fault.Trailing k) d e = absurd (malformed_trailing text n k d.0 e.0)
+texts_once subject text (fault.Line n) (fault.Truncated k) d e = absurd (reads_malformed text e.0.ls e.0.rest n e.0.reads d.0)
+texts_once subject text (fault.Line n) _ d e = absurd e
+texts_once subject text (fault.Trailing n) (fault.Line k) d e = absurd (malformed_trailing text k n e.0 d.0)
+texts_once subject text (fault.Trailing n) (fault.Trailing k) d e = ap fault.Trailing (trailing_place text n k d.0 e.0)
+texts_once subject text (fault.Trailing n) (fault.Truncated k) d e = absurd (reads_trailing text e.0.ls e.0.rest n e.0.reads d.0)
+texts_once subject text (fault.Trailing n) _ d e = absurd e
+texts_once subject text (fault.Truncated n) (fault.Line k) d e = absurd (reads_malformed text d.0.ls d.0.rest k d.0.reads e.0)
+texts_once subject text (fault.Truncated n) (fault.Trailing k) d e = absurd (reads_trailing text d.0.ls d.0.rest k d.0.reads e.0)
+texts_once subject text (fault.Truncated n) (fault.Truncated k) d e =
     let t = d.0 in
     let u = e.0 in
     ap fault.Truncated (t.place ∙ ap (λ ls. line_number (length ls)) (reads_unique text t.ls u.ls t.rest u.rest t.reads u.reads).0 ∙ sym u.place)
-texts_once file text (fault.Truncated n) _ d e = absurd e
-texts_once file text _ g d e = absurd d
+texts_once subject text (fault.Truncated n) _ d e = absurd e
+texts_once subject text _ g d e = absurd d
 
 -- two first faults are one
-pub one_fault : (file : File) (text : List ℕ) (f g : CertFault) → IsFirstFault file text f → IsFirstFault file text g → f ≡ g
-one_fault file text f g (inl d) (inl e) = lines_once file text f g d e
-one_fault file text f g (inl d) (inr e) = absurd (line_or_text file text f d (text_breaks file text g e))
-one_fault file text f g (inr d) (inl e) = absurd (line_or_text file text g e (text_breaks file text f d))
-one_fault file text f g (inr d) (inr e) = texts_once file text f g d e
+pub one_fault : (subject : Subject) (text : List ℕ) (f g : CertFault) → IsFirstFaultFor subject text f → IsFirstFaultFor subject text g → f ≡ g
+one_fault subject text f g (inl d) (inl e) = lines_once subject text f g d e
+one_fault subject text f g (inl d) (inr e) = absurd (line_or_text subject text f d (text_breaks subject text g e))
+one_fault subject text f g (inr d) (inl e) = absurd (line_or_text subject text g e (text_breaks subject text f d))
+one_fault subject text f g (inr d) (inr e) = texts_once subject text f g d e

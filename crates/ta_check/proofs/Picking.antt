@@ -1,35 +1,29 @@
 -- the rows that a leaf names, judged apart from the others
-use Rattle.std.proofs.Common.{◌≡◌, ℕ, zero, suc, ◌+◌, ◌<◌, ◌≤◌, ◌^◌, ℤ, pos, ◌+ℤ◌, ◌*ℤ◌, ◌≤ℤ◌, ◌<ℤ◌, cond, nat_lt, List, [], ◌∷◌, length, reverse, slice_get, Option, Some, refl, sym, ap, subst, ◌∙◌, arith}
+use Rattle.std.proofs.Common.{◌≡◌, ℕ, zero, suc, ◌+◌, ◌<◌, ◌≤◌, ◌^◌, ℤ, pos, ◌+ℤ◌, ◌*ℤ◌, ◌≤ℤ◌, ◌<ℤ◌, cond, nat_lt, List, [], ◌∷◌, ◌++◌, length, map, reverse, slice_get, Option, Some, refl, sym, ap, subst, ◌∙◌, arith}
 use Rattle.ta_linear.specs.Numbers.{InRange}
 use Rattle.ta_linear.specs.Sums.{StaysInRange}
 use Rattle.ta_linear.specs.Leaf.{weighted, AreMultipliers, LeafOf, coefficient_in, constant_in}
 use Rattle.ta_linear.specs.declared.row.Row.{Row}
 use Rattle.ta_linear.specs.declared.row.System.{System}
 use Rattle.ta_cert.specs.Lines.{ArePairs}
-use Rattle.ta_automaton.specs.declared.automaton.Automaton.{Automaton}
-use Rattle.ta_automaton.specs.declared.file.File.{File}
-use Rattle.ta_automaton.specs.declared.pattern.Pattern.{Pattern}
-use Rattle.ta_encode.specs.System.{LinearRow, system_rows}
-use Rattle.ta_encode.specs.Code.{RowOf, RowsOf, SystemOf}
-use Rattle.ta_encode.specs.Named.{row_numbered, rows_named, number_at, AreThere, FirstAbsent}
-use Rattle.ta_encode.specs.InPreorder.{Pending}
+use Rattle.ta_encode.specs.System.{LinearRow, bound_row}
+use Rattle.ta_encode.specs.Code.{RowOf, RowsOf, SystemAt}
+use Rattle.ta_encode.specs.Named.{row_numbered, rows_named, number_at, AreThere, FirstAbsent, Names}
+use Rattle.ta_encode.specs.declared.meaning.Bound.{Bound}
+use Rattle.ta_encode.specs.declared.named.Named.TheVariants.{Rows, Absent}
+use Rattle.ta_encode.specs.Search.{Pending, Search, rows_of}
 use Rattle.ta_encode.specs.Lines.{BoundsWithin}
 use Rattle.ta_encode.proofs.CodeRows.{rows_count}
-use Rattle.ta_encode.proofs.Drafts.{meanings_few}
 use Rattle.ta_encode.proofs.Whole.{whole_system}
-use Rattle.ta_words.proofs.Counts.{legal_length}
-use Rattle.ta_words.proofs.Lists.{events_named}
 use Rattle.ta_cursor.specs.declared.cursor.Cursor.{Cursor}
-use Rattle.ta_words.specs.Words.{Legal}
-use Rattle.ta_encode.specs.Unknowns.{meanings}
-use Rattle.ta_encode.specs.PatternSearch.{pattern_search}
+use Rattle.ta_cursor.specs.Cursors.{IsWord, here}
+use Rattle.ta_cursor.specs.Range.{IsJudged}
 use Rattle.ta_farkas.specs.Columns.{part_in, column_sum, ColumnStays, CheckStays}
 use Rattle.ta_farkas.specs.Faults.{row_at, FirstMissing, FineBefore, IsFirstFault}
 use Rattle.ta_farkas.specs.declared.LeafFault.{LeafFault}
 use Rattle.ta_farkas.specs.declared.LeafFault.TheVariants.{RowNumber, Overflow, Positive, NotNegative}
-use Rattle.ta_cursor.specs.Range.{Judged}
 use Rattle.ta_check.specs.Faults.{FirstLeafFault}
-use Rattle.ta_check.specs.Inside.Leaves.{renumbered}
+use Rattle.ta_check.specs.Inside.Leaves.{WithoutBounds, renumbered}
 use Rattle.ta_check.proofs.Leaves.{judged}
 
 -- one list names rows of a system and another those of another, and what a function takes of them is the same one by one
@@ -209,23 +203,30 @@ picked_leaf s z ts are p leaf = record {
 picked_check : (s z : System) (ts : List (ℕ × ℤ)) → Picked s z ts → CheckStays z (renumbered 0 ts) → CheckStays s ts
 picked_check s z ts p stays = λ column most. picked_stays s z ts column p (stays column (subst (λ n. column ≤ n) (sym p.unknowns) most))
 
--- a leaf that is judged over the rows that it names is judged over all
-pub judged_picked : (a : Automaton) (p : Pattern) (w : Pending) (s z : System) (ts : List (ℕ × ℤ)) → SystemOf a p w.start w.past w.bounds s → ArePairs 0 ts → z.unknowns ≡ s.unknowns → RowsOf (rows_named (system_rows a p w.start w.past w.bounds) ts) z.rows → AreThere (length (system_rows a p w.start w.past w.bounds)) ts → LeafOf z (renumbered 0 ts) → CheckStays z (renumbered 0 ts) → Judged (system_rows a p w.start w.past w.bounds) ts
-judged_picked a p w s z ts is are unknowns named there leaf stays =
-    let q = picked (system_rows a p w.start w.past w.bounds) s z ts is.rows unknowns named there in
-    judged (pattern_search a p []) w s ts is (picked_leaf s z ts are q leaf) (picked_check s z ts q stays)
+-- a word, a system of it, and the system of the rows of the word that multipliers name
+pub record NamedRows (search : Search) (w : Pending) (ts : List (ℕ × ℤ)) (z : System) : Type 0 where
+  pub system : System
+  pub is : SystemAt search w system
+  pub unknowns : z.unknowns ≡ system.unknowns
+  pub named : RowsOf (rows_named (rows_of search w) ts) z.rows
+  pub there : AreThere (length (rows_of search w)) ts
 
-pub fault_picked : (a : Automaton) (p : Pattern) (w : Pending) (s z : System) (ts : List (ℕ × ℤ)) (f : LeafFault) → SystemOf a p w.start w.past w.bounds s → z.unknowns ≡ s.unknowns → RowsOf (rows_named (system_rows a p w.start w.past w.bounds) ts) z.rows → AreThere (length (system_rows a p w.start w.past w.bounds)) ts → IsFirstFault z (renumbered 0 ts) f → FirstLeafFault (pattern_search a p []) w ts f
-fault_picked a p w s z ts f is unknowns named there first = record {
-  system = s;
-  is = is;
-  first = picked_fault s z ts f (picked (system_rows a p w.start w.past w.bounds) s z ts is.rows unknowns named there) first;
-}
+picked_named : (search : Search) (w : Pending) (ts : List (ℕ × ℤ)) (z : System) (n : NamedRows search w ts z) → Picked n.system z ts
+picked_named search w ts z n = picked (rows_of search w) n.system z ts n.is.rows n.unknowns n.named n.there
+
+-- a leaf that is judged over the rows that it names is judged over all
+pub judged_picked : (search : Search) (w : Pending) (ts : List (ℕ × ℤ)) (z : System) → NamedRows search w ts z → ArePairs 0 ts → LeafOf z (renumbered 0 ts) → CheckStays z (renumbered 0 ts) → IsJudged search w ts
+judged_picked search w ts z n are leaf stays =
+    let q = picked_named search w ts z n in
+    judged search w n.system ts n.is (picked_leaf n.system z ts are q leaf) (picked_check n.system z ts q stays)
+
+pub fault_picked : (search : Search) (w : Pending) (ts : List (ℕ × ℤ)) (z : System) (f : LeafFault) → NamedRows search w ts z → IsFirstFault z (renumbered 0 ts) f → FirstLeafFault search w ts f
+fault_picked search w ts z f n first = record { system = n.system; is = n.is; first = picked_fault n.system z ts f (picked_named search w ts z n) first }
 
 -- the first number that no row has
-pub fault_absent : (a : Automaton) (p : Pattern) (w : Pending) (s : System) (ts : List (ℕ × ℤ)) (row : ℕ) → SystemOf a p w.start w.past w.bounds s → FirstAbsent (length (system_rows a p w.start w.past w.bounds)) ts row → FirstLeafFault (pattern_search a p []) w ts (RowNumber row)
-fault_absent a p w s ts row is first =
-    let count = rows_count (system_rows a p w.start w.past w.bounds) s.rows is.rows in
+pub fault_absent : (search : Search) (w : Pending) (s : System) (ts : List (ℕ × ℤ)) (row : ℕ) → SystemAt search w s → FirstAbsent (length (rows_of search w)) ts row → FirstLeafFault search w ts (RowNumber row)
+fault_absent search w s ts row is first =
+    let count = rows_count (rows_of search w) s.rows is.rows in
     record {
       system = s;
       is = is;
@@ -239,11 +240,19 @@ fault_absent a p w s ts row is first =
     }
 
 -- the cursor's word has a system with its bounds
-pub whole_here : (file : File) (s : Cursor) (number : ℕ) (p : Pattern) (z : System) → slice_get file.patterns number ≡ Some p → Legal file.automaton p s.start_mask (reverse s.word) → BoundsWithin (length (meanings file.automaton p s.start_mask (reverse s.word))) s.bounds.items → SystemOf file.automaton p s.start_mask (reverse s.word) [] z → (w : System) × SystemOf file.automaton p s.start_mask (reverse s.word) s.bounds.items w
-whole_here file s number p z named legal bounds is =
-    let a = file.automaton in
-    let past = reverse s.word in
-    let short : length past ≤ 30 = legal_length a p s.start_mask past (events_named file number p named).limit legal in
-    let few = meanings_few a p s.start_mask past in
-    let count = is.unknowns in
-    whole_system a p s.start_mask past s.bounds.items z (omega arith) is (subst (λ n. BoundsWithin n s.bounds.items) (sym is.unknowns) bounds)
+pub whole_here : (search : Search) (c : Cursor) (z : System) → IsWord search (here c) → z.unknowns ≤ 1000000 → WithoutBounds search (here c) z → (s : System) × SystemAt search (here c) s
+whole_here search c z word small is = whole_system search c.start_mask (reverse c.word) c.bounds.items z (omega arith) is (subst (λ n. BoundsWithin n c.bounds.items) (sym is.unknowns) word.bounds)
+
+-- the rows that were named are those of the cursor's word
+pub named_here : (search : Search) (c : Cursor) (z rows : System) (bounds : List Bound) (ts : List (ℕ × ℤ)) → IsWord search (here c) → z.unknowns ≤ 1000000 → WithoutBounds search (here c) z → bounds ≡ c.bounds.items
+    → Names (search.rows c.start_mask (reverse c.word) ++ map bound_row bounds) z.unknowns ts (Rows rows) → NamedRows search (here c) ts rows
+named_here search c z rows bounds ts word small is same names =
+    let whole = whole_here search c z word small is in
+    let told = subst (λ (bs : List Bound). Names (search.rows c.start_mask (reverse c.word) ++ map bound_row bs) z.unknowns ts (Rows rows)) same names in
+    record { system = whole.0; is = whole.1; unknowns = told.0 ∙ is.unknowns ∙ sym whole.1.unknowns; named = told.1; there = told.2 }
+
+pub absent_here : (search : Search) (c : Cursor) (z : System) (bounds : List Bound) (ts : List (ℕ × ℤ)) (row : ℕ) → IsWord search (here c) → z.unknowns ≤ 1000000 → WithoutBounds search (here c) z → bounds ≡ c.bounds.items
+    → Names (search.rows c.start_mask (reverse c.word) ++ map bound_row bounds) z.unknowns ts (Absent row) → FirstLeafFault search (here c) ts (RowNumber row)
+absent_here search c z bounds ts row word small is same names =
+    let whole = whole_here search c z word small is in
+    fault_absent search (here c) whole.0 ts row whole.1 (subst (λ (bs : List Bound). FirstAbsent (length (search.rows c.start_mask (reverse c.word) ++ map bound_row bs)) ts row) same names)

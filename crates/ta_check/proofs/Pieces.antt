@@ -1,7 +1,6 @@
 -- a certificate that is judged piece by piece
 use Rattle.std.proofs.Common.{ℕ, ◌<◌, ◌≤◌, ◌≡◌, ◌⊎◌, List, [], ◌∷◌, ◌++◌, length, take, drop, reverse, Option, Some, None, Result, Ok, Err, refl, sym, ap, subst, ◌∙◌, inl, inr, append_assoc, append-nil, take-append-drop, arith}
 use Rattle.std.proofs.lemmas.List.{reverse-reverse}
-use Rattle.ta_automaton.specs.declared.file.File.{File}
 use Rattle.ta_cert.specs.Lines.{IsLine, lines_text}
 use Rattle.ta_cert.specs.Streams.{IsComplete, Reads, StandsAt, StandsFor as ReaderStandsFor, IsRefusedBehind, FedLine, Finished as ReaderFinished}
 use Rattle.ta_cert.specs.declared.line.Line.{Line}
@@ -11,18 +10,19 @@ use Rattle.ta_cert.specs.declared.reader.Reader.{Reader}
 use Rattle.ta_cert.specs.declared.reader.Ended.{Ended}
 use Rattle.ta_cert.proofs.Standing.{legal_last}
 use Rattle.ta_cert.proofs.Unique.{reads_unique}
+use Rattle.ta_check.specs.Subjects.{Subject}
 use Rattle.ta_check.specs.declared.position.Position.{Position}
-use Rattle.ta_check.specs.Certificate.{Certificate}
+use Rattle.ta_check.specs.Certificate.{CertificateFor}
 use Rattle.ta_check.specs.Checkers.{Stand}
-use Rattle.ta_check.specs.Faults.{IsAtFault, LineAtFault, IsFirstFault, IsLasting}
+use Rattle.ta_check.specs.Faults.{IsAtFault, LineAtFault, IsFirstFaultFor, IsLastingFor}
 use Rattle.ta_check.specs.Inside.Pieces.{NextTaken, StandSomewhere, TakenTo}
 use Rattle.ta_check.specs.Lines.{Standing, at_first, Leads, LeadThrough, MayFollow}
 use Rattle.ta_check.specs.Positions.{IsAt, Taken}
 use Rattle.ta_check.proofs.Accepting.{certificate_of}
 
 -- before the first piece
-pub stands_first : (file : File) (reader : Reader) (position : Position) → ReaderStandsFor reader [] → IsAt file position at_first → Stand file reader position []
-stands_first file reader position (ls, at) place =
+pub stands_first : (subject : Subject) (reader : Reader) (position : Position) → ReaderStandsFor reader [] → IsAt subject position at_first → Stand subject reader position []
+stands_first subject reader position (ls, at) place =
     let empty : Reads [] [] [] = record { whole = refl; legal = tt; unbroken = tt; short = omega arith; ended = λ end. refl } in
     let none = (reads_unique [] ls [] reader.line [] at.reads empty).0 in
     record {
@@ -34,53 +34,53 @@ stands_first file reader position (ls, at) place =
     }
 
 -- one line more
-leads_push : (file : File) (s after next : Standing) (ls : List Line) (l : Line) → LeadThrough file s ls after → Leads file after l next → LeadThrough file s (ls ++ (l ∷ [])) next
-leads_push file s after next [] l leads more = (next, subst (λ t. Leads file t l next) leads more, refl)
-leads_push file s after next (m ∷ ls) l (between, first, leads) more = (between, first, leads_push file between after next ls l leads more)
+leads_push : (subject : Subject) (s after next : Standing) (ls : List Line) (l : Line) → LeadThrough subject s ls after → Leads subject after l next → LeadThrough subject s (ls ++ (l ∷ [])) next
+leads_push subject s after next [] l leads more = (next, subst (λ t. Leads subject t l next) leads more, refl)
+leads_push subject s after next (m ∷ ls) l (between, first, leads) more = (between, first, leads_push subject between after next ls l leads more)
 
 -- a line that is none, behind lines that may follow each other
-lasting_text : (file : File) (ls : List Line) (text : List ℕ) (e : CertFault) → MayFollow file ls → IsRefusedBehind ls text e → (e ≡ fault.Memory) ⊎ IsLasting file text e
-lasting_text file ls text (fault.Line n) may (m, same) = inr (inr (m, subst (MayFollow file) (sym same) may))
-lasting_text file ls text (fault.Trailing n) may (t, same) = inr (inr (t, subst (MayFollow file) (sym same) may))
-lasting_text file ls text fault.Memory may r = inl refl
-lasting_text file ls text _ may r = absurd r
+lasting_text : (subject : Subject) (ls : List Line) (text : List ℕ) (e : CertFault) → MayFollow subject ls → IsRefusedBehind ls text e → (e ≡ fault.Memory) ⊎ IsLastingFor subject text e
+lasting_text subject ls text (fault.Line n) may (m, same) = inr (inr (m, subst (MayFollow subject) (sym same) may))
+lasting_text subject ls text (fault.Trailing n) may (t, same) = inr (inr (t, subst (MayFollow subject) (sym same) may))
+lasting_text subject ls text fault.Memory may r = inl refl
+lasting_text subject ls text _ may r = absurd r
 
 -- what isn't want of memory is told
-next_taken : (file : File) (text bytes : List ℕ) (reader : Reader) (position : Position) (e : CertFault) → (e ≡ fault.Memory) ⊎ IsLasting file (text ++ bytes) e → NextTaken file text bytes reader position (Err e)
-next_taken file text bytes reader position fault.Memory h = tt
-next_taken file text bytes reader position (fault.Line n) h = elim h [ inl memory ↦ absurd (cc) | inr lasting ↦ lasting ]
-next_taken file text bytes reader position (fault.Truncated n) h = elim h [ inl memory ↦ absurd (cc) | inr lasting ↦ lasting ]
-next_taken file text bytes reader position (fault.UnknownPattern n) h = elim h [ inl memory ↦ absurd (cc) | inr lasting ↦ lasting ]
-next_taken file text bytes reader position (fault.Row n row) h = elim h [ inl memory ↦ absurd (cc) | inr lasting ↦ lasting ]
-next_taken file text bytes reader position (fault.Positive n unknown) h = elim h [ inl memory ↦ absurd (cc) | inr lasting ↦ lasting ]
-next_taken file text bytes reader position (fault.NotNegative n) h = elim h [ inl memory ↦ absurd (cc) | inr lasting ↦ lasting ]
-next_taken file text bytes reader position (fault.Overflow n column) h = elim h [ inl memory ↦ absurd (cc) | inr lasting ↦ lasting ]
-next_taken file text bytes reader position (fault.ExtendComplete n) h = elim h [ inl memory ↦ absurd (cc) | inr lasting ↦ lasting ]
-next_taken file text bytes reader position (fault.SplitVariable n) h = elim h [ inl memory ↦ absurd (cc) | inr lasting ↦ lasting ]
-next_taken file text bytes reader position (fault.Trailing n) h = elim h [ inl memory ↦ absurd (cc) | inr lasting ↦ lasting ]
-next_taken file text bytes reader position (fault.RepeatedPattern n) h = elim h [ inl memory ↦ absurd (cc) | inr lasting ↦ lasting ]
-next_taken file text bytes reader position (fault.Pair n) h = elim h [ inl memory ↦ absurd (cc) | inr lasting ↦ lasting ]
-next_taken file text bytes reader position fault.Failed h = elim h [ inl memory ↦ absurd (cc) | inr lasting ↦ lasting ]
+next_taken : (subject : Subject) (text bytes : List ℕ) (reader : Reader) (position : Position) (e : CertFault) → (e ≡ fault.Memory) ⊎ IsLastingFor subject (text ++ bytes) e → NextTaken subject text bytes reader position (Err e)
+next_taken subject text bytes reader position fault.Memory h = tt
+next_taken subject text bytes reader position (fault.Line n) h = elim h [ inl memory ↦ absurd (cc) | inr lasting ↦ lasting ]
+next_taken subject text bytes reader position (fault.Truncated n) h = elim h [ inl memory ↦ absurd (cc) | inr lasting ↦ lasting ]
+next_taken subject text bytes reader position (fault.UnknownPattern n) h = elim h [ inl memory ↦ absurd (cc) | inr lasting ↦ lasting ]
+next_taken subject text bytes reader position (fault.Row n row) h = elim h [ inl memory ↦ absurd (cc) | inr lasting ↦ lasting ]
+next_taken subject text bytes reader position (fault.Positive n unknown) h = elim h [ inl memory ↦ absurd (cc) | inr lasting ↦ lasting ]
+next_taken subject text bytes reader position (fault.NotNegative n) h = elim h [ inl memory ↦ absurd (cc) | inr lasting ↦ lasting ]
+next_taken subject text bytes reader position (fault.Overflow n column) h = elim h [ inl memory ↦ absurd (cc) | inr lasting ↦ lasting ]
+next_taken subject text bytes reader position (fault.ExtendComplete n) h = elim h [ inl memory ↦ absurd (cc) | inr lasting ↦ lasting ]
+next_taken subject text bytes reader position (fault.SplitVariable n) h = elim h [ inl memory ↦ absurd (cc) | inr lasting ↦ lasting ]
+next_taken subject text bytes reader position (fault.Trailing n) h = elim h [ inl memory ↦ absurd (cc) | inr lasting ↦ lasting ]
+next_taken subject text bytes reader position (fault.RepeatedPattern n) h = elim h [ inl memory ↦ absurd (cc) | inr lasting ↦ lasting ]
+next_taken subject text bytes reader position (fault.Pair n) h = elim h [ inl memory ↦ absurd (cc) | inr lasting ↦ lasting ]
+next_taken subject text bytes reader position fault.Failed h = elim h [ inl memory ↦ absurd (cc) | inr lasting ↦ lasting ]
 
 -- what a reader answers to the bytes of a piece up to its first line feed, wherever it stands
 abbrev pub Feeds : Reader → List ℕ → Reader → Result (Option Ended) CertFault → Type 0
 Feeds reader piece new answer = (text : List ℕ) (ls : List Line) → StandsAt reader text ls → FedLine text ls piece new answer
 
 -- the reader refuses
-pub next_refused : (file : File) (reader new : Reader) (position : Position) (bytes : List ℕ) (e : CertFault) → Feeds reader bytes new (Err e) → (text : List ℕ) → Stand file reader position text → NextTaken file text bytes new position (Err e)
-next_refused file reader new position bytes e feeds text h = next_taken file text bytes new position e (lasting_text file h.ls (text ++ bytes) e (h.at, h.leads) (feeds text h.ls h.read))
+pub next_refused : (subject : Subject) (reader new : Reader) (position : Position) (bytes : List ℕ) (e : CertFault) → Feeds reader bytes new (Err e) → (text : List ℕ) → Stand subject reader position text → NextTaken subject text bytes new position (Err e)
+next_refused subject reader new position bytes e feeds text h = next_taken subject text bytes new position e (lasting_text subject h.ls (text ++ bytes) e (h.at, h.leads) (feeds text h.ls h.read))
 
 -- the bytes end no line
-pub next_none : (file : File) (reader new : Reader) (position : Position) (bytes : List ℕ) → Feeds reader bytes new (Ok None) → (text : List ℕ) → Stand file reader position text → Stand file new position (text ++ bytes)
-next_none file reader new position bytes feeds text h = record { ls = h.ls; at = h.at; read = feeds text h.ls h.read; leads = h.leads; place = h.place }
+pub next_none : (subject : Subject) (reader new : Reader) (position : Position) (bytes : List ℕ) → Feeds reader bytes new (Ok None) → (text : List ℕ) → Stand subject reader position text → Stand subject new position (text ++ bytes)
+next_none subject reader new position bytes feeds text h = record { ls = h.ls; at = h.at; read = feeds text h.ls h.read; leads = h.leads; place = h.place }
 
 -- a line that ended has its form
-pub line_is : (file : File) (reader new : Reader) (position : Position) (bytes : List ℕ) (found : Ended) → StandSomewhere file reader position → Feeds reader bytes new (Ok (Some found)) → IsLine found.line
-line_is file reader new position bytes found (text, h) feeds = (legal_last h.ls found.line (feeds text h.ls h.read).stands.reads.legal).0
+pub line_is : (subject : Subject) (reader new : Reader) (position : Position) (bytes : List ℕ) (found : Ended) → StandSomewhere subject reader position → Feeds reader bytes new (Ok (Some found)) → IsLine found.line
+line_is subject reader new position bytes found (text, h) feeds = (legal_last h.ls found.line (feeds text h.ls h.read).stands.reads.legal).0
 
 -- a line that may follow
-pub next_some : (file : File) (reader new : Reader) (position after : Position) (bytes : List ℕ) (found : Ended) → Feeds reader bytes new (Ok (Some found)) → ((at : Standing) → IsAt file position at → Taken file at found.number found.line after (Ok tt)) → (text : List ℕ) → Stand file reader position text → NextTaken file text bytes new after (Ok (Some found.taken))
-next_some file reader new position after bytes found feeds takes text h =
+pub next_some : (subject : Subject) (reader new : Reader) (position after : Position) (bytes : List ℕ) (found : Ended) → Feeds reader bytes new (Ok (Some found)) → ((at : Standing) → IsAt subject position at → Taken subject at found.number found.line after (Ok tt)) → (text : List ℕ) → Stand subject reader position text → NextTaken subject text bytes new after (Ok (Some found.taken))
+next_some subject reader new position after bytes found feeds takes text h =
     let ends = feeds text h.ls h.read in
     let gone = takes h.at h.place in (
       ends.some,
@@ -89,32 +89,32 @@ next_some file reader new position after bytes found feeds takes text h =
         ls = h.ls ++ found.line ∷ [];
         at = gone.0;
         read = ends.stands;
-        leads = leads_push file at_first h.at gone.0 h.ls found.line h.leads gone.1;
+        leads = leads_push subject at_first h.at gone.0 h.ls found.line h.leads gone.1;
         place = gone.2;
       },
     )
 
 -- why a line can't follow
-taken_fault : (file : File) (at : Standing) (number : ℕ) (l : Line) (moved : Position) (e : CertFault) → Taken file at number l moved (Err e) → (e ≡ fault.Memory) ⊎ IsAtFault file at number l e
-taken_fault file at number l moved fault.Memory taken = inl refl
-taken_fault file at number l moved _ taken = inr taken
+taken_fault : (subject : Subject) (at : Standing) (number : ℕ) (l : Line) (moved : Position) (e : CertFault) → Taken subject at number l moved (Err e) → (e ≡ fault.Memory) ⊎ IsAtFault subject at number l e
+taken_fault subject at number l moved fault.Memory taken = inl refl
+taken_fault subject at number l moved _ taken = inr taken
 
 -- a line that can't follow is no early end
-lasting_line : (file : File) (text : List ℕ) (e : CertFault) → LineAtFault file text e → IsLasting file text e
-lasting_line file text (fault.Truncated n) h = h.at_fault
-lasting_line file text _ h = inl h
+lasting_line : (subject : Subject) (text : List ℕ) (e : CertFault) → LineAtFault subject text e → IsLastingFor subject text e
+lasting_line subject text (fault.Truncated n) h = h.at_fault
+lasting_line subject text _ h = inl h
 
-pub next_fails : (file : File) (reader new : Reader) (position after : Position) (bytes : List ℕ) (found : Ended) (e : CertFault) → Feeds reader bytes new (Ok (Some found)) → ((at : Standing) → IsAt file position at → Taken file at found.number found.line after (Err e)) → (text : List ℕ) → Stand file reader position text → NextTaken file text bytes new after (Err e)
-next_fails file reader new position after bytes found e feeds takes text h =
+pub next_fails : (subject : Subject) (reader new : Reader) (position after : Position) (bytes : List ℕ) (found : Ended) (e : CertFault) → Feeds reader bytes new (Ok (Some found)) → ((at : Standing) → IsAt subject position at → Taken subject at found.number found.line after (Err e)) → (text : List ℕ) → Stand subject reader position text → NextTaken subject text bytes new after (Err e)
+next_fails subject reader new position after bytes found e feeds takes text h =
     let ends = feeds text h.ls h.read in
     let front = take found.taken bytes in
     let behind = drop found.taken bytes in
     let all : text ++ bytes ≡ (text ++ front) ++ behind = ap (λ xs. text ++ xs) (sym (take-append-drop found.taken bytes)) ∙ sym (append_assoc text front behind) in
     let lines = lines_text (h.ls ++ found.line ∷ []) in
     let whole : text ++ bytes ≡ lines ++ (new.line ++ behind) = all ∙ ap (λ xs. xs ++ behind) ends.stands.reads.whole ∙ append_assoc lines new.line behind in
-    next_taken file text bytes new after e (elim (taken_fault file h.at found.number found.line after e (takes h.at h.place)) [
+    next_taken subject text bytes new after e (elim (taken_fault subject h.at found.number found.line after e (takes h.at h.place)) [
       | inl memory ↦ inl memory
-      | inr at_fault ↦ inr (lasting_line file (text ++ bytes) e (record {
+      | inr at_fault ↦ inr (lasting_line subject (text ++ bytes) e (record {
         ls = h.ls;
         line = found.line;
         after = new.line ++ behind;
@@ -122,62 +122,62 @@ next_fails file reader new position after bytes found e feeds takes text h =
         legal = ends.stands.reads.legal;
         standing = h.at;
         leads = h.leads;
-        at_fault = subst (λ k. IsAtFault file h.at k found.line e) ends.number at_fault;
+        at_fault = subst (λ k. IsAtFault subject h.at k found.line e) ends.number at_fault;
       }))
     ])
 
 -- the front of a piece was taken, and wherever one stood before, one stands behind it
-pub record FrontTaken (file : File) (reader : Reader) (position : Position) (piece rest : List ℕ) (new : Reader) (moved : Position) : Type 0 where
+pub record FrontTaken (subject : Subject) (reader : Reader) (position : Position) (piece rest : List ℕ) (new : Reader) (moved : Position) : Type 0 where
   pub front : List ℕ
   pub split : piece ≡ front ++ rest
-  pub stands : (text : List ℕ) → Stand file reader position text → Stand file new moved (text ++ front)
+  pub stands : (text : List ℕ) → Stand subject reader position text → Stand subject new moved (text ++ front)
 
-pub begins_taking : (file : File) (reader : Reader) (position : Position) (piece : List ℕ) → FrontTaken file reader position piece piece reader position
-begins_taking file reader position piece = record { front = []; split = refl; stands = λ text h. subst (Stand file reader position) (sym (append-nil text)) h }
+pub begins_taking : (subject : Subject) (reader : Reader) (position : Position) (piece : List ℕ) → FrontTaken subject reader position piece piece reader position
+begins_taking subject reader position piece = record { front = []; split = refl; stands = λ text h. subst (Stand subject reader position) (sym (append-nil text)) h }
 
 -- the text with the piece
-whole_is : (file : File) (reader : Reader) (position : Position) (piece rest : List ℕ) (new : Reader) (moved : Position) (so : FrontTaken file reader position piece rest new moved) (text : List ℕ) → (text ++ so.front) ++ rest ≡ text ++ piece
-whole_is file reader position piece rest new moved so text = append_assoc text so.front rest ∙ ap (λ xs. text ++ xs) (sym so.split)
+whole_is : (subject : Subject) (reader : Reader) (position : Position) (piece rest : List ℕ) (new : Reader) (moved : Position) (so : FrontTaken subject reader position piece rest new moved) (text : List ℕ) → (text ++ so.front) ++ rest ≡ text ++ piece
+whole_is subject reader position piece rest new moved so text = append_assoc text so.front rest ∙ ap (λ xs. text ++ xs) (sym so.split)
 
-pub somewhere : (file : File) (reader new : Reader) (position moved : Position) (piece rest : List ℕ) → FrontTaken file reader position piece rest new moved → StandSomewhere file reader position → StandSomewhere file new moved
-somewhere file reader new position moved piece rest so (text, h) = (text ++ so.front, so.stands text h)
+pub somewhere : (subject : Subject) (reader new : Reader) (position moved : Position) (piece rest : List ℕ) → FrontTaken subject reader position piece rest new moved → StandSomewhere subject reader position → StandSomewhere subject new moved
+somewhere subject reader new position moved piece rest so (text, h) = (text ++ so.front, so.stands text h)
 
 -- what is answered to the bytes that are left, wherever one stands
-abbrev pub Goes : File → Reader → Position → List ℕ → Reader → Position → Result (Option ℕ) CertFault → Type 0
-Goes file reader position bytes new moved answer = (text : List ℕ) → Stand file reader position text → NextTaken file text bytes new moved answer
+abbrev pub Goes : Subject → Reader → Position → List ℕ → Reader → Position → Result (Option ℕ) CertFault → Type 0
+Goes subject reader position bytes new moved answer = (text : List ℕ) → Stand subject reader position text → NextTaken subject text bytes new moved answer
 
-pub goes_on : (file : File) (reader new last : Reader) (position moved after : Position) (piece rest behind : List ℕ) (taken : ℕ) → FrontTaken file reader position piece rest new moved → Goes file new moved rest last after (Ok (Some taken)) → behind ≡ drop taken rest → FrontTaken file reader position piece behind last after
-goes_on file reader new last position moved after piece rest behind taken so goes same = record {
+pub goes_on : (subject : Subject) (reader new last : Reader) (position moved after : Position) (piece rest behind : List ℕ) (taken : ℕ) → FrontTaken subject reader position piece rest new moved → Goes subject new moved rest last after (Ok (Some taken)) → behind ≡ drop taken rest → FrontTaken subject reader position piece behind last after
+goes_on subject reader new last position moved after piece rest behind taken so goes same = record {
   front = so.front ++ take taken rest;
   split = so.split ∙ ap (λ xs. so.front ++ xs) (sym (take-append-drop taken rest) ∙ ap (λ xs. take taken rest ++ xs) (sym same)) ∙ sym (append_assoc so.front (take taken rest) behind);
-  stands = λ text h. subst (Stand file last after) (append_assoc text so.front (take taken rest)) (goes (text ++ so.front) (so.stands text h)).2;
+  stands = λ text h. subst (Stand subject last after) (append_assoc text so.front (take taken rest)) (goes (text ++ so.front) (so.stands text h)).2;
 }
 
-pub goes_within : (file : File) (reader new last : Reader) (position moved after : Position) (piece rest : List ℕ) (taken : ℕ) → FrontTaken file reader position piece rest new moved → StandSomewhere file reader position → Goes file new moved rest last after (Ok (Some taken)) → (0 < taken) × (taken ≤ length rest)
-goes_within file reader new last position moved after piece rest taken so (text, h) goes =
+pub goes_within : (subject : Subject) (reader new last : Reader) (position moved after : Position) (piece rest : List ℕ) (taken : ℕ) → FrontTaken subject reader position piece rest new moved → StandSomewhere subject reader position → Goes subject new moved rest last after (Ok (Some taken)) → (0 < taken) × (taken ≤ length rest)
+goes_within subject reader new last position moved after piece rest taken so (text, h) goes =
     let gone = goes (text ++ so.front) (so.stands text h) in
     (gone.0, gone.1)
 
-pub goes_out : (file : File) (reader new last : Reader) (position moved after : Position) (piece rest : List ℕ) → FrontTaken file reader position piece rest new moved → Goes file new moved rest last after (Ok None) → (text : List ℕ) → Stand file reader position text → Stand file last after (text ++ piece)
-goes_out file reader new last position moved after piece rest so goes text h = subst (Stand file last after) (whole_is file reader position piece rest new moved so text) (goes (text ++ so.front) (so.stands text h))
+pub goes_out : (subject : Subject) (reader new last : Reader) (position moved after : Position) (piece rest : List ℕ) → FrontTaken subject reader position piece rest new moved → Goes subject new moved rest last after (Ok None) → (text : List ℕ) → Stand subject reader position text → Stand subject last after (text ++ piece)
+goes_out subject reader new last position moved after piece rest so goes text h = subst (Stand subject last after) (whole_is subject reader position piece rest new moved so text) (goes (text ++ so.front) (so.stands text h))
 
 -- a fault of the bytes that are left
-told_of : (file : File) (text bytes : List ℕ) (reader : Reader) (position : Position) (e : CertFault) → NextTaken file text bytes reader position (Err e) → TakenTo file (text ++ bytes) reader position (Err e)
-told_of file text bytes reader position fault.Memory h = tt
-told_of file text bytes reader position _ h = h
+told_of : (subject : Subject) (text bytes : List ℕ) (reader : Reader) (position : Position) (e : CertFault) → NextTaken subject text bytes reader position (Err e) → TakenTo subject (text ++ bytes) reader position (Err e)
+told_of subject text bytes reader position fault.Memory h = tt
+told_of subject text bytes reader position _ h = h
 
-pub goes_wrong : (file : File) (reader new last : Reader) (position moved after : Position) (piece rest : List ℕ) (e : CertFault) → FrontTaken file reader position piece rest new moved → Goes file new moved rest last after (Err e) → (text : List ℕ) → Stand file reader position text → TakenTo file (text ++ piece) last after (Err e)
-goes_wrong file reader new last position moved after piece rest e so goes text h =
-    subst (λ t. TakenTo file t last after (Err e)) (whole_is file reader position piece rest new moved so text) (told_of file (text ++ so.front) rest last after e (goes (text ++ so.front) (so.stands text h)))
+pub goes_wrong : (subject : Subject) (reader new last : Reader) (position moved after : Position) (piece rest : List ℕ) (e : CertFault) → FrontTaken subject reader position piece rest new moved → Goes subject new moved rest last after (Err e) → (text : List ℕ) → Stand subject reader position text → TakenTo subject (text ++ piece) last after (Err e)
+goes_wrong subject reader new last position moved after piece rest e so goes text h =
+    subst (λ t. TakenTo subject t last after (Err e)) (whole_is subject reader position piece rest new moved so text) (told_of subject (text ++ so.front) rest last after e (goes (text ++ so.front) (so.stands text h)))
 
 -- an early end
-pub end_fails : (file : File) (reader : Reader) (position : Position) (text : List ℕ) (n : ℕ) → Stand file reader position text → ReaderFinished text (Err (fault.Truncated n)) → IsFirstFault file text (fault.Truncated n)
-end_fails file reader position text n h t = inr (t, subst (MayFollow file) (reads_unique text h.ls t.ls reader.line t.rest h.read.reads t.reads).0 (h.at, h.leads))
+pub end_fails : (subject : Subject) (reader : Reader) (position : Position) (text : List ℕ) (n : ℕ) → Stand subject reader position text → ReaderFinished text (Err (fault.Truncated n)) → IsFirstFaultFor subject text (fault.Truncated n)
+end_fails subject reader position text n h t = inr (t, subst (MayFollow subject) (reads_unique text h.ls t.ls reader.line t.rest h.read.reads t.reads).0 (h.at, h.leads))
 
 -- a complete end
-pub end_accepts : (file : File) (reader : Reader) (position : Position) (text : List ℕ) → Stand file reader position text → ReaderFinished text (Ok tt) → Certificate file text position.proved.items
-end_accepts file reader position text h end =
+pub end_accepts : (subject : Subject) (reader : Reader) (position : Position) (text : List ℕ) → Stand subject reader position text → ReaderFinished text (Ok tt) → CertificateFor subject text position.proved.items
+end_accepts subject reader position text h end =
     let same = (reads_unique text end.0 h.ls [] reader.line end.1.reads h.read.reads).0 in
     let complete : IsComplete text h.ls = subst (IsComplete text) same end.1 in
     let numbers : reverse h.at.begun ≡ position.proved.items = ap reverse h.place.begun ∙ reverse-reverse position.proved.items in
-    subst (Certificate file text) numbers (certificate_of file text h.ls h.at complete h.leads)
+    subst (CertificateFor subject text) numbers (certificate_of subject text h.ls h.at complete h.leads)

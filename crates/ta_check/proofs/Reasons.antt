@@ -1,7 +1,6 @@
 -- A line that can't follow has one fault
 use Rattle.std.proofs.Common.{◌≡◌, ℕ, ℤ, ◌<◌, ◌≤◌, ◌⊎◌, List, [], ◌∷◌, length, Some, inl, inr, refl, sym, ap, subst, ◌∙◌, arith}
 use Rattle.ta_automaton.specs.Masks.{In}
-use Rattle.ta_automaton.specs.declared.file.File.{File}
 use Rattle.ta_cert.specs.declared.line.Line.{Line}
 use Rattle.ta_cert.specs.declared.line.Line.TheVariants as line
 use Rattle.ta_cert.specs.declared.line.Node.{Node}
@@ -12,6 +11,7 @@ use Rattle.ta_implied.specs.Refused.{FailsToShow}
 use Rattle.ta_encode.specs.InPreorder.{Pending, Search}
 use Rattle.ta_farkas.specs.declared.LeafFault.{LeafFault}
 use Rattle.ta_farkas.specs.declared.LeafFault.TheVariants as leaf
+use Rattle.ta_check.specs.Subjects.{Subject}
 use Rattle.ta_check.specs.Lines.{Standing, IsFree, TakesOrder, Leads, LeadThrough}
 use Rattle.ta_check.specs.Faults.{IsMisplaced, IsNoLeaf, AtSomeWord, FirstLeafFault, LeafFails, IsAtFault}
 use Rattle.ta_check.specs.Positions.{fault_at}
@@ -19,26 +19,26 @@ use Rattle.ta_check.proofs.Following.{not_waiting, word_once}
 use Rattle.ta_check.proofs.LeafFaults.{leaf_fault_once, pair_fault_once}
 
 -- the file has the patterns whose proofs began
-abbrev pub KnowsBegun : File → Standing → Type 0
-KnowsBegun file s = (k : ℕ) → In k s.begun → k < length file.patterns
+abbrev pub KnowsBegun : Subject → Standing → Type 0
+KnowsBegun subject s = (k : ℕ) → In k s.begun → k < length subject.file.patterns
 
 known_first : (n k limit : ℕ) (ks : List ℕ) → n < limit → ((j : ℕ) → In j ks → j < limit) → In k (n ∷ ks) → k < limit
 known_first n k limit ks below known (inl same) = omega arith
 known_first n k limit ks below known (inr old) = known k old
 
 -- one line further it still does
-known_next : (file : File) (s : Standing) (l : Line) (after : Standing) → KnowsBegun file s → Leads file s l after → KnowsBegun file after
-known_next file s (line.Header version) after known leads = λ k began. known k (subst (λ t. In k t.begun) leads began)
-known_next file s (line.Order before later) after known leads = λ k began. known k (subst (λ t. In k t.begun) leads.leads began)
-known_next file s (line.Pattern number) after known leads = λ k began. known_first number k (length file.patterns) s.begun leads.exists known (subst (λ t. In k t.begun) leads.leads began)
-known_next file s (line.Tree n) after known (inl stands) = λ k began. known k (subst (λ t. In k t.begun) stands.leads began)
-known_next file s (line.Tree n) after known (inr shows) = λ k began. known k (subst (λ t. In k t.begun) shows.leads began)
-known_next file s line.End after known leads = subst (KnowsBegun file) (sym leads.leads) known
+known_next : (subject : Subject) (s : Standing) (l : Line) (after : Standing) → KnowsBegun subject s → Leads subject s l after → KnowsBegun subject after
+known_next subject s (line.Header version) after known leads = λ k began. known k (subst (λ t. In k t.begun) leads.leads began)
+known_next subject s (line.Order before later) after known leads = λ k began. known k (subst (λ t. In k t.begun) leads.leads began)
+known_next subject s (line.Pattern number) after known leads = λ k began. known_first number k (length subject.file.patterns) s.begun leads.exists known (subst (λ t. In k t.begun) leads.leads began)
+known_next subject s (line.Tree n) after known (inl stands) = λ k began. known k (subst (λ t. In k t.begun) stands.leads began)
+known_next subject s (line.Tree n) after known (inr shows) = λ k began. known k (subst (λ t. In k t.begun) shows.leads began)
+known_next subject s line.End after known leads = subst (KnowsBegun subject) (sym leads.leads) known
 
 -- so do lines
-pub known_through : (file : File) (s : Standing) (ls : List Line) (after : Standing) → KnowsBegun file s → LeadThrough file s ls after → KnowsBegun file after
-known_through file s [] after known leads = subst (KnowsBegun file) (sym leads) known
-known_through file s (l ∷ ls) after known (next, first, rest) = known_through file next ls after (known_next file s l next known first) rest
+pub known_through : (subject : Subject) (s : Standing) (ls : List Line) (after : Standing) → KnowsBegun subject s → LeadThrough subject s ls after → KnowsBegun subject after
+known_through subject s [] after known leads = subst (KnowsBegun subject) (sym leads) known
+known_through subject s (l ∷ ls) after known (next, first, rest) = known_through subject next ls after (known_next subject s l next known first) rest
 
 -- the fault of a node at a word
 AtWordFault : ℕ → Node → CertFault → Search → Pending → Type 0
@@ -47,39 +47,39 @@ AtWordFault number (node.Split unknown floor) f p w = f ≡ fault.SplitVariable 
 AtWordFault number (node.Leaf ts) f p w = (why : LeafFault) × (f ≡ fault_at number why) × FirstLeafFault p w ts why
 
 -- the fault of the leaf of a pair
-record WaitFault (file : File) (s : Standing) (number : ℕ) (n : Node) (f : CertFault) : Type 0 where
+record WaitFault (subject : Subject) (s : Standing) (number : ℕ) (n : Node) (f : CertFault) : Type 0 where
   pub pair : ℕ × ℕ
   pub waits : s.waiting ≡ Some pair
   pub multipliers : List (ℕ × ℤ)
   pub is : n ≡ node.Leaf multipliers
   pub why : LeafFault
   pub told : f ≡ fault_at number why
-  pub fails : FailsToShow file.automaton pair multipliers why
+  pub fails : FailsToShow subject.file.automaton pair multipliers why
 
 -- the fault of a pattern's line where one may follow
-PatternFault : File → Standing → ℕ → ℕ → CertFault → Type 0
-PatternFault file s number k f = ((f ≡ fault.UnknownPattern number) × (length file.patterns ≤ k)) ⊎ ((f ≡ fault.RepeatedPattern number) × In k s.begun)
+PatternFault : Subject → Standing → ℕ → ℕ → CertFault → Type 0
+PatternFault subject s number k f = ((f ≡ fault.UnknownPattern number) × (length subject.file.patterns ≤ k)) ⊎ ((f ≡ fault.RepeatedPattern number) × In k s.begun)
 
 -- what a line at fault is, form by form
-Reason : File → Standing → ℕ → Line → CertFault → Type 0
-Reason file s number (line.Header version) f = ⊥
-Reason file s number (line.Order before later) f = ((f ≡ fault.Line number) × (¬ TakesOrder s)) ⊎ ((f ≡ fault.Pair number) × TakesOrder s)
-Reason file s number (line.Pattern k) f = ((f ≡ fault.Line number) × (¬ IsFree s)) ⊎ (IsFree s × PatternFault file s number k f)
-Reason file s number (line.Tree n) f = ((f ≡ fault.Line number) × IsMisplaced s (line.Tree n)) ⊎ (AtSomeWord file s (AtWordFault number n f) ⊎ WaitFault file s number n f)
-Reason file s number line.End f = f ≡ fault.Line number
+Reason : Subject → Standing → ℕ → Line → CertFault → Type 0
+Reason subject s number (line.Header version) f = f ≡ fault.Line number
+Reason subject s number (line.Order before later) f = ((f ≡ fault.Line number) × (¬ TakesOrder s)) ⊎ ((f ≡ fault.Pair number) × TakesOrder s)
+Reason subject s number (line.Pattern k) f = ((f ≡ fault.Line number) × (¬ IsFree s)) ⊎ (IsFree s × PatternFault subject s number k f)
+Reason subject s number (line.Tree n) f = ((f ≡ fault.Line number) × IsMisplaced subject.claim s (line.Tree n)) ⊎ (AtSomeWord subject s (AtWordFault number n f) ⊎ WaitFault subject s number n f)
+Reason subject s number line.End f = f ≡ fault.Line number
 
-misplaced_reason : (file : File) (s : Standing) (number n : ℕ) (l : Line) → n ≡ number → IsMisplaced s l → Reason file s number l (fault.Line n)
+misplaced_reason : (subject : Subject) (s : Standing) (number n : ℕ) (l : Line) → n ≡ number → IsMisplaced subject.claim s l → Reason subject s number l (fault.Line n)
 unfolding Reason
-misplaced_reason file s number n (line.Header version) place m = m
-misplaced_reason file s number n (line.Order before later) place m = inl (ap fault.Line place, m)
-misplaced_reason file s number n (line.Pattern k) place m = inl (ap fault.Line place, m)
-misplaced_reason file s number n (line.Tree t) place m = inl (ap fault.Line place, m)
-misplaced_reason file s number n line.End place m = ap fault.Line place
+misplaced_reason subject s number n (line.Header version) place m = ap fault.Line place
+misplaced_reason subject s number n (line.Order before later) place m = inl (ap fault.Line place, m)
+misplaced_reason subject s number n (line.Pattern k) place m = inl (ap fault.Line place, m)
+misplaced_reason subject s number n (line.Tree t) place m = inl (ap fault.Line place, m)
+misplaced_reason subject s number n line.End place m = ap fault.Line place
 
-leaf_reason : (file : File) (s : Standing) (number : ℕ) (l : Line) (f : CertFault) (why : LeafFault) → f ≡ fault_at number why → LeafFails file s l why → Reason file s number l f
+leaf_reason : (subject : Subject) (s : Standing) (number : ℕ) (l : Line) (f : CertFault) (why : LeafFault) → f ≡ fault_at number why → LeafFails subject s l why → Reason subject s number l f
 unfolding Reason AtWordFault
-leaf_reason file s number l f why is fails =
-    subst (λ m. Reason file s number m f) (sym fails.is) (inr (elim fails.at [
+leaf_reason subject s number l f why is fails =
+    subst (λ m. Reason subject s number m f) (sym fails.is) (inr (elim fails.at [
       | inl at ↦ inl record {
         search = at.search;
         word = at.word;
@@ -90,22 +90,22 @@ leaf_reason file s number l f why is fails =
       | inr pair ↦ inr record { pair = pair.pair; waits = pair.waits; multipliers = fails.multipliers; is = refl; why = why; told = is; fails = pair.fails }
     ]))
 
-reason : (file : File) (s : Standing) (number : ℕ) (l : Line) (f : CertFault) → IsAtFault file s number l f → Reason file s number l f
+reason : (subject : Subject) (s : Standing) (number : ℕ) (l : Line) (f : CertFault) → IsAtFault subject s number l f → Reason subject s number l f
 unfolding Reason AtWordFault PatternFault
-reason file s number l (fault.Line n) at = misplaced_reason file s number n l at.0 at.1
-reason file s number l (fault.UnknownPattern n) (place, k, here, beyond) = subst (λ m. Reason file s number m (fault.UnknownPattern n)) (sym here.is) (inr (here.free, inl (ap fault.UnknownPattern place, beyond)))
-reason file s number l (fault.RepeatedPattern n) (place, k, here, old) = subst (λ m. Reason file s number m (fault.RepeatedPattern n)) (sym here.is) (inr (here.free, inr (ap fault.RepeatedPattern place, old)))
-reason file s number l (fault.Pair n) (place, bad) = subst (λ m. Reason file s number m (fault.Pair n)) (sym bad.is) (inr (ap fault.Pair place, bad.takes))
-reason file s number l (fault.ExtendComplete n) (place, is, at) =
-    subst (λ m. Reason file s number m (fault.ExtendComplete n)) (sym is) (inr (inl record { search = at.search; word = at.word; words = at.words; at = at.at; holds = ap fault.ExtendComplete place }))
-reason file s number l (fault.SplitVariable n) (place, splits) =
+reason subject s number l (fault.Line n) at = misplaced_reason subject s number n l at.0 at.1
+reason subject s number l (fault.UnknownPattern n) (place, k, here, beyond) = subst (λ m. Reason subject s number m (fault.UnknownPattern n)) (sym here.is) (inr (here.free, inl (ap fault.UnknownPattern place, beyond)))
+reason subject s number l (fault.RepeatedPattern n) (place, k, here, old) = subst (λ m. Reason subject s number m (fault.RepeatedPattern n)) (sym here.is) (inr (here.free, inr (ap fault.RepeatedPattern place, old)))
+reason subject s number l (fault.Pair n) (place, bad) = subst (λ m. Reason subject s number m (fault.Pair n)) (sym bad.is) (inr (ap fault.Pair place, bad.takes))
+reason subject s number l (fault.ExtendComplete n) (place, is, at) =
+    subst (λ m. Reason subject s number m (fault.ExtendComplete n)) (sym is) (inr (inl record { search = at.search; word = at.word; words = at.words; at = at.at; holds = ap fault.ExtendComplete place }))
+reason subject s number l (fault.SplitVariable n) (place, splits) =
     let at = splits.at in
-    subst (λ m. Reason file s number m (fault.SplitVariable n)) (sym splits.is) (inr (inl record { search = at.search; word = at.word; words = at.words; at = at.at; holds = ap fault.SplitVariable place }))
-reason file s number l (fault.Row n row) (place, fails) = leaf_reason file s number l (fault.Row n row) (leaf.RowNumber row) (ap (λ k. fault.Row k row) place) fails
-reason file s number l (fault.Overflow n column) (place, fails) = leaf_reason file s number l (fault.Overflow n column) (leaf.Overflow column) (ap (λ k. fault.Overflow k column) place) fails
-reason file s number l (fault.Positive n unknown) (place, fails) = leaf_reason file s number l (fault.Positive n unknown) (leaf.Positive unknown) (ap (λ k. fault.Positive k unknown) place) fails
-reason file s number l (fault.NotNegative n) (place, fails) = leaf_reason file s number l (fault.NotNegative n) leaf.NotNegative (ap fault.NotNegative place) fails
-reason file s number l _ at = absurd at
+    subst (λ m. Reason subject s number m (fault.SplitVariable n)) (sym splits.is) (inr (inl record { search = at.search; word = at.word; words = at.words; at = at.at; holds = ap fault.SplitVariable place }))
+reason subject s number l (fault.Row n row) (place, fails) = leaf_reason subject s number l (fault.Row n row) (leaf.RowNumber row) (ap (λ k. fault.Row k row) place) fails
+reason subject s number l (fault.Overflow n column) (place, fails) = leaf_reason subject s number l (fault.Overflow n column) (leaf.Overflow column) (ap (λ k. fault.Overflow k column) place) fails
+reason subject s number l (fault.Positive n unknown) (place, fails) = leaf_reason subject s number l (fault.Positive n unknown) (leaf.Positive unknown) (ap (λ k. fault.Positive k unknown) place) fails
+reason subject s number l (fault.NotNegative n) (place, fails) = leaf_reason subject s number l (fault.NotNegative n) leaf.NotNegative (ap fault.NotNegative place) fails
+reason subject s number l _ at = absurd at
 
 -- a node has one fault at a word
 node_once : (number : ℕ) (n : Node) (f g : CertFault) (p : Search) (w : Pending) → AtWordFault number n f p w → AtWordFault number n g p w → f ≡ g
@@ -115,61 +115,61 @@ node_once number (node.Split unknown floor) f g p w a b = a ∙ sym b
 node_once number (node.Leaf ts) f g p w (why, is, first) (other, that, second) = is ∙ ap (fault_at number) (leaf_fault_once p w ts why other first second) ∙ sym that
 
 -- and at the first word that is left
-word_fault_once : (file : File) (s : Standing) (number : ℕ) (n : Node) (f g : CertFault) → AtSomeWord file s (AtWordFault number n f) → AtSomeWord file s (AtWordFault number n g) → f ≡ g
-word_fault_once file s number n f g a b =
-    let same = word_once file s a.search b.search a.word b.word a.words b.words a.at b.at in
+word_fault_once : (subject : Subject) (s : Standing) (number : ℕ) (n : Node) (f g : CertFault) → AtSomeWord subject s (AtWordFault number n f) → AtSomeWord subject s (AtWordFault number n g) → f ≡ g
+word_fault_once subject s number n f g a b =
+    let same = word_once subject s a.search b.search a.word b.word a.words b.words a.at b.at in
     node_once number n f g b.search b.word (subst (AtWordFault number n f b.search) same.word (subst (λ p. AtWordFault number n f p a.word) same.search a.holds)) b.holds
 
 leaf_is : (ts us : List (ℕ × ℤ)) → node.Leaf ts ≡ node.Leaf us → ts ≡ us
 leaf_is ts us e = cc
 
 -- and as the leaf of a pair
-wait_fault_once : (file : File) (s : Standing) (number : ℕ) (n : Node) (f g : CertFault) → WaitFault file s number n f → WaitFault file s number n g → f ≡ g
-wait_fault_once file s number n f g a b =
+wait_fault_once : (subject : Subject) (s : Standing) (number : ℕ) (n : Node) (f g : CertFault) → WaitFault subject s number n f → WaitFault subject s number n g → f ≡ g
+wait_fault_once subject s number n f g a b =
     let pair : a.pair ≡ b.pair = (let e : Some a.pair ≡ Some b.pair = sym a.waits ∙ b.waits in cc) in
     let ts : a.multipliers ≡ b.multipliers = leaf_is a.multipliers b.multipliers (sym a.is ∙ b.is) in
-    let fails = subst (λ q. FailsToShow file.automaton q b.multipliers a.why) pair (subst (λ us. FailsToShow file.automaton a.pair us a.why) ts a.fails) in
-    a.told ∙ ap (fault_at number) (pair_fault_once file.automaton b.pair b.multipliers a.why b.why fails b.fails) ∙ sym b.told
+    let fails = subst (λ q. FailsToShow subject.file.automaton q b.multipliers a.why) pair (subst (λ us. FailsToShow subject.file.automaton a.pair us a.why) ts a.fails) in
+    a.told ∙ ap (fault_at number) (pair_fault_once subject.file.automaton b.pair b.multipliers a.why b.why fails b.fails) ∙ sym b.told
 
 -- a pattern's line has one fault
-pattern_once : (file : File) (s : Standing) (number k : ℕ) (f g : CertFault) → KnowsBegun file s → PatternFault file s number k f → PatternFault file s number k g → f ≡ g
+pattern_once : (subject : Subject) (s : Standing) (number k : ℕ) (f g : CertFault) → KnowsBegun subject s → PatternFault subject s number k f → PatternFault subject s number k g → f ≡ g
 unfolding PatternFault
-pattern_once file s number k f g known (inl (is, beyond)) (inl (that, other)) = is ∙ sym that
-pattern_once file s number k f g known (inl (is, beyond)) (inr (that, old)) = let below = known k old in absurd (omega arith)
-pattern_once file s number k f g known (inr (is, old)) (inl (that, beyond)) = let below = known k old in absurd (omega arith)
-pattern_once file s number k f g known (inr (is, old)) (inr (that, other)) = is ∙ sym that
+pattern_once subject s number k f g known (inl (is, beyond)) (inl (that, other)) = is ∙ sym that
+pattern_once subject s number k f g known (inl (is, beyond)) (inr (that, old)) = let below = known k old in absurd (omega arith)
+pattern_once subject s number k f g known (inr (is, old)) (inl (that, beyond)) = let below = known k old in absurd (omega arith)
+pattern_once subject s number k f g known (inr (is, old)) (inr (that, other)) = is ∙ sym that
 
 -- a node that stands at a word or is the leaf of a pair isn't misplaced
-placed_word : (file : File) (s : Standing) (n : Node) (number : ℕ) (f : CertFault) → IsMisplaced s (line.Tree n) → AtSomeWord file s (AtWordFault number n f) → ⊥
-placed_word file s n number f (inl idle) at = let none : [] ≡ (at.word ∷ at.words) = sym idle.done ∙ at.at.pending in cc
-placed_word file s n number f (inr (waits, none)) at = not_waiting s.waiting waits.pair at.at.none waits.waits
+placed_word : (subject : Subject) (s : Standing) (n : Node) (number : ℕ) (f : CertFault) → IsMisplaced subject.claim s (line.Tree n) → AtSomeWord subject s (AtWordFault number n f) → ⊥
+placed_word subject s n number f (inl idle) at = let none : [] ≡ (at.word ∷ at.words) = sym idle.done ∙ at.at.pending in cc
+placed_word subject s n number f (inr (waits, none)) at = not_waiting s.waiting waits.pair at.at.none waits.waits
 
-placed_leaf : (file : File) (s : Standing) (n : Node) (number : ℕ) (f : CertFault) → IsMisplaced s (line.Tree n) → WaitFault file s number n f → ⊥
-placed_leaf file s n number f (inl idle) at = not_waiting s.waiting at.pair idle.none at.waits
-placed_leaf file s n number f (inr (waits, none)) at = (let leaf : IsNoLeaf (node.Leaf at.multipliers) = subst IsNoLeaf at.is none in leaf)
+placed_leaf : (subject : Subject) (s : Standing) (n : Node) (number : ℕ) (f : CertFault) → IsMisplaced subject.claim s (line.Tree n) → WaitFault subject s number n f → ⊥
+placed_leaf subject s n number f (inl idle) at = not_waiting s.waiting at.pair idle.none at.waits
+placed_leaf subject s n number f (inr (waits, none)) at = (let leaf : IsNoLeaf (node.Leaf at.multipliers) = subst IsNoLeaf at.is none in leaf)
 
-reason_once : (file : File) (s : Standing) (number : ℕ) (l : Line) (f g : CertFault) → KnowsBegun file s → Reason file s number l f → Reason file s number l g → f ≡ g
+reason_once : (subject : Subject) (s : Standing) (number : ℕ) (l : Line) (f g : CertFault) → KnowsBegun subject s → Reason subject s number l f → Reason subject s number l g → f ≡ g
 unfolding Reason
-reason_once file s number (line.Header version) f g known a b = absurd a
-reason_once file s number (line.Order before later) f g known (inl (is, never)) (inl (that, other)) = is ∙ sym that
-reason_once file s number (line.Order before later) f g known (inl (is, never)) (inr (that, takes)) = absurd (never takes)
-reason_once file s number (line.Order before later) f g known (inr (is, takes)) (inl (that, never)) = absurd (never takes)
-reason_once file s number (line.Order before later) f g known (inr (is, takes)) (inr (that, also)) = is ∙ sym that
-reason_once file s number (line.Pattern k) f g known (inl (is, left)) (inl (that, other)) = is ∙ sym that
-reason_once file s number (line.Pattern k) f g known (inl (is, left)) (inr (done, why)) = absurd (left done)
-reason_once file s number (line.Pattern k) f g known (inr (done, why)) (inl (is, left)) = absurd (left done)
-reason_once file s number (line.Pattern k) f g known (inr (done, why)) (inr (also, because)) = pattern_once file s number k f g known why because
-reason_once file s number (line.Tree n) f g known (inl (is, m)) (inl (that, also)) = is ∙ sym that
-reason_once file s number (line.Tree n) f g known (inl (is, m)) (inr (inl at)) = absurd (placed_word file s n number g m at)
-reason_once file s number (line.Tree n) f g known (inl (is, m)) (inr (inr at)) = absurd (placed_leaf file s n number g m at)
-reason_once file s number (line.Tree n) f g known (inr (inl at)) (inl (is, m)) = absurd (placed_word file s n number f m at)
-reason_once file s number (line.Tree n) f g known (inr (inr at)) (inl (is, m)) = absurd (placed_leaf file s n number f m at)
-reason_once file s number (line.Tree n) f g known (inr (inl at)) (inr (inl there)) = word_fault_once file s number n f g at there
-reason_once file s number (line.Tree n) f g known (inr (inl at)) (inr (inr wait)) = absurd (not_waiting s.waiting wait.pair at.at.none wait.waits)
-reason_once file s number (line.Tree n) f g known (inr (inr wait)) (inr (inl at)) = absurd (not_waiting s.waiting wait.pair at.at.none wait.waits)
-reason_once file s number (line.Tree n) f g known (inr (inr wait)) (inr (inr other)) = wait_fault_once file s number n f g wait other
-reason_once file s number line.End f g known a b = a ∙ sym b
+reason_once subject s number (line.Header version) f g known a b = a ∙ sym b
+reason_once subject s number (line.Order before later) f g known (inl (is, never)) (inl (that, other)) = is ∙ sym that
+reason_once subject s number (line.Order before later) f g known (inl (is, never)) (inr (that, takes)) = absurd (never takes)
+reason_once subject s number (line.Order before later) f g known (inr (is, takes)) (inl (that, never)) = absurd (never takes)
+reason_once subject s number (line.Order before later) f g known (inr (is, takes)) (inr (that, also)) = is ∙ sym that
+reason_once subject s number (line.Pattern k) f g known (inl (is, left)) (inl (that, other)) = is ∙ sym that
+reason_once subject s number (line.Pattern k) f g known (inl (is, left)) (inr (done, why)) = absurd (left done)
+reason_once subject s number (line.Pattern k) f g known (inr (done, why)) (inl (is, left)) = absurd (left done)
+reason_once subject s number (line.Pattern k) f g known (inr (done, why)) (inr (also, because)) = pattern_once subject s number k f g known why because
+reason_once subject s number (line.Tree n) f g known (inl (is, m)) (inl (that, also)) = is ∙ sym that
+reason_once subject s number (line.Tree n) f g known (inl (is, m)) (inr (inl at)) = absurd (placed_word subject s n number g m at)
+reason_once subject s number (line.Tree n) f g known (inl (is, m)) (inr (inr at)) = absurd (placed_leaf subject s n number g m at)
+reason_once subject s number (line.Tree n) f g known (inr (inl at)) (inl (is, m)) = absurd (placed_word subject s n number f m at)
+reason_once subject s number (line.Tree n) f g known (inr (inr at)) (inl (is, m)) = absurd (placed_leaf subject s n number f m at)
+reason_once subject s number (line.Tree n) f g known (inr (inl at)) (inr (inl there)) = word_fault_once subject s number n f g at there
+reason_once subject s number (line.Tree n) f g known (inr (inl at)) (inr (inr wait)) = absurd (not_waiting s.waiting wait.pair at.at.none wait.waits)
+reason_once subject s number (line.Tree n) f g known (inr (inr wait)) (inr (inl at)) = absurd (not_waiting s.waiting wait.pair at.at.none wait.waits)
+reason_once subject s number (line.Tree n) f g known (inr (inr wait)) (inr (inr other)) = wait_fault_once subject s number n f g wait other
+reason_once subject s number line.End f g known a b = a ∙ sym b
 
 -- one standing, number and line have one fault
-pub at_fault_once : (file : File) (s : Standing) (number : ℕ) (l : Line) (f g : CertFault) → KnowsBegun file s → IsAtFault file s number l f → IsAtFault file s number l g → f ≡ g
-at_fault_once file s number l f g known a b = reason_once file s number l f g known (reason file s number l f a) (reason file s number l g b)
+pub at_fault_once : (subject : Subject) (s : Standing) (number : ℕ) (l : Line) (f g : CertFault) → KnowsBegun subject s → IsAtFault subject s number l f → IsAtFault subject s number l g → f ≡ g
+at_fault_once subject s number l f g known a b = reason_once subject s number l f g known (reason subject s number l f a) (reason subject s number l g b)

@@ -4,7 +4,7 @@ use Rattle.ta_automaton.specs.declared.automaton.Automaton.{Automaton}
 use Rattle.ta_automaton.specs.declared.file.File.{File}
 use Rattle.ta_automaton.specs.declared.pattern.Pattern.{Pattern}
 use Rattle.ta_automaton.specs.Lists.{Each, Distinct}
-use Rattle.ta_automaton.specs.Runs.{InScope, LoopsPure, Safe}
+use Rattle.ta_automaton.specs.Runs.{InScope, LoopsPure}
 use Rattle.ta_cert.specs.Tree.{Tree}
 use Rattle.ta_cert.specs.Laws.{AreShort}
 use Rattle.ta_cert.specs.Certificates.{AreOrders, AreWritable, CertText, cert_lines, pair_of, proofs_of}
@@ -13,48 +13,74 @@ use Rattle.ta_words.specs.declared.element.Element.{Element}
 use Rattle.ta_implied.specs.Implied.{Good}
 use Rattle.ta_implied.specs.Orders.{IsShown}
 use Rattle.ta_encode.specs.Laws.{SolvedUnder}
-use Rattle.ta_encode.specs.InPreorder.{Search}
+use Rattle.ta_encode.specs.Search.{Search}
 use Rattle.ta_encode.specs.Refutes.{ProofBy}
 use Rattle.ta_cursor.specs.Range.{IsJudged}
-use Rattle.ta_check.specs.Lines.{search_at}
+use Rattle.ta_claim.specs.Claims.{MayClaim}
+use Rattle.ta_claim.specs.declared.claim.Claim.{Claim}
+use Rattle.ta_claim.specs.declared.claim.Claim.TheVariants.{Safe, RestSafe}
+use Rattle.ta_check.specs.Subjects.{ClaimHolds, Subject, claiming, search_at}
 
 -- an order's multipliers show its pair
 abbrev pub ShowsPair : Automaton → Order → Type 0
 ShowsPair a order = IsShown a (pair_of order) order.multipliers
 
--- trees that prove the file's pattern of a number under pairs, no leaf check of which leaves the range
-pub record ProvesPattern (file : File) (pairs : List (ℕ × ℕ)) (numbered : ℕ × List Tree) : Type 0 where
+-- trees that prove what is claimed of the file's pattern of a number, under pairs, no leaf check of which leaves the range
+pub record ProvesClaim (subject : Subject) (pairs : List (ℕ × ℕ)) (numbered : ℕ × List Tree) : Type 0 where
   pub search : Search
-  pub searched : search_at file pairs numbered.0 ≡ Some search
+  pub searched : search_at subject pairs numbered.0 ≡ Some search
   pub proves : ProofBy search (IsJudged search) numbered.1
 
 abbrev pub number_of : (ℕ × List Tree) → ℕ
 number_of numbered = numbered.0
 
--- the text of a good list of pairs, each with multipliers that show it, and of proofs under them of distinct patterns of the file, with these
--- numbers in its order; no line is longer than a reader takes
-pub record Certificate (file : File) (text : List ℕ) (numbers : List ℕ) : Type 0 where
+-- pairs that a certificate may have: for rest there are none
+abbrev pub MayHave : Claim → List Order → Type 0
+MayHave Safe orders = AreOrders orders
+MayHave RestSafe orders = orders ≡ []
+
+-- the text of a good list of pairs, each with multipliers that show it, and of proofs under them of what is claimed of distinct patterns of the
+-- file, with these numbers in its order; no line is longer than a reader takes
+pub record CertificateFor (subject : Subject) (text : List ℕ) (numbers : List ℕ) : Type 0 where
   pub orders : List Order
   pub proofs : List (ℕ × List Tree)
   pub written : text ≡ CertText orders proofs
-  pub ordered : AreOrders orders
+  pub ordered : MayHave subject.claim orders
   pub legal : AreWritable (proofs_of proofs)
   pub short : AreShort (cert_lines orders (proofs_of proofs))
-  pub shown : Each (ShowsPair file.automaton) orders
-  pub good : Good file.automaton (map pair_of orders)
-  pub prove : Each (ProvesPattern file (map pair_of orders)) proofs
+  pub shown : Each (ShowsPair subject.file.automaton) orders
+  pub good : Good subject.file.automaton (map pair_of orders)
+  pub prove : Each (ProvesClaim subject (map pair_of orders)) proofs
   pub named : numbers ≡ map number_of proofs
   pub distinct : Distinct numbers
 
+-- what is claimed holds of all these patterns
+abbrev pub AllHold : Subject → List ℕ → Type 0
+AllHold subject numbers = Each (ClaimHolds subject) numbers
+
+-- trees that prove that the file's pattern of a number is safe
+abbrev pub ProvesPattern : File → List (ℕ × ℕ) → (ℕ × List Tree) → Type 0
+ProvesPattern file pairs numbered = ProvesClaim (claiming Safe file) pairs numbered
+
+-- a certificate that patterns of the file are safe
+abbrev pub Certificate : File → List ℕ → List ℕ → Type 0
+Certificate file text numbers = CertificateFor (claiming Safe file) text numbers
+
 -- the file's pattern of a number occurs in no run, for any admissible parameters
-pub record PatternSafe (file : File) (number : ℕ) : Type 0 where
-  pub pattern : Pattern
-  pub named : slice_get file.patterns number ≡ Some pattern
-  pub safe : Safe file.automaton pattern
+abbrev pub PatternSafe : File → ℕ → Type 0
+PatternSafe file number = ClaimHolds (claiming Safe file) number
 
 -- so are all of these
 abbrev pub AllSafe : File → List ℕ → Type 0
-AllSafe file numbers = Each (PatternSafe file) numbers
+AllSafe file numbers = AllHold (claiming Safe file) numbers
+
+-- a certificate, without pairs, that no run comes to rest where the last event of such a pattern happens
+abbrev pub RestCertificate : File → List ℕ → List ℕ → Type 0
+RestCertificate file text numbers = CertificateFor (claiming RestSafe file) text numbers
+
+-- no run comes to rest where the last event of one of these patterns happens, for any admissible parameters
+abbrev pub AllRestSafe : File → List ℕ → Type 0
+AllRestSafe file numbers = AllHold (claiming RestSafe file) numbers
 
 -- of the file's pattern of a number, under no set of fall guards that are false at the start, a complete word that is legal under pairs has a
 -- natural solution of its system
@@ -76,3 +102,11 @@ pub record Shown (file : File) (pairs : List (ℕ × ℕ)) (numbers : List ℕ) 
 
 abbrev pub CertificatesShow : Type 0
 CertificatesShow = (file : File) (text numbers : List ℕ) → LoopsPure file.automaton → (c : Certificate file text numbers) → Shown file (map pair_of c.orders) numbers
+
+-- what is claimed may be claimed of each pattern of the file
+abbrev pub MayClaimAll : Subject → Type 0
+MayClaimAll subject = Each (MayClaim subject.claim) subject.file.patterns
+
+-- then it holds of a certificate's patterns
+abbrev pub ClaimsHold : Type 0
+ClaimsHold = (subject : Subject) (text numbers : List ℕ) → MayClaimAll subject → LoopsPure subject.file.automaton → CertificateFor subject text numbers → AllHold subject numbers

@@ -1,4 +1,4 @@
--- The first fault of a text that is no certificate of a file
+-- The first fault of a text that is no certificate
 use Rattle.std.specs.Prelude.{ℕ, ◌≡◌, ◌≤◌, ◌⊎◌, true, List, [], ◌∷◌, ◌++◌, length, ℤ, Some, None}
 use Rattle.ta_linear.specs.declared.row.System.{System}
 use Rattle.ta_automaton.specs.declared.file.File.{File}
@@ -18,6 +18,9 @@ use Rattle.ta_encode.specs.InPreorder.{Pending, Search}
 use Rattle.ta_farkas.specs.Faults.{IsFirstFault as IsFirstLeafFault}
 use Rattle.ta_farkas.specs.declared.LeafFault.{LeafFault}
 use Rattle.ta_farkas.specs.declared.LeafFault.TheVariants as leaf
+use Rattle.ta_claim.specs.declared.claim.Claim.{Claim}
+use Rattle.ta_claim.specs.declared.claim.Claim.TheVariants.{Safe}
+use Rattle.ta_check.specs.Subjects.{HasVersion, Subject, claiming}
 use Rattle.ta_check.specs.Lines.{Standing, AtWord, IsFree, TakesOrder, at_first, LeadThrough, MayFollow}
 
 -- a node that is no leaf
@@ -36,22 +39,22 @@ pub record IsIdle (s : Standing) : Type 0 where
   pub none : s.waiting ≡ None
   pub done : s.pending ≡ []
 
--- a line of a form that can't follow: a pair where none may come, a proof or the end where it isn't free to come, a node where no word and no
+-- a line of a form that can't follow: a version that a certificate of the claim can't have, a pair where none may come, a proof or the end where it isn't free to come, a node where no word and no
 -- pair waits for one, or one that is no leaf where a pair waits
-abbrev pub IsMisplaced : Standing → Line → Type 0
-IsMisplaced s (line.Header version) = ⊥
-IsMisplaced s (line.Order before later) = ¬ TakesOrder s
-IsMisplaced s (line.Pattern number) = ¬ IsFree s
-IsMisplaced s (line.Tree node) = IsIdle s ⊎ (IsWaiting s × IsNoLeaf node)
-IsMisplaced s line.End = ¬ IsFree s
+abbrev pub IsMisplaced : Claim → Standing → Line → Type 0
+IsMisplaced claim s (line.Header version) = ¬ HasVersion claim version
+IsMisplaced claim s (line.Order before later) = ¬ TakesOrder s
+IsMisplaced claim s (line.Pattern number) = ¬ IsFree s
+IsMisplaced claim s (line.Tree node) = IsIdle s ⊎ (IsWaiting s × IsNoLeaf node)
+IsMisplaced claim s line.End = ¬ IsFree s
 
 -- a pair's line where one may come, and the pair may not join those before it
-pub record IsBadOrder (file : File) (s : Standing) (l : Line) : Type 0 where
+pub record IsBadOrder (subject : Subject) (s : Standing) (l : Line) : Type 0 where
   pub before : ℕ
   pub later : ℕ
   pub is : l ≡ line.Order before later
   pub takes : TakesOrder s
-  pub bad : ¬ MayJoin file.automaton s.pairs (before, later)
+  pub bad : ¬ MayJoin subject.file.automaton s.pairs (before, later)
 
 -- a pattern's line where one may follow
 pub record IsPatternLine (s : Standing) (l : Line) (number : ℕ) : Type 0 where
@@ -59,19 +62,19 @@ pub record IsPatternLine (s : Standing) (l : Line) (number : ℕ) : Type 0 where
   pub free : IsFree s
 
 -- at the first word that is left
-pub record AtSomeWord (file : File) (s : Standing) (fact : Search → Pending → Type 0) : Type 0 where
+pub record AtSomeWord (subject : Subject) (s : Standing) (fact : Search → Pending → Type 0) : Type 0 where
   pub search : Search
   pub word : Pending
   pub words : List Pending
-  pub at : AtWord file s search word words
+  pub at : AtWord subject s search word words
   pub holds : fact search word
 
 -- the split of an unknown that the word's system doesn't have
-pub record SplitsUnknown (file : File) (s : Standing) (l : Line) : Type 0 where
+pub record SplitsUnknown (subject : Subject) (s : Standing) (l : Line) : Type 0 where
   pub unknown : ℕ
   pub floor : ℤ
   pub is : l ≡ line.Tree (node.Split unknown floor)
-  pub at : AtSomeWord file s (λ search w. search.unknowns w.start w.past ≤ unknown)
+  pub at : AtSomeWord subject s (λ search w. search.unknowns w.start w.past ≤ unknown)
 
 -- the first fault of multipliers over the system of a word: rows before columns, the columns by rising unknown and the
 -- constants last, and a column's range before its sign
@@ -81,59 +84,66 @@ pub record FirstLeafFault (search : Search) (w : Pending) (ts : List (ℕ × ℤ
   pub first : IsFirstLeafFault system ts f
 
 -- the first fault of multipliers over the system of the pair that waits
-pub record PairFails (file : File) (s : Standing) (ts : List (ℕ × ℤ)) (f : LeafFault) : Type 0 where
+pub record PairFails (subject : Subject) (s : Standing) (ts : List (ℕ × ℤ)) (f : LeafFault) : Type 0 where
   pub pair : ℕ × ℕ
   pub waits : s.waiting ≡ Some pair
-  pub fails : FailsToShow file.automaton pair ts f
+  pub fails : FailsToShow subject.file.automaton pair ts f
 
 -- a leaf with this first fault, at the first word that is left or of the pair that waits
-pub record LeafFails (file : File) (s : Standing) (l : Line) (f : LeafFault) : Type 0 where
+pub record LeafFails (subject : Subject) (s : Standing) (l : Line) (f : LeafFault) : Type 0 where
   pub multipliers : List (ℕ × ℤ)
   pub is : l ≡ line.Tree (node.Leaf multipliers)
-  pub at : AtSomeWord file s (λ search w. FirstLeafFault search w multipliers f) ⊎ PairFails file s multipliers f
+  pub at : AtSomeWord subject s (λ search w. FirstLeafFault search w multipliers f) ⊎ PairFails subject s multipliers f
 
 -- why a line of this number can't follow
-abbrev pub IsAtFault : File → Standing → ℕ → Line → CertFault → Type 0
-IsAtFault file s number l (fault.Line n) = (n ≡ number) × IsMisplaced s l
-IsAtFault file s number l (fault.UnknownPattern n) = (n ≡ number) × (k : ℕ) × IsPatternLine s l k × (length file.patterns ≤ k)
-IsAtFault file s number l (fault.RepeatedPattern n) = (n ≡ number) × (k : ℕ) × IsPatternLine s l k × In k s.begun
-IsAtFault file s number l (fault.Pair n) = (n ≡ number) × IsBadOrder file s l
-IsAtFault file s number l (fault.ExtendComplete n) = (n ≡ number) × (l ≡ line.Tree node.Extend) × AtSomeWord file s (λ search w. search.complete w.start w.past ≡ true)
-IsAtFault file s number l (fault.SplitVariable n) = (n ≡ number) × SplitsUnknown file s l
-IsAtFault file s number l (fault.Row n row) = (n ≡ number) × LeafFails file s l (leaf.RowNumber row)
-IsAtFault file s number l (fault.Overflow n column) = (n ≡ number) × LeafFails file s l (leaf.Overflow column)
-IsAtFault file s number l (fault.Positive n unknown) = (n ≡ number) × LeafFails file s l (leaf.Positive unknown)
-IsAtFault file s number l (fault.NotNegative n) = (n ≡ number) × LeafFails file s l leaf.NotNegative
-IsAtFault file s number l _ = ⊥
+abbrev pub IsAtFault : Subject → Standing → ℕ → Line → CertFault → Type 0
+IsAtFault subject s number l (fault.Line n) = (n ≡ number) × IsMisplaced subject.claim s l
+IsAtFault subject s number l (fault.UnknownPattern n) = (n ≡ number) × (k : ℕ) × IsPatternLine s l k × (length subject.file.patterns ≤ k)
+IsAtFault subject s number l (fault.RepeatedPattern n) = (n ≡ number) × (k : ℕ) × IsPatternLine s l k × In k s.begun
+IsAtFault subject s number l (fault.Pair n) = (n ≡ number) × IsBadOrder subject s l
+IsAtFault subject s number l (fault.ExtendComplete n) = (n ≡ number) × (l ≡ line.Tree node.Extend) × AtSomeWord subject s (λ search w. search.complete w.start w.past ≡ true)
+IsAtFault subject s number l (fault.SplitVariable n) = (n ≡ number) × SplitsUnknown subject s l
+IsAtFault subject s number l (fault.Row n row) = (n ≡ number) × LeafFails subject s l (leaf.RowNumber row)
+IsAtFault subject s number l (fault.Overflow n column) = (n ≡ number) × LeafFails subject s l (leaf.Overflow column)
+IsAtFault subject s number l (fault.Positive n unknown) = (n ≡ number) × LeafFails subject s l (leaf.Positive unknown)
+IsAtFault subject s number l (fault.NotNegative n) = (n ≡ number) × LeafFails subject s l leaf.NotNegative
+IsAtFault subject s number l _ = ⊥
 
 -- a line that has its form and can't follow those before it, each of which may follow those before it
-pub record LineAtFault (file : File) (text : List ℕ) (f : CertFault) : Type 0 where
+pub record LineAtFault (subject : Subject) (text : List ℕ) (f : CertFault) : Type 0 where
   pub ls : List Line
   pub line : Line
   pub after : List ℕ
   pub whole : text ≡ lines_text (ls ++ line ∷ []) ++ after
   pub legal : AreLines (ls ++ line ∷ [])
   pub standing : Standing
-  pub leads : LeadThrough file at_first ls standing
-  pub at_fault : IsAtFault file standing (line_number (length ls)) line f
+  pub leads : LeadThrough subject at_first ls standing
+  pub at_fault : IsAtFault subject standing (line_number (length ls)) line f
 
 -- a fault of the text behind lines each of which may follow those before it: a line of no form or too long, a byte behind
 -- the end, or the text's end where `end` has not come
-abbrev pub TextAtFault : File → List ℕ → CertFault → Type 0
-TextAtFault file text (fault.Line n) = (m : IsMalformed text n) × MayFollow file m.ls
-TextAtFault file text (fault.Trailing n) = (t : IsTrailing text n) × MayFollow file t.ls
-TextAtFault file text (fault.Truncated n) = (t : IsTruncated text n) × MayFollow file t.ls
-TextAtFault file text _ = ⊥
+abbrev pub TextAtFault : Subject → List ℕ → CertFault → Type 0
+TextAtFault subject text (fault.Line n) = (m : IsMalformed text n) × MayFollow subject m.ls
+TextAtFault subject text (fault.Trailing n) = (t : IsTrailing text n) × MayFollow subject t.ls
+TextAtFault subject text (fault.Truncated n) = (t : IsTruncated text n) × MayFollow subject t.ls
+TextAtFault subject text _ = ⊥
 
 -- the first line at fault
-abbrev pub IsFirstFault : File → List ℕ → CertFault → Type 0
-IsFirstFault file text f = LineAtFault file text f ⊎ TextAtFault file text f
+abbrev pub IsFirstFaultFor : Subject → List ℕ → CertFault → Type 0
+IsFirstFaultFor subject text f = LineAtFault subject text f ⊎ TextAtFault subject text f
 
 -- a first fault that each longer text keeps: any but the end that comes too early
+abbrev pub IsLastingFor : Subject → List ℕ → CertFault → Type 0
+IsLastingFor subject text (fault.Truncated n) = ⊥
+IsLastingFor subject text f = IsFirstFaultFor subject text f
+
+-- those of a file whose patterns are claimed to be safe
+abbrev pub IsFirstFault : File → List ℕ → CertFault → Type 0
+IsFirstFault file text f = IsFirstFaultFor (claiming Safe file) text f
+
 abbrev pub IsLasting : File → List ℕ → CertFault → Type 0
-IsLasting file text (fault.Truncated n) = ⊥
-IsLasting file text f = IsFirstFault file text f
+IsLasting file text f = IsLastingFor (claiming Safe file) text f
 
 -- it is the first fault of each longer text
 abbrev pub LastingFaultsLast : Type 0
-LastingFaultsLast = (file : File) (text more : List ℕ) (f : CertFault) → IsLasting file text f → IsFirstFault file (text ++ more) f
+LastingFaultsLast = (subject : Subject) (text more : List ℕ) (f : CertFault) → IsLastingFor subject text f → IsFirstFaultFor subject (text ++ more) f

@@ -1,3 +1,4 @@
+pub mod Subjects
 pub mod Certificate
 pub mod Lines
 pub mod Faults

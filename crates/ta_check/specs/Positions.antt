@@ -1,17 +1,18 @@
 -- What the fields of a position stand for
 use Rattle.std.specs.Prelude.{ℕ, ◌≡◌, ◌⊎◌, ◌↔◌, List, [], ◌∷◌, reverse, slice_get, ℤ, Some, None, Result, Ok, Err}
-use Rattle.ta_automaton.specs.declared.file.File.{File}
 use Rattle.ta_automaton.specs.declared.pattern.Pattern.{Pattern}
 use Rattle.ta_automaton.specs.Masks.{In}
 use Rattle.ta_cert.specs.declared.line.Line.{Line}
 use Rattle.ta_cert.specs.declared.fault.CertFault.{CertFault}
 use Rattle.ta_cert.specs.declared.fault.CertFault.TheVariants as fault
-use Rattle.ta_encode.specs.InPreorder.{Pending, Search, pattern_search}
+use Rattle.ta_encode.specs.InPreorder.{Pending, Search}
 use Rattle.ta_encode.specs.Marks.{IsEncoding}
 use Rattle.ta_cursor.specs.InTrees.{AllWithin}
 use Rattle.ta_farkas.specs.declared.LeafFault.{LeafFault}
 use Rattle.ta_farkas.specs.declared.LeafFault.TheVariants as leaf
 use Rattle.ta_implied.specs.Orders.{MayJoin}
+use Rattle.ta_claim.specs.Claims.{search_for}
+use Rattle.ta_check.specs.Subjects.{Subject}
 use Rattle.ta_check.specs.declared.position.Position.{Position}
 use Rattle.ta_check.specs.Lines.{Standing, Leads}
 use Rattle.ta_cursor.specs.Range.{IsJudged}
@@ -23,43 +24,43 @@ pub record Between (s : Position) (pending : List Pending) : Type 0 where
   pub left : pending ≡ []
 
 -- before a node of the newest proof
-pub record InNewest (file : File) (s : Position) (at : Standing) : Type 0 where
+pub record InNewest (subject : Subject) (s : Position) (at : Standing) : Type 0 where
   pub number : ℕ
   pub current : s.current ≡ Some number
   pub older : List ℕ
   pub begun : at.begun ≡ number ∷ older
   pub pattern : Pattern
-  pub named : slice_get file.patterns number ≡ Some pattern
-  pub within : AllWithin (pattern_search file.automaton pattern s.orders) s.place at.pending
-  pub kept : IsEncoding file.automaton pattern s.encoding
+  pub named : slice_get subject.file.patterns number ≡ Some pattern
+  pub within : AllWithin (search_for subject.claim subject.file.automaton pattern s.orders) s.place at.pending
+  pub kept : IsEncoding subject.file.automaton pattern s.encoding
 
 -- the same pairs, in whatever order
 abbrev pub SamePairs : List (ℕ × ℕ) → List (ℕ × ℕ) → Type 0
 SamePairs xs ys = (pair : ℕ × ℕ) → In pair xs ↔ In pair ys
 
 -- a pair that waits may join those before it, and no proof began
-pub record MayWait (file : File) (at : Standing) (pair : ℕ × ℕ) : Type 0 where
-  pub join : MayJoin file.automaton at.pairs pair
+pub record MayWait (subject : Subject) (at : Standing) (pair : ℕ × ℕ) : Type 0 where
+  pub join : MayJoin subject.file.automaton at.pairs pair
   pub early : at.begun ≡ []
 
 -- the position's fields are those of a standing
-pub record IsAt (file : File) (s : Position) (at : Standing) : Type 0 where
+pub record IsAt (subject : Subject) (s : Position) (at : Standing) : Type 0 where
   pub version : at.version ≡ s.version
   pub pairs : SamePairs at.pairs s.orders
   pub waiting : at.waiting ≡ s.waiting
-  pub may : (pair : ℕ × ℕ) → at.waiting ≡ Some pair → MayWait file at pair
+  pub may : (pair : ℕ × ℕ) → at.waiting ≡ Some pair → MayWait subject at pair
   pub begun : at.begun ≡ reverse s.proved.items
-  pub place : Between s at.pending ⊎ InNewest file s at
+  pub place : Between s at.pending ⊎ InNewest subject s at
 
 -- those of some standing
-abbrev pub IsSomewhere : File → Position → Type 0
-IsSomewhere file s = (at : Standing) × IsAt file s at
+abbrev pub IsSomewhere : Subject → Position → Type 0
+IsSomewhere subject s = (at : Standing) × IsAt subject s at
 
 -- what a position at a standing answers to the line of a number, and where it is then; want of memory is free
-abbrev pub Taken : File → Standing → ℕ → Line → Position → Result (Unit {0}) CertFault → Type 0
-Taken file at number l new (Ok _) = (after : Standing) × Leads file at l after × IsAt file new after
-Taken file at number l new (Err fault.Memory) = Unit {0}
-Taken file at number l new (Err f) = IsAtFault file at number l f
+abbrev pub Taken : Subject → Standing → ℕ → Line → Position → Result (Unit {0}) CertFault → Type 0
+Taken subject at number l new (Ok _) = (after : Standing) × Leads subject at l after × IsAt subject new after
+Taken subject at number l new (Err fault.Memory) = Unit {0}
+Taken subject at number l new (Err f) = IsAtFault subject at number l f
 
 -- a leaf's fault in a line of a number
 abbrev pub fault_at : ℕ → LeafFault → CertFault

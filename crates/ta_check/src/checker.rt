@@ -2,8 +2,9 @@
 #![tactic(auto)]
 
 ghost use Rattle.std.specs.Prelude.{ℕ, ◌≡◌, ◌↔◌, ◌++◌, [], true, List as Bytes, IfOk, IsErrOf, is_err};
-ghost use Rattle.ta_check.specs.Certificate.{AllSafe, AllUnsolved};
-ghost use Rattle.ta_check.specs.Checkers.{Fed, Finished, IsExactEnd, IsExactFeed, IsSound, Stand, StandsFor};
+ghost use Rattle.ta_check.specs.Certificate.{AllHold, AllUnsolved};
+ghost use Rattle.ta_check.specs.Checkers.{Fed, Finished, IsExactEnd, IsExactFeed, IsSound, Stand, StandsFor, subject_of};
+ghost use Rattle.ta_check.specs.Subjects.{claiming};
 ghost use Rattle.ta_check.specs.Inside.Pieces.{NextTaken, StandSomewhere, TakenTo};
 
 use crate::accepted::Accepted;
@@ -11,13 +12,18 @@ use crate::position::Position;
 use std::alloc::Global;
 use ta_automaton::{File, List};
 use ta_cert::{CertFault, Ended, Reader};
+use ta_claim::Claim;
+use ta_rest::RestFile;
 use ta_scope::ScopedFile;
 
-/// Judges a certificate of a file whose text comes in pieces. It keeps of the text the unfinished
+/// Judges a certificate of a file whose text comes in pieces: that patterns are safe, or that they are
+/// safe at rest. It keeps of the text the unfinished
 /// line, and the place in the proof that is being read; nothing of the lines before.
 #[derive(Drop)]
 pub struct Checker<'a> {
     alloc: Global,
+    /// What its patterns are claimed to be.
+    claim: Claim,
     scoped: &'a ScopedFile,
     reader: Reader,
     failed: bool,
@@ -28,13 +34,14 @@ pub struct Checker<'a> {
 /// keeps all of them where there is none.
 fn take_next(
     alloc: Global,
+    claim: Claim,
     file: &File,
     reader: &mut Reader,
     position: &mut Position,
     bytes: &[u8],
 ) -> Result<Option<usize>, CertFault>
-    requires { StandSomewhere file.now reader.old position.old }
-    ensures { (text : Bytes ℕ) → Stand file.now reader.old position.old text → NextTaken file.now text bytes.now reader.new position.new result }
+    requires { StandSomewhere (claiming claim file.now) reader.old position.old }
+    ensures { (text : Bytes ℕ) → Stand (claiming claim file.now) reader.old position.old text → NextTaken (claiming claim file.now) text bytes.now reader.new position.new result }
 {
     match reader.feed_line(bytes)? {
         None => Ok(None),
@@ -45,7 +52,7 @@ fn take_next(
                 taken,
             },
         ) => {
-            position.take_line(alloc, file, number, &line)?;
+            position.take_line(alloc, claim, file, number, &line)?;
             Ok(Some(taken))
         }
     }
@@ -54,16 +61,17 @@ fn take_next(
 /// Takes the lines of a piece, and keeps what stands behind them.
 fn take_lines(
     alloc: Global,
+    claim: Claim,
     file: &File,
     reader: &mut Reader,
     position: &mut Position,
     piece: &[u8],
 ) -> Result<(), CertFault>
-    requires { StandSomewhere file.now reader.old position.old }
-    ensures { (text : Bytes ℕ) → Stand file.now reader.old position.old text → TakenTo file.now (text ++ piece.now) reader.new position.new result }
+    requires { StandSomewhere (claiming claim file.now) reader.old position.old }
+    ensures { (text : Bytes ℕ) → Stand (claiming claim file.now) reader.old position.old text → TakenTo (claiming claim file.now) (text ++ piece.now) reader.new position.new result }
 {
     let mut rest = piece;
-    'lines: while let Some(taken) = take_next(alloc, file, reader, position, rest)? {
+    'lines: while let Some(taken) = take_next(alloc, claim, file, reader, position, rest)? {
         let (_, behind) = rest.split_at(taken);
         rest = behind;
     }
@@ -71,17 +79,35 @@ fn take_lines(
 }
 
 impl<'a> Checker<'a> {
-    /// A judge before the first piece. It takes no memory.
+    /// A judge of a certificate that patterns of a file are safe, before the first piece. It takes no
+    /// memory.
     pub fn new(alloc: Global, scoped: &'a ScopedFile) -> Checker<'a>
         ensures stands { StandsFor result [] }
-        ensures file { result.scoped.now ≡ scoped.now }
+        ensures subject { subject_of result ≡ claiming Claim.Safe scoped.now.file }
     {
         Checker {
             alloc,
+            claim: Claim::Safe,
             scoped,
             reader: Reader::new(alloc),
             failed: false,
-            position: Position::new(alloc, &scoped.file),
+            position: Position::new(alloc),
+        }
+    }
+
+    /// A judge of a certificate that no run comes to rest where the last event of a pattern happens.
+    /// It takes no memory.
+    pub fn resting(alloc: Global, rest: &'a RestFile) -> Checker<'a>
+        ensures stands { StandsFor result [] }
+        ensures subject { subject_of result ≡ claiming Claim.RestSafe rest.now.ending.file }
+    {
+        Checker {
+            alloc,
+            claim: Claim::RestSafe,
+            scoped: &rest.ending,
+            reader: Reader::new(alloc),
+            failed: false,
+            position: Position::new(alloc),
         }
     }
 
@@ -91,10 +117,10 @@ impl<'a> Checker<'a> {
     pub fn feed(&mut self, piece: &[u8]) -> Result<(), CertFault>
         requires { IsSound self.old }
         ensures answer { (text : Bytes ℕ) → StandsFor self.old text → Fed text piece.now self.new result }
-        ensures exact { (text : Bytes ℕ) → StandsFor self.old text → IsExactFeed self.old.scoped.now.file (text ++ piece.now) result }
+        ensures exact { (text : Bytes ℕ) → StandsFor self.old text → IsExactFeed (subject_of self.old) (text ++ piece.now) result }
         ensures refused { IsErrOf result CertFault.Failed ↔ (self.old.failed ≡ true) }
         ensures stays { self.new.failed ≡ is_err result }
-        ensures file { self.new.scoped.now ≡ self.old.scoped.now }
+        ensures subject { subject_of self.new ≡ subject_of self.old }
         ensures sound { IsSound self.new }
     {
         if self.failed {
@@ -102,6 +128,7 @@ impl<'a> Checker<'a> {
         }
         let answer = take_lines(
             self.alloc,
+            self.claim,
             &self.scoped.file,
             &mut self.reader,
             &mut self.position,
@@ -114,11 +141,11 @@ impl<'a> Checker<'a> {
     /// What the certificate proves, where its text ended where it had to.
     pub fn finish(self) -> Result<Accepted, CertFault>
         requires { IsSound self }
-        ensures answer { (text : Bytes ℕ) → StandsFor self.entry text → Finished self.entry.scoped.now.file text result }
-        ensures exact { (text : Bytes ℕ) → StandsFor self.entry text → IsExactEnd self.entry.scoped.now.file text result }
+        ensures answer { (text : Bytes ℕ) → StandsFor self.entry text → Finished (subject_of self.entry) text result }
+        ensures exact { (text : Bytes ℕ) → StandsFor self.entry text → IsExactEnd (subject_of self.entry) text result }
         ensures refused { IsErrOf result CertFault.Failed ↔ (self.entry.failed ≡ true) }
-        ensures safe { IfOk result (λ accepted. AllSafe self.entry.scoped.now.file accepted.patterns) }
-        ensures unsolved { IfOk result (λ accepted. AllUnsolved self.entry.scoped.now.file accepted.patterns) }
+        ensures holds { IfOk result (λ accepted. AllHold (subject_of self.entry) accepted.patterns) }
+        ensures unsolved { self.entry.claim ≡ Claim.Safe → IfOk result (λ accepted. AllUnsolved self.entry.scoped.now.file accepted.patterns) }
     {
         if self.failed {
             return Err(CertFault::Failed);

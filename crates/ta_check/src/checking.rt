@@ -1,17 +1,23 @@
 //! Judging a certificate.
 #![tactic(auto)]
 
-ghost use Rattle.std.specs.Prelude.{◌≢◌, ℕ, List, IfErr, IfOk};
+ghost use Rattle.std.specs.Prelude.{◌≡◌, ◌≢◌, ℕ, List, [], IfErr, IfOk};
+ghost use Rattle.ta_automaton.specs.declared.file.File.{File as FileValue};
 ghost use Rattle.ta_cert.specs.Laws.{IsErrOrMemory};
 ghost use Rattle.ta_cert.specs.declared.fault.CertFault.{CertFault as AnyFault};
 ghost use Rattle.ta_cert.specs.declared.fault.CertFault.TheVariants.{Memory};
-ghost use Rattle.ta_check.specs.Certificate.{AllSafe, AllUnsolved, Certificate};
-ghost use Rattle.ta_check.specs.Faults.{IsFirstFault};
+ghost use Rattle.ta_claim.specs.declared.claim.Claim.TheVariants.{RestSafe, Safe};
+ghost use Rattle.ta_rest.specs.Faults.{EndingsOf};
+ghost use Rattle.ta_check.specs.Certificate.{AllHold, AllRestSafe, AllSafe, AllUnsolved, Certificate, CertificateFor, RestCertificate};
+ghost use Rattle.ta_check.specs.Checkers.{StandsFor, subject_of};
+ghost use Rattle.ta_check.specs.Faults.{IsFirstFault, IsFirstFaultFor};
+ghost use Rattle.ta_check.specs.Subjects.{Subject, claiming};
 
 use crate::accepted::Accepted;
 use crate::checker::Checker;
 use std::alloc::Global;
 use ta_cert::CertFault;
+use ta_rest::RestFile;
 use ta_scope::ScopedFile;
 
 /// Judges a certificate of a file. What is accepted is proved: the patterns that it names happen in
@@ -24,7 +30,34 @@ pub fn check(alloc: Global, scoped: &ScopedFile, text: &[u8]) -> Result<Accepted
     ensures safe { IfOk result (λ accepted. AllSafe scoped.now.file accepted.patterns) }
     ensures unsolved { IfOk result (λ accepted. AllUnsolved scoped.now.file accepted.patterns) }
 {
-    let mut checker = Checker::new(alloc, scoped);
+    judge_whole(Checker::new(alloc, scoped), text)
+}
+
+/// Judges a certificate that patterns are safe at rest: no run, of any length and any number of
+/// processes, comes to rest where the last event of a pattern that it names happens. It has no pairs.
+/// A fault is that of the first line at fault, over the systems of rest of the endings.
+pub fn rest_check(alloc: Global, rest: &RestFile, text: &[u8]) -> Result<Accepted, CertFault>
+    ensures accepted { IfOk result (λ accepted. RestCertificate rest.now.ending.file text.now accepted.patterns) }
+    ensures refused { IfErr result (λ fault. fault ≢ Memory → (numbers : List ℕ) → ¬ RestCertificate rest.now.ending.file text.now numbers) }
+    ensures fault { IfErr result (λ fault. fault ≢ Memory → IsFirstFaultFor (claiming RestSafe rest.now.ending.file) text.now fault) }
+    ensures exact { (fault : AnyFault) → IsFirstFaultFor (claiming RestSafe rest.now.ending.file) text.now fault → IsErrOrMemory result fault }
+    ensures safe { IfOk result (λ accepted. AllRestSafe rest.now.ending.file accepted.patterns) }
+    ensures own { IfOk result (λ accepted. (file : FileValue) → EndingsOf file rest.now.ending.file rest.now.added → AllRestSafe file accepted.patterns) }
+{
+    judge_whole(Checker::resting(alloc, rest), text)
+}
+
+/// Judges a whole certificate.
+fn judge_whole(checker: Checker<'_>, text: &[u8]) -> Result<Accepted, CertFault>
+    requires { StandsFor checker [] }
+    ensures accepted { IfOk result (λ accepted. CertificateFor (subject_of checker.entry) text.now accepted.patterns) }
+    ensures refused { IfErr result (λ fault. fault ≢ Memory → (numbers : List ℕ) → ¬ CertificateFor (subject_of checker.entry) text.now numbers) }
+    ensures fault { IfErr result (λ fault. fault ≢ Memory → IsFirstFaultFor (subject_of checker.entry) text.now fault) }
+    ensures exact { (fault : AnyFault) → IsFirstFaultFor (subject_of checker.entry) text.now fault → IsErrOrMemory result fault }
+    ensures holds { IfOk result (λ accepted. AllHold (subject_of checker.entry) accepted.patterns) }
+    ensures unsolved { checker.entry.claim ≡ Safe → IfOk result (λ accepted. AllUnsolved checker.entry.scoped.now.file accepted.patterns) }
+{
+    let mut checker = checker;
     checker.feed(text)?;
     checker.finish()
 }

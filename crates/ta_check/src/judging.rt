@@ -4,9 +4,9 @@
 ghost use Rattle.std.specs.Prelude.{ℕ, ◌≡◌, ◌↔◌, IsTrue, None, Some, reverse, ◌≢◌, IfErr};
 ghost use Rattle.ta_automaton.specs.Masks.{In};
 ghost use Rattle.ta_cert.specs.Lines.{ArePairs, IsLine, IsNode, IsSplit};
-ghost use Rattle.ta_automaton.specs.declared.file.File.{File as FileValue};
 ghost use Rattle.ta_cert.specs.declared.line.Line.TheVariants.{End, Header, Order, Pattern, Tree};
 ghost use Rattle.ta_cert.specs.declared.line.Node.TheVariants.{Extend, Leaf, Split};
+ghost use Rattle.ta_check.specs.Subjects.{HasVersion, Subject, claiming};
 ghost use Rattle.ta_check.specs.Lines.{IsFree, Standing, TakesOrder};
 ghost use Rattle.ta_check.specs.Positions.{IsAt, IsSomewhere, Taken};
 
@@ -15,7 +15,8 @@ use crate::position::Position;
 use std::alloc::Global;
 use ta_automaton::File;
 use ta_cert::{CertFault, Line, Node};
-use ta_cursor::{PatternTree, Place, Tree};
+use ta_claim::{Claim, ClaimTree};
+use ta_cursor::{Place, Tree};
 use ta_encode::Encoding;
 use ta_implied::OrderFault;
 
@@ -24,34 +25,48 @@ impl Position {
     pub fn take_line(
         &mut self,
         alloc: Global,
+        claim: Claim,
         file: &File,
         number: u64,
         line: &Line,
     ) -> Result<(), CertFault>
-        requires somewhere { IsSomewhere file.now self.old }
+        requires somewhere { IsSomewhere (claiming claim file.now) self.old }
         requires form { IsLine line.now }
-        ensures { (at : Standing) → IsAt file.now self.old at → Taken file.now at number line.now self.new result }
+        ensures { (at : Standing) → IsAt (claiming claim file.now) self.old at → Taken (claiming claim file.now) at number line.now self.new result }
     {
         match line {
-            Line::Header(version) => self.take_header(*version),
-            Line::Order { before, after } => self.take_order(file, number, *before, *after),
-            Line::Pattern(pattern) => self.begin(alloc, file, number, *pattern),
-            Line::Tree(node) => self.take_tree(alloc, file, number, node),
-            Line::End => self.end(file, number),
+            Line::Header(version) => self.take_header(claim, file, number, *version),
+            Line::Order { before, after } => {
+                self.take_order(claim, file, number, *before, *after)
+            },
+            Line::Pattern(pattern) => self.begin(alloc, claim, file, number, *pattern),
+            Line::Tree(node) => self.take_tree(alloc, claim, file, number, node),
+            Line::End => self.end(number),
         }
     }
 
     /// Takes the first line.
-    fn take_header(&mut self, version: u8) -> Result<(), CertFault>
-        ensures { (file : FileValue) (number : ℕ) (at : Standing) → IsAt file self.old at → Taken file at number (Header version) self.new result }
+    fn take_header(
+        &mut self,
+        claim: Claim,
+        file: &File,
+        number: u64,
+        version: u8,
+    ) -> Result<(), CertFault>
+        ensures taken { (at : Standing) → IsAt (claiming claim file.now) self.old at → Taken (claiming claim file.now) at number (Header version) self.new result }
+        ensures no_memory { IfErr result (λ fault. fault ≢ CertFault.Memory) }
     {
+        let _file = file;
+        if !has_version(claim, version) {
+            return Err(CertFault::Line(number));
+        }
         self.version = version;
         Ok(())
     }
 
     /// Whether a pair may come: in version 2, where none waits and no proof began.
     fn takes_order(&self) -> bool
-        ensures { (file : FileValue) (at : Standing) → IsAt file self.now at → IsTrue result ↔ TakesOrder at }
+        ensures { (subject : Subject) (at : Standing) → IsAt subject self.now at → IsTrue result ↔ TakesOrder at }
     {
         self.version == 2 && self.waiting.is_none() && self.proved.is_empty()
     }
@@ -59,7 +74,7 @@ impl Position {
     /// Whether a proof or the end may come: no pair waits, no proof is being read, and version 2
     /// has a pair.
     fn is_free(&self) -> bool
-        ensures { (file : FileValue) (at : Standing) → IsAt file self.now at → IsTrue result ↔ IsFree at }
+        ensures { (subject : Subject) (at : Standing) → IsAt subject self.now at → IsTrue result ↔ IsFree at }
     {
         if self.waiting.is_some() || self.current.is_some() {
             return false;
@@ -70,12 +85,14 @@ impl Position {
     /// Takes the line of a pair.
     fn take_order(
         &mut self,
+        claim: Claim,
         file: &File,
         number: u64,
         before: u32,
         after: u32,
     ) -> Result<(), CertFault>
-        ensures { (at : Standing) → IsAt file.now self.old at → Taken file.now at number (Order before after) self.new result }
+        ensures taken { (at : Standing) → IsAt (claiming claim file.now) self.old at → Taken (claiming claim file.now) at number (Order before after) self.new result }
+        ensures no_memory { IfErr result (λ fault. fault ≢ CertFault.Memory) }
     {
         if !self.takes_order() {
             return Err(CertFault::Line(number));
@@ -92,20 +109,22 @@ impl Position {
     fn take_tree(
         &mut self,
         alloc: Global,
+        claim: Claim,
         file: &File,
         number: u64,
         node: &Node,
     ) -> Result<(), CertFault>
-        requires somewhere { IsSomewhere file.now self.old }
+        requires somewhere { IsSomewhere (claiming claim file.now) self.old }
         requires form { IsNode node.now }
-        ensures { (at : Standing) → IsAt file.now self.old at → Taken file.now at number (Tree node.now) self.new result }
+        ensures { (at : Standing) → IsAt (claiming claim file.now) self.old at → Taken (claiming claim file.now) at number (Tree node.now) self.new result }
     {
         let Some((before, after)) = self.waiting else {
-            return self.take_node(alloc, file, number, node);
+            return self.take_node(alloc, claim, file, number, node);
         };
         match node {
             Node::Leaf(multipliers) => self.take_shown(
                 alloc,
+                claim,
                 file,
                 number,
                 before,
@@ -120,16 +139,17 @@ impl Position {
     fn take_shown(
         &mut self,
         alloc: Global,
+        claim: Claim,
         file: &File,
         number: u64,
         before: u32,
         after: u32,
         multipliers: &[(u32, i128)],
     ) -> Result<(), CertFault>
-        requires somewhere { IsSomewhere file.now self.old }
+        requires somewhere { IsSomewhere (claiming claim file.now) self.old }
         requires waits { self.old.waiting ≡ Some (before, after) }
         requires form { ArePairs 0 multipliers.now }
-        ensures { (at : Standing) → IsAt file.now self.old at → Taken file.now at number (Tree (Leaf multipliers.now)) self.new result }
+        ensures { (at : Standing) → IsAt (claiming claim file.now) self.old at → Taken (claiming claim file.now) at number (Tree (Leaf multipliers.now)) self.new result }
     {
         match self
             .orders
@@ -150,12 +170,13 @@ impl Position {
     fn begin(
         &mut self,
         alloc: Global,
+        claim: Claim,
         file: &File,
         number: u64,
         pattern: u32,
     ) -> Result<(), CertFault>
-        requires { IsSomewhere file.now self.old }
-        ensures { (at : Standing) → IsAt file.now self.old at → Taken file.now at number (Pattern pattern) self.new result }
+        requires { IsSomewhere (claiming claim file.now) self.old }
+        ensures { (at : Standing) → IsAt (claiming claim file.now) self.old at → Taken (claiming claim file.now) at number (Pattern pattern) self.new result }
     {
         if !self.is_free() {
             return Err(CertFault::Line(number));
@@ -167,7 +188,8 @@ impl Position {
             return Err(CertFault::RepeatedPattern(number));
         }
         self.proved.push(pattern)?;
-        match Place::first(alloc, &PatternTree::new(file, pattern, &self.orders)) {
+        let tree = ClaimTree::new(claim, file, pattern, &self.orders);
+        match Place::first(alloc, &tree) {
             None => Ok(()),
             Some(place) => {
                 self.current = Some(pattern);
@@ -186,11 +208,10 @@ impl Position {
     }
 
     /// Takes the last line.
-    fn end(&self, file: &File, number: u64) -> Result<(), CertFault>
-        ensures taken { (at : Standing) → IsAt file.now self.now at → Taken file.now at number End self.now result }
+    fn end(&self, number: u64) -> Result<(), CertFault>
+        ensures taken { (subject : Subject) (at : Standing) → IsAt subject self.now at → Taken subject at number End self.now result }
         ensures no_memory { IfErr result (λ fault. fault ≢ CertFault.Memory) }
     {
-        let _file = file;
         if self.is_free() {
             Ok(())
         } else {
@@ -202,25 +223,26 @@ impl Position {
     fn take_node(
         &mut self,
         alloc: Global,
+        claim: Claim,
         file: &File,
         number: u64,
         node: &Node,
     ) -> Result<(), CertFault>
-        requires somewhere { IsSomewhere file.now self.old }
+        requires somewhere { IsSomewhere (claiming claim file.now) self.old }
         requires none { self.old.waiting ≡ None }
         requires form { IsNode node.now }
-        ensures { (at : Standing) → IsAt file.now self.old at → Taken file.now at number (Tree node.now) self.new result }
+        ensures { (at : Standing) → IsAt (claiming claim file.now) self.old at → Taken (claiming claim file.now) at number (Tree node.now) self.new result }
     {
         let Some(pattern) = self.current else {
             return Err(CertFault::Line(number));
         };
         match node {
-            Node::Extend => self.take_extend(alloc, file, number, pattern),
+            Node::Extend => self.take_extend(alloc, claim, file, number, pattern),
             Node::Split { unknown, floor } => {
-                self.take_split(file, number, pattern, *unknown, *floor)
+                self.take_split(claim, file, number, pattern, *unknown, *floor)
             }
             Node::Leaf(multipliers) => {
-                self.take_leaf(alloc, file, number, pattern, multipliers.as_slice())
+                self.take_leaf(alloc, claim, file, number, pattern, multipliers.as_slice())
             }
         }
     }
@@ -229,16 +251,17 @@ impl Position {
     fn take_extend(
         &mut self,
         alloc: Global,
+        claim: Claim,
         file: &File,
         number: u64,
         pattern: u32,
     ) -> Result<(), CertFault>
-        requires somewhere { IsSomewhere file.now self.old }
+        requires somewhere { IsSomewhere (claiming claim file.now) self.old }
         requires none { self.old.waiting ≡ None }
         requires current { self.old.current ≡ Some pattern }
-        ensures { (at : Standing) → IsAt file.now self.old at → Taken file.now at number (Tree Extend) self.new result }
+        ensures { (at : Standing) → IsAt (claiming claim file.now) self.old at → Taken (claiming claim file.now) at number (Tree Extend) self.new result }
     {
-        let tree = PatternTree::new(file, pattern, &self.orders);
+        let tree = ClaimTree::new(claim, file, pattern, &self.orders);
         let start_mask = self.place.cursor().start_mask();
         if tree.is_complete(start_mask, self.place.cursor().word()) {
             return Err(CertFault::ExtendComplete(number));
@@ -252,19 +275,20 @@ impl Position {
     /// Takes a Split in the proof of a pattern.
     fn take_split(
         &mut self,
+        claim: Claim,
         file: &File,
         number: u64,
         pattern: u32,
         unknown: u32,
         floor: i128,
     ) -> Result<(), CertFault>
-        requires somewhere { IsSomewhere file.now self.old }
+        requires somewhere { IsSomewhere (claiming claim file.now) self.old }
         requires none { self.old.waiting ≡ None }
         requires current { self.old.current ≡ Some pattern }
         requires form { IsSplit unknown floor }
-        ensures { (at : Standing) → IsAt file.now self.old at → Taken file.now at number (Tree (Split unknown floor)) self.new result }
+        ensures { (at : Standing) → IsAt (claiming claim file.now) self.old at → Taken (claiming claim file.now) at number (Tree (Split unknown floor)) self.new result }
     {
-        let tree = PatternTree::new(file, pattern, &self.orders);
+        let tree = ClaimTree::new(claim, file, pattern, &self.orders);
         let start_mask = self.place.cursor().start_mask();
         if unknown >= tree.unknown_count(start_mask, self.place.cursor().word()) {
             return Err(CertFault::SplitVariable(number));
@@ -277,30 +301,40 @@ impl Position {
     fn take_leaf(
         &mut self,
         alloc: Global,
+        claim: Claim,
         file: &File,
         number: u64,
         pattern: u32,
         multipliers: &[(u32, i128)],
     ) -> Result<(), CertFault>
-        requires somewhere { IsSomewhere file.now self.old }
+        requires somewhere { IsSomewhere (claiming claim file.now) self.old }
         requires none { self.old.waiting ≡ None }
         requires current { self.old.current ≡ Some pattern }
         requires form { ArePairs 0 multipliers.now }
-        ensures { (at : Standing) → IsAt file.now self.old at → Taken file.now at number (Tree (Leaf multipliers.now)) self.new result }
+        ensures { (at : Standing) → IsAt (claiming claim file.now) self.old at → Taken (claiming claim file.now) at number (Tree (Leaf multipliers.now)) self.new result }
     {
+        let tree = ClaimTree::new(claim, file, pattern, &self.orders);
         judge_leaf(
             alloc,
-            file,
-            pattern,
+            &tree,
             self.place.cursor(),
             &mut self.encoding,
             number,
             multipliers,
         )?;
-        let tree = PatternTree::new(file, pattern, &self.orders);
         if !self.place.leave(alloc, &tree)? {
             self.current = None;
         }
         Ok(())
+    }
+}
+
+/// Whether a certificate of a claim may have a version.
+fn has_version(claim: Claim, version: u8) -> bool
+    ensures { IsTrue result ↔ HasVersion claim version }
+{
+    match claim {
+        Claim::Safe => true,
+        Claim::RestSafe => version == 1,
     }
 }

@@ -1,12 +1,17 @@
 //! Laws of certificates. The functions do nothing: their contracts state the laws.
 #![tactic(auto)]
 
-ghost use Rattle.ta_check.specs.Certificate.{CertificatesShow};
+ghost use Rattle.ta_check.specs.Certificate.{CertificatesShow, ClaimsHold};
 ghost use Rattle.ta_check.specs.Faults.{LastingFaultsLast};
 
 /// The patterns of a certificate are safe, and none of their words has a solution.
 pub fn certificates_show()
     ensures { CertificatesShow }
+{}
+
+/// What a certificate claims of its patterns holds.
+pub fn claims_hold()
+    ensures { ClaimsHold }
 {}
 
 /// A lasting fault of a text is the first fault of each longer one.

@@ -1,48 +1,37 @@
 //! The leaves of a certificate.
 #![tactic(auto)]
 
-ghost use Rattle.std.specs.Prelude.{ℕ, ℤ, ◌≡◌, ◌<◌, ◌≤◌, ◌^◌, List, [], IfOk, OnOk, length, reverse};
+ghost use Rattle.std.specs.Prelude.{◌≡◌, ◌≤◌, IfOk, OnOk};
 ghost use Rattle.ta_cert.specs.Lines.{ArePairs};
-ghost use Rattle.ta_encode.specs.InPreorder.{pattern_search};
-ghost use Rattle.ta_encode.specs.Lines.{BoundsWithin};
-ghost use Rattle.ta_encode.specs.Unknowns.{meanings};
-ghost use Rattle.ta_encode.specs.Marks.{IsEncoding};
-ghost use Rattle.ta_words.specs.Calls.{OfPattern};
-ghost use Rattle.ta_words.specs.Words.{Legal};
-ghost use Rattle.ta_cursor.specs.Cursors.{here};
+ghost use Rattle.ta_cursor.specs.Cursors.{IsWord, here};
 ghost use Rattle.ta_check.specs.Inside.Leaves.{WithoutBounds, renumbered};
 ghost use Rattle.ta_check.specs.Positions.{LeafTaken, fault_at};
 
 use std::alloc::{AllocError, Global};
 use std::mem;
-use ta_automaton::File;
 use ta_cert::CertFault;
-use ta_cursor::Cursor;
-use ta_encode::{Encoding, Grown, Named, named_rows};
+use ta_cursor::{Cursor, Tree, Written};
+use ta_encode::{Named, named_rows};
 use ta_farkas::{LeafFault, check_leaf};
-use ta_linear::System;
 
 /// Judges a leaf at the cursor's word, in the line of this number. The rows of the word are written
 /// on from those of the leaf before; a bound's row is written where the leaf names it.
-pub(crate) fn judge_leaf(
+pub(crate) fn judge_leaf<T: Tree>(
     alloc: Global,
-    file: &File,
-    pattern: u32,
+    tree: &T,
     cursor: &Cursor,
-    encoding: &mut Encoding,
+    kept: &mut T::Kept,
     number: u64,
     multipliers: &[(u32, i128)],
 ) -> Result<(), CertFault>
-    requires exists { pattern < length file.now.patterns }
-    requires legal { OfPattern file.now pattern (λ p. Legal file.now.automaton p cursor.now.start_mask (reverse cursor.now.word)) }
-    requires bounds { OfPattern file.now pattern (λ p. BoundsWithin (length (meanings file.now.automaton p cursor.now.start_mask (reverse cursor.now.word))) cursor.now.bounds.items) }
-    requires kept { OfPattern file.now pattern (λ p. IsEncoding file.now.automaton p encoding.old) }
+    requires word { IsWord (T.search tree.now) (here cursor.now) }
+    requires kept { T.is_kept tree.now kept.old }
     requires pairs { ArePairs 0 multipliers.now }
-    ensures kept { OnOk result (OfPattern file.now pattern (λ p. IsEncoding file.now.automaton p encoding.new)) }
-    ensures taken { OfPattern file.now pattern (λ p. LeafTaken (pattern_search file.now.automaton p []) (here cursor.now) number multipliers.now result) }
+    ensures kept { OnOk result (T.is_kept tree.now kept.new) }
+    ensures taken { LeafTaken (T.search tree.now) (here cursor.now) number multipliers.now result }
 {
-    grow(alloc, file, pattern, cursor, encoding)?;
-    let system = &encoding.system;
+    grow(alloc, tree, cursor, kept)?;
+    let system = tree.system(kept);
     match named_rows(alloc, system, cursor.bounds(), multipliers)? {
         Named::Absent(row) => Err(CertFault::Row { line: number, row }),
         Named::Rows(rows) => {
@@ -56,26 +45,25 @@ pub(crate) fn judge_leaf(
 }
 
 /// Writes the rows of the cursor's word, without bounds, on from those of another word.
-fn grow(
+fn grow<T: Tree>(
     alloc: Global,
-    file: &File,
-    pattern: u32,
+    tree: &T,
     cursor: &Cursor,
-    encoding: &mut Encoding,
+    kept: &mut T::Kept,
 ) -> Result<(), AllocError>
-    requires exists { pattern < length file.now.patterns }
-    requires legal { OfPattern file.now pattern (λ p. Legal file.now.automaton p cursor.now.start_mask (reverse cursor.now.word)) }
-    requires kept { OfPattern file.now pattern (λ p. IsEncoding file.now.automaton p encoding.old) }
-    ensures kept { OnOk result (OfPattern file.now pattern (λ p. IsEncoding file.now.automaton p encoding.new)) }
-    ensures system { OnOk result (OfPattern file.now pattern (λ p. WithoutBounds file.now.automaton p (here cursor.now) encoding.new.system)) }
+    requires word { IsWord (T.search tree.now) (here cursor.now) }
+    requires kept { T.is_kept tree.now kept.old }
+    ensures kept { OnOk result (T.is_kept tree.now kept.new) }
+    ensures system { OnOk result (WithoutBounds (T.search tree.now) (here cursor.now) (T.system_of kept.new)) }
+    ensures small { OnOk result ((T.system_of kept.new).unknowns ≤ 1000000) }
 {
-    let before = mem::replace(encoding, Encoding::new(alloc));
+    let before = mem::replace(kept, tree.nothing(alloc));
     let start_mask = cursor.start_mask();
-    let Grown {
-        encoding: after,
+    let Written {
+        kept: after,
         same: _,
-    } = before.grown(alloc, file, pattern, start_mask, cursor.word(), &[])?;
-    *encoding = after;
+    } = tree.encode(alloc, start_mask, cursor.word(), &[], before)?;
+    *kept = after;
     Ok(())
 }
 

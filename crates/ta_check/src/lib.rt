@@ -11,5 +11,5 @@ mod position;
 
 pub use accepted::Accepted;
 pub use checker::Checker;
-pub use checking::check;
-pub use laws::certificates_show;
+pub use checking::{check, rest_check};
+pub use laws::{certificates_show, claims_hold};

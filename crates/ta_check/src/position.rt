@@ -3,9 +3,9 @@
 
 ghost use Rattle.ta_check.specs.Lines.{at_first};
 ghost use Rattle.ta_check.specs.Positions.{IsAt};
+ghost use Rattle.ta_check.specs.Subjects.{Subject};
 
 use std::alloc::Global;
-use ta_automaton::File;
 use ta_cursor::Place;
 use ta_encode::Encoding;
 use ta_implied::Orders;
@@ -32,10 +32,9 @@ pub(crate) struct Position {
 
 impl Position {
     /// The position before the first line. It takes no memory.
-    pub fn new(alloc: Global, file: &File) -> Position
-        ensures { IsAt file.now result at_first }
+    pub fn new(alloc: Global) -> Position
+        ensures { (subject : Subject) → IsAt subject result at_first }
     {
-        let _file = file;
         Position {
             version: 0,
             orders: Orders::new(),

@@ -1,7 +1,7 @@
 //! Shortening a run.
 #![tactic(auto)]
 
-ghost use Rattle.std.specs.Prelude.{ℕ, pos, ◌≡◌, ◌≤◌, ◌<◌, ◌+◌, ◌^◌, ◌-◌, min, IfOk, IfErr, OnOk, IsOk};
+ghost use Rattle.std.specs.Prelude.{ℕ, pos, ◌≡◌, ◌≢◌, ◌≤◌, ◌<◌, ◌+◌, ◌^◌, ◌-◌, min, IfOk, IfErr, OnOk, IsOk};
 ghost use Rattle.ta_replay.specs.Fits.{Fits};
 ghost use Rattle.ta_replay.specs.Shows.{Shows, factor_of, factors_sum};
 ghost use Rattle.ta_replay.specs.declared.run.RunLine.TheVariants.{Mark};
@@ -80,6 +80,7 @@ fn admit(file: &File, run: &Run) -> Result<(), CompressFault>
     requires { Fits file.now run.now }
     ensures admitted { OnOk result (Admitted file.now run.now) }
     ensures fault { IfErr result (CompressFaultOf file.now run.now) }
+    ensures no_memory { IfErr result (λ fault. fault ≢ Memory) }
 {
     match replay(file, run) {
         Ok(_) => few_steps(run.lines.as_slice()),

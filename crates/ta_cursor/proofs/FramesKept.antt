@@ -9,7 +9,7 @@ use Rattle.ta_cursor.specs.declared.cursor.Frame.{Frame}
 use Rattle.ta_cursor.specs.declared.cursor.Cursor.{Cursor}
 use Rattle.ta_cursor.specs.Cursors.{here, word_of, node_of, behind, all_behind, IsWord, SplitFits, FrameFits, FramesFit, Inside, Within}
 
-take_less : {X : Type 0} (m n : ℕ) (xs : List X) → m ≤ n → take m (take n xs) ≡ take m xs
+pub take_less : {X : Type 0} (m n : ℕ) (xs : List X) → m ≤ n → take m (take n xs) ≡ take m xs
 take_less zero n xs le = refl
 take_less (suc m) zero xs le = absurd (omega arith)
 take_less (suc m) (suc n) [] le = refl
@@ -42,7 +42,7 @@ alike_before c d n m k l h le less = record {
   bounds = fewer_alike l m d.bounds.items c.bounds.items less h.bounds;
 }
 
-same_pending : (a b : ℕ) (past before : List Element) (xs ys : List Bound) → a ≡ b → past ≡ before → xs ≡ ys → ◌≡◌ {A = Pending} (record { start = a; past = past; bounds = xs }) (record { start = b; past = before; bounds = ys })
+pub same_pending : (a b : ℕ) (past before : List Element) (xs ys : List Bound) → a ≡ b → past ≡ before → xs ≡ ys → ◌≡◌ {A = Pending} (record { start = a; past = past; bounds = xs }) (record { start = b; past = before; bounds = ys })
 same_pending a b past before xs ys e f g = cc
 
 word_kept : (c d : Cursor) (f : Frame) → BeginAlike c d f.length f.bounds → word_of d f ≡ word_of c f

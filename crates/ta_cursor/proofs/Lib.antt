@@ -6,4 +6,5 @@ pub mod RowCounts
 pub mod FramesKept
 pub mod FramesParts
 mod FramesLeft
+mod FramesShared
 pub mod TreesLeft

@@ -101,3 +101,23 @@ GoesOn s new words (Err e) = Unit {0}
 abbrev pub WentOn : Search → Cursor → List Pending → Result (Unit {0}) AllocError → Type 0
 WentOn s new words (Ok _) = Within s new words
 WentOn s new words (Err e) = Unit {0}
+
+-- the words that are still to be refuted: the cursor's, and then those that its open nodes leave
+abbrev pub left_at : Search → Cursor → List Pending
+left_at s c = here c ∷ all_behind s c (reverse c.frames.items)
+
+-- a cursor gave the last of its words to another one: those that it kept come first, and then the other's
+pub record IsShared (s : Search) (old new later : Cursor) : Type 0 where
+  pub words : left_at s old ≡ left_at s new ++ left_at s later
+  pub first : Within s new (left_at s new)
+  pub second : Within s later (left_at s later)
+
+-- whether it did; else it is as before
+abbrev pub Shares : Search → Cursor → Cursor → Option Cursor → Type 0
+Shares s old new None = new ≡ old
+Shares s old new (Some later) = IsShared s old new later
+
+-- a cursor at the first of these words
+pub record IsBefore (s : Search) (pending : List Pending) (c : Cursor) : Type 0 where
+  pub words : left_at s c ≡ pending
+  pub within : Within s c (left_at s c)

@@ -3,7 +3,7 @@ use Rattle.std.specs.Prelude.{ℕ, ◌+◌, ◌^◌, ◌<◌, ◌≤◌, ◌≡�
 use Rattle.ta_linear.specs.declared.row.System.{System}
 use Rattle.ta_words.specs.declared.element.Element.{Element}
 use Rattle.ta_encode.specs.declared.meaning.Bound.{Bound}
-use Rattle.ta_encode.specs.Search.{Pending, Search}
+use Rattle.ta_encode.specs.Search.{Search}
 use Rattle.ta_cursor.specs.Cursors.{word_at}
 use Rattle.ta_cursor.specs.declared.root.Root.{Root}
 

@@ -11,6 +11,7 @@ mod patterns;
 mod place;
 mod places;
 mod root;
+mod sharing;
 mod tree;
 
 pub use cursor::{Cursor, Frame};

@@ -24,4 +24,5 @@ pub use laws::{
     equal_rows_never_leave, pivots_keep_dictionaries, rows_are_unique, slacks_are_a_dictionary,
 };
 pub use narrow::NarrowDictionary;
+pub use rows::factors;
 pub use small_pivot::NarrowPivot;

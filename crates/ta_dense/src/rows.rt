@@ -76,8 +76,9 @@ fn reduce(row: &mut DenseRow)
     }
 }
 
-// The two factors: each cell divided by the greatest common divisor of both.
-fn factors(c: i128, a: i128) -> (i128, i128)
+/// The two factors of a merge: the chosen row's cell and the other row's, each divided by the greatest
+/// common divisor of both.
+pub fn factors(c: i128, a: i128) -> (i128, i128)
     requires c_in_range { InRange c }
     requires a_in_range { InRange a }
     requires c_positive { pos 0 <ℤ c }

@@ -1,14 +1,11 @@
 -- the rows of a system that a list of row numbers names
-use Rattle.std.proofs.Common.{◌≡◌, ℕ, zero, suc, ◌+◌, ◌-◌, ◌<◌, ◌≤◌, ℤ, pos, List, [], ◌∷◌, ◌++◌, length, map, take, get_or, slice_get, Option, Some, None, arith, sym, ap, ◌∙◌, refl, subst, append-nil, length-append, inl, inr}
+use Rattle.std.proofs.Common.{◌≡◌, ℕ, zero, suc, ◌+◌, ◌-◌, ◌<◌, ◌≤◌, ℤ, pos, List, [], ◌∷◌, ◌++◌, length, map, take, get_or, slice_get, Option, Some, None, arith, sym, ap, ◌∙◌, refl, subst, length-append, inl, inr}
 use Rattle.std.proofs.lemmas.Bool.{cases_lt}
 use Rattle.std.proofs.Math.Seq.{take-length}
 use Rattle.ta_linear.specs.Terms.{IsNormal, coefficient}
 use Rattle.ta_linear.specs.Rows.{AllBelow}
 use Rattle.ta_linear.specs.declared.row.Row.{Row}
-use Rattle.ta_automaton.specs.declared.automaton.Automaton.{Automaton}
-use Rattle.ta_automaton.specs.declared.pattern.Pattern.{Pattern}
-use Rattle.ta_words.specs.declared.element.Element.{Element}
-use Rattle.ta_encode.specs.System.{LinearRow, Bound, bound_row, word_rows, system_rows}
+use Rattle.ta_encode.specs.System.{LinearRow, Bound, bound_row}
 use Rattle.ta_encode.specs.Code.{RowOf, RowsOf}
 use Rattle.ta_encode.specs.declared.named.Named.TheVariants.{Absent}
 use Rattle.ta_encode.specs.Named.{row_numbered, rows_named, number_at, AreThere, FirstAbsent, Names}
@@ -97,10 +94,6 @@ names_more rows unknowns ts i before after within so added = record {
     | inr from ↦ let same : i ≡ j = omega arith in subst (λ k. number_at ts k < length rows) same added.0
   ];
 }
-
--- a word's rows are those without bounds and then those of the bounds
-pub plain_rows : (a : Automaton) (p : Pattern) (start : ℕ) (past : List Element) (bounds : List Bound) → system_rows a p start past [] ++ map bound_row bounds ≡ system_rows a p start past bounds
-plain_rows a p start past bounds = ap (λ (ls : List LinearRow). ls ++ map bound_row bounds) (append-nil (word_rows a p start past))
 
 -- all that a list names was written
 pub names_all : (rows : List LinearRow) (unknowns : ℕ) (ts : List (ℕ × ℤ)) (i : ℕ) (written given : List Row) → NamedSoFar rows unknowns ts i written → i ≡ length ts → given ≡ written → RowsOf (rows_named rows ts) given × AreThere (length rows) ts

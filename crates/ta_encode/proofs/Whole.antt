@@ -8,11 +8,10 @@ use Rattle.ta_linear.specs.Rows.{AllBelow}
 use Rattle.ta_linear.specs.declared.form.Form.{Form}
 use Rattle.ta_linear.specs.declared.row.Row.{Row}
 use Rattle.ta_linear.specs.declared.row.System.{System}
-use Rattle.ta_automaton.specs.declared.automaton.Automaton.{Automaton}
-use Rattle.ta_automaton.specs.declared.pattern.Pattern.{Pattern}
 use Rattle.ta_words.specs.declared.element.Element.{Element}
-use Rattle.ta_encode.specs.System.{LinearRow, Bound, Side, Low, High, only_at, side_row, bound_row, word_rows, system_rows}
-use Rattle.ta_encode.specs.Code.{RowOf, RowsOf, SystemOf}
+use Rattle.ta_encode.specs.System.{LinearRow, Bound, Side, Low, High, only_at, side_row, bound_row}
+use Rattle.ta_encode.specs.Code.{RowOf, RowsOf, SystemAt}
+use Rattle.ta_encode.specs.Search.{Search}
 use Rattle.ta_encode.specs.Lines.{BoundWithin, BoundsWithin}
 use Rattle.ta_encode.proofs.Running.{at_variable, if_same, if_other}
 use Rattle.ta_encode.proofs.Adding.{AllBelow-append, RowsOf-append}
@@ -81,10 +80,15 @@ bound_rows n (b ∷ bs) most within =
     let rest = bound_rows n bs most within.1 in
     record { rows = first.row ∷ rest.rows; of = (first.of, rest.of); below = (first.below, rest.below) }
 
+-- the rows of a system without bounds
+pub unbounded_rows : (search : Search) (start : ℕ) (past : List Element) (z : System) → SystemAt search (record { start = start; past = past; bounds = [] }) z → RowsOf (search.rows start past) z.rows
+unbounded_rows search start past z is = subst (λ (ls : List LinearRow). RowsOf ls z.rows) (append-nil (search.rows start past)) is.rows
+
 -- where a word has a system without bounds, it has one with them
-pub whole_system : (a : Automaton) (p : Pattern) (start : ℕ) (past : List Element) (bounds : List Bound) (z : System) → z.unknowns ≤ 2 ^ 32 → SystemOf a p start past [] z → BoundsWithin z.unknowns bounds → (s : System) × SystemOf a p start past bounds s
-whole_system a p start past bounds z most is within =
+pub whole_system : (search : Search) (start : ℕ) (past : List Element) (bounds : List Bound) (z : System) → z.unknowns ≤ 2 ^ 32 → SystemAt search (record { start = start; past = past; bounds = [] }) z → BoundsWithin z.unknowns bounds → (s : System) × SystemAt search (record { start = start; past = past; bounds = bounds }) s
+whole_system search start past bounds z most is within =
     let more = bound_rows z.unknowns bounds most within in
-    let plain : RowsOf (word_rows a p start past) z.rows = subst (λ (ls : List LinearRow). RowsOf ls z.rows) (append-nil (word_rows a p start past)) is.rows in
+    let rows = search.rows start past in
+    let plain = unbounded_rows search start past z is in
     let s : System = record { unknowns = z.unknowns; rows = z.rows ++ more.rows; within = AllBelow-append z.unknowns z.rows more.rows z.within more.below } in
-    (s, record { unknowns = is.unknowns; rows = RowsOf-append (word_rows a p start past) (map bound_row bounds) z.rows more.rows plain more.of })
+    (s, record { unknowns = is.unknowns; rows = RowsOf-append rows (map bound_row bounds) z.rows more.rows plain more.of })

@@ -1,17 +1,14 @@
 -- The rows of a system that a list of row numbers names, each number beside a multiplier
 use Rattle.std.specs.Prelude.{ℕ, ℤ, pos, ◌<◌, ◌≤◌, ◌≡◌, List, [], length, map, slice_index_or}
 use Rattle.ta_linear.specs.declared.row.System.{System}
-use Rattle.ta_automaton.specs.declared.automaton.Automaton.{Automaton}
-use Rattle.ta_automaton.specs.declared.pattern.Pattern.{Pattern}
-use Rattle.ta_words.specs.declared.element.Element.{Element}
 use Rattle.ta_encode.specs.System.{LinearRow}
-use Rattle.ta_encode.specs.Code.{RowsOf, SystemOf}
+use Rattle.ta_encode.specs.Code.{RowsOf}
 use Rattle.ta_encode.specs.declared.named.Named.{Named}
 use Rattle.ta_encode.specs.declared.named.Named.TheVariants.{Rows, Absent}
 
--- the system of some word without bounds
-abbrev pub IsOfWord : System → Type 0
-IsOfWord system = (a : Automaton) × (p : Pattern) × (start : ℕ) × (past : List Element) × SystemOf a p start past [] system
+-- the rows of some linear rows
+abbrev pub HasRows : System → Type 0
+HasRows system = (rows : List LinearRow) × RowsOf rows system.rows
 
 -- the row of a number, which is to be there
 abbrev pub row_numbered : List LinearRow → ℕ → LinearRow

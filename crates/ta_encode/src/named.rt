@@ -1,15 +1,12 @@
-//! The rows of a word's system that a list of row numbers names.
+//! The rows of a system that a list of row numbers names.
 #![tactic(auto)]
 
 ghost use Rattle.std.specs.Prelude.{ℕ, ◌≡◌, ◌<◌, ◌≤◌, ◌++◌, ◌∷◌, [], List, IfOk, MatchBool, length, map};
-ghost use Rattle.ta_automaton.specs.declared.automaton.Automaton.{Automaton};
-ghost use Rattle.ta_automaton.specs.declared.pattern.Pattern.{Pattern};
-ghost use Rattle.ta_words.specs.declared.element.Element.{Element};
-ghost use Rattle.ta_encode.specs.Code.{RowsOf, SystemOf};
+ghost use Rattle.ta_encode.specs.Code.{RowsOf};
 ghost use Rattle.ta_encode.specs.Lines.{BoundsWithin};
 ghost use Rattle.ta_encode.specs.Inside.Lines.{Adds};
-ghost use Rattle.ta_encode.specs.Named.{IsOfWord, Names, row_numbered};
-ghost use Rattle.ta_encode.specs.System.{LinearRow, bound_row, system_rows};
+ghost use Rattle.ta_encode.specs.Named.{HasRows, Names, row_numbered};
+ghost use Rattle.ta_encode.specs.System.{LinearRow, bound_row};
 
 use crate::meaning::Bound;
 use crate::rows::push_bound;
@@ -25,18 +22,17 @@ pub enum Named {
     Absent(u32),
 }
 
-/// The rows of a word's system with bounds that a list names, each beside its multiplier. `system`
-/// is the word's without bounds: no row but those that are named is written or copied.
+/// The rows of a system with bounds that a list names, each beside its multiplier. `system` is without
+/// bounds: no row but those that are named is written or copied.
 pub fn named_rows(
     alloc: Global,
     system: &System,
     bounds: &[Bound],
     multipliers: &[(u32, i128)],
 ) -> Result<Named, AllocError>
-    requires word { IsOfWord system.now }
+    requires rows { HasRows system.now }
     requires bounds { BoundsWithin system.now.unknowns bounds.now }
-    ensures { (a : Automaton) (p : Pattern) (start : ℕ) (past : List Element) → SystemOf a p start past [] system.now
-        → IfOk result (Names (system_rows a p start past bounds.now) system.now.unknowns multipliers.now) }
+    ensures { (ls : List LinearRow) → RowsOf ls system.now.rows → IfOk result (Names (ls ++ map bound_row bounds.now) system.now.unknowns multipliers.now) }
 {
     let mut rows = Vec::new(alloc);
     for (number, _) in multipliers {

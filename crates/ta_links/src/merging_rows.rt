@@ -1,8 +1,6 @@
 //! Rows that are merged with a chosen one, head and cells.
 
-ghost use Rattle.std.specs.Prelude.{◌≡◌, ◌≢◌, ◌<◌, pos, set, true, false, ◌<ℤ◌, int_div, length, IfOk, IfSome, IfNone};
-ghost use Rattle.ta_linear.specs.Numbers.{InRange};
-ghost use Rattle.ta_dense.specs.Tableau.{factor_divisor};
+ghost use Rattle.std.specs.Prelude.{◌≡◌, ◌≢◌, ◌<◌, pos, set, true, false, ◌<ℤ◌, length, IfOk, IfSome, IfNone};
 ghost use Rattle.ta_dense.specs.Merge.{MergesInRange};
 ghost use Rattle.ta_links.specs.Values.{value_in};
 ghost use Rattle.ta_links.specs.Gaps.{AreSound};
@@ -14,20 +12,8 @@ use crate::merging::{combined, divisor_of_merged, quotient, write_merged};
 use crate::reading::{head_of, number};
 use crate::row_head::RowHead;
 use std::alloc::AllocError;
-use ta_linear::{gcd, gcd_natural, multiply};
-
-// The two factors: each cell divided by the greatest common divisor of both.
-fn factors(c: i128, a: i128) -> (i128, i128)
-    requires c_in_range { InRange c }
-    requires a_in_range { InRange a }
-    requires c_positive { pos 0 <ℤ c }
-    ensures first { result.0 ≡ int_div c (pos (factor_divisor c a)) }
-    ensures second { result.1 ≡ int_div a (pos (factor_divisor c a)) }
-    ensures positive { pos 0 <ℤ result.0 }
-{
-    let divisor = gcd(c, a);
-    (c / divisor, a / divisor)
-}
+use ta_dense::factors;
+use ta_linear::{gcd_natural, multiply};
 
 // The merged denominator and constant, and what the column gets.
 fn merged_head(p: i128, q: i128, head: RowHead, chosen: RowHead) -> Option<(i128, i128, i128)>

@@ -1,5 +1,6 @@
 -- what numbering a comparison's row does to the guards so far
-use Rattle.std.proofs.Common.{◌≡◌, ◌⊎◌, inl, inr, ℕ, ◌+◌, ◌≤◌, List, [], ◌∷◌, ◌++◌, map, length, Bool, true, false, not, ltb, ◌&&◌, slice_get, Some, Ok, Err, arith, sym, ap, ◌∙◌, refl, subst}
+use Rattle.std.proofs.Common.{drop, ◌≡◌, ◌⊎◌, inl, inr, ℕ, ◌+◌, ◌≤◌, List, [], ◌∷◌, ◌++◌, map, length, Bool, true, false, not, ltb, ◌&&◌, slice_get, Some, Ok, Err, arith, sym, ap, ◌∙◌, refl, subst}
+use Rattle.std.specs.List.{list_any}
 use Rattle.std.proofs.lemmas.List.{length-append, map_push, length-map}
 use Rattle.std.proofs.lemmas.Bool.{cond-true, cond-false, false_from_ne_true, true≢false, lt-ltb, le-ltb, and_left, and_right, and_from, not_from_true, not_from_false}
 use Rattle.ta_linear.specs.Terms.{IsNormal}
@@ -13,8 +14,8 @@ use Rattle.ta_automaton.specs.Forms.{RowOver, RiseRow, FallRow}
 use Rattle.ta_automaton.specs.declared.condition.Comparison.{Comparison}
 use Rattle.ta_automaton.proofs.Thresholds.{each_at}
 use Rattle.ta_meaning.specs.Names.{Names, guard_names}
-use Rattle.ta_meaning.specs.Linear.{Linear, comparison_rows, differences_by, any_number}
-use Rattle.ta_meaning.specs.Guards.{Guards, is_negative, is_positive, falls, has_row, with_row, shared_part, is_no_threshold, is_one_more, is_past_limit}
+use Rattle.ta_meaning.specs.Linear.{Linear, comparison_rows, differences_by}
+use Rattle.ta_meaning.specs.Guards.{Guards, is_negative, is_positive, falls, has_row, with_row, is_no_threshold, is_one_more, is_past_limit}
 use Rattle.ta_meaning.specs.Faults.{FirstOrMemory, where_, else_, in_guards, comparison_faults, guard_faults}
 use Rattle.ta_meaning.specs.Inside.Resolved.{ResolvedComparison}
 use Rattle.ta_meaning.specs.Inside.Numbering.{any_shared, is_no_guard, Has, RowAnswers, linear_of, guards_so_far, GuardsKept, GuardNumbered}
@@ -196,7 +197,7 @@ rise_faults ns before c row one rises =
     let l = linear_of (size ns) row in
     let negative = rise_falls ns c row one rises in
     one_more_alone ns before c row (not (has_row g.rise l) && not (ltb (length g.rise) 16)) one
-    (and_left (falls parameters l) (any_number is_positive (shared_part parameters l)) negative)
+    (and_left (falls parameters l) (list_any is_positive (drop parameters l.coefficients)) negative)
     (cond-false (falls parameters l) (not (has_row g.fall l) && not (ltb (length g.fall) 6)) (not (has_row g.rise l) && not (ltb (length g.rise) 16)) negative)
 
 pub rise_refused : (ns : Names) (before : GuardList) (c : TreeComparison) (row : Row) (e : FileFault) → GuardsKept ns before → OneRow ns c row → any_shared is_negative (length ns.parameters) row.form.terms ≡ false → RowAnswers before.rise.items row 16 c.at [] (Err e)
@@ -250,9 +251,9 @@ fall_faults ns before c row one drops never =
     let g = guards_so_far ns before in
     let l = linear_of (size ns) row in
     let negative = fall_falls ns c row one drops in
-    let no_positive : any_number is_positive (shared_part parameters l) ≡ false = sym (any_same is_positive parameters (size ns) row refl (one_row_over ns c row one).below) ∙ never in
+    let no_positive : list_any is_positive (drop parameters l.coefficients) ≡ false = sym (any_same is_positive parameters (size ns) row refl (one_row_over ns c row one).below) ∙ never in
     one_more_alone ns before c row (not (has_row g.fall l) && not (ltb (length g.fall) 6)) one
-    (and_right (falls parameters l) (any_number is_positive (shared_part parameters l)) no_positive)
+    (and_right (falls parameters l) (list_any is_positive (drop parameters l.coefficients)) no_positive)
     (cond-true (falls parameters l) (not (has_row g.fall l) && not (ltb (length g.fall) 6)) (not (has_row g.rise l) && not (ltb (length g.rise) 16)) negative)
 
 pub fall_refused : (ns : Names) (before : GuardList) (c : TreeComparison) (row : Row) (e : FileFault) → GuardsKept ns before → OneRow ns c row → any_shared is_negative (length ns.parameters) row.form.terms ≡ true → any_shared is_positive (length ns.parameters) row.form.terms ≡ false → RowAnswers before.fall.items row 6 c.at [] (Err e)

@@ -1,32 +1,22 @@
 -- rows as numbers: when two are the same, and which are among others
 use Rattle.std.proofs.Common.{◌≡◌, ◌⊎◌, inl, inr, ℕ, ℤ, pos, negsuc, zero, suc, List, [], ◌∷◌, ◌++◌, length, true, ◌&&◌, eqb, slice_get, Some, Decides, ap, refl}
 use Rattle.std.proofs.lemmas.Bool.{false≢true, or_cases, or_left, or_right}
-use Rattle.std.proofs.lemmas.Bool.Decides.{Decides-eqb, Decides-and, Decides-like}
+use Rattle.std.proofs.lemmas.Bool.Decides.{Decides-eqb, Decides-int_eq, Decides-and, Decides-like}
+use Rattle.std.proofs.lemmas.Slice.Eq.{slice_eq-Decides}
+use Rattle.std.specs.Ordering.{int_eq}
+use Rattle.std.specs.List.{list_any}
+use lib.Pointwise.{pointwise}
 use Rattle.std.proofs.lemmas.Option.{same_Some}
 use Rattle.ta_automaton.proofs.Trails.{get_left}
 use Rattle.ta_meaning.specs.Linear.{Linear}
-use Rattle.ta_meaning.specs.Guards.{same_number, same_numbers, same_row, has_row}
+use Rattle.ta_meaning.specs.Guards.{same_row, has_row}
 use Rattle.ta_meaning.proofs.ListItems.{get_last, get_push}
 use Rattle.ta_meaning.proofs.NormalTerms.{linear_same}
 
--- ---- numbers
-
-pub number_decides : (a b : ℤ) → Decides (same_number a b) (a ≡ b)
-number_decides (pos m) (pos n) = Decides-like (eqb m n) (λ e. ap pos e) (λ e. let q : m ≡ n = cc in q) (Decides-eqb m n)
-number_decides (negsuc m) (negsuc n) = Decides-like (eqb m n) (λ e. ap negsuc e) (λ e. let q : m ≡ n = cc in q) (Decides-eqb m n)
-number_decides (pos m) (negsuc n) = (λ t. absurd (false≢true t), λ e. absurd (cc))
-number_decides (negsuc m) (pos n) = (λ t. absurd (false≢true t), λ e. absurd (cc))
-
-pub numbers_decides : (a b : List ℤ) → Decides (same_numbers a b) (a ≡ b)
-numbers_decides [] [] = (λ t. refl, λ e. refl)
-numbers_decides [] (y ∷ b) = (λ t. absurd (false≢true t), λ e. absurd (cc))
-numbers_decides (x ∷ a) [] = (λ t. absurd (false≢true t), λ e. absurd (cc))
-numbers_decides (x ∷ a) (y ∷ b) = Decides-like (same_number x y && same_numbers a b) (λ w. let p = w.0 in let q = w.1 in cc) (λ e. (let p : x ≡ y = cc in p, let q : a ≡ b = cc in q)) (Decides-and (same_number x y) (same_numbers a b) (number_decides x y) (numbers_decides a b))
-
 pub row_decides : (a b : Linear) → Decides (same_row a b) (a ≡ b)
 row_decides a b =
-    Decides-like (same_number a.constant b.constant && same_numbers a.coefficients b.coefficients) (λ w. linear_same a b w.0 w.1) (λ e. (ap (λ (l : Linear). l.constant) e, ap (λ (l : Linear). l.coefficients) e))
-    (Decides-and (same_number a.constant b.constant) (same_numbers a.coefficients b.coefficients) (number_decides a.constant b.constant) (numbers_decides a.coefficients b.coefficients))
+    Decides-like (int_eq a.constant b.constant && pointwise int_eq a.coefficients b.coefficients) (λ w. linear_same a b w.0 w.1) (λ e. (ap (λ (l : Linear). l.constant) e, ap (λ (l : Linear). l.coefficients) e))
+    (Decides-and (int_eq a.constant b.constant) (pointwise int_eq a.coefficients b.coefficients) (Decides-int_eq a.constant b.constant) (slice_eq-Decides Decides-int_eq a.coefficients b.coefficients (pointwise int_eq a.coefficients b.coefficients) refl))
 
 -- ---- rows among rows
 

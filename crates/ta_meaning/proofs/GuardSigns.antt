@@ -1,5 +1,6 @@
 -- the signs of shared variables' coefficients, in a row's terms and in its numbers
 use Rattle.std.proofs.Common.{◌≡◌, inl, inr, ℕ, ℤ, pos, negsuc, suc, ◌+◌, ◌-◌, ◌<◌, ◌≤◌, ◌≤ℤ◌, List, [], ◌∷◌, map, length, drop, get_or, Bool, true, false, leb, ◌&&◌, arith, sym, ap, ◌∙◌, refl}
+use Rattle.std.specs.List.{list_any}
 use Rattle.std.proofs.lemmas.Int.{ints}
 use Rattle.std.proofs.lemmas.Bool.{false≢true, true≢false, or_cases, or_left, or_right, or_parts, and_parts, and_from, and_cases, cases_eq, leb-true, leb-false, le-leb, ltb-false}
 use Rattle.std.proofs.lemmas.Bool.Decides.{same_from_decides}
@@ -10,8 +11,8 @@ use Rattle.ta_linear.specs.declared.row.Row.{Row}
 use Rattle.ta_linear.proofs.TermLemmas.{IsNormal-le}
 use Rattle.ta_automaton.specs.Lists.{Each}
 use Rattle.ta_automaton.specs.Forms.{RowOver}
-use Rattle.ta_meaning.specs.Linear.{Linear, Pairwise, RowOf, any_number}
-use Rattle.ta_meaning.specs.Guards.{is_negative, is_positive, falls, shared_part, is_no_threshold}
+use Rattle.ta_meaning.specs.Linear.{Linear, Pairwise, RowOf}
+use Rattle.ta_meaning.specs.Guards.{is_negative, is_positive, falls, is_no_threshold}
 use Rattle.ta_meaning.specs.Inside.Numbering.{any_shared, is_no_guard, linear_of}
 use Rattle.ta_meaning.proofs.NormalTerms.{coefficient-first, coefficient-other, linear_at, length-numbers, linear_is}
 
@@ -95,28 +96,28 @@ any_from test parameters low high i (s ∷ ts) none n h t = elim (cases_eq s.0 i
   | inr ne ↦ or_right (leb parameters s.0 && test s.1) (any_shared test parameters ts) (any_from test parameters (s.0 + 1) high i ts none n.2 h (ap test (sym (coefficient-other s ts i ne)) ∙ t))
 ]
 
-number_gives : (test : ℤ → Bool) (zs : List ℤ) → any_number test zs ≡ true → (i : ℕ) × (i < length zs) × (test (get_or zs i (pos 0)) ≡ true)
+number_gives : (test : ℤ → Bool) (zs : List ℤ) → list_any test zs ≡ true → (i : ℕ) × (i < length zs) × (test (get_or zs i (pos 0)) ≡ true)
 number_gives test [] h = absurd (false≢true h)
-number_gives test (z ∷ zs) h = elim (or_cases (test z) (any_number test zs) h) [
+number_gives test (z ∷ zs) h = elim (or_cases (test z) (list_any test zs) h) [
   | inl e ↦ (0, omega arith, e)
   | inr e ↦ (let w = number_gives test zs e in (suc w.0, (let b = w.1 in omega arith), w.2))
 ]
 
 -- a row's terms and its numbers agree on whether a coefficient of a shared variable passes
-pub any_same : (test : ℤ → Bool) (parameters places : ℕ) (row : Row) → test (pos 0) ≡ false → IsNormal 0 places row.form.terms → any_shared test parameters row.form.terms ≡ any_number test (shared_part parameters (linear_of places row))
+pub any_same : (test : ℤ → Bool) (parameters places : ℕ) (row : Row) → test (pos 0) ≡ false → IsNormal 0 places row.form.terms → any_shared test parameters row.form.terms ≡ list_any test (drop parameters (linear_of places row).coefficients)
 any_same test parameters places row none n =
     let ts = row.form.terms in
     let zs = (linear_of places row).coefficients in
     let count = length-numbers (coefficient ts) 0 places in
     let short = length-drop parameters zs in
-    same_from_decides (any_shared test parameters ts) (any_number test (drop parameters zs)) (
+    same_from_decides (any_shared test parameters ts) (list_any test (drop parameters zs)) (
       λ h. (
           let w = any_gives test parameters 0 places ts n h in
           let low = w.shared in
           let high = w.below in
           let read : get_or (drop parameters zs) (w.place - parameters) (pos 0) ≡ coefficient ts w.place =
           get_or-drop parameters zs (w.place - parameters) (pos 0) ∙ ap (λ i. get_or zs i (pos 0)) (let e : parameters + (w.place - parameters) ≡ w.place = omega arith in e) ∙ linear_at row places w.place high in
-          or_at (any_number test) test refl (λ _ _. refl) (drop parameters zs) (w.place - parameters) (pos 0) (omega arith) (ap test read ∙ w.passes)
+          or_at (list_any test) test refl (λ _ _. refl) (drop parameters zs) (w.place - parameters) (pos 0) (omega arith) (ap test read ∙ w.passes)
           ),
       λ h. (
           let w = number_gives test (drop parameters zs) h in

@@ -1,5 +1,6 @@
 -- Numbers above 1,000,000,000: in a form exactly where they are in what it means.
 use Rattle.std.proofs.Common.{◌≡◌, ℕ, zero, suc, ℤ, pos, ◌+◌, ◌^◌, ◌<◌, ◌≤◌, ◌+ℤ◌, unsigned_abs, Bool, true, false, ◌||◌, cond, eqb, List, [], ◌∷◌, length, get_or, refl, sym, ap, subst, ◌∙◌, arith}
+use Rattle.std.specs.List.{list_any}
 use Rattle.std.proofs.lemmas.Int.{ints}
 use Rattle.std.proofs.lemmas.Bool.Decides.{nat_tests}
 use Rattle.std.proofs.lemmas.Bool.{or_parts, or_from}
@@ -9,7 +10,7 @@ use Rattle.ta_linear.specs.declared.row.Row.{Row}
 use Rattle.ta_linear.proofs.TermLemmas.{coefficient-below}
 use Rattle.ta_automaton.specs.Lists.{Each}
 use Rattle.ta_automaton.specs.Forms.{FormOver}
-use Rattle.ta_meaning.specs.Linear.{Linear, FormOf, Pairwise, RowOf, is_large, any_number, is_large_linear, any_large}
+use Rattle.ta_meaning.specs.Linear.{Linear, FormOf, Pairwise, RowOf, is_large, is_large_linear, any_large}
 use Rattle.ta_meaning.specs.SumParts.{Within}
 use Rattle.ta_meaning.specs.Inside.SumParts.{is_large_form, any_large_term, any_large_row}
 use Rattle.ta_meaning.proofs.NormalTerms.{coefficient-first, coefficient-other}
@@ -27,14 +28,14 @@ both_or_neither true true f g = refl
 
 -- ---- lists of numbers
 
-numbers_small : (zs : List ℤ) (i : ℕ) → any_number is_large zs ≡ false → unsigned_abs (get_or zs i (pos 0)) ≤ 1000000000
+numbers_small : (zs : List ℤ) (i : ℕ) → list_any is_large zs ≡ false → unsigned_abs (get_or zs i (pos 0)) ≤ 1000000000
 numbers_small [] i h = omega (arith, ints)
-numbers_small (z ∷ zs) zero h = small_tells z (or_parts (is_large z) (any_number is_large zs) h).0
-numbers_small (z ∷ zs) (suc i) h = numbers_small zs i (or_parts (is_large z) (any_number is_large zs) h).1
+numbers_small (z ∷ zs) zero h = small_tells z (or_parts (is_large z) (list_any is_large zs) h).0
+numbers_small (z ∷ zs) (suc i) h = numbers_small zs i (or_parts (is_large z) (list_any is_large zs) h).1
 
-small_numbers : (zs : List ℤ) → ((i : ℕ) → unsigned_abs (get_or zs i (pos 0)) ≤ 1000000000) → any_number is_large zs ≡ false
+small_numbers : (zs : List ℤ) → ((i : ℕ) → unsigned_abs (get_or zs i (pos 0)) ≤ 1000000000) → list_any is_large zs ≡ false
 small_numbers [] h = refl
-small_numbers (z ∷ zs) h = or_from (is_large z) (any_number is_large zs) (small_test z (h zero)) (small_numbers zs (λ i. h (suc i)))
+small_numbers (z ∷ zs) h = or_from (is_large z) (list_any is_large zs) (small_test z (h zero)) (small_numbers zs (λ i. h (suc i)))
 
 -- ---- terms
 
@@ -70,14 +71,14 @@ within_small form w = or_from (is_large form.constant) (any_large_term form.term
 
 pub linear_small : (l : Linear) (form : Form) → FormOf l form → Within 1000000000 form → is_large_linear l ≡ false
 linear_small l form is w =
-    or_from (is_large l.constant) (any_number is_large l.coefficients)
+    or_from (is_large l.constant) (list_any is_large l.coefficients)
     (small_test l.constant (subst (λ (z : ℤ). unsigned_abs z ≤ 1000000000) is.constant w.constant))
     (small_numbers l.coefficients (λ i. subst (λ (z : ℤ). unsigned_abs z ≤ 1000000000) (is.coefficients i) (w.coefficients i)))
 
 small_linear : (l : Linear) (form : Form) → FormOf l form → is_large_linear l ≡ false → Within 1000000000 form
 small_linear l form is h = record {
-  constant = subst (λ (z : ℤ). unsigned_abs z ≤ 1000000000) (sym is.constant) (small_tells l.constant (or_parts (is_large l.constant) (any_number is_large l.coefficients) h).0);
-  coefficients = λ i. subst (λ (z : ℤ). unsigned_abs z ≤ 1000000000) (sym (is.coefficients i)) (numbers_small l.coefficients i (or_parts (is_large l.constant) (any_number is_large l.coefficients) h).1);
+  constant = subst (λ (z : ℤ). unsigned_abs z ≤ 1000000000) (sym is.constant) (small_tells l.constant (or_parts (is_large l.constant) (list_any is_large l.coefficients) h).0);
+  coefficients = λ i. subst (λ (z : ℤ). unsigned_abs z ≤ 1000000000) (sym (is.coefficients i)) (numbers_small l.coefficients i (or_parts (is_large l.constant) (list_any is_large l.coefficients) h).1);
 }
 
 -- a form has a large number exactly where what it means has one

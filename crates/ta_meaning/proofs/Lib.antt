@@ -35,8 +35,8 @@ mod RuleSteps
 mod RuleSequence
 mod Shapes
 mod Whole
-mod EqualParts
-mod OneFile
+pub mod EqualParts
+pub mod OneFile
 mod SeenSums
 mod StartedParts
 mod SameOffsets

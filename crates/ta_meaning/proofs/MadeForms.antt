@@ -1,5 +1,6 @@
 -- Numbers that are not too large are those of a form, and sums and comparisons without a fault mean forms and rows.
 use Rattle.std.proofs.Common.{◌≡◌, ◌≢◌, ℕ, zero, suc, ℤ, pos, negsuc, ◌+◌, ◌^◌, ◌<◌, ◌≤◌, unsigned_abs, Bool, true, false, ◌&&◌, List, [], ◌∷◌, ◌++◌, map, length, get_or, IsTrue, Some, None, refl, sym, ap, subst, ◌∙◌, arith}
+use Rattle.std.specs.List.{list_any}
 use Rattle.std.proofs.lemmas.Int.{ints}
 use Rattle.std.proofs.lemmas.Bool.{or_parts}
 use Rattle.std.proofs.lemmas.List.{length-map}
@@ -20,7 +21,7 @@ use Rattle.ta_automaton.specs.Forms.{RowOver}
 use Rattle.ta_automaton.specs.declared.condition.Comparison.{Comparison}
 use Rattle.ta_automaton.specs.declared.condition.Condition.{Condition}
 use Rattle.ta_meaning.specs.Sums.{sum_uses, term_uses, factor_uses, has_name}
-use Rattle.ta_meaning.specs.Linear.{Linear, FormOf, RowOf, Pairwise, UsesNames, MeansComparison, linear_sum, differences_by, linear_difference, comparison_rows, is_large, any_number, is_large_linear, any_large}
+use Rattle.ta_meaning.specs.Linear.{Linear, FormOf, RowOf, Pairwise, UsesNames, MeansComparison, linear_sum, differences_by, linear_difference, comparison_rows, is_large, is_large_linear, any_large}
 use Rattle.ta_meaning.specs.Faults.{Scope, Judged, where_, linear_term, sum_faults, comparison_faults, condition_faults, number_faults}
 use Rattle.ta_meaning.specs.Inside.Resolved.{ResolvedForm, ResolvedComparison, ResolvedCondition}
 use Rattle.ta_meaning.proofs.Answering.{not-where, none-else-left, none-else-right, none-append-left, none-append-right}
@@ -47,44 +48,44 @@ normal_lower low high (t ∷ ts) n = (omega (arith, n.0), n.1, n.2)
 small_term : (k : ℕ) (z : ℤ) → z ≢ pos 0 → is_large z ≡ false → IsTerm (k, z)
 small_term k z some small = record { not_zero = some; in_range = let h : unsigned_abs z ≤ 1000000000 = small_tells z small in omega arith }
 
-terms_normal : (high k : ℕ) (zs : List ℤ) → any_number is_large zs ≡ false → k + length zs ≤ high → IsNormal k high (terms_from k zs)
+terms_normal : (high k : ℕ) (zs : List ℤ) → list_any is_large zs ≡ false → k + length zs ≤ high → IsNormal k high (terms_from k zs)
 terms_normal high k [] small fits = let h : k + 0 ≤ high = fits in omega arith
-terms_normal high k (pos zero ∷ zs) small fits = normal_lower k high (terms_from (k + 1) zs) (terms_normal high (k + 1) zs (or_parts (is_large (pos zero)) (any_number is_large zs) small).1 (omega arith))
+terms_normal high k (pos zero ∷ zs) small fits = normal_lower k high (terms_from (k + 1) zs) (terms_normal high (k + 1) zs (or_parts (is_large (pos zero)) (list_any is_large zs) small).1 (omega arith))
 terms_normal high k (pos (suc n) ∷ zs) small fits =
-    let s = or_parts (is_large (pos (suc n))) (any_number is_large zs) small in
+    let s = or_parts (is_large (pos (suc n))) (list_any is_large zs) small in
     (omega arith, small_term k (pos (suc n)) (λ e. absurd (omega (arith, ints))) s.0, terms_normal high (k + 1) zs s.1 (omega arith))
 terms_normal high k (negsuc n ∷ zs) small fits =
-    let s = or_parts (is_large (negsuc n)) (any_number is_large zs) small in
+    let s = or_parts (is_large (negsuc n)) (list_any is_large zs) small in
     (omega arith, small_term k (negsuc n) (λ e. absurd (omega (arith, ints))) s.0, terms_normal high (k + 1) zs s.1 (omega arith))
 
-terms_are : (high k : ℕ) (zs : List ℤ) (i x : ℕ) → any_number is_large zs ≡ false → k + length zs ≤ high → x ≡ k + i → coefficient (terms_from k zs) x ≡ get_or zs i (pos 0)
+terms_are : (high k : ℕ) (zs : List ℤ) (i x : ℕ) → list_any is_large zs ≡ false → k + length zs ≤ high → x ≡ k + i → coefficient (terms_from k zs) x ≡ get_or zs i (pos 0)
 terms_are high k [] i x small fits e = refl
 terms_are high k (pos zero ∷ zs) zero x small fits e =
-    let s = or_parts (is_large (pos zero)) (any_number is_large zs) small in
+    let s = or_parts (is_large (pos zero)) (list_any is_large zs) small in
     coefficient-below (k + 1) high (terms_from (k + 1) zs) x (terms_normal high (k + 1) zs s.1 (omega arith)) (omega arith)
 terms_are high k (pos zero ∷ zs) (suc i) x small fits e =
-    let s = or_parts (is_large (pos zero)) (any_number is_large zs) small in
+    let s = or_parts (is_large (pos zero)) (list_any is_large zs) small in
     terms_are high (k + 1) zs i x s.1 (omega arith) (omega arith)
 terms_are high k (pos (suc n) ∷ zs) zero x small fits e =
-    let s = or_parts (is_large (pos (suc n))) (any_number is_large zs) small in
+    let s = or_parts (is_large (pos (suc n))) (list_any is_large zs) small in
     let same : x ≡ k = omega arith in
     ap (coefficient (terms_from k (pos (suc n) ∷ zs))) same ∙ coefficient-first high (k, pos (suc n)) (terms_from (k + 1) zs) (terms_normal high (k + 1) zs s.1 (omega arith))
 terms_are high k (pos (suc n) ∷ zs) (suc i) x small fits e =
-    let s = or_parts (is_large (pos (suc n))) (any_number is_large zs) small in
+    let s = or_parts (is_large (pos (suc n))) (list_any is_large zs) small in
     coefficient-other (k, pos (suc n)) (terms_from (k + 1) zs) x (λ q. absurd (omega arith)) ∙ terms_are high (k + 1) zs i x s.1 (omega arith) (omega arith)
 terms_are high k (negsuc n ∷ zs) zero x small fits e =
-    let s = or_parts (is_large (negsuc n)) (any_number is_large zs) small in
+    let s = or_parts (is_large (negsuc n)) (list_any is_large zs) small in
     let same : x ≡ k = omega arith in
     ap (coefficient (terms_from k (negsuc n ∷ zs))) same ∙ coefficient-first high (k, negsuc n) (terms_from (k + 1) zs) (terms_normal high (k + 1) zs s.1 (omega arith))
 terms_are high k (negsuc n ∷ zs) (suc i) x small fits e =
-    let s = or_parts (is_large (negsuc n)) (any_number is_large zs) small in
+    let s = or_parts (is_large (negsuc n)) (list_any is_large zs) small in
     coefficient-other (k, negsuc n) (terms_from (k + 1) zs) x (λ q. absurd (omega arith)) ∙ terms_are high (k + 1) zs i x s.1 (omega arith) (omega arith)
 
 -- ---- forms and rows
 
 pub form_exists : (l : Linear) → is_large_linear l ≡ false → length l.coefficients ≤ 64 → (form : Form) × FormOf l form
 form_exists l small few =
-    let s = or_parts (is_large l.constant) (any_number is_large l.coefficients) small in
+    let s = or_parts (is_large l.constant) (list_any is_large l.coefficients) small in
     let constant : unsigned_abs l.constant ≤ 1000000000 = small_tells l.constant s.0 in (
       record {
         constant = l.constant;

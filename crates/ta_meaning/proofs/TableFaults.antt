@@ -26,9 +26,9 @@ use Rattle.ta_automaton.specs.Lists.{Each, Distinct}
 use Rattle.ta_automaton.specs.Masks.{In}
 use Rattle.ta_automaton.proofs.MaskTests.{In-left, In-right, In-map}
 use Rattle.ta_meaning.specs.Sums.{number_of, has_name}
-use Rattle.ta_meaning.specs.Linear.{Linear, linear_sum, comparison_rows, any_number, is_large_linear, any_large}
+use Rattle.ta_meaning.specs.Linear.{Linear, linear_sum, comparison_rows, is_large_linear, any_large}
 use Rattle.ta_meaning.specs.Names.{guard_names, all_names, names_of}
-use Rattle.ta_meaning.specs.Guards.{Guards, no_guards, is_positive, shared_part, falls, same_row, has_row, with_row, with_guard, with_guards, is_no_threshold, is_past_limit, is_one_more}
+use Rattle.ta_meaning.specs.Guards.{Guards, no_guards, is_positive, falls, same_row, has_row, with_row, with_guard, with_guards, is_no_threshold, is_past_limit, is_one_more}
 use Rattle.ta_meaning.specs.Faults.{Scope, Judged, where_, else_, is_long, declared_faults, declarations_faults, used_faults, listed_faults, digits_faults, linear_term, sum_faults, comparison_faults, condition_faults, counted, guards_then, guard_faults, guards_faults, guards_with, in_parameters, in_guards, in_conditions, updates_faults, rule_faults, rules_faults, event_faults, events_faults, pattern_faults, patterns_faults, location_spelled, any_initial, processes_faults, names_faults, meaning_faults}
 use Rattle.ta_meaning.specs.Seen.{SeenTerms, SeenTerm, SeenFactor, seen_none, seen_more, seen_number, seen_times, seen_alone, seen_blank, seen_named, seen_nested, seen_sum, plain_of_terms, plain_of_term, plain_of_factor, names_of_terms, names_of_term, names_of_factor, numbers_of_terms, numbers_of_term, numbers_of_factor, PlacedTerm, placed, terms_of_terms, terms_of_term, terms_of_factor}
 use Rattle.ta_meaning.specs.Table.{Repeats, rule_name, pattern_name, event_name, updated_name, place_names, AreApart, apart_places, apart_rules, apart_patterns, apart_events, apart_updates, apart_empty, apart_after, IsDeclared, declared_file, declared_place, declared_rule, declared_pattern, declared_event, HasComparison, in_resilience, in_guard, in_start, in_event, HasSum, sum_of_processes, sum_at_left, sum_at_right, at_locations, at_shared, at_events, IsUsed, used_from, used_to, used_update, used_empty, used_after, used_sum, IsNumberOf, number_of_update, number_in_sum, guards_of_rule, tree_guards, guard_rows, IsThreshold, IsRowAmong, IsOneMore, IsFaultOf, repeated, unknown, wrong_kind, long, large_number, large_term, large_row, large_sum, one_more, no_threshold, no_initial, FaultsAreOfTheTable}

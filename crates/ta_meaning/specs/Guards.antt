@@ -1,27 +1,17 @@
 -- Guards: which comparisons are threshold guards, and how they are numbered (POPL 2017, threshold guards; sums of shared variables and numbering are this project's profile)
 use Rattle.std.specs.Prelude.{ℕ, ℤ, pos, negsuc, ◌≡◌, ◌↔◌, ◌==◌, Bool, true, false, ◌&&◌, ◌||◌, not, ltb, List, [], ◌∷◌, ◌++◌, length, drop, flat_map, slice_get, Some, IsBitSet, IsTrue, if◌then◌else◌}
+use Rattle.std.specs.Ordering.{int_eq}
+use Rattle.std.specs.List.{list_any}
+use lib.Pointwise.{pointwise}
 use Rattle.ta_syntax.specs.Grammar.{PlainComparison, PlainRule}
-use Rattle.ta_meaning.specs.Linear.{Linear, comparison_rows, any_number}
-
-abbrev pub same_number : ℤ → ℤ → Bool
-same_number (pos m) (pos n) = m == n
-same_number (negsuc m) (negsuc n) = m == n
-same_number (pos m) (negsuc n) = false
-same_number (negsuc m) (pos n) = false
-
-abbrev pub same_numbers : List ℤ → List ℤ → Bool
-same_numbers [] [] = true
-same_numbers (a ∷ more) (b ∷ others) = same_number a b && same_numbers more others
-same_numbers [] (b ∷ others) = false
-same_numbers (a ∷ more) [] = false
+use Rattle.ta_meaning.specs.Linear.{Linear, comparison_rows}
 
 -- the same constant and the same coefficients
 abbrev pub same_row : Linear → Linear → Bool
-same_row a b = same_number a.constant b.constant && same_numbers a.coefficients b.coefficients
+same_row a b = int_eq a.constant b.constant && pointwise int_eq a.coefficients b.coefficients
 
 abbrev pub has_row : List Linear → Linear → Bool
-has_row [] r = false
-has_row (q ∷ rows) r = same_row q r || has_row rows r
+has_row rows r = list_any (λ q. same_row q r) rows
 
 abbrev pub is_negative : ℤ → Bool
 is_negative (pos n) = false
@@ -31,13 +21,9 @@ abbrev pub is_positive : ℤ → Bool
 is_positive (pos n) = ltb 0 n
 is_positive (negsuc n) = false
 
--- what stands before the shared variables, which come after the parameters
-abbrev pub shared_part : ℕ → Linear → List ℤ
-shared_part parameters r = drop parameters r.coefficients
-
--- some shared variable has a negative coefficient: a fall guard, where no coefficient of one is positive
+-- some shared variable, which come after the parameters, has a negative coefficient: a fall guard, where no coefficient of one is positive
 abbrev pub falls : ℕ → Linear → Bool
-falls parameters r = any_number is_negative (shared_part parameters r)
+falls parameters r = list_any is_negative (drop parameters r.coefficients)
 
 -- the distinct guards, by first appearance
 pub record Guards : Type 0 where
@@ -73,7 +59,7 @@ guards_after parameters names g (r ∷ rules) = guards_after parameters names (w
 -- no threshold guard: two rows, or shared variables with coefficients of both signs
 abbrev pub is_no_threshold : ℕ → List Linear → Bool
 is_no_threshold parameters [] = true
-is_no_threshold parameters (r ∷ []) = falls parameters r && any_number is_positive (shared_part parameters r)
+is_no_threshold parameters (r ∷ []) = falls parameters r && list_any is_positive (drop parameters r.coefficients)
 is_no_threshold parameters (r ∷ q ∷ rows) = true
 
 -- a row that is none of the guards of its kind, where these are 16 rise guards or 6 fall guards already

@@ -1,5 +1,6 @@
 -- Sums and comparisons as numbers: a constant, and a coefficient for each place (this project's profile)
 use Rattle.std.specs.Prelude.{ℕ, ℤ, pos, ◌-ℤ◌, ◌≡◌, Bool, false, ◌||◌, ltb, unsigned_abs, List, [], ◌∷◌, map, slice_index_or, IsTrue}
+use Rattle.std.specs.List.{list_any}
 use Rattle.ta_linear.specs.Terms.{coefficient}
 use Rattle.ta_linear.specs.declared.form.Form.{Form}
 use Rattle.ta_linear.specs.declared.row.Row.{Row}
@@ -82,13 +83,9 @@ MeansCondition names cs condition = Pairwise (MeansComparison names) cs conditio
 abbrev pub is_large : ℤ → Bool
 is_large z = ltb 1000000000 (unsigned_abs z)
 
-abbrev pub any_number : (ℤ → Bool) → List ℤ → Bool
-any_number test [] = false
-any_number test (z ∷ zs) = test z || any_number test zs
-
 -- the constant or a coefficient is too large
 abbrev pub is_large_linear : Linear → Bool
-is_large_linear l = is_large l.constant || any_number is_large l.coefficients
+is_large_linear l = is_large l.constant || list_any is_large l.coefficients
 
 abbrev pub any_large : List Linear → Bool
 any_large [] = false

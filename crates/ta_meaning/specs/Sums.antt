@@ -1,5 +1,6 @@
 -- What a sum of an automaton file means: a constant, and what stands before each name (this project's profile)
 use Rattle.std.specs.Prelude.{ℕ, ℤ, pos, ◌+ℤ◌, ◌-ℤ◌, ◌*ℤ◌, Bool, true, false, ◌&&◌, ◌||◌, List, [], ◌∷◌, if◌then◌else◌}
+use Rattle.std.specs.List.{list_any}
 use Rattle.std.specs.Str.{bytes_eq}
 use Rattle.std.specs.Str.Parse.{digits_value}
 use Rattle.ta_syntax.specs.Grammar.{Terms, Term, Factor, done, term, number, times, alone, blank, named, nested}
@@ -12,8 +13,7 @@ number_of digits = digits_value 10 digits
 
 -- whether a name is among names
 abbrev pub has_name : List (List ℕ) → List ℕ → Bool
-has_name [] n = false
-has_name (m ∷ names) n = bytes_eq m n || has_name names n
+has_name names n = list_any (λ m. bytes_eq m n) names
 
 abbrev pub signed : Sign → ℤ → ℤ
 signed sign.Plus z = z

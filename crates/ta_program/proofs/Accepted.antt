@@ -18,16 +18,18 @@ use Rattle.ta_shell.proofs.Read.{is_more}
 use Rattle.ta_shell.proofs.Views.{sub_told}
 use Rattle.ta_shell.specs.Commands.{IsSo}
 use Rattle.ta_shell.specs.Ends.{Performs, State}
+use Rattle.ta_shell.specs.Puts.{HoldsText}
 use Rattle.ta_shell.specs.Sights.{in_files, seen}
 use Rattle.ta_shell.specs.declared.answer.Answer.{Answer}
 use Rattle.ta_shell.specs.Stages.{IsOf}
+use Rattle.ta_claim.specs.declared.claim.Claim.TheVariants as claim
+use Rattle.ta_check.specs.Subjects.{claiming}
 use Rattle.ta_program.specs.declared.limits.TheConstants.{CERTIFICATE}
-use Rattle.ta_program.specs.Certified.{SafeOne, safe_numbers, safe_ones, tree_size, with_safe}
+use Rattle.ta_verdict.specs.Certificates.{SafeOne, safe_numbers, safe_ones, tree_size, with_safe}
 use Rattle.ta_program.specs.Check.{check_meaning}
 use Rattle.ta_program.specs.Kinds.{IsFile, certificate_kind, file_kind}
 use Rattle.ta_program.specs.Laws.{WrittenIsAccepted}
-use Rattle.ta_program.specs.Reporting.{HoldsText}
-use Rattle.ta_program.specs.Verify.{VerdictHolds, VerdictsHold}
+use Rattle.ta_verdict.specs.Verdicts.{VerdictHolds, VerdictsHold}
 use Rattle.ta_program.proofs.Clauses.{as_check, certificate_written, same_file}
 use Rattle.ta_program.proofs.Meanings.{check_decides}
 use Rattle.ta_program.proofs.WordsDiffer.{out_differs}
@@ -71,7 +73,7 @@ one_list file text ns ms c d =
 
 -- `check` of such files
 module _ (name out : List ℕ) (told : Told) (file : File) (verdicts : List Verdict) (text : List ℕ) (is_file : IsFile (in_files told) name file) (held : told out ≡ Some text) (within : length text ≤ CERTIFICATE.bytes) (accepted : Certificate file text (safe_numbers file verdicts)) (safe : AllSafe file (safe_numbers file verdicts)) where
-  is_certificate : IsOf (certificate_kind file) (in_files told) out (safe_numbers file verdicts)
+  is_certificate : IsOf (certificate_kind (claiming claim.Safe file)) (in_files told) out (safe_numbers file verdicts)
   is_certificate = record { bytes = text; had = record { seen = held; within = within }; means = record { accepted = accepted; safe = safe } }
 
   is_so : IsSo (check_meaning name out) (in_files told) 0

@@ -3,15 +3,9 @@ use Rattle.std.proofs.Common.{◌≡◌, ◌∙◌, ◌<◌, ◌+◌, ◌++◌, 
 use Rattle.std.specs.Prelude.{IfOk}
 use Rattle.std.specs.declared.alloc.AllocError.{AllocError}
 use Rattle.std.proofs.lemmas.List.{take_more}
-use Rattle.ta_automaton.specs.Runs.{LoopsPure}
 use Rattle.ta_automaton.specs.declared.file.File.{File}
 use Rattle.ta_automaton.specs.declared.pattern.Pattern.{Pattern}
-use Rattle.ta_cert.specs.Certificates.{head_text, proofs_text}
-use Rattle.ta_cert.specs.declared.line.Line.TheVariants as line
 use Rattle.ta_cert.specs.declared.fault.CertFault.{CertFault}
-use Rattle.ta_cert.specs.declared.line.Order.{Order}
-use Rattle.ta_cert.specs.declared.line.Proof.{Proof}
-use Rattle.ta_walk.specs.FoundOrders.{FoundOrders}
 use Rattle.ta_check.specs.Certificate.{Certificate}
 use Rattle.ta_check.specs.Checkers.{Finished}
 use Rattle.ta_check.specs.declared.accepted.Accepted.{Accepted}
@@ -24,50 +18,47 @@ use Rattle.ta_shell.specs.Stages.{Writes}
 use Rattle.ta_shell.specs.declared.answer.Answer.{Answer}
 use Rattle.ta_syntax.specs.Grammar.{PlainTree, file_kinds}
 use Rattle.ta_syntax.specs.Printed.{printed}
+use Rattle.ta_claim.specs.declared.claim.Claim.TheVariants as claim
+use Rattle.ta_check.specs.Subjects.{claiming}
 use Rattle.ta_program.specs.Bench.{BUDGET, IsBench, SaysBench, bench_status, bench_text, family_text}
-use Rattle.ta_program.specs.Certified.{AreTrees, CertificateOf, safe_ones}
-use Rattle.ta_program.specs.Inside.Drafts.{ended_line}
-use Rattle.ta_program.specs.Verify.{AreVerdicts, is_unsafe}
-use Rattle.ta_program.proofs.CertificatesMade.{certificate_accepted}
-use Rattle.ta_program.proofs.Certifying.{cert_written}
+use Rattle.ta_verdict.specs.Certificates.{CertificateOf, safe_numbers}
+use Rattle.ta_verdict.specs.Verdicts.{AreVerdicts, is_unsafe}
 
 -- the printed text of the family's automaton means a file
 pub legal_family : (k : ℕ) (bytes : List ℕ) (tree : PlainTree) (file : File) → bytes ≡ printed (file_kinds tree) → tree ≡ family k → Legal bytes file → Legal (family_text k) file
 unfolding family_text
 legal_family k bytes tree file are is legal = subst (λ (bs : List ℕ). Legal bs file) (are ∙ ap (λ (t : PlainTree). printed (file_kinds t)) is) legal
 
--- verdicts with the text of their trees, of which the first is said
-pub says_bench : (k : ℕ) (file : File) → LoopsPure file.automaton → Legal (family_text k) file → (vs : List Verdict) → AreVerdicts file BUDGET vs → (orders : List Order) → FoundOrders file.automaton orders → (proofs : List Proof) → AreTrees file BUDGET (safe_ones 0 file.patterns vs) proofs → (text : List ℕ) → text ≡ (head_text orders ++ proofs_text proofs) ++ ended_line line.End → (p : Pattern) (v : Verdict) → slice_get file.patterns 0 ≡ Some p → slice_get vs 0 ≡ Some v → is_unsafe v ≡ false → (answer : Answer) → Writes (bench_status v) (bench_text k p v) answer → SaysBench k answer
-says_bench k file loops legal vs are orders found proofs trees text written p v named given not_unsafe answer writes =
-    let certificate : CertificateOf file BUDGET vs text = record { orders = orders; found = found; trees = proofs; are = trees; written = written ∙ cert_written orders proofs } in
-    record {
-      pattern = p;
-      verdict = v;
-      is = record {
-        file = file;
-        legal = legal;
-        named = named;
-        verdicts = vs;
-        are = are;
-        given = given;
-        not_unsafe = not_unsafe;
-        text = text;
-        certificate = certificate;
-        accepted = certificate_accepted file BUDGET loops (omega arith) vs text certificate;
-      };
-      writes = writes;
-    }
+-- verdicts with the text of their certificate, of which the first is said
+pub says_bench : (k : ℕ) (file : File) → Legal (family_text k) file → (vs : List Verdict) → AreVerdicts file BUDGET vs → (text : List ℕ) → CertificateOf file BUDGET vs text → Certificate file text (safe_numbers file vs) → (p : Pattern) (v : Verdict) → slice_get file.patterns 0 ≡ Some p → slice_get vs 0 ≡ Some v → is_unsafe v ≡ false → (answer : Answer) → Writes (bench_status v) (bench_text k p v) answer → SaysBench k answer
+says_bench k file legal vs are text certificate accepted p v named given not_unsafe answer writes = record {
+  pattern = p;
+  verdict = v;
+  is = record {
+    file = file;
+    legal = legal;
+    named = named;
+    verdicts = vs;
+    are = are;
+    given = given;
+    not_unsafe = not_unsafe;
+    text = text;
+    certificate = certificate;
+    accepted = accepted;
+  };
+  writes = writes;
+}
 
 -- and an answer that says so, if it is one
-pub says_ok : (k : ℕ) (file : File) → LoopsPure file.automaton → Legal (family_text k) file → (vs : List Verdict) → AreVerdicts file BUDGET vs → (orders : List Order) → FoundOrders file.automaton orders → (proofs : List Proof) → AreTrees file BUDGET (safe_ones 0 file.patterns vs) proofs → (text : List ℕ) → text ≡ (head_text orders ++ proofs_text proofs) ++ ended_line line.End → (p : Pattern) (v : Verdict) → slice_get file.patterns 0 ≡ Some p → slice_get vs 0 ≡ Some v → is_unsafe v ≡ false → (result : Result Answer AllocError) → IfOk result (Writes (bench_status v) (bench_text k p v)) → IfOk result (SaysBench k)
-says_ok k file loops legal vs are orders found proofs trees text written p v named given not_unsafe (Ok answer) writes = says_bench k file loops legal vs are orders found proofs trees text written p v named given not_unsafe answer writes
-says_ok k file loops legal vs are orders found proofs trees text written p v named given not_unsafe (Err e) writes = tt
+pub says_ok : (k : ℕ) (file : File) → Legal (family_text k) file → (vs : List Verdict) → AreVerdicts file BUDGET vs → (text : List ℕ) → CertificateOf file BUDGET vs text → Certificate file text (safe_numbers file vs) → (p : Pattern) (v : Verdict) → slice_get file.patterns 0 ≡ Some p → slice_get vs 0 ≡ Some v → is_unsafe v ≡ false → (result : Result Answer AllocError) → IfOk result (Writes (bench_status v) (bench_text k p v)) → IfOk result (SaysBench k)
+says_ok k file legal vs are text certificate accepted p v named given not_unsafe (Ok answer) writes = says_bench k file legal vs are text certificate accepted p v named given not_unsafe answer writes
+says_ok k file legal vs are text certificate accepted p v named given not_unsafe (Err e) writes = tt
 
 -- the pieces so far, with one more
 pub one_more_piece : (texts : List (List ℕ)) (k : ℕ) (text : List ℕ) → k < length texts → get_or texts k text ≡ text → texts_joined (take k texts) ++ text ≡ texts_joined (take (k + 1) texts)
 one_more_piece texts k text below is = sym (ap texts_joined (take_more texts k text below ∙ ap (λ (t : List ℕ). take k texts ++ t ∷ []) is) ∙ joined_more (take k texts) text)
 
 -- what ends well is a certificate
-pub ends_well : (file : File) (text : List ℕ) (result : Result Accepted CertFault) → Finished file text result → IfOk result (λ accepted. Certificate file text accepted.patterns)
+pub ends_well : (file : File) (text : List ℕ) (result : Result Accepted CertFault) → Finished (claiming claim.Safe file) text result → IfOk result (λ accepted. Certificate file text accepted.patterns)
 ends_well file text (Ok accepted) h = h
 ends_well file text (Err fault) h = tt

@@ -1,5 +1,5 @@
 -- from how a run ends to its clauses
-use Rattle.std.proofs.Common.{◌≡◌, ◌≢◌, ◌≤◌, ◌+◌, ◌||◌, ℕ, suc, nat_eq, Bool, true, false, List, [], ◌∷◌, Option, None, Some, slice_get, refl, sym, ap, subst, ◌∙◌, inl, inr, arith, rules}
+use Rattle.std.proofs.Common.{◌≡◌, ◌≢◌, ◌≤◌, ◌+◌, ◌||◌, ℕ, zero, suc, nat_eq, Bool, true, false, List, [], ◌∷◌, Option, None, Some, slice_get, refl, sym, ap, subst, ◌∙◌, inl, inr, arith, rules}
 use Rattle.std.specs.Prelude.{◌⊎◌, IsSome, codes, if◌then◌else◌}
 use Rattle.std.specs.List.{list_any}
 use Rattle.std.specs.Str.{bytes_eq}
@@ -10,12 +10,13 @@ use Rattle.ta_automaton.specs.Lists.{Each}
 use Rattle.ta_automaton.specs.Runs as runs
 use Rattle.ta_check.specs.Certificate.{PatternSafe}
 use Rattle.ta_meaning.proofs.OneTree.{one_legal}
-use Rattle.ta_report.proofs.Printed.{printed_proved}
+use Rattle.ta_report.proofs.Printed.{printed_proved, printed_rest_proved, printed_rest_safe}
 use Rattle.ta_report.proofs.Tellings.{told_safe}
-use Rattle.ta_report.specs.Check.{check_text}
+use Rattle.ta_report.specs.Check.{check_text, rest_check_text}
 use Rattle.ta_report.specs.Telling.{report_of}
 use Rattle.ta_report.specs.declared.verdict.Verdict.{Verdict}
 use Rattle.ta_report.specs.declared.verdict.Verdict.TheVariants.{Safe, Unsafe, Spent, Overflow}
+use Rattle.ta_search.specs.Filling.{filled_text}
 use Rattle.ta_shelf.specs.Calls.{Grew}
 use Rattle.ta_shelf.specs.Put.{OthersStay, Told, WhereTold}
 use Rattle.ta_shelf.specs.Sink.{with_text}
@@ -24,33 +25,46 @@ use Rattle.ta_shell.proofs.Read.{no_hindrance}
 use Rattle.ta_shell.proofs.Views.{whole_one}
 use Rattle.ta_shell.specs.Commands.{Decides, Meaning}
 use Rattle.ta_shell.specs.Ends.{Answered, Performs, Quiet, ShelfState, SinkState, State}
-use Rattle.ta_shell.specs.Puts.{Holds, KeptBut, Stand, put_bytes}
+use Rattle.ta_shell.specs.Puts.{Holds, HoldsText, KeptBut, Stand, put_bytes}
 use Rattle.ta_shell.specs.Sights.{View, in_files, seen}
 use Rattle.ta_shell.specs.Stages.{Hinders}
 use Rattle.ta_replay.specs.RunText.{run_text}
 use Rattle.ta_shell.specs.declared.answer.Answer.{Answer}
 use Rattle.ta_shell.specs.declared.answer.Put.{Put}
 use Rattle.ta_syntax.specs.PlainTrees.{plain_tree}
-use Rattle.ta_program.specs.Asked.{Asked, Runs, ask}
+use Rattle.ta_program.specs.Asked.{Asked, LegalFile, Runs, ask, ask_where}
 use Rattle.ta_program.specs.Asked.Asked.{Command, NoCommand}
 use Rattle.ta_program.specs.Bench.{BenchHolds, bench_meaning, bench_of, bench_status, bench_words}
 use Rattle.ta_program.specs.Certified.{LongCertificate, long_line, may_put}
 use Rattle.ta_program.specs.Check.{CheckHolds, check_meaning, check_of}
-use Rattle.ta_program.specs.Headline.{EachPatternSafe, EachPrintedSafe, HoldsFile, SomePatternOccurs, StatusTells}
+use Rattle.ta_program.specs.Headline.{EachPatternSafe, EachPrinted, HoldsFile, SomePatternOccurs, StatusTells}
 use Rattle.ta_program.specs.Kinds.{IsFile, file_kind}
 use Rattle.ta_program.specs.Printed.{EachPrintedUnsafe, EachToldSafe}
 use Rattle.ta_program.specs.Admit.{AdmitAsked, AdmitHolds, IsAdmitted, admit_meaning, admit_of, admit_words}
 use Rattle.ta_program.specs.Export.{ExportHolds, export_meaning, export_of, export_words}
-use Rattle.ta_program.specs.Program.{Admitting, Benches, CertificateWritten, CheckProves, Completes, ExactlySo, Exports, KeepsFiles, Opens, PassesLegal, PrintedHolds, ReplayShows, RunShortens, Tellings, UsageExactly, VerifyReports, put_by}
+use Rattle.ta_program.specs.Program.{Admitting, Benches, CertificateWritten, CheckProves, Completes, ExactlySo, Exports, KeepsFiles, Opens, PassesLegal, PrintedHolds, ReplayShows, RestProves, RestsReport, RunShortens, Searches, Tellings, UsageExactly, VerifyReports, put_by}
 use Rattle.ta_program.specs.Compress.{CompressHolds, compress_meaning, compress_of}
 use Rattle.ta_program.specs.Replay.{ReplayHolds, replay_meaning, replay_of}
 use Rattle.ta_program.specs.Requests.{request_of}
-use Rattle.ta_program.specs.Reporting.{CertificateStands, HoldsText, ReportHolds, Reports, report_meaning, verify_meaning}
-use Rattle.ta_program.specs.Verify.{IsKnown, VerdictHolds, VerdictsHold, is_unsafe, is_unknown}
+use Rattle.ta_check.proofs.OwnPatterns.{all_own}
+use Rattle.ta_check.specs.Subjects.{ClaimHolds, claiming}
+use Rattle.ta_claim.specs.declared.claim.Claim.TheVariants as claim
+use Rattle.ta_report.specs.Report.{rest_text}
+use Rattle.ta_rest.specs.Rest.{RestSafe}
+use Rattle.ta_resting.specs.Verdicts.{RestVerdictHolds, RestVerdictsHold}
+use Rattle.ta_program.specs.Rest.{RestCertificateStands, RestReportHolds, rest_meaning}
+use Rattle.ta_program.specs.RestCheck.{RestCheckHolds, rest_check_meaning}
+use Rattle.ta_program.specs.RestEnds.{LegalAtRest}
+use Rattle.ta_program.specs.RestWords.{rest_check_of, rest_of, rest_words}
+use Rattle.ta_program.specs.Reporting.{CertificateStands, ReportHolds, Reports, report_meaning, verify_meaning}
+use Rattle.ta_verdict.specs.Verdicts.{IsKnown, VerdictHolds, VerdictsHold, is_unsafe, is_unknown}
+use Rattle.ta_program.specs.Search.{LegalTemplate, SearchHolds, end_number, leaves_unknown, search_meaning}
+use Rattle.ta_program.specs.SearchWords.{SearchWords, search_of, search_words}
 use Rattle.ta_program.specs.Values.{TwoNames, two_names}
 use Rattle.ta_program.specs.VerifyWords.{VerifyWords, verify_of, verify_words}
 use Rattle.ta_program.specs.WordAsked.{WordAsked}
 use Rattle.ta_program.specs.Words.{behind_name}
+use Rattle.ta_program.proofs.FoundStands.{Apart, found_stands, names_apart}
 use Rattle.ta_program.proofs.UnsafePrinted.{hold_at, run_within, some_occurs, unsafe_printed}
 use Rattle.ta_program.proofs.WordMeanings.{admit_decides}
 use Rattle.ta_program.proofs.Meanings.{hinders_long, report_monotone, verify_decides}
@@ -78,6 +92,19 @@ kinds_of_two : (found unknown : Bool) → number_by found unknown ≡ 2 → unkn
 kinds_of_two true unknown e = absurd (omega (arith, e))
 kinds_of_two false true e = refl
 kinds_of_two false false e = absurd (omega (arith, e))
+
+-- the number of a search's end is 0 where values were found, and only there
+abbrev end_by : Bool → Bool → ℕ
+end_by found unknown = if found then 0 else (if unknown then 2 else 1)
+
+found_by : (found unknown : Bool) → end_by found unknown ≡ 0 → found ≡ true
+found_by true unknown e = refl
+found_by false true e = absurd (omega (arith, e))
+found_by false false e = absurd (omega (arith, e))
+
+lost_by : (found unknown : Bool) → end_by found unknown ≢ 0 → found ≡ false
+lost_by true unknown e = absurd (e refl)
+lost_by false unknown e = refl
 
 -- a verdict that holds and is neither unsafe nor unknown says safe
 safe_of : (file : File) (budget number : ℕ) (p : Pattern) (v : Verdict) → is_unsafe v ≡ false → is_unknown v ≡ false → VerdictHolds file budget number p v → runs.Safe file.automaton p
@@ -119,14 +146,17 @@ listed P x [] each among = absurd (cc)
 listed P x (y ∷ xs) each among = listed_in P x y (list_any (λ z. nat_eq z x) xs) (nat_eq y x) refl each.0 (listed P x xs each.1) among
 
 -- the command whose name the words begin with was done, if the table of commands has it under this name
-by_name : {W : Type 0} (name : List ℕ) (read : List (List ℕ) → Option W) (file : W → Option (List ℕ)) (says : W → Meaning) (number : ℕ) (before after : State) → ((rest : List (List ℕ)) → Runs (request_of (name ∷ rest)) number before after → Runs (ask file says (read rest)) number before after) → (named : Bool) (word : List ℕ) (rest : List (List ℕ)) → (named ≡ true → word ≡ name) → (asked : W) → (if named then read rest else None) ≡ Some asked → Runs (request_of (word ∷ rest)) number before after → Performs (says asked) number before after
-by_name name read file says number before after row true word rest same asked is h =
-    (subst (λ (o : Option _). Runs (ask file says o) number before after) is (row rest (subst (λ (w : List ℕ). Runs (request_of (w ∷ rest)) number before after) (same refl) h))).performs
-by_name name read file says number before after row false word rest same asked is h = absurd (cc)
+by_name : {W : Type 0} (name : List ℕ) (read : List (List ℕ) → Option W) (legal : W → Told → Type 0) (says : W → Meaning) (number : ℕ) (before after : State) → ((rest : List (List ℕ)) → Runs (request_of (name ∷ rest)) number before after → Runs (ask_where legal says (read rest)) number before after) → (named : Bool) (word : List ℕ) (rest : List (List ℕ)) → (named ≡ true → word ≡ name) → (asked : W) → (if named then read rest else None) ≡ Some asked → Runs (request_of (word ∷ rest)) number before after → Performs (says asked) number before after
+by_name name read legal says number before after row true word rest same asked is h =
+    (subst (λ (o : Option _). Runs (ask_where legal says o) number before after) is (row rest (subst (λ (w : List ℕ). Runs (request_of (w ∷ rest)) number before after) (same refl) h))).performs
+by_name name read legal says number before after row false word rest same asked is h = absurd (cc)
+
+performed_where : {W : Type 0} (name : List ℕ) (read : List (List ℕ) → Option W) (legal : W → Told → Type 0) (says : W → Meaning) (number : ℕ) (before after : State) → ((rest : List (List ℕ)) → Runs (request_of (name ∷ rest)) number before after → Runs (ask_where legal says (read rest)) number before after) → (words : List (List ℕ)) (asked : W) → behind_name name read words ≡ Some asked → Runs (request_of words) number before after → Performs (says asked) number before after
+performed_where name read legal says number before after row [] asked is h = absurd (cc)
+performed_where name read legal says number before after row (word ∷ rest) asked is h = by_name name read legal says number before after row (bytes_eq word name) word rest (λ named. search rules) asked is h
 
 performed : {W : Type 0} (name : List ℕ) (read : List (List ℕ) → Option W) (file : W → Option (List ℕ)) (says : W → Meaning) (number : ℕ) (before after : State) → ((rest : List (List ℕ)) → Runs (request_of (name ∷ rest)) number before after → Runs (ask file says (read rest)) number before after) → (words : List (List ℕ)) (asked : W) → behind_name name read words ≡ Some asked → Runs (request_of words) number before after → Performs (says asked) number before after
-performed name read file says number before after row [] asked is h = absurd (cc)
-performed name read file says number before after row (word ∷ rest) asked is h = by_name name read file says number before after row (bytes_eq word name) word rest (λ named. search rules) asked is h
+performed name read file says = performed_where name read (λ asked told. LegalFile told (file asked)) says
 
 holds_file : (view : View) (name : List ℕ) (file : File) → IsFile view name file → HoldsFile view name file
 holds_file view name file h =
@@ -138,6 +168,17 @@ holds_file view name file h =
       text = record { tokens = tree.tokens; are = tree.are; spelled = tree.spelled; legal = tree.legal };
       means = h.means.means.means;
     }
+
+-- a pattern that a verdict says is safe at rest is so
+rest_safe_at : (file ending : File) (added budget number : ℕ) (owns ps : List Pattern) (vs : List Verdict) → RestVerdictsHold file ending added budget number owns ps vs → (k : ℕ) (own : Pattern) (nodes leaves : ℕ) → slice_get owns k ≡ Some own → slice_get vs k ≡ Some (Safe nodes leaves) → RestSafe file.automaton own
+rest_safe_at file ending added budget number [] ps vs hold k own nodes leaves at said = absurd (cc)
+rest_safe_at file ending added budget number (o ∷ owns) [] vs hold k own nodes leaves at said = absurd hold
+rest_safe_at file ending added budget number (o ∷ owns) (p ∷ ps) [] hold k own nodes leaves at said = absurd hold
+rest_safe_at file ending added budget number (o ∷ owns) (p ∷ ps) (v ∷ vs) hold zero own nodes leaves at said =
+    let here : o ≡ own = cc in
+    let is : v ≡ Safe nodes leaves = cc in
+    subst (RestSafe file.automaton) here (subst (λ (w : Verdict). RestVerdictHolds file ending added budget number o p w) is hold.0).safe
+rest_safe_at file ending added budget number (o ∷ owns) (p ∷ ps) (v ∷ vs) hold (suc k) own nodes leaves at said = rest_safe_at file ending added budget (number + 1) owns ps vs hold.1 k own nodes leaves at said
 
 -- a put file holds its text
 holds_text : (put : Put) (out : List ℕ) → put.name ≡ out → (before after : Option Told) → WhereTold (Holds put) before after → WhereTold (HoldsText out (put_bytes put)) before after
@@ -294,6 +335,89 @@ module _ (words : List (List ℕ)) (number : ℕ) (before after : State) (h : Ru
         (inl (answer, refl, (had.file, had.is_file, (had.word, had.is_word, (had.run, had.is_run, record { numbered = refl; written = refl; no_put = refl })))));
   }
 
+  as_rest : (asked : VerifyWords) → rest_of words ≡ Some asked → Performs (rest_meaning asked.file asked.nodes asked.out) number before after
+  as_rest asked is = performed_where (codes "rest") rest_words (λ a. LegalAtRest a.file) (λ a. rest_meaning a.file a.nodes a.out) number before after (λ rest r. r) words asked is h
+
+  as_rest_check : (asked : TwoNames) → rest_check_of words ≡ Some asked → Performs (rest_check_meaning asked.file asked.other) number before after
+  as_rest_check asked is = performed_where (codes "rest-check") two_names (λ a. LegalAtRest a.file) (λ a. rest_check_meaning a.file a.other) number before after (λ rest r. r) words asked is h
+
+  at_rest : (name : List ℕ) (budget : ℕ) (out : Option (List ℕ)) (view : View) → Answered (rest_meaning name budget out) view number before after → RestReportHolds number view name budget before.out.written after.out.written
+  at_rest name budget out view a =
+      let found = a.holds.holds.2 in
+      let reports = found.2 in
+      record { file = a.holds.holds.0; is_file = a.holds.holds.1; ends = found.0; are_ends = found.1; sample = reports.sample; is_sample = reports.is_sample; verdicts = reports.verdicts; are = reports.are; numbered = sym reports.numbered ∙ sym a.numbered; wrote = a.written ∙ ap (with_text before.out.written) reports.written }
+
+  rest_certified : (name : List ℕ) (budget : ℕ) (out : List ℕ) (view : View) → Answered (rest_meaning name budget (Some out)) view number before after → RestCertificateStands number view name budget out before.shelf.files after.shelf.files before.out.written after.out.written
+  rest_certified name budget out view a =
+      let found = a.holds.holds.2 in
+      let reports = found.2 in
+      let puts = reports.puts in
+      let stand : Stand (puts.put ∷ []) before.shelf.files after.shelf.files = subst (λ (ps : List Put). Stand ps before.shelf.files after.shelf.files) puts.only a.stand in
+      record {
+        report = record { file = a.holds.holds.0; is_file = a.holds.holds.1; ends = found.0; are_ends = found.1; sample = reports.sample; is_sample = reports.is_sample; verdicts = reports.verdicts; are = reports.are; numbered = sym reports.numbered ∙ sym a.numbered; wrote = a.written ∙ ap (with_text before.out.written) reports.written };
+        text = put_bytes puts.put;
+        certificate = puts.certificate;
+        within = puts.within;
+        stands = holds_text puts.put out puts.named before.shelf.files after.shelf.files (subst (λ (o : Option Told). WhereTold (Holds puts.put) before.shelf.files o) (sym stand.2) stand.1);
+        accepted = puts.accepted;
+      }
+
+  pub rests_report : RestsReport number words before.shelf.files after.shelf.files before.shelf.calls after.shelf.calls before.out.written after.out.written
+  rests_report = record {
+    report = λ asked is low. gives (rest_meaning asked.file asked.nodes asked.out) (as_rest asked is) low (λ view. RestReportHolds number view asked.file asked.nodes before.out.written after.out.written) (at_rest asked.file asked.nodes asked.out);
+    certificate = λ asked out is given low.
+        let performs = subst (λ (o : Option (List ℕ)). Performs (rest_meaning asked.file asked.nodes o) number before after) given (as_rest asked is) in
+        gives (rest_meaning asked.file asked.nodes (Some out)) performs low (λ view. RestCertificateStands number view asked.file asked.nodes out before.shelf.files after.shelf.files before.out.written after.out.written) (rest_certified asked.file asked.nodes out);
+  }
+
+  rest_checked : (name certificate : List ℕ) (view : View) → Answered (rest_check_meaning name certificate) view number before after → RestCheckHolds view name certificate before.out.written after.out.written
+  rest_checked name certificate view a =
+      let found = a.holds.holds.2 in
+      let rest = found.2 in
+      let ends = found.1 in
+      record {
+        file = a.holds.holds.0;
+        is_file = a.holds.holds.1;
+        ends = found.0;
+        are_ends = ends;
+        numbers = rest.0;
+        certificate = rest.1;
+        safe = all_own a.holds.holds.0 found.0.ending found.0.added rest.0 ends.endings rest.1.means.safe;
+        wrote = a.written ∙ ap (with_text before.out.written) rest.2.written;
+      }
+
+  pub rest_proves : RestProves number words before.shelf.files before.shelf.calls after.shelf.calls before.out.written after.out.written
+  rest_proves asked is none = gives (rest_check_meaning asked.file asked.other) (as_rest_check asked is) (omega (arith, none)) (λ view. RestCheckHolds view asked.file asked.other before.out.written after.out.written) (rest_checked asked.file asked.other)
+
+  as_search : (asked : SearchWords) → search_of words ≡ Some asked → Performs (search_meaning asked) number before after
+  as_search asked is = performed_where (codes "search") search_words LegalTemplate search_meaning number before after (λ rest r. r) words asked is h
+
+  searched : (asked : SearchWords) → Apart asked.filled asked.out → (view : View) → Answered (search_meaning asked) view number before after → SearchHolds number view asked before.shelf.files after.shelf.files before.out.written after.out.written
+  searched asked apart view a =
+      let t = a.holds.holds.0 in
+      let finds = a.holds.holds.2 in
+      let end = finds.end in
+      let numbered : end_number end ≡ number = sym finds.numbered ∙ sym a.numbered in
+      let unknown = list_any (λ x. leaves_unknown x.outcome) end.tried in
+      record {
+        template = t;
+        is_template = a.holds.holds.1;
+        end = end;
+        is_end = finds.is_end;
+        numbered = numbered;
+        wrote = a.written ∙ ap (with_text before.out.written) finds.written;
+        found = λ zero.
+            let put = finds.found (found_by end.found unknown (numbered ∙ zero)) in
+            record { last = put.last; stands = found_stands (filled_text t put.last.last.values) put.last.certificate asked.filled asked.out apart a.answer.puts put.are before.shelf.files after.shelf.files a.stand; within = put.within };
+        kept = λ other.
+            let none = finds.nothing (lost_by end.found unknown (λ zero. other (sym numbered ∙ zero))) in
+            subst (λ (ps : List Put). Stand ps before.shelf.files after.shelf.files) none a.stand;
+      }
+
+  pub searches : Searches number words before.shelf.files after.shelf.files before.shelf.calls after.shelf.calls before.out.written after.out.written
+  searches asked is low =
+      gives (search_meaning asked) (as_search asked is) low (λ view. SearchHolds number view asked before.shelf.files after.shelf.files before.out.written after.out.written) (searched asked (names_apart words asked is))
+
   printed_verify : (name : List ℕ) (budget : ℕ) (json : Bool) (view : View) → ReportHolds number view name budget json before.out.written after.out.written → EachToldSafe json view name before.out.written after.out.written
   printed_verify name budget json view r = record {
     file = r.file;
@@ -305,13 +429,13 @@ module _ (words : List (List ℕ)) (number : ℕ) (before after : State) (h : Ru
         (hold_at r.file budget 0 r.file.patterns r.verdicts k p (Safe said.0 said.1) r.are.hold named said.2).holds.safe;
   }
 
-  printed_check : (name certificate : List ℕ) (view : View) → CheckHolds view name certificate before.out.written after.out.written → EachPrintedSafe (codes "proved") view name before.out.written after.out.written
+  printed_check : (name certificate : List ℕ) (view : View) → CheckHolds view name certificate before.out.written after.out.written → EachPrinted runs.Safe (codes "proved") view name before.out.written after.out.written
   printed_check name certificate view r = record {
     file = r.file;
     holds = holds_file view name r.file r.is_file;
     text = check_text r.file r.numbers;
     gained = r.wrote;
-    safe = λ k p named line.
+    holds_of = λ k p named line.
         let found : PatternSafe r.file k = listed (PatternSafe r.file) k r.numbers r.certificate.means.safe (printed_proved r.file r.numbers k p named line) in
         let same : Some found.pattern ≡ Some p = sym found.named ∙ named in
         let is : found.pattern ≡ p = cc in
@@ -331,7 +455,31 @@ module _ (words : List (List ℕ)) (number : ℕ) (before after : State) (h : Ru
   printed_holds = record {
     safe = λ asked is low. gives_verify asked is low (λ view. EachToldSafe asked.json view asked.file before.out.written after.out.written) (λ view a. printed_verify asked.file asked.nodes asked.json view (reported asked.file asked.nodes asked.json asked.out view a));
     unsafe_ = λ asked is low. gives_verify asked is low (λ view. EachPrintedUnsafe asked.json view asked.file before.out.written after.out.written) (λ view a. printed_unsafes asked.file asked.nodes asked.json view (reported asked.file asked.nodes asked.json asked.out view a));
-    proved = λ asked is none. gives (check_meaning asked.file asked.other) (as_check asked is) (omega (arith, none)) (λ view. EachPrintedSafe (codes "proved") view asked.file before.out.written after.out.written) (λ view a. printed_check asked.file asked.other view (proved asked.file asked.other view a));
+    proved = λ asked is none. gives (check_meaning asked.file asked.other) (as_check asked is) (omega (arith, none)) (λ view. EachPrinted runs.Safe (codes "proved") view asked.file before.out.written after.out.written) (λ view a. printed_check asked.file asked.other view (proved asked.file asked.other view a));
+  }
+
+  printed_rest : (name : List ℕ) (budget : ℕ) (view : View) → RestReportHolds number view name budget before.out.written after.out.written → EachPrinted RestSafe (codes "rest safe, ") view name before.out.written after.out.written
+  printed_rest name budget view r = record {
+    file = r.file;
+    holds = holds_file view name r.file r.is_file;
+    text = rest_text r.file r.sample r.verdicts;
+    gained = r.wrote;
+    holds_of = λ k p named line.
+        let said = printed_rest_safe r.file r.sample r.verdicts k p named r.is_sample.fits r.are.fit line in
+        rest_safe_at r.file r.ends.ending r.ends.added budget 0 r.file.patterns r.ends.ending.patterns r.verdicts r.are.hold k p said.0 said.1 named said.2;
+  }
+
+  printed_rest_check : (name certificate : List ℕ) (view : View) → RestCheckHolds view name certificate before.out.written after.out.written → EachPrinted RestSafe (codes "rest proved") view name before.out.written after.out.written
+  printed_rest_check name certificate view r = record {
+    file = r.file;
+    holds = holds_file view name r.file r.is_file;
+    text = rest_check_text r.file r.numbers;
+    gained = r.wrote;
+    holds_of = λ k p named line.
+        let found : ClaimHolds (claiming claim.RestSafe r.file) k = listed (ClaimHolds (claiming claim.RestSafe r.file)) k r.numbers r.safe (printed_rest_proved r.file r.numbers k p named line) in
+        let same : Some found.pattern ≡ Some p = sym found.named ∙ named in
+        let is : found.pattern ≡ p = cc in
+        subst (RestSafe r.file.automaton) is found.safe;
   }
 
   -- some pattern of a file whose report has the number 1 occurs in a run
@@ -361,11 +509,13 @@ module _ (words : List (List ℕ)) (number : ℕ) (before after : State) (h : Ru
         record { file = r.file; holds = holds_file view name r.file r.is_file; safe = each_safe r.file budget 0 r.file.patterns r.verdicts kinds.0 kinds.1 r.are.hold });
     occurs = λ asked is one. gives_verify asked is (omega (arith, one)) (λ view. SomePatternOccurs view asked.file) (λ view a. some_occurring asked.file asked.nodes asked.json view one (reported asked.file asked.nodes asked.json asked.out view a));
     proved = printed_holds.proved;
+    rest_safe = λ asked is low. gives (rest_meaning asked.file asked.nodes asked.out) (as_rest asked is) low (λ view. EachPrinted RestSafe (codes "rest safe, ") view asked.file before.out.written after.out.written) (λ view a. printed_rest asked.file asked.nodes view (at_rest asked.file asked.nodes asked.out view a));
+    rest_proved = λ asked is none. gives (rest_check_meaning asked.file asked.other) (as_rest_check asked is) (omega (arith, none)) (λ view. EachPrinted RestSafe (codes "rest proved") view asked.file before.out.written after.out.written) (λ view a. printed_rest_check asked.file asked.other view (rest_checked asked.file asked.other view a));
   }
 
 pub usage_exactly : (asked : Asked) (number : ℕ) (before after : State) → Runs asked number before after → UsageExactly number asked
 usage_exactly NoCommand number before after h = record { no_command = λ five. tt; command = λ other none. other h.five }
-usage_exactly (Command file m) number before after h = record { no_command = λ five. absurd (never_five m number before after h.performs.ends five); command = λ other none. none }
+usage_exactly (Command legal m) number before after h = record { no_command = λ five. absurd (never_five m number before after h.performs.ends five); command = λ other none. none }
 
 pub quiet : (asked : Asked) (number : ℕ) (before after : State) → Runs asked number before after → Quiet number before after
 quiet NoCommand number before after h =
@@ -376,27 +526,27 @@ quiet NoCommand number before after h =
       out_calm = λ other. (ap (λ (s : SinkState). s.faults) h.out, ap (λ (s : SinkState). s.stalls) h.out);
       failed = λ six. absurd (omega arith);
     }
-quiet (Command file m) number before after h = h.performs.quiet
+quiet (Command legal m) number before after h = h.performs.quiet
 
 pub tellings : (asked : Asked) (number : ℕ) (before after : State) → Runs asked number before after → Tellings asked number before after
 tellings NoCommand number before after h = (h.five, h.told)
-tellings (Command file m) number before after h = h.performs.telling
+tellings (Command legal m) number before after h = h.performs.telling
 
 pub exactly_so : (asked : Asked) (number : ℕ) (before after : State) → Runs asked number before after → ExactlySo number asked before.shelf.files
 exactly_so NoCommand number before after h = tt
-exactly_so (Command file m) number before after h = h.performs.exact h.decides
+exactly_so (Command legal m) number before after h = h.performs.exact h.decides
 
 pub opens : (asked : Asked) (number : ℕ) (before after : State) → Runs asked number before after → Opens asked before.shelf.calls after.shelf.calls
 opens NoCommand number before after h = ap (λ (s : ShelfState). s.calls) h.shelf
-opens (Command file m) number before after h = let ends = h.performs.ends in record { added = ends.read; grown = ends.grown; such = ends.opened }
+opens (Command legal m) number before after h = let ends = h.performs.ends in record { added = ends.read; grown = ends.grown; such = ends.opened }
 
 kept_others : (asked : Asked) (number : ℕ) (before after : State) → Runs asked number before after → KeptBut (put_by asked) before.shelf.files after.shelf.files
 kept_others NoCommand number before after h = ap (λ (s : ShelfState). s.files) h.shelf
-kept_others (Command file m) number before after h = h.performs.kept
+kept_others (Command legal m) number before after h = h.performs.kept
 
 kept_by_refusal : (asked : Asked) (number : ℕ) (before after : State) → Runs asked number before after → 3 ≤ number → number ≤ 5 → after.shelf.files ≡ before.shelf.files
 kept_by_refusal NoCommand number before after h three five = ap (λ (s : ShelfState). s.files) h.shelf
-kept_by_refusal (Command file m) number before after h three five = kept_refused m number before after h.performs.ends three five
+kept_by_refusal (Command legal m) number before after h three five = kept_refused m number before after h.performs.ends three five
 
 pub keeps_files : (words : List (List ℕ)) (number : ℕ) (before after : State) → Runs (request_of words) number before after → KeepsFiles number words before.shelf.files after.shelf.files
 keeps_files words number before after h = record { others = kept_others (request_of words) number before after h; refused = kept_by_refusal (request_of words) number before after h }
@@ -413,7 +563,7 @@ hinders_told m told number before after is h decides three four =
 
 passes_legal : (asked : Asked) (number : ℕ) (before after : State) → Runs asked number before after → PassesLegal asked number before.shelf.files
 passes_legal NoCommand number before after h = tt
-passes_legal (Command file m) number before after h = λ told is legal. (
+passes_legal (Command legal m) number before after h = λ told is legal. (
   λ three.
       let hinders = hinders_told m told number before after is h.performs h.decides (omega (arith, three)) (omega (arith, three)) in
       h.passes told hinders.0 legal (subst (λ (n : ℕ). m.refuses (in_files told) n hinders.0) three hinders.1),

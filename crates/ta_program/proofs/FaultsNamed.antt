@@ -5,9 +5,11 @@ use Rattle.std.specs.Str.{bytes_eq}
 use Rattle.ta_automaton.specs.declared.file.File.{File}
 use Rattle.ta_meaning.proofs.OneTree.{one_legal}
 use Rattle.ta_meaning.specs.Laws.{FirstFaultsAreUnique}
-use Rattle.ta_report.specs.Check.{check_text}
+use Rattle.ta_report.specs.Check.{check_text, rest_check_text}
 use Rattle.ta_replay.specs.declared.run.Run.{Run}
 use Rattle.ta_replay.specs.RunText.{run_text}
+use Rattle.ta_search.specs.declared.template.Template.{Template}
+use Rattle.ta_search.proofs.OneFault.{one_fault}
 use Rattle.ta_shelf.specs.Put.{Told}
 use Rattle.ta_shell.proofs.Read.{replies_monotone}
 use Rattle.ta_shell.proofs.Views.{Monotone}
@@ -15,14 +17,16 @@ use Rattle.ta_shell.specs.Commands.{Decides, Meaning}
 use Rattle.ta_shell.specs.Ends.{Performs, State, Tells}
 use Rattle.ta_shell.specs.Lines.{file_line}
 use Rattle.ta_shell.specs.Sights.{in_files, seen}
-use Rattle.ta_shell.specs.Stages.{Writes, after, replies}
+use Rattle.ta_shell.specs.Stages.{Writes, after, finds, replies}
 use Rattle.ta_smt.proofs.FaultsOnce.{whole_faults_once, word_faults_once}
 use Rattle.ta_smt.proofs.WordsNamed.{whole_exact, words_exact}
 use Rattle.ta_smt.specs.Admit.{Asked as Word}
 use Rattle.ta_smt.specs.Named.{IsWholeWordOf, IsWordOf, Spelling, WholeFaultOf, WordFaultOf}
 use Rattle.ta_smt.specs.declared.fault.WordFault.{WordFault}
+use Rattle.ta_claim.specs.declared.claim.Claim.TheVariants as claim
+use Rattle.ta_check.specs.Subjects.{claiming}
 use Rattle.ta_program.specs.Admit.{AdmitAsked, admit_meaning, admit_words, run_meaning, values_kind, values_meaning}
-use Rattle.ta_program.specs.Asked.{Asked, Runs, ask, choose, row}
+use Rattle.ta_program.specs.Asked.{Asked, LegalFile, Runs, ask, ask_where, choose, row}
 use Rattle.ta_program.specs.Asked.Asked.{Command, NoCommand}
 use Rattle.ta_program.specs.Bench.{SaysBench, bench_asked, bench_meaning, bench_words}
 use Rattle.ta_program.specs.Certified.{HindersCertificate, long_line, may_put}
@@ -34,11 +38,20 @@ use Rattle.ta_program.specs.Kinds.{certificate_kind, file_kind, run_kind}
 use Rattle.ta_program.specs.Replay.{SaysShown, replay_meaning, shown_meaning}
 use Rattle.ta_program.specs.Reporting.{Reports, report_meaning, verify_meaning}
 use Rattle.ta_program.specs.Requests.{request_of}
+use Rattle.ta_program.specs.Rest.{HindersRest, RestReports, rest_meaning, rest_report_meaning}
+use Rattle.ta_program.specs.RestCheck.{rest_check_meaning, rest_proved_meaning}
+use Rattle.ta_program.specs.RestEnds.{CycleHinders, Ends, IsEnds, LegalAtRest, cycle_text, with_ends}
+use Rattle.ta_program.specs.RestWords.{rest_words}
+use Rattle.ta_program.proofs.EndsOnce.{ends_once}
+use Rattle.ta_program.proofs.RestMeanings.{cycle_rule, ends_monotone, hinders_rest, no_cycle, rest_proved_monotone, rest_report_monotone}
+use Rattle.ta_program.specs.Search.{Finds, HindersFound, LegalTemplate, found_meaning, found_names, search_meaning, template_kind}
+use Rattle.ta_program.specs.SearchWords.{SearchWords, search_words}
 use Rattle.ta_program.specs.Values.{two_names}
 use Rattle.ta_program.specs.VerifyWords.{verify_words}
 use Rattle.ta_program.specs.WordAsked.{WordAsked}
 use Rattle.ta_program.proofs.FaultsOnce.{certificate_settled, long_once, run_once, settled, values_once}
 use Rattle.ta_program.proofs.Meanings.{hinders_long, proved_monotone, report_monotone, short_monotone, shown_monotone}
+use Rattle.ta_program.proofs.SearchMeanings.{found_monotone, hinders_four, one_text, template_fits}
 use Rattle.ta_program.proofs.OneLine.{after_last, after_once, finds_once, replies_hinder, settles_once}
 use Rattle.ta_program.proofs.WordMeanings.{run_monotone, system_monotone}
 
@@ -58,6 +71,14 @@ long_certificate : (file : File) (budget : ℕ) (out : Option (List ℕ)) (line 
 long_certificate file budget None line words number other h k = absurd h
 long_certificate file budget (Some out) line words number other h k = h.said ∙ sym k.said
 
+long_found : (t : Template) (budget : ℕ) (out : Option (List ℕ)) (line words : List ℕ) (number other : ℕ) → HindersFound t budget out number line → HindersFound t budget out other words → line ≡ words
+long_found t budget None line words number other h k = absurd h
+long_found t budget (Some out) line words number other h k = h.said ∙ sym k.said
+
+long_rest : (file : File) (ends : Ends) (budget : ℕ) (out : Option (List ℕ)) (line words : List ℕ) (number other : ℕ) → HindersRest file ends budget out number line → HindersRest file ends budget out other words → line ≡ words
+long_rest file ends budget None line words number other h k = absurd h
+long_rest file ends budget (Some out) line words number other h k = h.said ∙ sym k.said
+
 module _ (unique : FirstFaultsAreUnique) (told : Told) where
   -- of a command that reads FILE first
   file_first : (name : List ℕ) (puts : List (List ℕ)) (rest : File → Meaning) → ((file : File) → Monotone (rest file)) → ((file : File) → HinderOnce (rest file) told) → HinderOnce (after file_kind name puts rest) told
@@ -76,7 +97,7 @@ module _ (unique : FirstFaultsAreUnique) (told : Told) where
   check_once : (name certificate : List ℕ) → HinderOnce (check_meaning name certificate) told
   check_once name certificate =
       file_first name [] (λ file. proved_meaning file certificate) (λ file. proved_monotone file certificate) (λ file.
-      after_last (certificate_kind file) (certificate_settled file) certificate [] (λ numbers. replies [] (Writes 0 (check_text file numbers))) (λ numbers. replies_monotone [] (Writes 0 (check_text file numbers))) told 4 refl (omega arith) (omega arith)
+      after_last (certificate_kind (claiming claim.Safe file)) (certificate_settled (claiming claim.Safe file)) certificate [] (λ numbers. replies [] (Writes 0 (check_text file numbers))) (λ numbers. replies_monotone [] (Writes 0 (check_text file numbers))) told 4 refl (omega arith) (omega arith)
       (λ bytes numbers fault proves found. found.no_certificate numbers proves.accepted) (λ numbers number line none. none))
 
   replay_once : (name run : List ℕ) → HinderOnce (replay_meaning name run) told
@@ -118,10 +139,49 @@ module _ (unique : FirstFaultsAreUnique) (told : Told) where
   admit_once : (all : AdmitAsked) → HinderOnce (admit_meaning all) told
   admit_once all = file_first all.asked.file [] (run_meaning all.asked.file all.asked.word all.values) (run_monotone all.asked.file all.asked.word all.values) (run_line all.asked.file all.asked.word all.values)
 
+  found_once : (asked : SearchWords) (t : Template) → HinderOnce (found_meaning asked t) told
+  found_once asked t =
+      settles_once (found_names asked) (Finds t asked) (HindersFound t asked.nodes asked.out) told
+      (λ number line h. let is = hinders_four t asked.nodes asked.out number line h in (omega (arith, is), omega (arith, is)))
+      (λ number other line words h k. (hinders_four t asked.nodes asked.out number line h ∙ sym (hinders_four t asked.nodes asked.out other words k), long_found t asked.nodes asked.out line words number other h k))
+
+  search_once : (asked : SearchWords) → HinderOnce (search_meaning asked) told
+  search_once asked =
+      after_once template_kind (settled template_kind (λ bytes f none. none) one_fault) asked.file (found_names asked) (found_meaning asked) (found_monotone asked) told 3 refl (omega arith) (omega arith) template_fits (found_once asked) one_text
+
+  -- of a command that looks for the endings of FILE
+  ends_line : (name : List ℕ) (puts : List (List ℕ)) (rest : File → Ends → Meaning) → ((file : File) (ends : Ends) → Monotone (rest file ends)) → ((file : File) (ends : Ends) → HinderOnce (rest file ends) told) → HinderOnce (with_ends name puts rest) told
+  ends_line name puts rest rests later =
+      file_first name puts (λ file. finds (IsEnds file) (CycleHinders name file) puts (rest file)) (ends_monotone name puts rest rests) (λ file.
+      finds_once (IsEnds file) (CycleHinders name file) puts (rest file) told
+      (λ number line h. let three : number ≡ 3 = h.numbered in (omega (arith, three), omega (arith, three)))
+      (λ number other line words h k. (h.numbered ∙ sym k.numbered, h.said ∙ ap (λ (r : ℕ). file_line name (cycle_text r)) (cycle_rule file.automaton h.rule k.rule h.first k.first) ∙ sym k.said))
+      (λ ends number line is. no_cycle name file ends number line is)
+      (λ d e is are. sym (ends_once file d e is are))
+      (later file))
+
+  rest_report_once : (budget : ℕ) (out : Option (List ℕ)) (file : File) (ends : Ends) → HinderOnce (rest_report_meaning budget out file ends) told
+  rest_report_once budget out file ends =
+      settles_once (may_put out) (RestReports file ends budget out) (HindersRest file ends budget out) told
+      (λ number line h. let is = (hinders_rest file ends budget out number line h).0 in (omega (arith, is), omega (arith, is)))
+      (λ number other line words h k. ((hinders_rest file ends budget out number line h).0 ∙ sym (hinders_rest file ends budget out other words k).0, long_rest file ends budget out line words number other h k))
+
+  rest_once : (name : List ℕ) (budget : ℕ) (out : Option (List ℕ)) → HinderOnce (rest_meaning name budget out) told
+  rest_once name budget out = ends_line name (may_put out) (rest_report_meaning budget out) (rest_report_monotone budget out) (rest_report_once budget out)
+
+  rest_check_once : (name certificate : List ℕ) → HinderOnce (rest_check_meaning name certificate) told
+  rest_check_once name certificate =
+      ends_line name [] (rest_proved_meaning certificate) (rest_proved_monotone certificate) (λ file ends.
+      after_last (certificate_kind (claiming claim.RestSafe ends.ending)) (certificate_settled (claiming claim.RestSafe ends.ending)) certificate [] (λ numbers. replies [] (Writes 0 (rest_check_text file numbers))) (λ numbers. replies_monotone [] (Writes 0 (rest_check_text file numbers))) told 4 refl (omega arith) (omega arith)
+      (λ bytes numbers fault proves found. found.no_certificate numbers proves.accepted) (λ numbers number line none. none))
+
   -- what words ask for, row by row
+  asked_where_once : {W : Type 0} (legal : W → Told → Type 0) (says : W → Meaning) (words : Option W) → ((w : W) → HinderOnce (says w) told) → OfCommand (λ m. HinderOnce m told) (ask_where legal says words)
+  asked_where_once legal says None once = tt
+  asked_where_once legal says (Some w) once = once w
+
   asked_once : {W : Type 0} (file : W → Option (List ℕ)) (says : W → Meaning) (words : Option W) → ((w : W) → HinderOnce (says w) told) → OfCommand (λ m. HinderOnce m told) (ask file says words)
-  asked_once file says None once = tt
-  asked_once file says (Some w) once = once w
+  asked_once file says = asked_where_once (λ w told. LegalFile told (file w)) says
 
   row_once : (named : Bool) (asked others : Asked) → OfCommand (λ m. HinderOnce m told) asked → OfCommand (λ m. HinderOnce m told) others → OfCommand (λ m. HinderOnce m told) (choose named asked others)
   row_once true asked others once more = once
@@ -136,7 +196,10 @@ module _ (unique : FirstFaultsAreUnique) (told : Told) where
       (row_once (bytes_eq word (codes "compress")) _ _ (asked_once (λ names. Some names.file) (λ names. compress_meaning names.file names.other) (two_names words) (λ names. compress_once names.file names.other))
       (row_once (bytes_eq word (codes "export")) _ _ (asked_once (λ asked. Some asked.file) export_meaning (export_words words) export_once)
       (row_once (bytes_eq word (codes "replay")) _ _ (asked_once (λ names. Some names.file) (λ names. replay_meaning names.file names.other) (two_names words) (λ names. replay_once names.file names.other))
-      (row_once (bytes_eq word (codes "verify")) _ NoCommand (asked_once (λ asked. Some asked.file) (λ asked. verify_meaning asked.file asked.nodes asked.json asked.out) (verify_words words) (λ asked. verify_once asked.file asked.nodes asked.json asked.out)) tt))))))
+      (row_once (bytes_eq word (codes "rest")) _ _ (asked_where_once (λ a. LegalAtRest a.file) (λ a. rest_meaning a.file a.nodes a.out) (rest_words words) (λ a. rest_once a.file a.nodes a.out))
+      (row_once (bytes_eq word (codes "rest-check")) _ _ (asked_where_once (λ names. LegalAtRest names.file) (λ names. rest_check_meaning names.file names.other) (two_names words) (λ names. rest_check_once names.file names.other))
+      (row_once (bytes_eq word (codes "search")) _ _ (asked_where_once LegalTemplate search_meaning (search_words words) search_once)
+      (row_once (bytes_eq word (codes "verify")) _ NoCommand (asked_once (λ asked. Some asked.file) (λ asked. verify_meaning asked.file asked.nodes asked.json asked.out) (verify_words words) (λ asked. verify_once asked.file asked.nodes asked.json asked.out)) tt)))))))))
 
 -- what a run tells of told files
 module _ (m : Meaning) (told : Told) (number : ℕ) (before after : State) (is : before.shelf.files ≡ Some told) (performs : Performs m number before after) (decides : Decides m) (once : HinderOnce m told) where
@@ -163,7 +226,7 @@ module _ (m : Meaning) (told : Told) (number : ℕ) (before after : State) (is :
 
 named_by : (asked : Asked) (told : Told) (number : ℕ) (before after : State) → Runs asked number before after → before.shelf.files ≡ Some told → OfCommand (λ m. HinderOnce m told) asked → OfCommand (λ m. NamesFault m told number before.err after.err) asked
 named_by NoCommand told number before after h is once = tt
-named_by (Command file m) told number before after h is once = names_fault m told number before after is h.performs h.decides once
+named_by (Command legal m) told number before after h is once = names_fault m told number before after is h.performs h.decides once
 
 pub faults_named : FirstFaultsAreUnique → FaultsAreNamed
 faults_named unique = record {

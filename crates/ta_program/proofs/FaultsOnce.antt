@@ -4,7 +4,8 @@ use Rattle.std.specs.Prelude.{◌≢◌}
 use Rattle.ta_automaton.specs.declared.file.File.{File}
 use Rattle.ta_cert.specs.declared.fault.CertFault.{CertFault}
 use Rattle.ta_cert.specs.declared.fault.CertFault.TheVariants as cert
-use Rattle.ta_check.specs.Faults.{IsFirstFault, IsLasting}
+use Rattle.ta_check.specs.Faults.{IsFirstFaultFor, IsLastingFor}
+use Rattle.ta_check.specs.Subjects.{Subject}
 use Rattle.ta_check.proofs.Lasting.{lasting_faults_last}
 use Rattle.ta_check.proofs.OneFault.{one_fault}
 use Rattle.ta_compress.specs.declared.fault.CompressFault.{CompressFault}
@@ -68,25 +69,25 @@ long_once file bytes e f a b = elim a.first [
 pub values_once : (file : File) (word : Asked) → OneFault (values_kind file word)
 values_once file word bytes e f a b = admit_faults_once file word bytes e f a.no_memory b.no_memory a.first b.first
 
-pub certificate_once : (file : File) → OneFault (certificate_kind file)
-certificate_once file bytes e f a b = one_fault file bytes e f a.first b.first
+pub certificate_once : (subject : Subject) → OneFault (certificate_kind subject)
+certificate_once subject bytes e f a b = one_fault subject bytes e f a.first b.first
 
 -- a fault that lasts is a first fault, and so of each longer text
-lasting_first : (file : File) (bytes : List ℕ) (f : CertFault) → IsLasting file bytes f → IsFirstFault file bytes f
-lasting_first file bytes (cert.Truncated n) h = absurd h
-lasting_first file bytes f h = h
+lasting_first : (subject : Subject) (bytes : List ℕ) (f : CertFault) → IsLastingFor subject bytes f → IsFirstFaultFor subject bytes f
+lasting_first subject bytes (cert.Truncated n) h = absurd h
+lasting_first subject bytes f h = h
 
-lasting_lasts : (file : File) (bytes more : List ℕ) (f : CertFault) → IsLasting file bytes f → IsLasting file (bytes ++ more) f
-lasting_lasts file bytes more (cert.Truncated n) h = absurd h
-lasting_lasts file bytes more f h = lasting_faults_last file bytes more f h
+lasting_lasts : (subject : Subject) (bytes more : List ℕ) (f : CertFault) → IsLastingFor subject bytes f → IsLastingFor subject (bytes ++ more) f
+lasting_lasts subject bytes more (cert.Truncated n) h = absurd h
+lasting_lasts subject bytes more f h = lasting_faults_last subject bytes more f h
 
-pub certificate_settled : (file : File) → Settled (certificate_kind file)
-certificate_settled file = record {
-  First = IsFirstFault file;
-  one = one_fault file;
+pub certificate_settled : (subject : Subject) → Settled (certificate_kind subject)
+certificate_settled subject = record {
+  First = IsFirstFaultFor subject;
+  one = one_fault subject;
   of_fault = λ bytes f h. h.first;
-  of_broken = lasting_first file;
-  lasts = lasting_lasts file;
+  of_broken = lasting_first subject;
+  lasts = lasting_lasts subject;
 }
 
 -- of a kind that is read whole before it is judged

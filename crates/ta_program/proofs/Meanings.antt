@@ -14,7 +14,9 @@ use Rattle.ta_shell.specs.declared.answer.Answer.{Answer}
 use Rattle.ta_shell.specs.Stages.{Kind, Writes, after, replies}
 use Rattle.ta_shell.proofs.Read.{after_monotone, decides, no_hindrance, one_number, replies_monotone, replies_one, settles_monotone}
 use Rattle.ta_shell.proofs.Views.{Monotone}
-use Rattle.ta_program.specs.Asked.{IsAskedFor, Passes, ask}
+use Rattle.ta_program.specs.Asked.{IsAskedFor, LegalFile, Passes, PassesWhere, ask, ask_where}
+use Rattle.ta_claim.specs.declared.claim.Claim.TheVariants as claim
+use Rattle.ta_check.specs.Subjects.{claiming}
 use Rattle.ta_program.specs.Bench.{BUDGET, IsBench, SaysBench, bench_meaning, bench_status, family_text}
 use Rattle.ta_program.specs.Check.{check_meaning, proved_meaning}
 use Rattle.ta_program.specs.Compress.{SaysShort, compress_meaning, long_kind, short_meaning}
@@ -22,12 +24,13 @@ use Rattle.ta_program.specs.Kinds.{certificate_kind, file_kind, run_kind}
 use Rattle.ta_program.specs.Replay.{SaysShown, replay_meaning, shown_meaning}
 use Rattle.ta_program.specs.Certified.{HindersCertificate, LongCertificate, may_put}
 use Rattle.ta_program.specs.Reporting.{Reports, report_meaning, verify_meaning}
-use Rattle.ta_program.specs.Verify.{AreVerdicts, verdicts_number}
-use Rattle.ta_program.proofs.CertificatesOnce.{certificates_once}
-use Rattle.ta_program.proofs.VerdictsOnce.{verdicts_once}
+use Rattle.ta_verdict.specs.Verdicts.{AreVerdicts}
+use Rattle.ta_program.specs.Statuses.{verdicts_number}
+use Rattle.ta_verdict.proofs.CertificatesOnce.{certificates_once}
+use Rattle.ta_verdict.proofs.VerdictsOnce.{verdicts_once}
 
 pub proved_monotone : (file : File) (name : List ℕ) → Monotone (proved_meaning file name)
-proved_monotone file name = after_monotone (certificate_kind file) name [] (λ numbers. replies [] (Writes 0 (check_text file numbers))) (λ numbers. replies_monotone [] (Writes 0 (check_text file numbers)))
+proved_monotone file name = after_monotone (certificate_kind (claiming claim.Safe file)) name [] (λ numbers. replies [] (Writes 0 (check_text file numbers))) (λ numbers. replies_monotone [] (Writes 0 (check_text file numbers)))
 
 pub shown_monotone : (file : File) (name : List ℕ) → Monotone (shown_meaning file name)
 shown_monotone file name = after_monotone (run_kind file) name [] (λ run. replies [] (SaysShown file run)) (λ run. replies_monotone [] (SaysShown file run))
@@ -90,21 +93,24 @@ second_passes kind name rest four never view line refuses =
     ]
 
 -- what was read of words is what they ask for
+pub asked_where : {C W : Type 0} (seen : C → W) (legal : W → Told → Type 0) (says : W → Meaning) → ((w : W) → Decides (says w)) → ((w : W) → PassesWhere (legal w) (says w)) → (result : Option C) (words : Option W) → option_map seen result ≡ words → IsAskedFor (λ c. says (seen c)) (ask_where legal says words) result
+asked_where seen legal says decides passes None words is = subst (λ (o : Option _). IsAskedFor (λ c. says (seen c)) (ask_where legal says o) None) is (λ number before after none. none)
+asked_where seen legal says decides passes (Some c) words is = subst (λ (o : Option _). IsAskedFor (λ c. says (seen c)) (ask_where legal says o) (Some c)) is (λ number before after performs. record { performs = performs; decides = decides (seen c); passes = passes (seen c) })
+
 pub asked_for : {C W : Type 0} (seen : C → W) (file : W → Option (List ℕ)) (says : W → Meaning) → ((w : W) → Decides (says w)) → ((w : W) → Passes (file w) (says w)) → (result : Option C) (words : Option W) → option_map seen result ≡ words → IsAskedFor (λ c. says (seen c)) (ask file says words) result
-asked_for seen file says decides passes None words is = subst (λ (o : Option _). IsAskedFor (λ c. says (seen c)) (ask file says o) None) is (λ number before after none. none)
-asked_for seen file says decides passes (Some c) words is = subst (λ (o : Option _). IsAskedFor (λ c. says (seen c)) (ask file says o) (Some c)) is (λ number before after performs. record { performs = performs; decides = decides (seen c); passes = passes (seen c) })
+asked_for seen file says = asked_where seen (λ w told. LegalFile told (file w)) says
 
 pub check_decides : (name certificate : List ℕ) → Decides (check_meaning name certificate)
 check_decides name certificate =
     file_decides name [] (λ file. proved_meaning file certificate) (λ file. proved_monotone file certificate) (λ file told.
-    one_number (certificate_kind file) certificate [] (λ numbers. replies [] (Writes 0 (check_text file numbers))) (λ numbers. replies_monotone [] (Writes 0 (check_text file numbers))) told
+    one_number (certificate_kind (claiming claim.Safe file)) certificate [] (λ numbers. replies [] (Writes 0 (check_text file numbers))) (λ numbers. replies_monotone [] (Writes 0 (check_text file numbers))) told
     (λ bytes numbers fault proves found. found.no_certificate numbers proves.accepted)
     (λ bytes v w m n. replies_one [] (Writes 0 (check_text file v)) (Writes 0 (check_text file w)) (in_files told) (λ a b x y. x.numbered ∙ sym y.numbered)))
 
 pub check_passes : (name certificate : List ℕ) → Passes (Some name) (check_meaning name certificate)
 check_passes name certificate =
     file_passes name [] (λ file. proved_meaning file certificate) (λ file. proved_monotone file certificate)
-    (λ file told. second_passes (certificate_kind file) certificate (λ numbers. replies [] (Writes 0 (check_text file numbers))) refl (λ numbers view line none. none) (in_files told))
+    (λ file told. second_passes (certificate_kind (claiming claim.Safe file)) certificate (λ numbers. replies [] (Writes 0 (check_text file numbers))) refl (λ numbers view line none. none) (in_files told))
 
 pub compress_decides : (name run : List ℕ) → Decides (compress_meaning name run)
 compress_decides name run =

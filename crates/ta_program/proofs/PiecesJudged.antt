@@ -5,15 +5,15 @@ use Rattle.std.proofs.lemmas.Bool.Decides.{nat_tests}
 use Rattle.std.proofs.lemmas.List.{append-nil, length-drop, length-take-le, take-append-drop}
 use Rattle.std.specs.Option.{IfSome}
 use Rattle.std.specs.Result.{IsOk}
-use Rattle.ta_automaton.specs.declared.file.File.{File}
+use Rattle.ta_check.specs.Subjects.{Subject}
 use Rattle.ta_cert.specs.declared.fault.CertFault.{CertFault}
 use Rattle.ta_cert.specs.declared.fault.CertFault.TheVariants as fault
 use Rattle.ta_cert.specs.Laws.{IsErrOrMemory}
 use Rattle.ta_check.specs.declared.accepted.Accepted.{Accepted}
 use Rattle.ta_check.specs.declared.checker.Checker.{Checker}
-use Rattle.ta_check.specs.Certificate.{AllSafe}
-use Rattle.ta_check.specs.Checkers.{Fed, Finished, IsExactEnd, IsExactFeed, StandsFor}
-use Rattle.ta_check.specs.Faults.{IsFirstFault, IsLasting}
+use Rattle.ta_check.specs.Certificate.{AllHold}
+use Rattle.ta_check.specs.Checkers.{Fed, Finished, IsExactEnd, IsExactFeed, StandsFor, subject_of}
+use Rattle.ta_check.specs.Faults.{IsFirstFaultFor, IsLastingFor}
 use Rattle.ta_check.proofs.Lasting.{no_longer_certificate}
 use Rattle.ta_report.specs.Faults.{cert_fault_text}
 use Rattle.ta_shelf.specs.Calls.{Call, Grew, PieceBy, ReadsFirst, Spells}
@@ -33,9 +33,9 @@ use Rattle.ta_program.specs.Inside.Judged.{Allowed, Breaks, Judged, JudgedTo, Ju
 use Rattle.ta_program.specs.Kinds.{Proves, certificate_kind}
 
 -- the first line at fault lasts, or there was no memory
-fault_lasts : (file : File) (name text piece : List ℕ) (new : Checker) (f : CertFault) (refusal : Refusal) → new.scoped.now.file ≡ file → Fed text piece new (Err f) → RefusedBy name f refusal → (refusal ≡ Memory) ⊎ (IsLasting file (text ++ piece) f × SaysOfFile CERTIFICATE name (cert_fault_text f) refusal)
-fault_lasts file name text piece new fault.Memory refusal same fed says = inl says
-fault_lasts file name text piece new f refusal same fed says = inr (subst (λ (g : File). IsLasting g (text ++ piece) f) same fed, says)
+fault_lasts : (subject : Subject) (name text piece : List ℕ) (new : Checker) (f : CertFault) (refusal : Refusal) → (subject_of new) ≡ subject → Fed text piece new (Err f) → RefusedBy name f refusal → (refusal ≡ Memory) ⊎ (IsLastingFor subject (text ++ piece) f × SaysOfFile CERTIFICATE name (cert_fault_text f) refusal)
+fault_lasts subject name text piece new fault.Memory refusal same fed says = inl says
+fault_lasts subject name text piece new f refusal same fed says = inr (subst (λ (g : Subject). IsLastingFor g (text ++ piece) f) same fed, says)
 
 -- what a test says
 pub less : (a b : ℕ) → nat_lt a b ≡ true → a < b
@@ -49,7 +49,7 @@ pub piece_size : (text piece : List ℕ) (at : ℕ) → at ≡ length text → a
 piece_size text piece at place = omega (arith, place, length-append text piece)
 
 -- the part of a piece that the limit allows
-module _ (file : File) (name text piece : List ℕ) (at allowed : ℕ) (new : Checker) (place : at ≡ length text) (within : at ≤ CERTIFICATE.bytes) (part : allowed ≡ min (length piece) (CERTIFICATE.bytes - at)) where
+module _ (subject : Subject) (name text piece : List ℕ) (at allowed : ℕ) (new : Checker) (place : at ≡ length text) (within : at ≤ CERTIFICATE.bytes) (part : allowed ≡ min (length piece) (CERTIFICATE.bytes - at)) where
   few : allowed ≤ length piece
   few = omega (arith, part)
 
@@ -70,13 +70,13 @@ module _ (file : File) (name text piece : List ℕ) (at allowed : ℕ) (new : Ch
       nothing (x ∷ xs) none = absurd (omega arith)
 
   -- some of it isn't
-  pub passes_limit : (refusal : Refusal) → allowed < length piece → IsExactFeed file (text ++ take allowed piece) (Ok tt) → SaysOfFile CERTIFICATE name (longer_than CERTIFICATE.bytes) refusal → PassesLimit file name (text ++ piece) refusal
+  pub passes_limit : (refusal : Refusal) → allowed < length piece → IsExactFeed subject (text ++ take allowed piece) (Ok tt) → SaysOfFile CERTIFICATE name (longer_than CERTIFICATE.bytes) refusal → PassesLimit subject name (text ++ piece) refusal
   passes_limit refusal less exact says =
       let end : CERTIFICATE.bytes ≡ length text + allowed = omega (arith, part, place) in
       let front : text ++ take allowed piece ≡ take CERTIFICATE.bytes (text ++ piece) = sym (ap (λ (n : ℕ). take n (text ++ piece)) end ∙ take-append-add text piece allowed) in
       record {
         longer = omega (arith, all_size, part);
-        goes_on = λ f lasting. no_fault f (Ok tt) refl (exact f (subst (λ (xs : List ℕ). IsLasting file xs f) (sym front) lasting));
+        goes_on = λ f lasting. no_fault f (Ok tt) refl (exact f (subst (λ (xs : List ℕ). IsLastingFor subject xs f) (sym front) lasting));
         says = says;
       }
     where
@@ -84,8 +84,8 @@ module _ (file : File) (name text piece : List ℕ) (at allowed : ℕ) (new : Ch
       no_fault f answer ok h = elim h [ inl is ↦ cc | inr is ↦ cc ]
 
   -- it breaks
-  pub piece_breaks : (f : CertFault) (refusal : Refusal) → new.scoped.now.file ≡ file → Fed text (take allowed piece) new (Err f) → RefusedBy name f refusal → (refusal ≡ Memory) ⊎ (PassesLimit file name (text ++ piece) refusal ⊎ Breaks file name (text ++ piece) refusal)
-  piece_breaks f refusal same fed says = elim (fault_lasts file name text (take allowed piece) new f refusal same fed says) [
+  pub piece_breaks : (f : CertFault) (refusal : Refusal) → (subject_of new) ≡ subject → Fed text (take allowed piece) new (Err f) → RefusedBy name f refusal → (refusal ≡ Memory) ⊎ (PassesLimit subject name (text ++ piece) refusal ⊎ Breaks subject name (text ++ piece) refusal)
+  piece_breaks f refusal same fed says = elim (fault_lasts subject name text (take allowed piece) new f refusal same fed says) [
     | inl memory ↦ inl memory
     | inr lasts ↦ inr (inr (record {
       front = text ++ take allowed piece;
@@ -99,7 +99,7 @@ module _ (file : File) (name text piece : List ℕ) (at allowed : ℕ) (new : Ch
   ]
 
 -- a piece is read behind a text, and judged
-module _ (file : File) (files : Option Told) (name text buffer : List ℕ) (at count : ℕ) (first before now : List Call) (old new : Checker) (j : JudgedTo files name first before old text) (place : at ≡ length text) (some : 0 < length buffer) (few : count ≤ length buffer) (reads : IfSome files (λ m. ReadsPiece (m name) at buffer (Ok count))) (log : Grew (PieceBy name at buffer (Ok count)) before now) where
+module _ (subject : Subject) (files : Option Told) (name text buffer : List ℕ) (at count : ℕ) (first before now : List Call) (old new : Checker) (j : JudgedTo files name first before old text) (place : at ≡ length text) (some : 0 < length buffer) (few : count ≤ length buffer) (reads : IfSome files (λ m. ReadsPiece (m name) at buffer (Ok count))) (log : Grew (PieceBy name at buffer (Ok count)) before now) where
   grown : now ≡ first ++ (j.calls.added ++ log.added)
   grown = log.grown ∙ ap (λ (cs : List Call). cs ++ log.added) j.calls.grown ∙ append_assoc first j.calls.added log.added
 
@@ -121,29 +121,29 @@ module _ (file : File) (files : Option Told) (name text buffer : List ℕ) (at c
   size : length (text ++ take count buffer) ≡ at + count
   size = (let part = length-take-le count buffer few in omega (arith, place, part, length-append text (take count buffer)))
 
-  refuses : (refusal : Refusal) → (refusal ≡ Memory) ⊎ (PassesLimit file name (text ++ take count buffer) refusal ⊎ Breaks file name (text ++ take count buffer) refusal) → Unproved file files name refusal (j.calls.added ++ log.added)
+  refuses : (refusal : Refusal) → (refusal ≡ Memory) ⊎ (PassesLimit subject name (text ++ take count buffer) refusal ⊎ Breaks subject name (text ++ take count buffer) refusal) → Unproved subject files name refusal (j.calls.added ++ log.added)
   refuses refusal h = elim h [
-    | inl memory ↦ subst (λ (r : Refusal). Unproved file files name r (j.calls.added ++ log.added)) (sym memory) (stage_memory (certificate_kind file) (λ (a : Accepted). a.patterns) files name _ reading)
+    | inl memory ↦ subst (λ (r : Refusal). Unproved subject files name r (j.calls.added ++ log.added)) (sym memory) (stage_memory (certificate_kind subject) (λ (a : Accepted). a.patterns) files name _ reading)
     | inr fed ↦ elim fed [
-      | inl passes ↦ stage_too_long (certificate_kind file) (λ (a : Accepted). a.patterns) files name _ refusal passes.says reading (record {
+      | inl passes ↦ stage_too_long (certificate_kind subject) (λ (a : Accepted). a.patterns) files name _ refusal passes.says reading (record {
         bytes = text ++ take count buffer;
         seen = begins (text ++ take count buffer) [] (sym (append-nil (text ++ take count buffer)));
         more = passes.longer;
         such = passes.goes_on;
       })
-      | inr breaks ↦ stage_faulty (certificate_kind file) (λ (a : Accepted). a.patterns) files name _ refusal (cert_fault_text breaks.fault) breaks.says reading (λ words is. inr (record {
+      | inr breaks ↦ stage_faulty (certificate_kind subject) (λ (a : Accepted). a.patterns) files name _ refusal (cert_fault_text breaks.fault) breaks.says reading (λ words is. inr (record {
         bytes = breaks.front;
         seen = begins breaks.front breaks.behind breaks.all;
         within = breaks.within;
         fault = breaks.fault;
         found = breaks.lasting;
-        hopeless = λ more numbers proves. no_longer_certificate file breaks.front breaks.fault breaks.lasting more numbers proves.accepted;
+        hopeless = λ more numbers proves. no_longer_certificate subject breaks.front breaks.fault breaks.lasting more numbers proves.accepted;
         words_are = is;
       }))
     ]
   ]
 
-  pub turn : (ended : Bool) → (ended ≡ true → count < length buffer) → (ended ≡ false → length buffer ≤ count) → (result : Result (Option ℕ) Refusal) → PieceFed file name text (take count buffer) ended new result → Turn file files name at first now new result
+  pub turn : (ended : Bool) → (ended ≡ true → count < length buffer) → (ended ≡ false → length buffer ≤ count) → (result : Result (Option ℕ) Refusal) → PieceFed subject name text (take count buffer) ended new result → Turn subject files name at first now new result
   turn ended short full (Ok (Some next)) fed =
       let not_less = full fed.0 in (
         omega (arith, some, not_less, size, fed.1),
@@ -174,17 +174,17 @@ module _ (file : File) (files : Option Told) (name text buffer : List ℕ) (at c
   turn ended short full (Err refusal) fed = record { added = j.calls.added ++ log.added; grown = grown; such = refuses refusal fed }
 
 -- a read behind a text was refused
-pub turn_refused : (file : File) (files : Option Told) (name text buffer : List ℕ) (at : ℕ) (first before now : List Call) (old new : Checker) (fault : ShelfFault) (refusal : Refusal) → JudgedTo files name first before old text → at ≡ length text → IfSome files (λ m. ReadsPiece (m name) at buffer (Err fault)) → Grew (PieceBy name at buffer (Err fault)) before now → UnreadBy CERTIFICATE name fault refusal → Turn file files name at first now new (Err refusal)
-turn_refused file files name text buffer at first before now old new fault refusal j place reads log says = record {
+pub turn_refused : (subject : Subject) (files : Option Told) (name text buffer : List ℕ) (at : ℕ) (first before now : List Call) (old new : Checker) (fault : ShelfFault) (refusal : Refusal) → JudgedTo files name first before old text → at ≡ length text → IfSome files (λ m. ReadsPiece (m name) at buffer (Err fault)) → Grew (PieceBy name at buffer (Err fault)) before now → UnreadBy CERTIFICATE name fault refusal → Turn subject files name at first now new (Err refusal)
+turn_refused subject files name text buffer at first before now old new fault refusal j place reads log says = record {
   added = j.calls.added ++ log.added;
   grown = log.grown ∙ ap (λ (cs : List Call). cs ++ log.added) j.calls.grown ∙ append_assoc first j.calls.added log.added;
-  such = stage_unread (certificate_kind file) (λ (a : Accepted). a.patterns) files name _ fault refusal says (piece_refused name text buffer at fault j.calls.added log.added j.calls.such place log.such) (λ is.
+  such = stage_unread (certificate_kind subject) (λ (a : Accepted). a.patterns) files name _ fault refusal says (piece_refused name text buffer at fault j.calls.added log.added j.calls.such place log.such) (λ is.
       told_absent files name buffer at (subst (λ (f : ShelfFault). IfSome files (λ m. ReadsPiece (m name) at buffer (Err f))) is reads));
 }
 
 -- the offset behind a piece, over files that are the same
-pub turn_more : (file : File) (files kept : Option Told) (name : List ℕ) (at : ℕ) (first now : List Call) (checker : Checker) (given : Option ℕ) (next : ℕ) → kept ≡ files → given ≡ Some next → Turn file kept name at first now checker (Ok given) → Turn file files name at first now checker (Ok (Some next))
-turn_more file files kept name at first now checker given next same is t = subst (λ (o : Option Told). Turn file o name at first now checker (Ok (Some next))) same (subst (λ (r : Option ℕ). Turn file kept name at first now checker (Ok r)) is t)
+pub turn_more : (subject : Subject) (files kept : Option Told) (name : List ℕ) (at : ℕ) (first now : List Call) (checker : Checker) (given : Option ℕ) (next : ℕ) → kept ≡ files → given ≡ Some next → Turn subject kept name at first now checker (Ok given) → Turn subject files name at first now checker (Ok (Some next))
+turn_more subject files kept name at first now checker given next same is t = subst (λ (o : Option Told). Turn subject o name at first now checker (Ok (Some next))) same (subst (λ (r : Option ℕ). Turn subject kept name at first now checker (Ok r)) is t)
 
 -- no read failed where none was made
 pub no_read : {T : Type 0} (answer : Result T Refusal) (before after : ℕ) → ReadCause answer 0 0 → after ≡ before → ReadCause answer before after
@@ -214,24 +214,24 @@ judged_nothing files name first checker stands = record {
 }
 
 -- the end of a text
-module _ (file : File) (files : Option Told) (name : List ℕ) (checker : Checker) (calls : List Call) (j : JudgedWhole files name checker calls) where
-  pub stage_proved : (accepted : Accepted) → Finished file j.text (Ok accepted) → AllSafe file accepted.patterns → Stage (certificate_kind file) (λ (a : Accepted). a.patterns) files name (Ok accepted) calls
+module _ (subject : Subject) (files : Option Told) (name : List ℕ) (checker : Checker) (calls : List Call) (j : JudgedWhole files name checker calls) where
+  pub stage_proved : (accepted : Accepted) → Finished subject j.text (Ok accepted) → AllHold subject accepted.patterns → Stage (certificate_kind subject) (λ (a : Accepted). a.patterns) files name (Ok accepted) calls
   stage_proved accepted finished safe = record {
     reading = inr (j.text, _, j.spells);
     yields = (j.text, j.spells, j.had, record { accepted = finished; safe = safe });
   }
 
-  first_at_end : (f : CertFault) → Finished file j.text (Err f) → IsFirstFault file j.text f
+  first_at_end : (f : CertFault) → Finished subject j.text (Err f) → IsFirstFaultFor subject j.text f
   first_at_end (fault.Truncated n) h = h
   first_at_end _ h = absurd h
 
-  says_at_end : (f : CertFault) (refusal : Refusal) → Finished file j.text (Err f) → RefusedBy name f refusal → SaysOfFile CERTIFICATE name (cert_fault_text f) refusal
+  says_at_end : (f : CertFault) (refusal : Refusal) → Finished subject j.text (Err f) → RefusedBy name f refusal → SaysOfFile CERTIFICATE name (cert_fault_text f) refusal
   says_at_end (fault.Truncated n) refusal h says = says
   says_at_end _ refusal h says = absurd h
 
-  pub stage_ended : (f : CertFault) (refusal : Refusal) → Finished file j.text (Err f) → IsExactEnd file j.text (Err f) → RefusedBy name f refusal → Unproved file files name refusal calls
+  pub stage_ended : (f : CertFault) (refusal : Refusal) → Finished subject j.text (Err f) → IsExactEnd subject j.text (Err f) → RefusedBy name f refusal → Unproved subject files name refusal calls
   stage_ended f refusal finished exact says =
-      stage_faulty (certificate_kind file) (λ (a : Accepted). a.patterns) files name calls refusal (cert_fault_text f) (says_at_end f refusal finished says) (inr (j.text, _, j.spells)) (λ words is. inl (record {
+      stage_faulty (certificate_kind subject) (λ (a : Accepted). a.patterns) files name calls refusal (cert_fault_text f) (says_at_end f refusal finished says) (inr (j.text, _, j.spells)) (λ words is. inl (record {
         bytes = j.text;
         had = j.had;
         fault = f;

@@ -25,7 +25,7 @@ use Rattle.ta_report.proofs.Tellings.{run_told, told_run, told_unsafe}
 use Rattle.ta_witness.specs.Witness.{IsShortRun}
 use Rattle.ta_program.specs.declared.limits.TheConstants.{RUN}
 use Rattle.ta_program.specs.Printed.{UnsafePrinted}
-use Rattle.ta_program.specs.Verify.{AreVerdicts, IsSample, UnsafeHolds, VerdictHolds, VerdictsHold, is_unsafe}
+use Rattle.ta_verdict.specs.Verdicts.{AreVerdicts, IsSample, UnsafeHolds, VerdictHolds, VerdictsHold, is_unsafe}
 
 -- the verdict on the pattern of a number
 pub hold_at : (file : File) (budget number : ℕ) (ps : List Pattern) (vs : List Verdict) (k : ℕ) (p : Pattern) (v : Verdict) → VerdictsHold file budget number ps vs → slice_get ps k ≡ Some p → slice_get vs k ≡ Some v → VerdictHolds file budget (number + k) p v

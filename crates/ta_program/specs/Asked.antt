@@ -8,15 +8,25 @@ use Rattle.ta_shell.specs.Ends.{Performs, State, Tells}
 use Rattle.ta_shell.specs.Sights.{in_files}
 use Rattle.ta_program.specs.Kinds.{IsFile}
 
--- what words ask for: nothing that there is, or a command, of which is known the name of FILE, if it reads one, and what it says
+-- what words ask for: nothing that there is, or a command, of which is known in which told files its FILE, if it reads one, is legal, and
+-- what it says
 pub data Asked : Type 1 where
   NoCommand : Asked
-  Command : Option (List ℕ) → Meaning → Asked
+  Command : (Told → Type 0) → Meaning → Asked
 
 -- a command whose words were read, where they are its words
+abbrev pub ask_where : {W : Type 0} → (W → Told → Type 0) → (W → Meaning) → Option W → Asked
+ask_where legal says None = NoCommand
+ask_where legal says (Some words) = Command (legal words) (says words)
+
+-- FILE, if one is read, means an automaton
+abbrev pub LegalFile : Told → Option (List ℕ) → Type 0
+LegalFile told None = Unit {0}
+LegalFile told (Some name) = (file : File) × IsFile (in_files told) name file
+
+-- of a command that reads an automaton file, or none
 abbrev pub ask : {W : Type 0} → (W → Option (List ℕ)) → (W → Meaning) → Option W → Asked
-ask file says None = NoCommand
-ask file says (Some words) = Command (file words) (says words)
+ask file says words = ask_where (λ asked told. LegalFile told (file asked)) says words
 
 -- this where a test passes, or else that
 abbrev pub choose : Bool → Asked → Asked → Asked
@@ -29,19 +39,18 @@ row name word asked others = choose (bytes_eq word name) asked others
 
 abbrev pub IsNoCommand : Asked → Type 0
 IsNoCommand NoCommand = Unit {0}
-IsNoCommand (Command file m) = ⊥
-
--- FILE, if one is read, is legal
-abbrev pub LegalFile : Told → Option (List ℕ) → Type 0
-LegalFile told None = Unit {0}
-LegalFile told (Some name) = (file : File) × IsFile (in_files told) name file
+IsNoCommand (Command legal m) = ⊥
 
 -- a legal FILE is never refused with 3
+abbrev pub PassesWhere : (Told → Type 0) → Meaning → Type 0
+PassesWhere legal m = (told : Told) (line : List ℕ) → legal told → ¬ m.refuses (in_files told) 3 line
+
+-- of a command that reads an automaton file, or none
 abbrev pub Passes : Option (List ℕ) → Meaning → Type 0
-Passes file m = (told : Told) (line : List ℕ) → LegalFile told file → ¬ m.refuses (in_files told) 3 line
+Passes file m = PassesWhere (λ told. LegalFile told file) m
 
 abbrev pub usage_line : List ℕ
-usage_line = codes "tav: usage: verify FILE [--nodes N] [--certificate OUT] [--json], check FILE CERT, replay FILE RUN, compress FILE RUN, bench K, export FILE PATTERN START WORD, admit FILE PATTERN START WORD VALUES\n"
+usage_line = codes "tav: usage: verify FILE [--nodes N] [--certificate OUT] [--json], check FILE CERT, replay FILE RUN, compress FILE RUN, bench K, rest FILE [--nodes N] [--certificate OUT], rest-check FILE CERT, search FILE [--nodes N] [--certificate OUT] [--filled OUT2], export FILE PATTERN START WORD, admit FILE PATTERN START WORD VALUES\n"
 
 -- the words are no command's: nothing is read or written, and the line says so
 pub record OfNoCommand (number : ℕ) (before after : State) : Type 0 where
@@ -51,15 +60,15 @@ pub record OfNoCommand (number : ℕ) (before after : State) : Type 0 where
   pub told : Tells usage_line before.err after.err
 
 -- the command is done; told files leave it one answer, and a legal FILE passes
-pub record Obeyed (file : Option (List ℕ)) (m : Meaning) (number : ℕ) (before after : State) : Type 0 where
+pub record Obeyed (legal : Told → Type 0) (m : Meaning) (number : ℕ) (before after : State) : Type 0 where
   pub performs : Performs m number before after
   pub decides : Decides m
-  pub passes : Passes file m
+  pub passes : PassesWhere legal m
 
 -- what is asked for is done
 abbrev pub Runs : Asked → ℕ → State → State → Type 0
 Runs NoCommand number before after = OfNoCommand number before after
-Runs (Command file m) number before after = Obeyed file m number before after
+Runs (Command legal m) number before after = Obeyed legal m number before after
 
 -- the command that was read of words is the one that they ask for: who does it does what is asked for; and where none was, they are
 -- no command's

@@ -14,8 +14,8 @@ use Rattle.ta_shell.specs.declared.answer.Answer.{Answer}
 use Rattle.ta_syntax.specs.Grammar.{file_kinds}
 use Rattle.ta_syntax.specs.Printed.{printed}
 use Rattle.ta_program.specs.Asked.{Asked, ask}
-use Rattle.ta_program.specs.Certified.{CertificateOf, safe_numbers}
-use Rattle.ta_program.specs.Verify.{AreVerdicts, is_unknown, is_unsafe}
+use Rattle.ta_verdict.specs.Certificates.{CertificateOf, safe_numbers}
+use Rattle.ta_verdict.specs.Verdicts.{AreVerdicts, is_unknown, is_unsafe}
 use Rattle.ta_program.specs.Words.{Taken, behind_name, plain_of, taken_by}
 
 -- K is one of the texts `1` to `7`

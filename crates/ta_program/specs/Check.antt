@@ -6,6 +6,8 @@ use Rattle.ta_shelf.specs.Sink.{with_text}
 use Rattle.ta_shell.specs.Commands.{Meaning}
 use Rattle.ta_shell.specs.Sights.{View}
 use Rattle.ta_shell.specs.Stages.{IsOf, Writes, after, replies}
+use Rattle.ta_claim.specs.declared.claim.Claim.TheVariants as claim
+use Rattle.ta_check.specs.Subjects.{claiming}
 use Rattle.ta_program.specs.Asked.{Asked, ask}
 use Rattle.ta_program.specs.Kinds.{IsFile, certificate_kind, file_kind}
 use Rattle.ta_program.specs.Values.{TwoNames, two_names}
@@ -13,7 +15,7 @@ use Rattle.ta_program.specs.Words.{behind_name}
 
 -- CERT of a file is read, and the text says which patterns are proved
 abbrev pub proved_meaning : File → List ℕ → Meaning
-proved_meaning file name = after (certificate_kind file) name [] (λ numbers. replies [] (Writes 0 (check_text file numbers)))
+proved_meaning file name = after (certificate_kind (claiming claim.Safe file)) name [] (λ numbers. replies [] (Writes 0 (check_text file numbers)))
 
 -- FILE is read, and then CERT
 abbrev pub check_meaning : List ℕ → List ℕ → Meaning
@@ -32,5 +34,5 @@ pub record CheckHolds (view : View) (file_name certificate_name : List ℕ) (wri
   pub file : File
   pub is_file : IsFile view file_name file
   pub numbers : List ℕ
-  pub certificate : IsOf (certificate_kind file) view certificate_name numbers
+  pub certificate : IsOf (certificate_kind (claiming claim.Safe file)) view certificate_name numbers
   pub wrote : written' ≡ with_text written (check_text file numbers)

@@ -31,7 +31,7 @@ pub record NamesFault (m : Meaning) (told : Told) (number : ℕ) (before after :
 -- of a command; nothing is said where words ask for none
 abbrev pub OfCommand : (Meaning → Type 0) → Asked → Type 0
 OfCommand Fact NoCommand = Unit {0}
-OfCommand Fact (Command file m) = Fact m
+OfCommand Fact (Command legal m) = Fact m
 
 -- told files hinder what words ask for with one line at most, and a run that does it tells that line, and so names the first fault of
 -- the first file that is no use

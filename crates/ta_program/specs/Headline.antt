@@ -1,10 +1,12 @@
 -- What a status says, and no more. `verify FILE` with status 0: FILE holds a text that means an automaton with patterns, and each
 -- of these patterns occurs in no run; with status 1: some pattern of it occurs in a run. `check FILE CERT` with status 0: each
--- pattern that the output says is proved occurs in no run. Who believes this reads these definitions and those that they name, and
+-- pattern that the output says is proved occurs in no run. `rest FILE` and `rest-check FILE CERT`: of each pattern that the output says is safe
+-- or proved so, no run in which it occurs comes to rest where its last event happens. Who believes this reads these definitions and those that they name, and
 -- no others.
-use Rattle.std.specs.Prelude.{ℕ, ◌≡◌, List, codes, slice_get, Option, Some}
+use Rattle.std.specs.Prelude.{ℕ, ◌≤◌, ◌≡◌, List, codes, slice_get, Option, Some}
 use Rattle.ta_syntax.specs.Grammar.{PlainTree}
 use Rattle.ta_syntax.specs.TreeOf.{IsTextOf}
+use Rattle.ta_automaton.specs.declared.automaton.Automaton.{Automaton}
 use Rattle.ta_automaton.specs.declared.file.File.{File}
 use Rattle.ta_automaton.specs.declared.pattern.Pattern.{Pattern}
 use Rattle.ta_automaton.specs.Lists.{Each}
@@ -15,7 +17,9 @@ use Rattle.ta_shelf.specs.Calls.{Call, Grew}
 use Rattle.ta_shelf.specs.Put.{Told}
 use Rattle.ta_shelf.specs.Sink.{with_text}
 use Rattle.ta_shell.specs.Sights.{View, Whole, seen}
+use Rattle.ta_rest.specs.Rest.{RestSafe}
 use Rattle.ta_program.specs.Check.{check_of}
+use Rattle.ta_program.specs.RestWords.{rest_check_of, rest_of}
 use Rattle.ta_program.specs.Values.{TwoNames}
 use Rattle.ta_program.specs.VerifyWords.{VerifyWords, verify_of}
 
@@ -44,17 +48,19 @@ pub record SomePatternOccurs (view : View) (name : List ℕ) : Type 0 where
   pub rules : List ℕ
   pub occurs : runs.Occurs file.automaton pattern first rules
 
--- a name holds a file, and each pattern of it whose line the output gained with this word occurs in no run
-pub record EachPrintedSafe (word : List ℕ) (view : View) (name : List ℕ) (written written' : Option (List ℕ)) : Type 0 where
+-- a name holds a file, and a fact holds of each pattern of it whose line the output gained with this word
+pub record EachPrinted (Fact : Automaton → Pattern → Type 0) (word : List ℕ) (view : View) (name : List ℕ) (written written' : Option (List ℕ)) : Type 0 where
   pub file : File
   pub holds : HoldsFile view name file
   pub text : List ℕ
   pub gained : written' ≡ with_text written text
-  pub safe : (number : ℕ) (p : Pattern) → slice_get file.patterns number ≡ Some p → HasLine (told_of p.name word) text → runs.Safe file.automaton p
+  pub holds_of : (number : ℕ) (p : Pattern) → slice_get file.patterns number ≡ Some p → HasLine (told_of p.name word) text → Fact file.automaton p
 
 -- `verify FILE` with status 0 and with status 1, and `check FILE CERT` with status 0, of what is seen in the calls of the run and
 -- in the files
 pub record StatusTells (number : ℕ) (words : List (List ℕ)) (files : Option Told) (calls calls' : List Call) (written written' : Option (List ℕ)) : Type 0 where
   pub safe : (asked : VerifyWords) → verify_of words ≡ Some asked → number ≡ 0 → Grew (λ read. EachPatternSafe (seen files read) asked.file) calls calls'
   pub occurs : (asked : VerifyWords) → verify_of words ≡ Some asked → number ≡ 1 → Grew (λ read. SomePatternOccurs (seen files read) asked.file) calls calls'
-  pub proved : (asked : TwoNames) → check_of words ≡ Some asked → number ≡ 0 → Grew (λ read. EachPrintedSafe (codes "proved") (seen files read) asked.file written written') calls calls'
+  pub proved : (asked : TwoNames) → check_of words ≡ Some asked → number ≡ 0 → Grew (λ read. EachPrinted runs.Safe (codes "proved") (seen files read) asked.file written written') calls calls'
+  pub rest_safe : (asked : VerifyWords) → rest_of words ≡ Some asked → number ≤ 2 → Grew (λ read. EachPrinted RestSafe (codes "rest safe, ") (seen files read) asked.file written written') calls calls'
+  pub rest_proved : (asked : TwoNames) → rest_check_of words ≡ Some asked → number ≡ 0 → Grew (λ read. EachPrinted RestSafe (codes "rest proved") (seen files read) asked.file written written') calls calls'

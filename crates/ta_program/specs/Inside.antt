@@ -1,5 +1,5 @@
-pub mod Drafts
 pub mod Certifying
 pub mod Judged
 pub mod Reported
 pub mod Found
+pub mod FoundFiles

@@ -2,8 +2,9 @@
 use Rattle.std.specs.Prelude.{ℕ, ◌≢◌, ◌⊎◌, List}
 use Rattle.ta_automaton.specs.declared.file.File.{File}
 use Rattle.ta_cert.specs.declared.fault.CertFault.{CertFault}
-use Rattle.ta_check.specs.Certificate.{AllSafe, Certificate}
-use Rattle.ta_check.specs.Faults.{IsFirstFault, IsLasting}
+use Rattle.ta_check.specs.Certificate.{AllHold, CertificateFor}
+use Rattle.ta_check.specs.Faults.{IsFirstFaultFor, IsLastingFor}
+use Rattle.ta_check.specs.Subjects.{Subject}
 use Rattle.ta_syntax.specs.declared.fault.FileFault.{FileFault}
 use Rattle.ta_meaning.specs.FirstFault.{FirstFault}
 use Rattle.ta_meaning.specs.Reading.{Legal}
@@ -28,19 +29,19 @@ file_kind = record { limit = FILE; means = Legal; at_fault = FirstFault; broken 
 abbrev pub IsFile : View → List ℕ → File → Type 0
 IsFile view name file = IsOf file_kind view name file
 
--- the bytes are a certificate of a file that proves the patterns of these numbers, each of which is safe
-pub record Proves (file : File) (bytes numbers : List ℕ) : Type 0 where
-  pub accepted : Certificate file bytes numbers
-  pub safe : AllSafe file numbers
+-- the bytes are a certificate of what is claimed of the file's patterns of these numbers, and it holds of each
+pub record Proves (subject : Subject) (bytes numbers : List ℕ) : Type 0 where
+  pub accepted : CertificateFor subject bytes numbers
+  pub safe : AllHold subject numbers
 
--- the first fault of the bytes, which are no certificate of a file
-pub record CertificateFault (file : File) (bytes : List ℕ) (found : CertFault) : Type 0 where
-  pub first : IsFirstFault file bytes found
-  pub no_certificate : (numbers : List ℕ) → ¬ Certificate file bytes numbers
+-- the first fault of the bytes, which are no certificate
+pub record CertificateFault (subject : Subject) (bytes : List ℕ) (found : CertFault) : Type 0 where
+  pub first : IsFirstFaultFor subject bytes found
+  pub no_certificate : (numbers : List ℕ) → ¬ CertificateFor subject bytes numbers
 
--- CERT, for a file, whose reading ends at a fault that each longer text keeps
-abbrev pub certificate_kind : File → Kind (List ℕ) CertFault
-certificate_kind file = record { limit = CERTIFICATE; means = Proves file; at_fault = CertificateFault file; broken = IsLasting file; words = cert_fault_text }
+-- CERT, for what is claimed of a file, whose reading ends at a fault that each longer text keeps
+abbrev pub certificate_kind : Subject → Kind (List ℕ) CertFault
+certificate_kind subject = record { limit = CERTIFICATE; means = Proves subject; at_fault = CertificateFault subject; broken = IsLastingFor subject; words = cert_fault_text }
 
 -- the bytes are the text of a run that shows its pattern in a replay that stays in range
 pub record ShowsRun (file : File) (bytes : List ℕ) (run : Run) : Type 0 where

@@ -10,7 +10,7 @@ use Rattle.ta_shelf.specs.Put.{Told}
 use Rattle.ta_shelf.specs.Sink.{with_text}
 use Rattle.ta_shell.specs.Ends.{State}
 use Rattle.ta_program.specs.Asked.{Runs}
-use Rattle.ta_program.specs.Certified.{safe_numbers}
+use Rattle.ta_verdict.specs.Certificates.{safe_numbers}
 use Rattle.ta_program.specs.Check.{check_of}
 use Rattle.ta_program.specs.Replay.{replay_of}
 use Rattle.ta_program.specs.Requests.{request_of}

@@ -7,7 +7,7 @@ pub mod Asking
 pub mod Check
 pub mod Compress
 pub mod Replay
-pub mod Verify
+pub mod Statuses
 pub mod VerifyWords
 pub mod Certified
 pub mod Reporting
@@ -17,6 +17,9 @@ pub mod WordSeen
 pub mod Export
 pub mod Admit
 pub mod AdmitSeen
+pub mod SearchWords
+pub mod Search
+pub mod SearchSeen
 pub mod Requests
 pub mod Headline
 pub mod Printed
@@ -24,3 +27,8 @@ pub mod Program
 pub mod Laws
 pub mod Faults
 pub mod Inside
+pub mod RestWords
+pub mod RestEnds
+pub mod Rest
+pub mod RestCheck
+pub mod RestSeen

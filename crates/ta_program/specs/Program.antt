@@ -1,6 +1,7 @@
 -- What a run of the program says (this project's profile)
 use Rattle.std.specs.Prelude.{ℕ, ◌≡◌, ◌≢◌, ◌≤◌, ◌⊎◌, List, [], codes, Option, Some, IsSome}
 use Rattle.ta_automaton.specs.declared.file.File.{File}
+use Rattle.ta_automaton.specs.Runs as runs
 use Rattle.ta_shelf.specs.Calls.{Call, Grew}
 use Rattle.ta_shelf.specs.Counts.{Faulted}
 use Rattle.ta_shelf.specs.Put.{Told}
@@ -8,7 +9,7 @@ use Rattle.ta_shell.specs.Commands.{Exact}
 use Rattle.ta_shell.specs.Ends.{Failed, State, Telling, Tells}
 use Rattle.ta_shell.specs.Puts.{KeptBut}
 use Rattle.ta_shell.specs.Sights.{in_files, seen}
-use Rattle.ta_program.specs.Asked.{Asked, IsNoCommand, LegalFile, usage_line}
+use Rattle.ta_program.specs.Asked.{Asked, IsNoCommand, usage_line}
 use Rattle.ta_program.specs.Asked.Asked.{Command, NoCommand}
 use Rattle.ta_program.specs.Admit.{AdmitAsked, AdmitHolds, IsAdmitted, admit_of}
 use Rattle.ta_program.specs.Bench.{BenchHolds, bench_of}
@@ -16,13 +17,18 @@ use Rattle.ta_program.specs.Certified.{LongCertificate}
 use Rattle.ta_program.specs.Check.{CheckHolds, check_of}
 use Rattle.ta_program.specs.Compress.{CompressHolds, compress_of}
 use Rattle.ta_program.specs.Export.{ExportHolds, export_of}
-use Rattle.ta_program.specs.Headline.{EachPrintedSafe}
+use Rattle.ta_program.specs.Headline.{EachPrinted}
 use Rattle.ta_program.specs.Kinds.{IsFile}
 use Rattle.ta_program.specs.Printed.{EachPrintedUnsafe, EachToldSafe}
 use Rattle.ta_program.specs.Replay.{ReplayHolds, replay_of}
 use Rattle.ta_program.specs.Requests.{request_of}
+use Rattle.ta_program.specs.Rest.{RestCertificateStands, RestReportHolds}
+use Rattle.ta_program.specs.RestCheck.{RestCheckHolds}
+use Rattle.ta_program.specs.RestWords.{rest_check_of, rest_of}
 use Rattle.ta_program.specs.Reporting.{CertificateStands, ReportHolds}
-use Rattle.ta_program.specs.Verify.{IsKnown}
+use Rattle.ta_program.specs.Search.{SearchHolds}
+use Rattle.ta_program.specs.SearchWords.{SearchWords, search_of}
+use Rattle.ta_verdict.specs.Verdicts.{IsKnown}
 use Rattle.ta_program.specs.Values.{TwoNames}
 use Rattle.ta_program.specs.VerifyWords.{VerifyWords, verify_of}
 use Rattle.ta_program.specs.WordAsked.{WordAsked}
@@ -81,12 +87,36 @@ pub record Admitting (number : ℕ) (words : List (List ℕ)) (files : Option To
   pub holds : (all : AdmitAsked) → admit_of words ≡ Some all → number ≡ 0 → Grew (λ read. AdmitHolds (seen files read) all written written') calls calls'
   pub exact : (all : AdmitAsked) (told : Told) → admit_of words ≡ Some all → files ≡ Some told → IsAdmitted told all → (number ≡ 0) ⊎ ((number ≡ 6) ⊎ (number ≡ 7))
 
+-- `rest FILE` with status 0, 1 or 2, whatever its options: FILE is legal and its cycles are self-loops, so that every run has few other steps,
+-- what is said of the parameters holds, each verdict on runs that come to rest holds, they give the status, and the output gained the report;
+-- and with `--certificate OUT`, OUT holds the certificate of the patterns that are said to be safe so, which `rest-check` accepts as one of
+-- exactly these, and every other file is as it was
+pub record RestsReport (number : ℕ) (words : List (List ℕ)) (files files' : Option Told) (calls calls' : List Call) (written written' : Option (List ℕ)) : Type 0 where
+  pub report : (asked : VerifyWords) → rest_of words ≡ Some asked → number ≤ 2 → Grew (λ read. RestReportHolds number (seen files read) asked.file asked.nodes written written') calls calls'
+  pub certificate : (asked : VerifyWords) (out : List ℕ) → rest_of words ≡ Some asked → asked.out ≡ Some out → number ≤ 2 → Grew (λ read. RestCertificateStands number (seen files read) asked.file asked.nodes out files files' written written') calls calls'
+
+-- `rest-check FILE CERT` with status 0: FILE is legal and its cycles are self-loops, CERT is a certificate for its endings, no run comes to
+-- rest where the last event of a pattern that it proves happens, and the output gained the text that says which these are
+abbrev pub RestProves : ℕ → List (List ℕ) → Option Told → List Call → List Call → Option (List ℕ) → Option (List ℕ) → Type 0
+RestProves number words files calls calls' written written' =
+    (asked : TwoNames) → rest_check_of words ≡ Some asked → number ≡ 0
+    → Grew (λ read. RestCheckHolds (seen files read) asked.file asked.other written written') calls calls'
+
+-- `search FILE` with status 0, 1 or 2, whatever its options: FILE is a template, and the output gained the text of the search of its
+-- holes: its vectors were tried in order, each is listed once with an outcome that holds, up to the first that is Safe. With 0 every
+-- pattern of the last filled text is safe and some parameters have an initial configuration; OUT2 holds that text, and OUT a certificate
+-- of it, which `check` accepts as one of all its patterns. With 1 and 2 every file is as it was: 2 where some outcome is unknown
+abbrev pub Searches : ℕ → List (List ℕ) → Option Told → Option Told → List Call → List Call → Option (List ℕ) → Option (List ℕ) → Type 0
+Searches number words files files' calls calls' written written' =
+    (asked : SearchWords) → search_of words ≡ Some asked → number ≤ 2
+    → Grew (λ read. SearchHolds number (seen files read) asked files files' written written') calls calls'
+
 -- with status 0, 1 or 2 of `verify` a pattern that the report tells is safe is safe, by its line or in JSON, and one that it tells is
 -- unsafe occurs in a run, the text of which stands there; with status 0 of `check` a pattern that is `proved` is safe
 pub record PrintedHolds (number : ℕ) (words : List (List ℕ)) (files : Option Told) (calls calls' : List Call) (written written' : Option (List ℕ)) : Type 0 where
   pub safe : (asked : VerifyWords) → verify_of words ≡ Some asked → number ≤ 2 → Grew (λ read. EachToldSafe asked.json (seen files read) asked.file written written') calls calls'
   pub unsafe_ : (asked : VerifyWords) → verify_of words ≡ Some asked → number ≤ 2 → Grew (λ read. EachPrintedUnsafe asked.json (seen files read) asked.file written written') calls calls'
-  pub proved : (asked : TwoNames) → check_of words ≡ Some asked → number ≡ 0 → Grew (λ read. EachPrintedSafe (codes "proved") (seen files read) asked.file written written') calls calls'
+  pub proved : (asked : TwoNames) → check_of words ≡ Some asked → number ≡ 0 → Grew (λ read. EachPrinted runs.Safe (codes "proved") (seen files read) asked.file written written') calls calls'
 
 -- 5 exactly where the words are no command's
 pub record UsageExactly (number : ℕ) (asked : Asked) : Type 0 where
@@ -96,24 +126,24 @@ pub record UsageExactly (number : ℕ) (asked : Asked) : Type 0 where
 -- what is told on standard error
 abbrev pub Tellings : Asked → ℕ → State → State → Type 0
 Tellings NoCommand number before after = (number ≡ 5) × Tells usage_line before.err after.err
-Tellings (Command file m) number before after = Telling m number before after
+Tellings (Command legal m) number before after = Telling m number before after
 
 -- where the files are told, the number is the one that is so of them, 6 and 7 aside
 abbrev pub ExactlySo : ℕ → Asked → Option Told → Type 0
 ExactlySo number NoCommand files = Unit {0}
-ExactlySo number (Command file m) files = Exact m files number
+ExactlySo number (Command legal m) files = Exact m files number
 
 -- the calls are those of the command that is asked for, and no others
 abbrev pub Opens : Asked → List Call → List Call → Type 0
 Opens NoCommand calls calls' = calls' ≡ calls
-Opens (Command file m) calls calls' = Grew m.opens calls calls'
+Opens (Command legal m) calls calls' = Grew m.opens calls calls'
 
 -- the names of the files that what is asked for may put
 abbrev pub put_by : Asked → List (List ℕ)
 put_by NoCommand = []
-put_by (Command file m) = m.puts
+put_by (Command legal m) = m.puts
 
--- every file is as it was, but OUT where `--certificate OUT` is asked for; with 3, 4 and 5 that one is too
+-- every file is as it was, but OUT where `--certificate OUT` is asked for, and OUT2 where `--filled OUT2` is; with 3, 4 and 5 these are too
 pub record KeepsFiles (number : ℕ) (words : List (List ℕ)) (files files' : Option Told) : Type 0 where
   pub others : KeptBut (put_by (request_of words)) files files'
   pub refused : 3 ≤ number → number ≤ 5 → files' ≡ files
@@ -121,7 +151,7 @@ pub record KeepsFiles (number : ℕ) (words : List (List ℕ)) (files files' : O
 -- where FILE is legal, neither 3 nor 5
 abbrev pub PassesLegal : Asked → ℕ → Option Told → Type 0
 PassesLegal NoCommand number files = Unit {0}
-PassesLegal (Command file m) number files = (told : Told) → files ≡ Some told → LegalFile told file → (number ≢ 3) × (number ≢ 5)
+PassesLegal (Command legal m) number files = (told : Told) → files ≡ Some told → legal told → (number ≢ 3) × (number ≢ 5)
 
 -- a legal FILE passes: with told files, neither 3 nor 5; where no call failed or stood still, no 6; of `verify`, where no verdict
 -- that leaves a pattern unknown holds, no 2; and 4 only where the certificate that is asked for is too long

@@ -5,17 +5,20 @@ use Rattle.ta_check.specs.Certificate.{Certificate}
 use Rattle.ta_report.specs.declared.verdict.ReportSample.{ReportSample}
 use Rattle.ta_report.specs.declared.verdict.Verdict.{Verdict}
 use Rattle.ta_report.specs.Telling.{report_of}
-use Rattle.ta_shelf.specs.Put.{OthersStay, Told, WhereTold}
+use Rattle.ta_shelf.specs.Put.{Told, WhereTold}
 use Rattle.ta_shelf.specs.Sink.{with_text}
 use Rattle.ta_shell.specs.declared.answer.Answer.{Answer}
 use Rattle.ta_shell.specs.Commands.{Meaning}
+use Rattle.ta_shell.specs.Puts.{HoldsText}
 use Rattle.ta_shell.specs.Sights.{View}
 use Rattle.ta_shell.specs.Stages.{after, settles}
 use Rattle.ta_program.specs.declared.limits.TheConstants.{CERTIFICATE}
-use Rattle.ta_program.specs.Certified.{CertificateOf, HindersCertificate, PutsCertificate, may_put, safe_numbers}
+use Rattle.ta_verdict.specs.Certificates.{CertificateOf, safe_numbers}
+use Rattle.ta_program.specs.Certified.{HindersCertificate, PutsCertificate, may_put}
 use Rattle.ta_program.specs.Asked.{Asked, ask}
 use Rattle.ta_program.specs.Kinds.{IsFile, file_kind}
-use Rattle.ta_program.specs.Verify.{AreVerdicts, IsSample, verdicts_number}
+use Rattle.ta_verdict.specs.Verdicts.{AreVerdicts, IsSample}
+use Rattle.ta_program.specs.Statuses.{verdicts_number}
 use Rattle.ta_program.specs.VerifyWords.{verify_words}
 
 -- the report of the sample and of such verdicts, in JSON or not, with the number that the verdicts give, and the certificate that is asked for
@@ -49,11 +52,6 @@ pub record ReportHolds (number : ℕ) (view : View) (name : List ℕ) (budget : 
   pub are : AreVerdicts file budget verdicts
   pub numbered : verdicts_number verdicts ≡ number
   pub wrote : written' ≡ with_text written (report_of json file sample verdicts)
-
--- the file of a name holds this text, and every other file is as it was
-pub record HoldsText (name text : List ℕ) (before after : Told) : Type 0 where
-  pub held : after name ≡ Some text
-  pub others : OthersStay name before after
 
 -- the report holds; OUT holds the certificate of the patterns that it says are safe, and every other file is as it was; and that
 -- text is a certificate of FILE that proves exactly these patterns, so `check` accepts it

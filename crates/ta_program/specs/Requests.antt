@@ -9,6 +9,9 @@ use Rattle.ta_program.specs.Compress.{compress_asked}
 use Rattle.ta_program.specs.Export.{export_asked}
 use Rattle.ta_program.specs.Replay.{replay_asked}
 use Rattle.ta_program.specs.Reporting.{verify_asked}
+use Rattle.ta_program.specs.Rest.{rest_asked}
+use Rattle.ta_program.specs.RestCheck.{rest_check_asked}
+use Rattle.ta_program.specs.Search.{search_asked}
 
 -- what words ask for: the first is the command
 abbrev pub request_of : List (List ℕ) → Asked
@@ -20,5 +23,8 @@ request_of (word ∷ words) =
     (row (codes "compress") word (compress_asked words)
     (row (codes "export") word (export_asked words)
     (row (codes "replay") word (replay_asked words)
+    (row (codes "rest") word (rest_asked words)
+    (row (codes "rest-check") word (rest_check_asked words)
+    (row (codes "search") word (search_asked words)
     (row (codes "verify") word (verify_asked words)
-    NoCommand))))))
+    NoCommand)))))))))

@@ -1,5 +1,5 @@
 -- What plain words and values of options may be (this project's profile)
-use Rattle.std.specs.Prelude.{ℕ, ◌&&◌, nat_lt, nat_le, Bool, List, [], length, not, Option, None, Some, if◌then◌else◌, option_and_then, option_map}
+use Rattle.std.specs.Prelude.{ℕ, ◌&&◌, nat_lt, nat_le, Bool, false, List, [], length, not, Option, None, Some, if◌then◌else◌, option_and_then, option_map}
 use Rattle.std.specs.Char.{is_ascii_digit}
 use Rattle.std.specs.List.{list_all}
 use Rattle.std.specs.Str.{bytes_eq}
@@ -24,6 +24,15 @@ budget_of (Some text) = if is_budget text then Some (digits_value 10 text) else 
 abbrev pub out_of : List ℕ → Option (List ℕ) → Option (Option (List ℕ))
 out_of file None = Some None
 out_of file (Some out) = if nat_lt 0 (length out) && not (bytes_eq out file) then Some (Some out) else None
+
+-- whether two names are both given, and are the same
+abbrev pub are_same : Option (List ℕ) → Option (List ℕ) → Bool
+are_same (Some name) (Some other) = bytes_eq name other
+are_same _ _ = false
+
+-- the name of the file OUT2, where it is given: it isn't empty, and differs from those of FILE and of OUT
+abbrev pub filled_of : List ℕ → Option (List ℕ) → Option (List ℕ) → Option (Option (List ℕ))
+filled_of file out filled = if are_same out filled then None else out_of file filled
 
 -- the names of two files: FILE, and one that belongs to it
 pub record TwoNames : Type 0 where

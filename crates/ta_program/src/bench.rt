@@ -12,18 +12,14 @@ ghost use Rattle.ta_shell.specs.Reading.{ReadCause};
 ghost use Rattle.ta_shell.specs.Stages.{Writes};
 ghost use Rattle.ta_program.specs.Bench.{SaysBench, bench_meaning, bench_status, bench_text, bench_words, family_number, family_text};
 
-use crate::budget::Budget;
-use crate::draft::Draft;
 use crate::limits::FILE;
 use crate::request::Request;
-use crate::verify::{is_unknown, is_unsafe, verdicts_on};
 use crate::words::take_words;
 use std::alloc::{AllocError, Global};
 use std::thread::Threads;
 use ta_automaton::Pattern;
 use ta_cert::CertFault;
 use ta_check::{Accepted, Checker};
-use ta_dense::NarrowDictionary;
 use ta_maker::make_family;
 use ta_meaning::read_file;
 use ta_report::Verdict;
@@ -31,7 +27,7 @@ use ta_scope::ScopedFile;
 use ta_shelf::{Shelf, Text};
 use ta_shell::{Answer, Command, Refusal};
 use ta_syntax::print_tree;
-use ta_walk::find_orders;
+use ta_verdict::{is_unknown, is_unsafe, judge_file};
 
 /// What `bench` is asked for: a number of the family.
 #[derive(Drop)]
@@ -106,15 +102,14 @@ fn bench_family<R: Threads + Sync>(rt: &R, alloc: Global, k: u32) -> Result<Answ
     ensures { IfOk result (SaysBench k) }
 {
     let scoped = read_family(alloc, k)?;
-    let budget = Budget { nodes: 1_000_000 };
-    let found = find_orders::<NarrowDictionary>(alloc, &scoped)?;
-    let mut draft = Draft::certificate(alloc, true, found.list.as_slice())?;
-    let verdicts = verdicts_on(rt, alloc, &scoped, &found, &budget, &mut draft)?;
-    let certificate = draft.end(alloc)?;
-    if accept(alloc, &scoped, certificate.as_slice()).is_err() {
+    let judged = judge_file(rt, alloc, &scoped, 1_000_000, true)?;
+    if accept(alloc, &scoped, judged.certificate.as_slice()).is_err() {
         return Err(AllocError);
     }
-    match (scoped.file.patterns.as_slice().first(), verdicts.first()) {
+    match (
+        scoped.file.patterns.as_slice().first(),
+        judged.verdicts.as_slice().first(),
+    ) {
         (Some(pattern), Some(verdict)) if !is_unsafe(verdict) => {
             answer_text(alloc, k, pattern, verdict)
         }

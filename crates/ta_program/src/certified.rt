@@ -1,52 +1,33 @@
 //! The certificate of `verify`.
 #![tactic(auto)]
 
-ghost use Rattle.std.specs.Prelude.{◌≡◌, ◌≤◌, ◌↔◌, ℕ, true, ◌++◌, IsTrue, length, List};
-ghost use Rattle.ta_cert.specs.declared.line.Line.TheVariants.{End};
+ghost use Rattle.std.specs.Prelude.{◌≡◌, ◌≤◌, ◌↔◌, IfOk, IsTrue, length};
 ghost use Rattle.ta_shell.specs.Puts.{texts_joined};
 ghost use Rattle.ta_shell.specs.Reading.{ReadCause};
-ghost use Rattle.ta_program.specs.Inside.Certifying.{Certifies};
-ghost use Rattle.ta_program.specs.Inside.Drafts.{HasText, ended_line};
+ghost use Rattle.ta_program.specs.Inside.Certifying.{Certifies, SaysLong};
 
-use crate::draft::Draft;
 use crate::limits::CERTIFICATE;
-use std::alloc::Global;
-use ta_shelf::Text;
-use ta_shell::{Answer, Phrase, Put, Refusal};
+use std::alloc::{AllocError, Global};
+use ta_shelf::{List, Text};
+use ta_shell::{Answer, Content, Phrase, Put, Refusal};
 
-/// The answer that puts a certificate in the file of a name and writes a report, unless the
-/// certificate is too long.
+/// The answer that puts the pieces of a certificate in the file of a name and writes a report, unless
+/// the certificate is too long.
 pub(crate) fn answer_certified<'a>(
     alloc: Global,
     number: u8,
     report: Text,
     name: &'a str,
-    draft: Draft,
+    pieces: List<Text>,
 ) -> Result<Answer, Refusal<'a>>
-    requires wanted { draft.wanted ≡ true }
-    ensures certified { (begun : List ℕ) → HasText draft begun → Certifies number report name.now (begun ++ ended_line End) result }
+    ensures certified { Certifies number report name.now (texts_joined pieces) result }
     ensures cause { ReadCause result 0 0 }
 {
-    let Ok(pieces) = draft.end(alloc) else {
-        return Err(Refusal::Memory);
-    };
     if !are_within(pieces.as_slice(), CERTIFICATE.bytes) {
-        return Err(Refusal::Refused {
-            number: CERTIFICATE.number,
-            name,
-            why: Phrase::One {
-                head: "certificate longer than ",
-                number: CERTIFICATE.bytes as u128,
-                tail: " bytes",
-            },
-        });
+        return Err(long_certificate(name));
     }
-    let Ok(owned) = String::from_str(alloc, name) else {
+    let Ok(put) = put_of(alloc, name, Content::Pieces(pieces)) else {
         return Err(Refusal::Memory);
-    };
-    let put = Put {
-        name: Text::from_string(owned),
-        pieces,
     };
     match Answer::putting(alloc, number, report, put) {
         Ok(answer) => Ok(answer),
@@ -54,8 +35,34 @@ pub(crate) fn answer_certified<'a>(
     }
 }
 
+/// That a certificate is too long, told of the file that it is for.
+pub(crate) fn long_certificate<'a>(name: &'a str) -> Refusal<'a>
+    ensures { SaysLong name.now result }
+{
+    Refusal::Refused {
+        number: CERTIFICATE.number,
+        name,
+        why: Phrase::One {
+            head: "certificate longer than ",
+            number: CERTIFICATE.bytes as u128,
+            tail: " bytes",
+        },
+    }
+}
+
+/// The file of a name with this content, to be put on the shelf.
+pub(crate) fn put_of(alloc: Global, name: &str, content: Content) -> Result<Put, AllocError>
+    ensures { IfOk result (λ put. (put.name ≡ name.now) × (put.content ≡ content)) }
+{
+    let name = String::from_str(alloc, name)?;
+    Ok(Put {
+        name: Text::from_string(name),
+        content,
+    })
+}
+
 /// Whether texts have together at most so many bytes.
-fn are_within(texts: &[Text], limit: u64) -> bool
+pub(crate) fn are_within(texts: &[Text], limit: u64) -> bool
     ensures { IsTrue result ↔ length (texts_joined texts.now) ≤ limit }
 {
     let mut left = limit;

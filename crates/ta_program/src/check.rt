@@ -2,7 +2,7 @@
 #![tactic(auto)]
 
 ghost use Rattle.std.specs.Prelude.{ℕ, ◌≡◌, ◌≤◌, List, [], length, Option, map, option_map};
-ghost use Rattle.ta_check.specs.Checkers.{IsSound, StandsFor};
+ghost use Rattle.ta_check.specs.Checkers.{IsSound, StandsFor, subject_of};
 ghost use Rattle.ta_report.specs.Check.{check_text};
 ghost use Rattle.ta_shelf.specs.Calls.{Call, Grew};
 ghost use Rattle.ta_shelf.specs.Put.{Told};
@@ -102,24 +102,24 @@ fn judge_certificate<'a, S: Shelf>(
     ensures cause { ReadCause result (S.faults shelf.old) (S.faults shelf.new) }
     ensures kept { S.files shelf.new ≡ S.files shelf.old }
 {
-    match read_certificate(alloc, shelf, scoped, name) {
+    match read_certificate(shelf, Checker::new(alloc, scoped), name) {
         Ok(accepted) => answer_proved(alloc, scoped.file(), accepted.patterns.as_slice()),
         Err(refusal) => Err(refusal),
     }
 }
 
-/// Reads a certificate and judges it for a file. It is read in pieces, and up to its first fault.
-fn read_certificate<'a, S: Shelf>(
-    alloc: Global,
+/// Reads a certificate and judges it. It is read in pieces, and up to its first fault.
+pub(crate) fn read_certificate<'a, S: Shelf>(
     shelf: &mut S,
-    scoped: &ScopedFile,
+    checker: Checker<'_>,
     name: &'a str,
 ) -> Result<Accepted, Refusal<'a>>
-    ensures stage { Grew (Stage (certificate_kind scoped.now.file) (λ accepted. accepted.patterns) (S.files shelf.old) name.now result) (S.calls shelf.old) (S.calls shelf.new) }
+    requires { StandsFor checker [] }
+    ensures stage { Grew (Stage (certificate_kind (subject_of checker.entry)) (λ accepted. accepted.patterns) (S.files shelf.old) name.now result) (S.calls shelf.old) (S.calls shelf.new) }
     ensures cause { ReadCause result (S.faults shelf.old) (S.faults shelf.new) }
     ensures kept { S.files shelf.new ≡ S.files shelf.old }
 {
-    match judge_pieces(alloc, shelf, scoped, name) {
+    match judge_pieces(shelf, checker, name) {
         Ok(checker) => match checker.finish() {
             Ok(accepted) => Ok(accepted),
             Err(fault) => Err(refused(name, &fault)),
@@ -130,16 +130,16 @@ fn read_certificate<'a, S: Shelf>(
 
 /// Judges the pieces of a certificate to its end, which the judge is still to be told.
 fn judge_pieces<'a, 'b, S: Shelf>(
-    alloc: Global,
     shelf: &mut S,
-    scoped: &'b ScopedFile,
+    first: Checker<'b>,
     name: &'a str,
 ) -> Result<Checker<'b>, Refusal<'a>>
-    ensures judged { Grew (Judged scoped.now.file (S.files shelf.old) name.now result) (S.calls shelf.old) (S.calls shelf.new) }
+    requires { StandsFor first [] }
+    ensures judged { Grew (Judged (subject_of first.entry) (S.files shelf.old) name.now result) (S.calls shelf.old) (S.calls shelf.new) }
     ensures cause { ReadCause result (S.faults shelf.old) (S.faults shelf.new) }
     ensures kept { S.files shelf.new ≡ S.files shelf.old }
 {
-    let mut checker = Checker::new(alloc, scoped);
+    let mut checker = first;
     let mut buffer = [0u8; PIECE];
     let mut at = 0;
     'pieces: loop {
@@ -164,8 +164,8 @@ fn judge_piece<'a, S: Shelf>(
     requires room { length buffer.old ≡ 65536 }
     requires sound { IsSound checker.old }
     ensures turn { (first : List Call) (text : List ℕ) → JudgedTo (S.files shelf.old) name.now first (S.calls shelf.old) checker.old text → at ≡ length text
-        → Turn checker.old.scoped.now.file (S.files shelf.old) name.now at first (S.calls shelf.new) checker.new result }
-    ensures file { checker.new.scoped.now ≡ checker.old.scoped.now }
+        → Turn (subject_of checker.old) (S.files shelf.old) name.now at first (S.calls shelf.new) checker.new result }
+    ensures subject { subject_of checker.new ≡ subject_of checker.old }
     ensures cause { ReadCause result (S.faults shelf.old) (S.faults shelf.new) }
     ensures kept { S.files shelf.new ≡ S.files shelf.old }
 {
@@ -188,8 +188,8 @@ fn feed_piece<'a>(
 ) -> Result<Option<u64>, Refusal<'a>>
     requires within { at ≤ CERTIFICATE.bytes }
     requires sound { IsSound checker.old }
-    ensures fed { (text : List ℕ) → StandsFor checker.old text → at ≡ length text → PieceFed checker.old.scoped.now.file name.now text piece.now ended checker.new result }
-    ensures file { checker.new.scoped.now ≡ checker.old.scoped.now }
+    ensures fed { (text : List ℕ) → StandsFor checker.old text → at ≡ length text → PieceFed (subject_of checker.old) name.now text piece.now ended checker.new result }
+    ensures subject { subject_of checker.new ≡ subject_of checker.old }
     ensures cause { ReadCause result 0 0 }
 {
     let room = CERTIFICATE.bytes - at;

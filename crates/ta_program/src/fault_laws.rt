@@ -7,18 +7,21 @@ ghost use Rattle.ta_smt.specs.Admit.{Asked};
 ghost use Rattle.ta_program.specs.Admit.{values_kind};
 ghost use Rattle.ta_program.specs.Compress.{long_kind};
 ghost use Rattle.ta_program.specs.Faults.{FaultsAreNamed, OneFault};
+ghost use Rattle.ta_check.specs.Subjects.{Subject};
 ghost use Rattle.ta_program.specs.Kinds.{certificate_kind, file_kind, run_kind};
+ghost use Rattle.ta_program.specs.Search.{template_kind};
 
 use ta_meaning::meanings_are_unique;
 
-/// The bytes of FILE, of CERT, of RUN for `replay` and for `compress`, and of VALUES have one fault at
-/// most, which is the first.
+/// The bytes of FILE, of CERT, of RUN for `replay` and for `compress`, of VALUES and of a template have
+/// one fault at most, which is the first.
 pub fn faults_are_determined()
     ensures file { OneFault file_kind }
-    ensures certificate { (file : File) → OneFault (certificate_kind file) }
+    ensures certificate { (subject : Subject) → OneFault (certificate_kind subject) }
     ensures replayed { (file : File) → OneFault (run_kind file) }
     ensures compressed { (file : File) → OneFault (long_kind file) }
     ensures values { (file : File) (word : Asked) → OneFault (values_kind file word) }
+    ensures template { OneFault template_kind }
 {
     meanings_are_unique()
 }

@@ -7,16 +7,18 @@ mod budget;
 mod certified;
 mod check;
 mod compress;
-mod draft;
+mod ends;
 mod export;
 mod fault_laws;
 mod laws;
 mod limits;
-mod pieces;
 mod reading;
 mod replay;
 mod request;
+mod rest;
+mod rest_check;
 mod running;
+mod search;
 mod spelled;
 mod values;
 mod verify;
@@ -24,7 +26,5 @@ mod word_asked;
 mod words;
 
 pub use fault_laws::{faults_are_determined, faults_are_named};
-pub use laws::{
-    printed_runs_are_replayed, verdicts_are_determined, written_certificates_are_accepted,
-};
+pub use laws::{printed_runs_are_replayed, written_certificates_are_accepted};
 pub use running::run;

@@ -5,7 +5,7 @@ ghost use Rattle.std.specs.Prelude.{◌≡◌, map};
 ghost use Rattle.ta_shell.specs.Ends.{Quiet, SinkState, Tells, state};
 ghost use Rattle.ta_program.specs.Asked.{Runs, usage_line};
 ghost use Rattle.ta_program.specs.Headline.{StatusTells};
-ghost use Rattle.ta_program.specs.Program.{Admitting, Benches, CertificateWritten, CheckProves, Completes, ExactlySo, Exports, KeepsFiles, Opens, PrintedHolds, ReplayShows, RunShortens, Tellings, UsageExactly, VerifyReports};
+ghost use Rattle.ta_program.specs.Program.{Admitting, Benches, CertificateWritten, CheckProves, Completes, ExactlySo, Exports, KeepsFiles, Opens, PrintedHolds, ReplayShows, RestProves, RestsReport, RunShortens, Searches, Tellings, UsageExactly, VerifyReports};
 ghost use Rattle.ta_program.specs.Requests.{request_of};
 
 use crate::admit::Admit;
@@ -15,6 +15,9 @@ use crate::compress::Compress;
 use crate::export::Export;
 use crate::replay::Replay;
 use crate::request::Request;
+use crate::rest::Rest;
+use crate::rest_check::RestCheck;
+use crate::search::Search;
 use crate::verify::Verify;
 use std::alloc::Global;
 use std::thread::Threads;
@@ -23,16 +26,16 @@ use ta_shell::{perform, tell_line};
 
 /// The line where the words are no command's.
 const USAGE: &str =
-    "tav: usage: verify FILE [--nodes N] [--certificate OUT] [--json], check FILE CERT, replay FILE RUN, compress FILE RUN, bench K, export FILE PATTERN START WORD, admit FILE PATTERN START WORD VALUES\n";
+    "tav: usage: verify FILE [--nodes N] [--certificate OUT] [--json], check FILE CERT, replay FILE RUN, compress FILE RUN, bench K, rest FILE [--nodes N] [--certificate OUT], rest-check FILE CERT, search FILE [--nodes N] [--certificate OUT] [--filled OUT2], export FILE PATTERN START WORD, admit FILE PATTERN START WORD VALUES\n";
 
 /// Does what the words ask for, and answers the number that the process ends with: 0 where all is
-/// done, 1 where some pattern is unsafe, 2 where none is and some is unknown, 3 where FILE hinders, 4
+/// done, 1 where some pattern is unsafe or no values were found, 2 where that isn't known, 3 where FILE hinders, 4
 /// where CERT, RUN, VALUES or a word does, or the certificate is too long, 5 where the words are no command's, 6 where
 /// the shelf or the output failed, and 7 for want of memory.
 ///
 /// A file is read and judged whole before the next one is opened, and a text is made whole before
-/// it is written. A certificate is put on the shelf before the report is written, and nothing else is
-/// ever put there. A failing `err` changes nothing.
+/// it is written. A certificate and a filled text are put on the shelf before the report is written,
+/// and nothing else is ever put there. A failing `err` changes nothing.
 pub fn run<R: Threads + Sync, S: Shelf, O: Sink, E: Sink>(
     rt: &R,
     alloc: Global,
@@ -50,6 +53,9 @@ pub fn run<R: Threads + Sync, S: Shelf, O: Sink, E: Sink>(
     ensures bench { Benches result (map (λ w. w.now) words.now) (O.written out.old) (O.written out.new) }
     ensures export { Exports result (map (λ w. w.now) words.now) (S.files shelf.old) (S.calls shelf.old) (S.calls shelf.new) (O.written out.old) (O.written out.new) }
     ensures admit { Admitting result (map (λ w. w.now) words.now) (S.files shelf.old) (S.calls shelf.old) (S.calls shelf.new) (O.written out.old) (O.written out.new) }
+    ensures rests { RestsReport result (map (λ w. w.now) words.now) (S.files shelf.old) (S.files shelf.new) (S.calls shelf.old) (S.calls shelf.new) (O.written out.old) (O.written out.new) }
+    ensures rest_proves { RestProves result (map (λ w. w.now) words.now) (S.files shelf.old) (S.calls shelf.old) (S.calls shelf.new) (O.written out.old) (O.written out.new) }
+    ensures searches { Searches result (map (λ w. w.now) words.now) (S.files shelf.old) (S.files shelf.new) (S.calls shelf.old) (S.calls shelf.new) (O.written out.old) (O.written out.new) }
     ensures printed { PrintedHolds result (map (λ w. w.now) words.now) (S.files shelf.old) (S.calls shelf.old) (S.calls shelf.new) (O.written out.old) (O.written out.new) }
     ensures usage { UsageExactly result (request_of (map (λ w. w.now) words.now)) }
     ensures exact { ExactlySo result (request_of (map (λ w. w.now) words.now)) (S.files shelf.old) }
@@ -94,6 +100,9 @@ fn obey<R: Threads + Sync, S: Shelf, O: Sink, E: Sink>(
         "compress" => attempt::<Compress<'_>, R, S, O, E>(rt, alloc, words, shelf, out, err),
         "export" => attempt::<Export<'_>, R, S, O, E>(rt, alloc, words, shelf, out, err),
         "replay" => attempt::<Replay<'_>, R, S, O, E>(rt, alloc, words, shelf, out, err),
+        "rest" => attempt::<Rest<'_>, R, S, O, E>(rt, alloc, words, shelf, out, err),
+        "rest-check" => attempt::<RestCheck<'_>, R, S, O, E>(rt, alloc, words, shelf, out, err),
+        "search" => attempt::<Search<'_>, R, S, O, E>(rt, alloc, words, shelf, out, err),
         "verify" => attempt::<Verify<'_>, R, S, O, E>(rt, alloc, words, shelf, out, err),
         _ => refuse(err),
     }

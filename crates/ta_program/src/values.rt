@@ -5,7 +5,7 @@ ghost use Rattle.std.specs.Prelude.{◌≡◌, ◌≤◌, map, option_map, IfSom
 ghost use Rattle.std.specs.Char.{is_ascii_digit};
 ghost use Rattle.std.specs.List.{list_all};
 ghost use Rattle.ta_program.specs.Taken.{names_seen};
-ghost use Rattle.ta_program.specs.Values.{budget_of, name_of, out_of, two_names};
+ghost use Rattle.ta_program.specs.Values.{are_same, budget_of, filled_of, name_of, out_of, two_names};
 
 use crate::words::take_words;
 
@@ -47,6 +47,32 @@ pub(crate) fn out_of<'a>(file: &str, out: Option<&'a str>) -> Option<Option<&'a 
         None => Some(None),
         Some(name) if !name.is_empty() && name != file => Some(Some(name)),
         Some(_) => None,
+    }
+}
+
+/// The name of the file OUT2, where it is given: it isn't empty, and differs from those of FILE and of
+/// OUT.
+pub(crate) fn filled_of<'a>(
+    file: &str,
+    out: Option<&str>,
+    filled: Option<&'a str>,
+) -> Option<Option<&'a str>>
+    ensures { option_map (λ o. option_map (λ w. w.now) o) result ≡ filled_of file.now (option_map (λ w. w.now) out.entry) (option_map (λ w. w.now) filled.entry) }
+{
+    if are_same(out, filled) {
+        None
+    } else {
+        out_of(file, filled)
+    }
+}
+
+/// Whether two names are both given, and are the same.
+fn are_same(name: Option<&str>, other: Option<&str>) -> bool
+    ensures { result ≡ are_same (option_map (λ w. w.now) name.entry) (option_map (λ w. w.now) other.entry) }
+{
+    match (name, other) {
+        (Some(name), Some(other)) => name == other,
+        _ => false,
     }
 }
 

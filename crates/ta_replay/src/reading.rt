@@ -1,7 +1,7 @@
 //! Reading a run from its text.
 #![tactic(auto)]
 
-ghost use Rattle.std.specs.Prelude.{◌≡◌, ◌+◌, ◌<◌, ◌≤◌, ◌^◌, ◌++◌, ◌∷◌, [], length, codes, slice_get, ℕ, ◌↔◌, ◌⊎◌, IsTrue, IfOk, IfErr, IsErrAnd, MatchOption};
+ghost use Rattle.std.specs.Prelude.{◌≡◌, ◌≢◌, ◌+◌, ◌<◌, ◌≤◌, ◌^◌, ◌++◌, ◌∷◌, [], length, codes, slice_get, ℕ, ◌↔◌, ◌⊎◌, IsTrue, IfOk, IfErr, IsErrAnd, MatchOption};
 ghost use Rattle.ta_replay.specs.RunText.{IsRunText, name_at, parameter_slots, start_slots};
 ghost use Rattle.ta_replay.specs.TextFaults.{IsMalformed, IsMisnamed, TextFault};
 ghost use Rattle.ta_replay.specs.Inside.Reading.{HeadRead, ValueRead, ValueRefused, ValuesRead, ValuesFault, IsStatement, StatementRefused, StepRead, StepRefused, StepsRead, StepsFault};
@@ -48,6 +48,7 @@ pub fn read_run(alloc: Global, file: &File, bytes: &[u8]) -> Result<Run, RunFaul
 fn read_head<'a>(file: &File, bytes: &'a [u8]) -> Result<(u32, &'a [u8]), RunFault>
     ensures read { IfOk result (λ x. HeadRead file.now bytes.now x.0 x.1.now) }
     ensures fault { IfErr result (λ e. TextFault file.now bytes.now e) }
+    ensures no_memory { IfErr result (λ e. e ≢ RunFault.Memory) }
 {
     let Some((line, behind)) = split_at_byte(bytes, b'\n') else {
         return Err(RunFault::Line(1));

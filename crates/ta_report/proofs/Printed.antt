@@ -25,10 +25,10 @@ use Rattle.ta_report.specs.declared.verdict.ReportSample.{ReportSample}
 use Rattle.ta_report.specs.declared.verdict.ReportSample.TheVariants as sample
 use Rattle.ta_report.specs.declared.verdict.Verdict.{Verdict}
 use Rattle.ta_report.specs.declared.verdict.Verdict.TheVariants.{Safe, Unsafe, Spent, Overflow}
-use Rattle.ta_report.specs.Check.{is_proved, proof_lines, proof_word}
-use Rattle.ta_report.specs.Printed.{LineAt, PrintedProved, PrintedSafe, PrintedUnsafe, told_of}
+use Rattle.ta_report.specs.Check.{is_proved, proofs_text, proofs_told, word_told}
+use Rattle.ta_report.specs.Printed.{LineAt, PrintedProved, PrintedRestProved, PrintedRestSafe, PrintedRestUnsafe, PrintedSafe, PrintedUnsafe, told_of}
 use Rattle.ta_report.specs.PrintedRuns.{Begins, IsPlain, PrintedRuns, RunsArePrinted}
-use Rattle.ta_report.specs.Report.{PlaceFits, SampleFits, VerdictFits, overflow_text, place_text, report_text, run_part, sample_line, sample_text, spent_text, values_text, verdict_lines, verdict_text}
+use Rattle.ta_report.specs.Report.{PlaceFits, SampleFits, VerdictFits, overflow_text, place_text, rest_word, run_part, sample_line, sample_text, spent_text, told_lines, told_text, values_text, verdict_text, word_before}
 use Rattle.ta_report.proofs.Distinct.{apart, apart_third, sample_flat}
 
 -- a line feed behind which something stands is that of the first line, or stands behind that one
@@ -296,8 +296,18 @@ run_more file (Unsafe nodes run) = run_lines file run
 run_more file (Spent nodes) = []
 run_more file (Overflow node kind) = []
 
-abbrev said_of : File → Verdict → Said
-said_of file v = record { word = verdict_text v; more = run_more file v }
+abbrev said_of : Bool → File → Verdict → Said
+said_of rest file v = record { word = word_before rest v ++ verdict_text v; more = run_more file v }
+
+before_clear : (rest : Bool) (v : Verdict) → Avoids 10 (word_before rest v)
+before_clear false v = tt
+before_clear true (Safe nodes leaves) = clear (codes "rest ") refl
+before_clear true (Unsafe nodes run) = clear (codes "rest ") refl
+before_clear true (Spent nodes) = tt
+before_clear true (Overflow node kind) = tt
+
+said_clear : (rest : Bool) (file : File) (v : Verdict) → VerdictFits file v → Avoids 10 (word_before rest v ++ verdict_text v)
+said_clear rest file v fits = avoids-append 10 (word_before rest v) (verdict_text v) (before_clear rest v) (verdict_clear file v fits)
 
 more_plain : (file : File) (v : Verdict) → VerdictFits file v → Each IsPlain (run_more file v)
 more_plain file (Safe nodes leaves) fits = tt
@@ -311,26 +321,28 @@ more_text file (Unsafe nodes run) = refl
 more_text file (Spent nodes) = refl
 more_text file (Overflow node kind) = refl
 
-verdicts_clear : (file : File) (vs : List Verdict) → Each (VerdictFits file) vs → Each IsSaid (map (said_of file) vs)
-verdicts_clear file [] fits = tt
-verdicts_clear file (v ∷ vs) fits = ((verdict_clear file v fits.0, more_plain file v fits.0), verdicts_clear file vs fits.1)
+verdicts_clear : (rest : Bool) (file : File) (vs : List Verdict) → Each (VerdictFits file) vs → Each IsSaid (map (said_of rest file) vs)
+verdicts_clear rest file [] fits = tt
+verdicts_clear rest file (v ∷ vs) fits = ((said_clear rest file v fits.0, more_plain file v fits.0), verdicts_clear rest file vs fits.1)
 
-verdict_lines_are : (file : File) (ps : List Pattern) (vs : List Verdict) → verdict_lines file ps vs ≡ lines_of ps (map (said_of file) vs)
-verdict_lines_are file [] vs = refl
-verdict_lines_are file (p ∷ ps) [] = refl
-verdict_lines_are file (p ∷ ps) (v ∷ vs) =
-    line_of_word p.name (verdict_text v) (run_part file v ++ verdict_lines file ps vs) ∙ ap (λ part. told_of p.name (verdict_text v) ++ (10 ∷ (part ++ verdict_lines file ps vs))) (more_text file v)
-    ∙ ap (λ rest. told_of p.name (verdict_text v) ++ (10 ∷ (lines_text (run_more file v) ++ rest))) (verdict_lines_are file ps vs)
+told_lines_are : (rest : Bool) (file : File) (ps : List Pattern) (vs : List Verdict) → told_lines rest file ps vs ≡ lines_of ps (map (said_of rest file) vs)
+told_lines_are rest file [] vs = refl
+told_lines_are rest file (p ∷ ps) [] = refl
+told_lines_are rest file (p ∷ ps) (v ∷ vs) =
+    let word = word_before rest v ++ verdict_text v in
+    ap (λ said. (codes "pattern " ++ (p.name ++ (codes ": " ++ said))) ++ (run_part file v ++ told_lines rest file ps vs)) (sym (append_assoc (word_before rest v) (verdict_text v) (codes "\n")))
+    ∙ line_of_word p.name word (run_part file v ++ told_lines rest file ps vs) ∙ ap (λ part. told_of p.name word ++ (10 ∷ (part ++ told_lines rest file ps vs))) (more_text file v)
+    ∙ ap (λ behind. told_of p.name word ++ (10 ∷ (lines_text (run_more file v) ++ behind))) (told_lines_are rest file ps vs)
 
-said_get : (file : File) (vs : List Verdict) (k : ℕ) (s : Said) → slice_get (map (said_of file) vs) k ≡ Some s → (v : Verdict) × (slice_get vs k ≡ Some v) × (said_of file v ≡ s)
-said_get file [] k s at = cc
-said_get file (v ∷ vs) zero s at = (v, refl, cc)
-said_get file (v ∷ vs) (suc k) s at = said_get file vs k s at
+said_get : (rest : Bool) (file : File) (vs : List Verdict) (k : ℕ) (s : Said) → slice_get (map (said_of rest file) vs) k ≡ Some s → (v : Verdict) × (slice_get vs k ≡ Some v) × (said_of rest file v ≡ s)
+said_get rest file [] k s at = cc
+said_get rest file (v ∷ vs) zero s at = (v, refl, cc)
+said_get rest file (v ∷ vs) (suc k) s at = said_get rest file vs k s at
 
-verdict_get : (file : File) (vs : List Verdict) (k : ℕ) (v : Verdict) → slice_get vs k ≡ Some v → slice_get (map (said_of file) vs) k ≡ Some (said_of file v)
-verdict_get file [] k v at = cc
-verdict_get file (w ∷ vs) zero v at = let same : w ≡ v = cc in ap (λ (o : Verdict). Some (said_of file o)) same
-verdict_get file (w ∷ vs) (suc k) v at = verdict_get file vs k v at
+verdict_get : (rest : Bool) (file : File) (vs : List Verdict) (k : ℕ) (v : Verdict) → slice_get vs k ≡ Some v → slice_get (map (said_of rest file) vs) k ≡ Some (said_of rest file v)
+verdict_get rest file [] k v at = cc
+verdict_get rest file (w ∷ vs) zero v at = let same : w ≡ v = cc in ap (λ (o : Verdict). Some (said_of rest file o)) same
+verdict_get rest file (w ∷ vs) (suc k) v at = verdict_get rest file vs k v at
 
 safe_word : (v : Verdict) (rest behind : List ℕ) → verdict_text v ++ (10 ∷ rest) ≡ codes "safe, " ++ behind → (n : ℕ) × (l : ℕ) × (v ≡ Safe n l)
 safe_word (Safe n l) rest behind e = (n, l, refl)
@@ -344,6 +356,18 @@ unsafe_word (Unsafe n run) rest behind e = (n, run, refl)
 unsafe_word (Spent n) rest behind e = apart_third 117 110 107 115 _ _ (inl (lit< tt)) e
 unsafe_word (Overflow n kind) rest behind e = apart_third 117 110 107 115 _ _ (inl (lit< tt)) e
 
+rest_safe_word : (v : Verdict) (rest behind : List ℕ) → (rest_word v ++ verdict_text v) ++ (10 ∷ rest) ≡ codes "rest safe, " ++ behind → (n : ℕ) × (l : ℕ) × (v ≡ Safe n l)
+rest_safe_word (Safe n l) rest behind e = (n, l, refl)
+rest_safe_word (Unsafe n run) rest behind e = apart 117 115 _ _ (inr (lit< tt)) (append_cancel_left (codes "rest ") _ _ e)
+rest_safe_word (Spent n) rest behind e = apart 117 114 _ _ (inr (lit< tt)) e
+rest_safe_word (Overflow n kind) rest behind e = apart 117 114 _ _ (inr (lit< tt)) e
+
+rest_unsafe_word : (v : Verdict) (rest behind : List ℕ) → (rest_word v ++ verdict_text v) ++ (10 ∷ rest) ≡ codes "rest unsafe, " ++ behind → (n : ℕ) × (run : RunOf) × (v ≡ Unsafe n run)
+rest_unsafe_word (Safe n l) rest behind e = apart 115 117 _ _ (inl (lit< tt)) (append_cancel_left (codes "rest ") _ _ e)
+rest_unsafe_word (Unsafe n run) rest behind e = (n, run, refl)
+rest_unsafe_word (Spent n) rest behind e = apart 117 114 _ _ (inr (lit< tt)) e
+rest_unsafe_word (Overflow n kind) rest behind e = apart 117 114 _ _ (inr (lit< tt)) e
+
 within_name : (places locations : ℕ) (p : Pattern) → PatternWithin places locations p → Name p.name
 within_name places locations p is = is.name
 
@@ -353,56 +377,68 @@ each_at P (y ∷ xs) zero x are at = let same : y ≡ x = cc in subst P same are
 each_at P (y ∷ xs) (suc k) x are at = each_at P xs k x are.1 at
 
 -- the first lines of a report, and those behind them
-report_flat : (file : File) (x : ReportSample) (vs : List Verdict) → report_text file x vs ≡ (codes "automaton " ++ file.automaton.name) ++ (10 ∷ (first_plain file x ++ (10 ∷ lines_of file.patterns (map (said_of file) vs))))
-report_flat file x vs =
-    sym (append_assoc (codes "automaton ") file.automaton.name (10 ∷ (sample_line file x ++ verdict_lines file file.patterns vs)))
-    ∙ ap (λ rest. (codes "automaton " ++ file.automaton.name) ++ (10 ∷ rest)) (sample_flat file x (verdict_lines file file.patterns vs) ∙ ap (λ lines. first_plain file x ++ (10 ∷ lines)) (verdict_lines_are file file.patterns vs))
+report_flat : (rest : Bool) (file : File) (x : ReportSample) (vs : List Verdict) → told_text rest file x vs ≡ (codes "automaton " ++ file.automaton.name) ++ (10 ∷ (first_plain file x ++ (10 ∷ lines_of file.patterns (map (said_of rest file) vs))))
+report_flat rest file x vs =
+    sym (append_assoc (codes "automaton ") file.automaton.name (10 ∷ (sample_line file x ++ told_lines rest file file.patterns vs)))
+    ∙ ap (λ behind. (codes "automaton " ++ file.automaton.name) ++ (10 ∷ behind)) (sample_flat file x (told_lines rest file file.patterns vs) ∙ ap (λ lines. first_plain file x ++ (10 ∷ lines)) (told_lines_are rest file file.patterns vs))
 
 -- the verdict that a line of a report tells, and what stands behind it
-pub record Told (file : File) (vs : List Verdict) (k : ℕ) (front behind : List ℕ) : Type 0 where
+pub record Told (rest : Bool) (file : File) (vs : List Verdict) (k : ℕ) (front behind : List ℕ) : Type 0 where
   pub verdict : Verdict
   pub at : slice_get vs k ≡ Some verdict
-  pub rest : List ℕ
-  pub next : IsNext rest
-  pub same : verdict_text verdict ++ (10 ∷ (lines_text (run_more file verdict) ++ rest)) ≡ front ++ behind
+  pub later : List ℕ
+  pub next : IsNext later
+  pub same : (word_before rest verdict ++ verdict_text verdict) ++ (10 ∷ (lines_text (run_more file verdict) ++ later)) ≡ front ++ behind
 
-told_at : (file : File) (x : ReportSample) (vs : List Verdict) (k : ℕ) (p : Pattern) (front behind : List ℕ) → slice_get file.patterns k ≡ Some p → SampleFits file x → Each (VerdictFits file) vs → LineAt (told_of p.name front) behind (report_text file x vs) → Told file vs k front behind
-told_at file x vs k p front behind at fit fits has =
-    let rest = lines_of file.patterns (map (said_of file) vs) in
-    let later = behind_first file front behind (report_text file x vs) (first_plain file x ++ (10 ∷ rest)) file.automaton.shape.name_legal (report_flat file x vs) p.name has in
+told_at : (rest : Bool) (file : File) (x : ReportSample) (vs : List Verdict) (k : ℕ) (p : Pattern) (front behind : List ℕ) → slice_get file.patterns k ≡ Some p → SampleFits file x → Each (VerdictFits file) vs → LineAt (told_of p.name front) behind (told_text rest file x vs) → Told rest file vs k front behind
+told_at rest file x vs k p front behind at fit fits has =
+    let lines_behind = lines_of file.patterns (map (said_of rest file) vs) in
+    let later = behind_first file front behind (told_text rest file x vs) (first_plain file x ++ (10 ∷ lines_behind)) file.automaton.shape.name_legal (report_flat rest file x vs) p.name has in
     let more : List (List ℕ) = first_plain file x ∷ [] in
-    let lines = past_plain p.name front behind rest more (sample_plain file x fit, tt) (subst (LineAt (told_of p.name front) behind) (sym (append_assoc (first_plain file x) (10 ∷ []) rest)) later) in
+    let lines = past_plain p.name front behind lines_behind more (sample_plain file x fit, tt) (subst (LineAt (told_of p.name front) behind) (sym (append_assoc (first_plain file x) (10 ∷ []) lines_behind)) later) in
     let name = within_name _ _ p (each_at _ file.patterns k p file.shape.within at) in
-    let found = said_at file.patterns (map (said_of file) vs) k p front behind (within_name _ _) file.shape.within file.shape.distinct (verdicts_clear file vs fits) name at lines in
-    let verdict = said_get file vs k found.said found.at in
+    let found = said_at file.patterns (map (said_of rest file) vs) k p front behind (within_name _ _) file.shape.within file.shape.distinct (verdicts_clear rest file vs fits) name at lines in
+    let verdict = said_get rest file vs k found.said found.at in
     record {
       verdict = verdict.0;
       at = verdict.1;
-      rest = found.rest;
+      later = found.rest;
       next = found.next;
       same = ap (λ (s : Said). s.word ++ (10 ∷ (lines_text s.more ++ found.rest))) verdict.2 ∙ found.same;
     }
 
 pub printed_safe : PrintedSafe
 printed_safe file x vs k p at fit fits has =
-    let told = told_at file x vs k p (codes "safe, ") has.0 at fit fits has.1 in
-    let word = safe_word told.verdict (lines_text (run_more file told.verdict) ++ told.rest) has.0 told.same in
+    let told = told_at false file x vs k p (codes "safe, ") has.0 at fit fits has.1 in
+    let word = safe_word told.verdict (lines_text (run_more file told.verdict) ++ told.later) has.0 told.same in
     (word.0, word.1, told.at ∙ ap Some word.2)
 
 pub printed_unsafe : PrintedUnsafe
 printed_unsafe file x vs k p at fit fits has =
-    let told = told_at file x vs k p (codes "unsafe, ") has.0 at fit fits has.1 in
-    let word = unsafe_word told.verdict (lines_text (run_more file told.verdict) ++ told.rest) has.0 told.same in
+    let told = told_at false file x vs k p (codes "unsafe, ") has.0 at fit fits has.1 in
+    let word = unsafe_word told.verdict (lines_text (run_more file told.verdict) ++ told.later) has.0 told.same in
+    (word.0, word.1, told.at ∙ ap Some word.2)
+
+pub printed_rest_safe : PrintedRestSafe
+printed_rest_safe file x vs k p at fit fits has =
+    let told = told_at true file x vs k p (codes "rest safe, ") has.0 at fit fits has.1 in
+    let word = rest_safe_word told.verdict (lines_text (run_more file told.verdict) ++ told.later) has.0 told.same in
+    (word.0, word.1, told.at ∙ ap Some word.2)
+
+pub printed_rest_unsafe : PrintedRestUnsafe
+printed_rest_unsafe file x vs k p at fit fits has =
+    let told = told_at true file x vs k p (codes "rest unsafe, ") has.0 at fit fits has.1 in
+    let word = rest_unsafe_word told.verdict (lines_text (run_more file told.verdict) ++ told.later) has.0 told.same in
     (word.0, word.1, told.at ∙ ap Some word.2)
 
 -- the text of a run stands behind the line of its pattern
 pub runs_printed : RunsArePrinted
 runs_printed file x vs k p at fit fits nodes run is =
     let fit_of : VerdictFits file (Unsafe nodes run) = each_at (VerdictFits file) vs k (Unsafe nodes run) fits is in
-    let found = stands_at file.patterns (map (said_of file) vs) k p (said_of file (Unsafe nodes run)) at (verdict_get file vs k (Unsafe nodes run) is) in
+    let found = stands_at file.patterns (map (said_of false file) vs) k p (said_of false file (Unsafe nodes run)) at (verdict_get false file vs k (Unsafe nodes run) is) in
     let front = told_of p.name (verdict_text (Unsafe nodes run)) in
     let behind = 10 ∷ (run_text file run ++ found.rest) in
-    let rest = lines_of file.patterns (map (said_of file) vs) in
+    let rest = lines_of file.patterns (map (said_of false file) vs) in
     record {
       lines = run_lines file run;
       bytes_are = refl;
@@ -411,7 +447,7 @@ runs_printed file x vs k p at fit fits nodes run is =
       no_feed = avoids-append 10 (decimal nodes) (codes " nodes") (number_clear nodes fit_of.0) (clear (codes " nodes") refl);
       behind = found.rest;
       ends = found.next;
-      stands = subst (LineAt front behind) (sym (report_flat file x vs)) (later_line front behind (codes "automaton " ++ file.automaton.name) (first_plain file x ++ (10 ∷ rest)) (later_line front behind (first_plain file x) rest found.stands));
+      stands = subst (LineAt front behind) (sym (report_flat false file x vs)) (later_line front behind (codes "automaton " ++ file.automaton.name) (first_plain file x ++ (10 ∷ rest)) (later_line front behind (first_plain file x) rest found.stands));
     }
 
 -- plain lines up to the next pattern, or to the end, are determined
@@ -438,47 +474,70 @@ run_of_word file v rest words bytes behind fits free lines are plain next ends e
 
 pub printed_runs : PrintedRuns
 printed_runs file x vs k p at fit_sample fits bytes part =
-    let told = told_at file x vs k p (codes "unsafe, " ++ part.words) (10 ∷ (bytes ++ part.behind)) at fit_sample fits part.stands in
+    let told = told_at false file x vs k p (codes "unsafe, " ++ part.words) (10 ∷ (bytes ++ part.behind)) at fit_sample fits part.stands in
     let fit : VerdictFits file told.verdict = each_at (VerdictFits file) vs k told.verdict fits told.at in
-    let is = run_of_word file told.verdict told.rest part.words bytes part.behind fit part.no_feed part.lines part.bytes_are part.plain told.next part.ends told.same in
+    let is = run_of_word file told.verdict told.later part.words bytes part.behind fit part.no_feed part.lines part.bytes_are part.plain told.next part.ends told.same in
     (is.0, is.1, told.at ∙ ap Some is.2, is.3)
 
--- the lines of `check`
-abbrev words_from : List ℕ → ℕ → List Pattern → List Said
-words_from numbers number [] = []
-words_from numbers number (p ∷ ps) = record { word = proof_word numbers number; more = [] } ∷ words_from numbers (number + 1) ps
+-- the lines of `check`, and of `rest-check`
+abbrev words_from : Bool → List ℕ → ℕ → List Pattern → List Said
+words_from rest numbers number [] = []
+words_from rest numbers number (p ∷ ps) = record { word = word_told rest numbers number; more = [] } ∷ words_from rest numbers (number + 1) ps
 
-word_clear : (b : Bool) → Avoids 10 (if b then codes "proved" else codes "not proved")
-word_clear true = clear (codes "proved") refl
-word_clear false = clear (codes "not proved") refl
+either_clear : (b : Bool) (xs ys : List ℕ) → Avoids 10 xs → Avoids 10 ys → Avoids 10 (if b then xs else ys)
+either_clear true xs ys first second = first
+either_clear false xs ys first second = second
 
-words_clear : (numbers : List ℕ) (number : ℕ) (ps : List Pattern) → Each IsSaid (words_from numbers number ps)
-words_clear numbers number [] = tt
-words_clear numbers number (p ∷ ps) = ((word_clear (is_proved numbers number), tt), words_clear numbers (number + 1) ps)
+word_clear : (rest : Bool) (numbers : List ℕ) (number : ℕ) → Avoids 10 (word_told rest numbers number)
+word_clear false numbers number = either_clear (is_proved numbers number) (codes "proved") (codes "not proved") (clear (codes "proved") refl) (clear (codes "not proved") refl)
+word_clear true numbers number = either_clear (is_proved numbers number) (codes "rest proved") (codes "not rest proved") (clear (codes "rest proved") refl) (clear (codes "not rest proved") refl)
 
-proof_lines_are : (numbers : List ℕ) (number : ℕ) (ps : List Pattern) → proof_lines numbers number ps ≡ lines_of ps (words_from numbers number ps)
-proof_lines_are numbers number [] = refl
-proof_lines_are numbers number (p ∷ ps) =
-    line_of_word p.name (proof_word numbers number) (proof_lines numbers (number + 1) ps) ∙ ap (λ rest. told_of p.name (proof_word numbers number) ++ (10 ∷ rest)) (proof_lines_are numbers (number + 1) ps)
+words_clear : (rest : Bool) (numbers : List ℕ) (number : ℕ) (ps : List Pattern) → Each IsSaid (words_from rest numbers number ps)
+words_clear rest numbers number [] = tt
+words_clear rest numbers number (p ∷ ps) = ((word_clear rest numbers number, tt), words_clear rest numbers (number + 1) ps)
 
-word_at : (numbers : List ℕ) (number : ℕ) (ps : List Pattern) (k : ℕ) (w : Said) → slice_get (words_from numbers number ps) k ≡ Some w → proof_word numbers (number + k) ≡ w.word
-word_at numbers number [] k w at = cc
-word_at numbers number (p ∷ ps) zero w at = let same : record { word = proof_word numbers number; more = [] } ≡ w = cc in let is : proof_word numbers number ≡ w.word = ap (λ (s : Said). s.word) same in let here : number + 0 ≡ number = omega arith in ap (proof_word numbers) here ∙ is
-word_at numbers number (p ∷ ps) (suc k) w at = let there : number + suc k ≡ (number + 1) + k = omega arith in ap (proof_word numbers) there ∙ word_at numbers (number + 1) ps k w at
+proofs_told_are : (rest : Bool) (numbers : List ℕ) (number : ℕ) (ps : List Pattern) → proofs_told rest numbers number ps ≡ lines_of ps (words_from rest numbers number ps)
+proofs_told_are rest numbers number [] = refl
+proofs_told_are rest numbers number (p ∷ ps) =
+    line_of_word p.name (word_told rest numbers number) (proofs_told rest numbers (number + 1) ps) ∙ ap (λ behind. told_of p.name (word_told rest numbers number) ++ (10 ∷ behind)) (proofs_told_are rest numbers (number + 1) ps)
+
+word_at : (rest : Bool) (numbers : List ℕ) (number : ℕ) (ps : List Pattern) (k : ℕ) (w : Said) → slice_get (words_from rest numbers number ps) k ≡ Some w → word_told rest numbers (number + k) ≡ w.word
+word_at rest numbers number [] k w at = cc
+word_at rest numbers number (p ∷ ps) zero w at = let same : record { word = word_told rest numbers number; more = [] } ≡ w = cc in let is : word_told rest numbers number ≡ w.word = ap (λ (s : Said). s.word) same in let here : number + 0 ≡ number = omega arith in ap (word_told rest numbers) here ∙ is
+word_at rest numbers number (p ∷ ps) (suc k) w at = let there : number + suc k ≡ (number + 1) + k = omega arith in ap (word_told rest numbers) there ∙ word_at rest numbers (number + 1) ps k w at
+
+-- what a line tells of the pattern of a number
+record ProofTold (rest : Bool) (numbers : List ℕ) (k : ℕ) (front behind : List ℕ) : Type 0 where
+  later : List ℕ
+  same : word_told rest numbers k ++ (10 ∷ later) ≡ front ++ behind
+
+proof_told : (rest : Bool) (file : File) (numbers : List ℕ) (k : ℕ) (p : Pattern) (front behind : List ℕ) → slice_get file.patterns k ≡ Some p → LineAt (told_of p.name front) behind (proofs_text rest file numbers) → ProofTold rest numbers k front behind
+proof_told rest file numbers k p front behind at has =
+    let told = proofs_told rest numbers 0 file.patterns in
+    let flat : (codes "automaton " ++ (file.automaton.name ++ codes "\n")) ++ told ≡ (codes "automaton " ++ file.automaton.name) ++ (10 ∷ told) =
+    ap (λ t. codes "automaton " ++ t) (append_assoc file.automaton.name (codes "\n") told) ∙ sym (append_assoc (codes "automaton ") file.automaton.name (10 ∷ told)) in
+    let lines = subst (LineAt (told_of p.name front) behind) (proofs_told_are rest numbers 0 file.patterns) (behind_first file front behind _ told file.automaton.shape.name_legal flat p.name has) in
+    let name = within_name _ _ p (each_at _ file.patterns k p file.shape.within at) in
+    let found = said_at file.patterns (words_from rest numbers 0 file.patterns) k p front behind (within_name _ _) file.shape.within file.shape.distinct (words_clear rest numbers 0 file.patterns) name at lines in
+    let word = word_at rest numbers 0 file.patterns k found.said found.at in
+    let later = lines_text found.said.more ++ found.rest in
+    let number : 0 + k ≡ k = omega arith in
+    record { later = later; same = ap (λ (n : ℕ). word_told rest numbers n ++ (10 ∷ later)) (sym number) ∙ ap (λ w. w ++ (10 ∷ later)) word ∙ found.same }
 
 proved_word : (b : Bool) (rest behind : List ℕ) → (if b then codes "proved" else codes "not proved") ++ (10 ∷ rest) ≡ codes "proved" ++ behind → b ≡ true
 proved_word true rest behind e = refl
 proved_word false rest behind e = apart 110 112 _ _ (inl (lit< tt)) e
 
+rest_proved_word : (b : Bool) (rest behind : List ℕ) → (if b then codes "rest proved" else codes "not rest proved") ++ (10 ∷ rest) ≡ codes "rest proved" ++ behind → b ≡ true
+rest_proved_word true rest behind e = refl
+rest_proved_word false rest behind e = apart 110 114 _ _ (inl (lit< tt)) e
+
 pub printed_proved : PrintedProved
 printed_proved file numbers k p at has =
-    let flat : (codes "automaton " ++ (file.automaton.name ++ codes "\n")) ++ proof_lines numbers 0 file.patterns ≡ (codes "automaton " ++ file.automaton.name) ++ (10 ∷ proof_lines numbers 0 file.patterns) =
-    ap (λ t. codes "automaton " ++ t) (append_assoc file.automaton.name (codes "\n") (proof_lines numbers 0 file.patterns)) ∙ sym (append_assoc (codes "automaton ") file.automaton.name (10 ∷ proof_lines numbers 0 file.patterns)) in
-    let lines = subst (LineAt (told_of p.name (codes "proved")) has.0) (proof_lines_are numbers 0 file.patterns) (behind_first file (codes "proved") has.0 _ (proof_lines numbers 0 file.patterns) file.automaton.shape.name_legal flat p.name has.1) in
-    let name = within_name _ _ p (each_at _ file.patterns k p file.shape.within at) in
-    let found = said_at file.patterns (words_from numbers 0 file.patterns) k p (codes "proved") has.0 (within_name _ _) file.shape.within file.shape.distinct (words_clear numbers 0 file.patterns) name at lines in
-    let word = word_at numbers 0 file.patterns k found.said found.at in
-    let behind = lines_text found.said.more ++ found.rest in
-    let proved : is_proved numbers (0 + k) ≡ true = proved_word (is_proved numbers (0 + k)) behind has.0 (ap (λ w. w ++ (10 ∷ behind)) word ∙ found.same) in
-    let number : 0 + k ≡ k = omega arith in
-    subst (λ n. is_proved numbers n ≡ true) number proved
+    let told = proof_told false file numbers k p (codes "proved") has.0 at has.1 in
+    proved_word (is_proved numbers k) told.later has.0 told.same
+
+pub printed_rest_proved : PrintedRestProved
+printed_rest_proved file numbers k p at has =
+    let told = proof_told true file numbers k p (codes "rest proved") has.0 at has.1 in
+    rest_proved_word (is_proved numbers k) told.later has.0 told.same

@@ -2,10 +2,10 @@
 use Rattle.std.specs.Prelude.{ℕ, ◌≡◌, ◌⊎◌, List, ◌∷◌, ◌++◌, codes, slice_get, Some, IsTrue}
 use Rattle.ta_automaton.specs.declared.file.File.{File}
 use Rattle.ta_automaton.specs.declared.pattern.Pattern.{Pattern}
-use Rattle.ta_report.specs.Check.{check_text, is_proved}
+use Rattle.ta_report.specs.Check.{check_text, is_proved, rest_check_text}
 use Rattle.ta_automaton.specs.Lists.{Each}
 use Rattle.ta_replay.specs.declared.run.Run.{Run}
-use Rattle.ta_report.specs.Report.{SampleFits, VerdictFits, report_text}
+use Rattle.ta_report.specs.Report.{SampleFits, VerdictFits, report_text, rest_text}
 use Rattle.ta_report.specs.declared.verdict.ReportSample.{ReportSample}
 use Rattle.ta_report.specs.declared.verdict.Verdict.{Verdict}
 use Rattle.ta_report.specs.declared.verdict.Verdict.TheVariants.{Safe, Unsafe}
@@ -43,4 +43,27 @@ abbrev pub PrintedProved : Type 0
 PrintedProved =
     (file : File) (numbers : List ℕ) (number : ℕ) (pattern : Pattern) → slice_get file.patterns number ≡ Some pattern
     → HasLine (told_of pattern.name (codes "proved")) (check_text file numbers)
+    → IsTrue (is_proved numbers number)
+
+-- the same of the report of `rest`: a pattern that it prints as safe at rest has the verdict Safe
+abbrev pub PrintedRestSafe : Type 0
+PrintedRestSafe =
+    (file : File) (sample : ReportSample) (verdicts : List Verdict) (number : ℕ) (pattern : Pattern) → slice_get file.patterns number ≡ Some pattern
+    → SampleFits file sample → Each (VerdictFits file) verdicts
+    → HasLine (told_of pattern.name (codes "rest safe, ")) (rest_text file sample verdicts)
+    → (nodes : ℕ) × (leaves : ℕ) × (slice_get verdicts number ≡ Some (Safe nodes leaves))
+
+-- one that it prints as unsafe at rest has the verdict Unsafe
+abbrev pub PrintedRestUnsafe : Type 0
+PrintedRestUnsafe =
+    (file : File) (sample : ReportSample) (verdicts : List Verdict) (number : ℕ) (pattern : Pattern) → slice_get file.patterns number ≡ Some pattern
+    → SampleFits file sample → Each (VerdictFits file) verdicts
+    → HasLine (told_of pattern.name (codes "rest unsafe, ")) (rest_text file sample verdicts)
+    → (nodes : ℕ) × (run : Run) × (slice_get verdicts number ≡ Some (Unsafe nodes run))
+
+-- and one that the text of `rest-check` prints as proved is among the proved ones
+abbrev pub PrintedRestProved : Type 0
+PrintedRestProved =
+    (file : File) (numbers : List ℕ) (number : ℕ) (pattern : Pattern) → slice_get file.patterns number ≡ Some pattern
+    → HasLine (told_of pattern.name (codes "rest proved")) (rest_check_text file numbers)
     → IsTrue (is_proved numbers number)

@@ -1,5 +1,5 @@
--- The report of `verify` (this project's profile)
-use Rattle.std.specs.Prelude.{ℕ, ℤ, ◌≡◌, ◌<◌, ◌^◌, List, [], ◌∷◌, ◌++◌, codes, decimal, length}
+-- The reports of `verify` and `rest` (this project's profile)
+use Rattle.std.specs.Prelude.{ℕ, ℤ, ◌≡◌, ◌<◌, ◌^◌, Bool, true, false, List, [], ◌∷◌, ◌++◌, codes, decimal, length}
 use Rattle.std.specs.Fmt.{signed_decimal}
 use Rattle.ta_automaton.specs.declared.file.File.{File}
 use Rattle.ta_automaton.specs.declared.pattern.Pattern.{Pattern}
@@ -51,9 +51,24 @@ verdict_text (Unsafe nodes run) = codes "unsafe, " ++ (decimal nodes ++ codes " 
 verdict_text (Spent nodes) = spent_text nodes
 verdict_text (Overflow node kind) = overflow_text node kind
 
--- the line of a pattern
+-- what the report of `rest` says before a verdict that decides
+abbrev pub rest_word : Verdict → List ℕ
+rest_word (Safe nodes leaves) = codes "rest "
+rest_word (Unsafe nodes run) = codes "rest "
+rest_word (Spent nodes) = []
+rest_word (Overflow node kind) = []
+
+-- what a report says before a verdict: nothing, or that of `rest`
+abbrev pub word_before : Bool → Verdict → List ℕ
+word_before false v = []
+word_before true v = rest_word v
+
+-- the line of a pattern, in a report or in that of `rest`
+abbrev pub told_line : Bool → Pattern → Verdict → List ℕ
+told_line rest p v = codes "pattern " ++ (p.name ++ (codes ": " ++ (word_before rest v ++ (verdict_text v ++ codes "\n"))))
+
 abbrev pub verdict_line : Pattern → Verdict → List ℕ
-verdict_line p v = codes "pattern " ++ (p.name ++ (codes ": " ++ (verdict_text v ++ codes "\n")))
+verdict_line p v = told_line false p v
 
 -- what stands behind the line of a pattern: the text of its run, where it has one
 abbrev pub run_part : File → Verdict → List ℕ
@@ -63,14 +78,25 @@ run_part file (Spent nodes) = []
 run_part file (Overflow node kind) = []
 
 -- for each pattern, in order, its line and its run
-abbrev pub verdict_lines : File → List Pattern → List Verdict → List ℕ
-verdict_lines file [] vs = []
-verdict_lines file (p ∷ ps) [] = []
-verdict_lines file (p ∷ ps) (v ∷ vs) = verdict_line p v ++ (run_part file v ++ verdict_lines file ps vs)
+abbrev pub told_lines : Bool → File → List Pattern → List Verdict → List ℕ
+told_lines rest file [] vs = []
+told_lines rest file (p ∷ ps) [] = []
+told_lines rest file (p ∷ ps) (v ∷ vs) = told_line rest p v ++ (run_part file v ++ told_lines rest file ps vs)
 
--- the report of a sample of the parameters and a verdict for each pattern
+abbrev pub verdict_lines : File → List Pattern → List Verdict → List ℕ
+verdict_lines file ps vs = told_lines false file ps vs
+
+-- the report of a sample of the parameters and a verdict for each pattern, or that of `rest`
+abbrev pub told_text : Bool → File → ReportSample → List Verdict → List ℕ
+told_text rest file s verdicts = codes "automaton " ++ (file.automaton.name ++ (codes "\n" ++ (sample_line file s ++ told_lines rest file file.patterns verdicts)))
+
+-- the report of `verify`
 abbrev pub report_text : File → ReportSample → List Verdict → List ℕ
-report_text file s verdicts = codes "automaton " ++ (file.automaton.name ++ (codes "\n" ++ (sample_line file s ++ verdict_lines file file.patterns verdicts)))
+report_text file s verdicts = told_text false file s verdicts
+
+-- that of `rest`, with `rest safe` and `rest unsafe` in place of `safe` and `unsafe`
+abbrev pub rest_text : File → ReportSample → List Verdict → List ℕ
+rest_text file s verdicts = told_text true file s verdicts
 
 -- the numbers are those of 64 bits, as the program's are: `decimal` writes 64 digits at most
 abbrev pub PlaceFits : ReportKind → Type 0

@@ -2,7 +2,7 @@
 #![tactic(auto)]
 
 ghost use Rattle.ta_report.specs.Json.{JsonIsDistinct, JsonIsRead, JsonRuns, JsonSafe, JsonUnsafe};
-ghost use Rattle.ta_report.specs.Printed.{PrintedProved, PrintedSafe, PrintedUnsafe};
+ghost use Rattle.ta_report.specs.Printed.{PrintedProved, PrintedRestProved, PrintedRestSafe, PrintedRestUnsafe, PrintedSafe, PrintedUnsafe};
 ghost use Rattle.ta_report.specs.PrintedRuns.{PrintedRuns, RunsArePrinted};
 ghost use Rattle.ta_report.specs.Report.{ReportsAreDistinct};
 
@@ -20,6 +20,13 @@ pub fn lines_tell()
     ensures safe { PrintedSafe }
     ensures unsafe_ { PrintedUnsafe }
     ensures proved { PrintedProved }
+{}
+
+/// It does nothing: its contract states the same of the reports of `rest` and `rest-check`.
+pub fn rest_lines_tell()
+    ensures safe { PrintedRestSafe }
+    ensures unsafe_ { PrintedRestUnsafe }
+    ensures proved { PrintedRestProved }
 {}
 
 /// It does nothing: its contract states that the lines behind that of an unsafe pattern, up to the

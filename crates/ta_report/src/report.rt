@@ -1,10 +1,10 @@
-//! The report of `verify`.
+//! The reports of `verify` and `rest`.
 #![tactic(auto)]
 
 ghost use Rattle.std.specs.Prelude.{◌≡◌, ◌++◌, IfOk, OnOk, length, string_bytes};
 ghost use Rattle.ta_automaton.specs.Lists.{Each};
 ghost use Rattle.ta_counter.specs.Values.{Value};
-ghost use Rattle.ta_report.specs.Report.{SampleFits, VerdictFits, report_text, run_part, sample_line, values_text};
+ghost use Rattle.ta_report.specs.Report.{SampleFits, VerdictFits, report_text, rest_text, run_part, sample_line, told_text, values_text, word_before};
 
 use crate::verdict::{ReportSample, Verdict};
 use std::alloc::{AllocError, Global};
@@ -24,13 +24,58 @@ pub fn report_text(
     requires fit { Each (VerdictFits file.now) verdicts.now }
     ensures { IfOk result (λ text. text ≡ report_text file.now sample.now verdicts.now) }
 {
+    told_text(alloc, false, file, sample, verdicts)
+}
+
+/// The report of `rest`: as `report_text`, with `rest safe` and `rest unsafe` in place of `safe` and
+/// `unsafe`.
+pub fn rest_text(
+    alloc: Global,
+    file: &File,
+    sample: &ReportSample,
+    verdicts: &[Verdict],
+) -> Result<Text, AllocError>
+    requires sample { SampleFits file.now sample.now }
+    requires all { length verdicts.now ≡ length file.now.patterns }
+    requires fit { Each (VerdictFits file.now) verdicts.now }
+    ensures { IfOk result (λ text. text ≡ rest_text file.now sample.now verdicts.now) }
+{
+    told_text(alloc, true, file, sample, verdicts)
+}
+
+/// The report, or that of `rest`.
+fn told_text(
+    alloc: Global,
+    rest: bool,
+    file: &File,
+    sample: &ReportSample,
+    verdicts: &[Verdict],
+) -> Result<Text, AllocError>
+    requires sample { SampleFits file.now sample.now }
+    requires fit { Each (VerdictFits file.now) verdicts.now }
+    ensures { IfOk result (λ text. text ≡ told_text rest file.now sample.now verdicts.now) }
+{
     let mut text = format!(in alloc; "automaton {}\n", file.automaton.name.as_str())?;
     write_sample(&mut text, file, sample)?;
     for (pattern, verdict) in file.patterns.as_slice().iter().zip(verdicts) {
-        write!(text, "pattern {}: {verdict}\n", pattern.name.as_str())?;
+        let word = word_before(rest, verdict);
+        write!(text, "pattern {}: {word}{verdict}\n", pattern.name.as_str())?;
         write_run(alloc, &mut text, file, verdict)?;
     }
     Ok(Text::from_string(text))
+}
+
+/// What stands before a verdict: where it decides, the word of `rest`.
+fn word_before(rest: bool, verdict: &Verdict) -> &'static str
+    ensures { result.now ≡ word_before rest verdict.now }
+{
+    if !rest {
+        return "";
+    }
+    match verdict {
+        Verdict::Safe { .. } | Verdict::Unsafe { .. } => "rest ",
+        Verdict::Spent { .. } | Verdict::Overflow { .. } => "",
+    }
 }
 
 /// Writes the line of the parameters.

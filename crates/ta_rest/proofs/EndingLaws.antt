@@ -87,20 +87,20 @@ other_of old new m e event at =
     subst (λ (xs : List Event). (other : Event) × (slice_get xs e ≡ Some other) × (event.condition ≡ other.condition) × ((e + 1 ≡ length xs) ⊎ (event.after ≡ other.after))) (sym m.was)
     (other_event m.front m.last m.moved m.condition e event (ap (λ (xs : List Event). slice_get xs e) (sym m.is) ∙ at))
 
-back_of : (old new : List Event) (m : LastMoved old new) → (e : ℕ) (event : Event) → slice_get old e ≡ Some event
+pub back_of : (old new : List Event) (m : LastMoved old new) → (e : ℕ) (event : Event) → slice_get old e ≡ Some event
     → (other : Event) × (slice_get new e ≡ Some other) × (event.condition ≡ other.condition) × ((e + 1 ≡ length new) ⊎ (event.after ≡ other.after))
 back_of old new m e event at =
     subst (λ (xs : List Event). (other : Event) × (slice_get xs e ≡ Some other) × (event.condition ≡ other.condition) × ((e + 1 ≡ length xs) ⊎ (event.after ≡ other.after))) (sym m.is)
     (other_event m.front m.moved m.last (sym m.condition) e event (ap (λ (xs : List Event). slice_get xs e) (sym m.was) ∙ at))
 
-moved_count : (old new : List Event) → LastMoved old new → length new ≡ length old
+pub moved_count : (old new : List Event) → LastMoved old new → length new ≡ length old
 moved_count old new m =
     let one = ap (λ (xs : List Event). length xs) m.was in
     let two = ap (λ (xs : List Event). length xs) m.is in
     omega (arith, length-append m.front (m.last ∷ []), length-append m.front (m.moved ∷ []))
 
 -- there is a configuration after the last step
-end_config : (a : Automaton) (p : Pattern) (first : Config) (rules : List ℕ) (o : Occurs a p first rules) → (c : Config) × (slice_get (first ∷ o.later) (length rules) ≡ Some c)
+pub end_config : (a : Automaton) (p : Pattern) (first : Config) (rules : List ℕ) (o : Occurs a p first rules) → (c : Config) × (slice_get (first ∷ o.later) (length rules) ≡ Some c)
 end_config a p first rules o = (get_or (first ∷ o.later) (length rules) first, slice_get-get_or (first ∷ o.later) (length rules) first (omega (arith, run_length a first rules o.later o.run.steps)))
 
 no_comparison : (c : Config) (ks : List Comparison) → ks ≡ [] → All (λ (k : Comparison). All (RowHolds (value_at c)) k.rows) ks
@@ -151,7 +151,7 @@ added_rests a p q start empty m first rules o =
       rests = o.rests;
     }
 
-no_event : (xs : List Event) → xs ≡ [] → (e : ℕ) (event : Event) → slice_get xs e ≡ Some event → ⊥
+pub no_event : (xs : List Event) → xs ≡ [] → (e : ℕ) (event : Event) → slice_get xs e ≡ Some event → ⊥
 no_event [] e k event at = cc
 no_event (x ∷ xs) e k event at = cc
 

@@ -113,7 +113,7 @@ endings_names [] (q ∷ qs) h = absurd h
 endings_names (p ∷ ps) [] h = absurd h
 endings_names (p ∷ ps) (q ∷ qs) h = ap (λ n. n ∷ map pattern_name qs) h.0.name ∙ ap (λ ns. p.name ∷ ns) (endings_names ps qs h.1)
 
-endings_count : (ps qs : List Pattern) → Endings ps qs → length qs ≡ length ps
+pub endings_count : (ps qs : List Pattern) → Endings ps qs → length qs ≡ length ps
 endings_count [] [] h = refl
 endings_count [] (q ∷ qs) h = absurd h
 endings_count (p ∷ ps) [] h = absurd h
@@ -126,7 +126,7 @@ endings_shape places locations ps qs h s = record {
   distinct = subst Distinct (sym (endings_names ps qs h)) s.distinct;
 }
 
-ending_last : (p q : Pattern) → IsEnding p q → ComesLast q
+pub ending_last : (p q : Pattern) → IsEnding p q → ComesLast q
 ending_last p q h = record {
   some = ending_has p q h;
   last = λ e event is at. elim h.events [

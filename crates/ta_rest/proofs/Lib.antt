@@ -1,8 +1,8 @@
 -- lemmas for the crates above
 pub mod Resting
-mod EndingLaws
-mod EndingShapes
+pub mod EndingLaws
+pub mod EndingShapes
 mod PatternMasks
 mod Heights
-mod Moving
-mod Solutions
+pub mod Moving
+pub mod Solutions

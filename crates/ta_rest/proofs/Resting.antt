@@ -47,7 +47,7 @@ step_whole a r c d w step = record {
 some_same : (x y : Config) → Some x ≡ Some y → x ≡ y
 some_same x y e = cc
 
-whole_at : (a : Automaton) (c : Config) (rules : List ℕ) (later : List Config) → Whole a c → Steps a c rules later → (k : ℕ) (d : Config) → slice_get (c ∷ later) k ≡ Some d → Whole a d
+pub whole_at : (a : Automaton) (c : Config) (rules : List ℕ) (later : List Config) → Whole a c → Steps a c rules later → (k : ℕ) (d : Config) → slice_get (c ∷ later) k ≡ Some d → Whole a d
 whole_at a c rules later w steps zero d at = subst (Whole a) (some_same c d at) w
 whole_at a c [] [] w steps (suc k) d at = absurd (slice_none k d at)
   where
@@ -115,7 +115,7 @@ if_complete : (vs : List ℕ) (b : Bool) (rows : List LinearRow) → AllHold vs 
 if_complete vs true rows h = h
 if_complete vs false rows h = tt
 
-no_pairs_good : (a : Automaton) → Good a []
+pub no_pairs_good : (a : Automaton) → Good a []
 no_pairs_good a = record { pairs_are = tt; implied = tt; distinct = tt; acyclic = λ more guard. nothing_leads more guard guard }
 
 pub resting_solves : RestingRunsSolve

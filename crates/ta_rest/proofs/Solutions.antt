@@ -43,7 +43,7 @@ use Rattle.ta_rest.proofs.EndingLaws.{positions_within}
 use Rattle.ta_rest.proofs.Resting.{not_followed}
 
 -- the rows of rest of a complete word
-end_hold : (a : Automaton) (p : Pattern) (start : ℕ) (past : List Element) (vs : List ℕ) → is_complete p past ≡ true → AllHold vs (rest_rows a p start past ++ []) → AllHold vs (word_rows a p start past) × AllHold vs (end_rows a p start past)
+pub end_hold : (a : Automaton) (p : Pattern) (start : ℕ) (past : List Element) (vs : List ℕ) → is_complete p past ≡ true → AllHold vs (rest_rows a p start past ++ []) → AllHold vs (word_rows a p start past) × AllHold vs (end_rows a p start past)
 unfolding rest_rows
 end_hold a p start past vs complete h =
     let both = AllHold-left vs (word_rows a p start past ++ cond (is_complete p past) (end_rows a p start past) []) [] h in (
@@ -144,7 +144,7 @@ ends_rest a p s c whole values empty =
 abbrev pub EndsByEvent : List Element → Type 0
 EndsByEvent past = (e : ℕ) × (older : List Element) × (past ≡ Event e ∷ older)
 
-by_event : (a : Automaton) (p : Pattern) (start : ℕ) (past : List Element) → 1 ≤ length p.events → Legal a p start past → is_complete p past ≡ true → EndsByEvent past
+pub by_event : (a : Automaton) (p : Pattern) (start : ℕ) (past : List Element) → 1 ≤ length p.events → Legal a p start past → is_complete p past ≡ true → EndsByEvent past
 unfolding has_event
 by_event a p start [] some legal complete = absurd (false≢true (all_below-at (length p.events) (has_event []) complete 0 some))
 by_event a p start (Event e ∷ older) some legal complete = (e, older, refl)

@@ -4,4 +4,11 @@ pub mod Bodies
 pub mod Adding
 pub mod Heads
 mod HasAnswers
-mod OneFault
+pub mod OneFault
+mod VectorsNumbered
+mod Trying
+mod FoundLast
+mod OneEnd
+mod Outcoming
+mod SearchTexts
+mod VectorsOrdered

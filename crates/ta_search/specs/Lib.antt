@@ -2,5 +2,9 @@ pub mod Holes
 pub mod Templates
 pub mod TemplateFaults
 pub mod Filling
+pub mod Vectors
+pub mod Outcomes
+pub mod Searching
+pub mod SearchText
 pub mod Laws
 pub mod Inside

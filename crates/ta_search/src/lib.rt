@@ -1,15 +1,27 @@
-//! Templates: automaton files with holes for coefficients.
+//! Templates: automaton files with holes for coefficients, and the search for values with which every
+//! pattern is safe.
 #![tactic(auto)]
 
+mod certificate;
 mod fault;
 mod filling;
 mod laws;
 mod lines;
+mod outcome;
+mod printing;
 mod reading;
+mod searching;
 mod template;
 
+pub use certificate::CertificateText;
 pub use fault::TemplateFault;
 pub use filling::fill;
-pub use laws::{template_faults_are_determined, templates_are_determined, texts_are_templates};
+pub use laws::{
+    searches_are_determined, template_faults_are_determined, templates_are_determined,
+    texts_are_templates, vectors_are_choices,
+};
+pub use outcome::{Outcome, SearchEnd, Tried};
+pub use printing::search_text;
 pub use reading::read_template;
+pub use searching::search;
 pub use template::{Hole, Template};

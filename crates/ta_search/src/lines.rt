@@ -87,7 +87,7 @@ fn value_count(low: u32, high: u32) -> u64
 }
 
 /// How many choices of values there are.
-fn vector_count(holes: &[Hole]) -> u64
+pub(crate) fn vector_count(holes: &[Hole]) -> u64
     requires { Each InRange holes.now × (vector_count holes.now ≤ 10000) }
     ensures { result ≡ vector_count holes.now }
 {

@@ -72,13 +72,11 @@ impl<R: Files + AllocGlobal + Clone + Drop> DiskShelf<R> {
     {
         match changed {
             Ok(()) => Ok(()),
-            Err(error) => match error.kind() {
-                ErrorKind::OutOfMemory => Err(PutFault::Memory),
-                _ => {
-                    self.count_fault();
-                    Err(PutFault::Failed)
-                }
-            },
+            Err(error) if error.kind() == ErrorKind::OutOfMemory => Err(PutFault::Memory),
+            Err(_) => {
+                self.count_fault();
+                Err(PutFault::Failed)
+            }
         }
     }
 

@@ -1,6 +1,8 @@
 -- The files that an answer puts on the shelf (this project's profile)
 use Rattle.std.specs.Prelude.{ℕ, ◌≡◌, ◌⊎◌, List, [], ◌∷◌, ◌++◌, Contains, Option, Some}
 use Rattle.ta_shelf.specs.Put.{OthersStay, Told, WhereTold}
+use Rattle.ta_shell.specs.declared.answer.Content.{Content}
+use Rattle.ta_shell.specs.declared.answer.Content.TheVariants.{Pieces, Bytes}
 use Rattle.ta_shell.specs.declared.answer.Put.{Put}
 
 -- texts, one behind the other
@@ -8,14 +10,23 @@ abbrev pub texts_joined : List (List ℕ) → List ℕ
 texts_joined [] = []
 texts_joined (t ∷ ts) = t ++ texts_joined ts
 
+-- the bytes of a content: its texts, one behind the other, or its bytes
+abbrev pub content_bytes : Content → List ℕ
+content_bytes (Pieces texts) = texts_joined texts
+content_bytes (Bytes bytes) = bytes
+
 -- what is put
 abbrev pub put_bytes : Put → List ℕ
-put_bytes put = texts_joined put.pieces
+put_bytes put = content_bytes put.content
+
+-- the file of a name holds this text, and every other file is as it was
+pub record HoldsText (name text : List ℕ) (before after : Told) : Type 0 where
+  pub held : after name ≡ Some text
+  pub others : OthersStay name before after
 
 -- a file holds what is put, and every other file is as it was
-pub record Holds (put : Put) (before after : Told) : Type 0 where
-  pub held : after put.name ≡ Some (put_bytes put)
-  pub others : OthersStay put.name before after
+abbrev pub Holds : Put → Told → Told → Type 0
+Holds put before after = HoldsText put.name (put_bytes put) before after
 
 -- each stands, one after the other
 abbrev pub Stand : List Put → Option Told → Option Told → Type 0

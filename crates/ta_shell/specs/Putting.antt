@@ -6,12 +6,16 @@ use Rattle.ta_shelf.specs.declared.fault.PutFault.{PutFault}
 use Rattle.ta_shell.specs.declared.answer.Put.{Put}
 use Rattle.ta_shell.specs.declared.answer.Refusal.{Refusal}
 use Rattle.ta_shell.specs.declared.answer.Refusal.TheVariants.{Refused, ReadFailed, PutFailed, Memory}
-use Rattle.ta_shell.specs.Puts.{Holds, Stand, StopAt}
+use Rattle.ta_shell.specs.Puts.{HoldsText, Stand, StopAt, put_bytes}
 
--- the file stands; after a refusal it may hold any bytes or be absent, and every other file is as it was
+-- the file of a name holds this text; after a refusal it may hold any bytes or be absent, and every other file is as it was
+abbrev pub PutsText : Result (Unit {0}) PutFault → List ℕ → List ℕ → Option Told → Option Told → Type 0
+PutsText (Ok u) name text before after = WhereTold (HoldsText name text) before after
+PutsText (Err fault) name text before after = WhereTold (OthersStay name) before after
+
+-- the same of a file that is put
 abbrev pub Puts : Result (Unit {0}) PutFault → Put → Option Told → Option Told → Type 0
-Puts (Ok u) put before after = WhereTold (Holds put) before after
-Puts (Err fault) put before after = WhereTold (OthersStay put.name) before after
+Puts result put before after = PutsText result put.name (put_bytes put) before after
 
 -- all files stand, or those up to one
 abbrev pub PutsAll : Result (Unit {0}) Refusal → List Put → Option Told → Option Told → Type 0

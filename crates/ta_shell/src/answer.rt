@@ -8,12 +8,20 @@ use crate::phrase::Phrase;
 use std::alloc::{AllocError, Global};
 use ta_shelf::{List, Text};
 
-/// A file to be put on the shelf: its name, and its text in pieces. So a long text, which grew in
-/// pieces, is never copied.
+/// What a file is to hold.
+#[derive(Drop)]
+pub enum Content {
+    /// A text in pieces. So a long text, which grew in pieces, is never copied.
+    Pieces(List<Text>),
+    /// Bytes, which need not be a text.
+    Bytes(List<u8>),
+}
+
+/// A file to be put on the shelf: its name, and what it is to hold.
 #[derive(Drop)]
 pub struct Put {
     pub name: Text,
-    pub pieces: List<Text>,
+    pub content: Content,
 }
 
 /// A text, and the number that the process ends with once it is written; the files are put on the

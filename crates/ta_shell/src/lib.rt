@@ -9,7 +9,7 @@ mod putting;
 mod reading;
 mod telling;
 
-pub use answer::{Answer, Put, Refusal};
+pub use answer::{Answer, Content, Put, Refusal};
 pub use command::Command;
 pub use performing::perform;
 pub use phrase::Phrase;

@@ -3,10 +3,11 @@
 
 ghost use Rattle.std.specs.Prelude.{◌≡◌};
 ghost use Rattle.ta_shelf.specs.Put.{PutFailsOnlyFaulted};
-ghost use Rattle.ta_shell.specs.Putting.{PutCause, Puts, PutsAll};
+ghost use Rattle.ta_shell.specs.Putting.{PutCause, Puts, PutsAll, PutsText};
+ghost use Rattle.ta_shell.specs.Puts.{texts_joined};
 
-use crate::answer::{Put, Refusal};
-use ta_shelf::{PutFault, Shelf};
+use crate::answer::{Content, Put, Refusal};
+use ta_shelf::{PutFault, Shelf, Text};
 
 /// Puts files on the shelf, one after the other.
 pub(crate) fn put_all<'a, S: Shelf>(shelf: &mut S, puts: &'a [Put]) -> Result<(), Refusal<'a>>
@@ -35,9 +36,31 @@ fn put_file<S: Shelf>(shelf: &mut S, put: &Put) -> Result<(), PutFault>
     ensures cause { PutFailsOnlyFaulted result (S.faults shelf.old) (S.faults shelf.new) }
 {
     let name = put.name.as_str();
+    match &put.content {
+        Content::Pieces(pieces) => put_pieces(shelf, name, pieces.as_slice()),
+        Content::Bytes(bytes) => put_bytes(shelf, name, bytes.as_slice()),
+    }
+}
+
+/// Makes a file anew and fills it with texts, one behind the other.
+fn put_pieces<S: Shelf>(shelf: &mut S, name: &str, pieces: &[Text]) -> Result<(), PutFault>
+    ensures puts { PutsText result name.now (texts_joined pieces.now) (S.files shelf.old) (S.files shelf.new) }
+    ensures log { S.calls shelf.new ≡ S.calls shelf.old }
+    ensures cause { PutFailsOnlyFaulted result (S.faults shelf.old) (S.faults shelf.new) }
+{
     shelf.create(name)?;
-    for piece in put.pieces.as_slice() {
+    for piece in pieces {
         shelf.append(name, piece.as_str().as_bytes())?;
     }
     Ok(())
+}
+
+/// Makes a file anew and fills it with bytes.
+fn put_bytes<S: Shelf>(shelf: &mut S, name: &str, bytes: &[u8]) -> Result<(), PutFault>
+    ensures puts { PutsText result name.now bytes.now (S.files shelf.old) (S.files shelf.new) }
+    ensures log { S.calls shelf.new ≡ S.calls shelf.old }
+    ensures cause { PutFailsOnlyFaulted result (S.faults shelf.old) (S.faults shelf.new) }
+{
+    shelf.create(name)?;
+    shelf.append(name, bytes)
 }

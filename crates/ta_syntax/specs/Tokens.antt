@@ -1,7 +1,7 @@
 -- The tokens of a text: the longest that fits, with white space and comments between (this project's profile)
 use Rattle.std.specs.Prelude.{ℕ, ◌≡◌, ◌+◌, ◌==◌, ◌||◌, ◌&&◌, ◌⊎◌, Bool, true, false, List, [], ◌∷◌, ◌++◌, length}
 use Rattle.std.specs.Char.{is_ascii_digit}
-use Rattle.std.specs.List.{AllByRecursion}
+use Rattle.std.specs.List.{AllByRecursion, list_all}
 use Rattle.std.specs.Prelude.{IsTrue}
 use Rattle.ta_syntax.specs.Kinds.{is_white, is_letter, is_word, is_lone, mark_bytes, kind_bytes, IsKind}
 use Rattle.ta_syntax.specs.declared.tokens.Kind.{Kind}
@@ -12,7 +12,7 @@ use Rattle.ta_syntax.specs.declared.placed.Token.{Token}
 use Rattle.ta_syntax.specs.declared.fault.FileFault.{FileFault}
 use Rattle.ta_syntax.specs.declared.fault.FileFault.TheVariants as fault
 
--- whether a byte right after the token would make it a longer one
+-- whether a byte right after the token would make it a longer one: behind a word, one of a word
 abbrev pub lengthens : Kind → ℕ → Bool
 lengthens (kind.Name n) b = is_word b
 lengthens (kind.Number d) b = is_ascii_digit b
@@ -20,20 +20,7 @@ lengthens (kind.Fixed mark.Plus) b = b == 61
 lengthens (kind.Fixed mark.Minus) b = b == 62
 lengthens (kind.Fixed mark.Less) b = b == 61
 lengthens (kind.Fixed mark.More) b = b == 61
-lengthens (kind.Fixed mark.Semicolon) b = false
-lengthens (kind.Fixed mark.Comma) b = false
-lengthens (kind.Fixed mark.Colon) b = false
-lengthens (kind.Fixed mark.OpenBrace) b = false
-lengthens (kind.Fixed mark.CloseBrace) b = false
-lengthens (kind.Fixed mark.Open) b = false
-lengthens (kind.Fixed mark.Close) b = false
-lengthens (kind.Fixed mark.Star) b = false
-lengthens (kind.Fixed mark.PlusEquals) b = false
-lengthens (kind.Fixed mark.Arrow) b = false
-lengthens (kind.Fixed mark.AtMost) b = false
-lengthens (kind.Fixed mark.Equal) b = false
-lengthens (kind.Fixed mark.AtLeast) b = false
-lengthens (kind.Fixed _) b = is_word b
+lengthens (kind.Fixed m) b = list_all is_word (mark_bytes m) && is_word b
 
 -- no longer token stands where this one ends
 abbrev pub IsLongest : Kind → List ℕ → Type 0

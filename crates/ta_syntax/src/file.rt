@@ -6,7 +6,7 @@ ghost use Rattle.ta_syntax.specs.Grammar.{FileText, PlainTree};
 ghost use Rattle.ta_syntax.specs.PlainTrees.{plain_tree};
 ghost use Rattle.ta_syntax.specs.Limits.{at_start, IsTreeWithin};
 ghost use Rattle.ta_syntax.specs.Faults.{Stopped, FirstFault};
-ghost use Rattle.ta_syntax.specs.Inside.FileReading.{TookLocations, LocationsStop, TookProcesses, ProcessesStop, IsSpelled};
+ghost use Rattle.ta_syntax.specs.Inside.FileReading.{TookLocations, LocationsStop, TookProcesses, ProcessesStop, TookHead, IsSpelled};
 ghost use Rattle.ta_syntax.specs.TreeOf.{IsTextOf, IsTreeOf};
 
 use crate::blocks::read_blocks;
@@ -34,9 +34,21 @@ pub fn read_tree(alloc: Global, bytes: &[u8]) -> Result<Tree, FileFault>
     Ok(tree)
 }
 
-/// Reads the tokens of an automaton file.
-fn read_file(alloc: Global, tokens: &[Token], end: u32) -> Result<Tree, FileFault>
-    ensures { MatchResult result (λ t. IsSpelled t tokens.now) (λ e. Stopped FileText at_start end tokens.now e) }
+/// What a file says before its resilience condition, with the offsets of two clauses.
+#[derive(Drop)]
+struct Head {
+    name: Spelled,
+    parameters: List<Spelled>,
+    shared: List<Spelled>,
+    locations_at: u32,
+    locations: List<TreeLocation>,
+    processes_at: u32,
+    processes: TreeSum,
+}
+
+/// Reads the head of an automaton file.
+fn read_head(alloc: Global, tokens: &[Token], end: u32) -> Result<(Head, &[Token]), FileFault>
+    ensures { MatchResult result (λ x. TookHead end x.0 tokens.now x.1.now) (λ e. Stopped FileText at_start end tokens.now e) }
 {
     let begun = expect(tokens, end, Mark::Automaton)?;
     let (name, after_name) = read_name_then(alloc, begun, end, Mark::Semicolon)?;
@@ -55,7 +67,24 @@ fn read_file(alloc: Global, tokens: &[Token], end: u32) -> Result<Tree, FileFaul
         16,
     )?;
     let (locations_at, locations, after_locations) = read_locations(alloc, after_shared, end)?;
-    let (processes_at, processes, after_processes) = read_processes(alloc, after_locations, end)?;
+    let (processes_at, processes, rest) = read_processes(alloc, after_locations, end)?;
+    let head = Head {
+        name,
+        parameters,
+        shared,
+        locations_at,
+        locations,
+        processes_at,
+        processes,
+    };
+    Ok((head, rest))
+}
+
+/// Reads the tokens of an automaton file.
+fn read_file(alloc: Global, tokens: &[Token], end: u32) -> Result<Tree, FileFault>
+    ensures { MatchResult result (λ t. IsSpelled t tokens.now) (λ e. Stopped FileText at_start end tokens.now e) }
+{
+    let (head, after_processes) = read_head(alloc, tokens, end)?;
     let (resilience, after_resilience) = read_declared::<TreeComparison>(
         alloc,
         after_processes,
@@ -75,13 +104,13 @@ fn read_file(alloc: Global, tokens: &[Token], end: u32) -> Result<Tree, FileFaul
         return Err(FileFault::Syntax(first.at));
     }
     Ok(Tree {
-        name,
-        parameters,
-        shared,
-        locations_at,
-        locations,
-        processes_at,
-        processes,
+        name: head.name,
+        parameters: head.parameters,
+        shared: head.shared,
+        locations_at: head.locations_at,
+        locations: head.locations,
+        processes_at: head.processes_at,
+        processes: head.processes,
         resilience,
         rules: List::from_vec(rules),
         patterns: List::from_vec(patterns),

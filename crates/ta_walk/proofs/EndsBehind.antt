@@ -1,15 +1,13 @@
 -- the end of a visit behind nodes that lead to the words with which another begins
 use Rattle.std.proofs.lemmas.Bool.Decides.{nat_tests}
-use Rattle.std.proofs.Common.{◌≡◌, ℕ, zero, suc, ◌+◌, ◌-◌, ◌<◌, ◌≤◌, nat_lt, Bool, true, false, cond, List, [], ◌∷◌, ◌++◌, length, length-append, arith, refl, sym, ap, ◌∙◌, subst, ℤ}
+use Rattle.std.proofs.Common.{◌≡◌, ℕ, ◌+◌, ◌-◌, ◌<◌, ◌≤◌, nat_lt, Bool, true, false, cond, List, [], ◌++◌, length, length-append, arith, refl, subst}
 use Rattle.ta_cert.specs.declared.line.Node.{Node}
-use Rattle.ta_words.specs.declared.element.Element.{Element}
 use Rattle.ta_encode.specs.Search.{Pending, Search}
 use Rattle.ta_walk.specs.Visit.{LeavesAt, Visits}
-use Rattle.ta_walk.specs.Ends.{IsSpent, IsTreeEnd, NodeOf, TreeKept, Visited, WholeWord, leaf_count}
+use Rattle.ta_walk.specs.Ends.{IsSpent, NodeOf, TreeKept, Visited, WholeWord, leaf_count}
 use Rattle.ta_walk.specs.declared.end.TreeEnd.{TreeEnd}
 use Rattle.ta_walk.specs.declared.end.TreeEnd.TheVariants as tree
-use Rattle.ta_walk.specs.declared.end.PlaceKind.{PlaceKind}
-use Rattle.ta_walk.specs.Inside.Parts.{beginning, behind}
+use Rattle.ta_walk.specs.Inside.Parts.{PartEnds, beginning, behind}
 use Rattle.ta_walk.proofs.SearchesMoved.{moved_leaves, moved_visits, moved_whole}
 use Rattle.ta_walk.proofs.VisitsJoined.{LeftBefore, leaves_added, left_before, left_in_tree, visited_behind, visits_on}
 
@@ -80,22 +78,23 @@ spent_in s ws us ns count leaves budget later more others Keeps to within many k
     let is = kept.is.counted in
     spent_behind s ws us ns count leaves budget (budget - count) to (omega arith) (left_in_tree (beginning s us) kept.nodes [] (budget - count) (omega arith) kept.is.visits)
 
-pub end_behind : (s : Search) (ws us : List Pending) (ns : List Node) (count leaves budget later : ℕ) (Keeps Kept : List Node → Type 0) (end : TreeEnd) → LeadsTo s ws us ns count leaves → count ≤ budget → budget ≤ later + count
-    → ((ms : List Node) → Keeps ms → Kept (ns ++ ms)) → IsTreeEnd (beginning s us) later Keeps end → IsTreeEnd (beginning s ws) budget Kept (behind budget count leaves end)
-end_behind s ws us ns count leaves budget later Keeps Kept (tree.Refuted more others) to within enough on is =
-    chosen (IsTreeEnd (beginning s ws) budget Kept) (nat_lt (budget - count) more) (tree.Spent budget) (tree.Refuted (count + more) (leaves + others))
+pub end_behind : (s : Search) (ws us : List Pending) (ns : List Node) (count leaves budget later : ℕ) (Keeps Kept : List Node → Type 0) (end : TreeEnd) → LeadsTo s ws us ns count leaves → count ≤ budget
+    → ((ms : List Node) → Keeps ms → Kept (ns ++ ms)) → PartEnds (beginning s us) later Keeps end → PartEnds (beginning s ws) budget Kept (behind budget count leaves end)
+end_behind s ws us ns count leaves budget later Keeps Kept (tree.Refuted more others) to within on is =
+    chosen (PartEnds (beginning s ws) budget Kept) (nat_lt (budget - count) more) (tree.Spent budget) (tree.Refuted (count + more) (leaves + others))
     (λ yes'. spent_in s ws us ns count leaves budget later more others Keeps to within (grind (arith, nat_tests)) is)
     (λ no'. tree_behind s ws us ns count leaves budget later more others Keeps Kept to (let fits : more ≤ budget - count = grind (arith, nat_tests) in omega arith) on is)
-end_behind s ws us ns count leaves budget later Keeps Kept (tree.Found more start word values) to within enough on is =
-    chosen (IsTreeEnd (beginning s ws) budget Kept) (nat_lt (budget - count) more) (tree.Spent budget) (tree.Found (count + more) start word values)
+end_behind s ws us ns count leaves budget later Keeps Kept (tree.Found more start word values) to within on is =
+    chosen (PartEnds (beginning s ws) budget Kept) (nat_lt (budget - count) more) (tree.Spent budget) (tree.Found (count + more) start word values)
     (λ yes'. spent_at s ws us ns count leaves budget later more (WholeWord (beginning s us) start word values) to within (grind (arith, nat_tests)) is)
     (λ no'. node_behind s ws us ns count leaves budget later more (WholeWord (beginning s us) start word values) (WholeWord (beginning s ws) start word values) to (let fits : more ≤ budget - count = grind (arith, nat_tests) in omega arith)
     (λ w at. record { start_is = at.start_is; word_is = at.word_is; whole = moved_whole s us ws w values at.whole }) is)
-end_behind s ws us ns count leaves budget later Keeps Kept (tree.Spent more) to within enough on is =
-    let spent = is.counted in
-    spent_behind s ws us ns count leaves budget (budget - count) to (omega arith) (left_before (beginning s us) (budget - count) later is.word (omega arith) is.visited)
-end_behind s ws us ns count leaves budget later Keeps Kept (tree.Overflow more kind) to within enough on is =
-    chosen (IsTreeEnd (beginning s ws) budget Kept) (nat_lt (budget - count) more) (tree.Spent budget) (tree.Overflow (count + more) kind)
+end_behind s ws us ns count leaves budget later Keeps Kept (tree.Spent more) to within on is =
+    chosen (PartEnds (beginning s ws) budget Kept) (nat_lt (budget - count) more) (tree.Spent budget) (tree.Spent (count + more))
+    (λ yes'. let many : budget - count < more = grind (arith, nat_tests) in spent_behind s ws us ns count leaves budget (budget - count) to (omega arith) (left_before (beginning s us) (budget - count) more is.word (omega arith) is.visited))
+    (λ no'. spent_behind s ws us ns count leaves (count + more) more to refl (record { word = is.word; visited = is.visited }))
+end_behind s ws us ns count leaves budget later Keeps Kept (tree.Overflow more kind) to within on is =
+    chosen (PartEnds (beginning s ws) budget Kept) (nat_lt (budget - count) more) (tree.Spent budget) (tree.Overflow (count + more) kind)
     (λ yes'. spent_at s ws us ns count leaves budget later more (λ w. LeavesAt (beginning s us) w kind) to within (grind (arith, nat_tests)) is)
     (λ no'. node_behind s ws us ns count leaves budget later more (λ w. LeavesAt (beginning s us) w kind) (λ w. LeavesAt (beginning s ws) w kind) to (let fits : more ≤ budget - count = grind (arith, nat_tests) in omega arith)
     (λ w at. moved_leaves s us ws w kind at) is)

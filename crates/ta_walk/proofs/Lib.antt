@@ -10,7 +10,7 @@ pub mod OrdersSound
 pub mod SpentSplits
 mod TableausInRange
 mod SplitsFit
-mod NodesWritten
+pub mod NodesWritten
 mod DeterminedNodes
 mod DeterminedOutcomes
 mod DeterminedValues
@@ -28,6 +28,7 @@ mod VisitsJoined
 mod EndsBehind
 mod RootsListed
 mod PartsMerged
+mod FewBounds
 mod WordSoFar
 mod ChildrenOnce
 mod SubtreesApart

@@ -1,38 +1,35 @@
 -- lists of words with which trees begin
-use Rattle.std.proofs.lemmas.List.{append_assoc, append-nil, map-append, reverse-append, take-append-drop}
-use Rattle.std.proofs.lemmas.Option.{slice_get-map}
-use Rattle.std.proofs.Common.{◌≡◌, ℕ, zero, suc, ◌+◌, ◌<◌, ◌≤◌, ◌^◌, true, List, [], ◌∷◌, ◌++◌, length, length-append, map, drop, take, reverse, slice_get, Option, Some, None, arith, refl, sym, ap, ◌∙◌, subst, inr}
+use Rattle.std.proofs.lemmas.List.{append_assoc, append-nil, map-append, take-append-drop}
+use Rattle.std.proofs.Common.{◌≡◌, ℕ, zero, suc, ◌<◌, ◌≤◌, ◌^◌, List, [], ◌∷◌, ◌++◌, length, length-append, map, drop, take, reverse, slice_get, Some, None, arith, refl, sym, ap, ◌∙◌, subst}
 use Rattle.ta_automaton.specs.Lists.{Each}
-use Rattle.ta_cert.specs.declared.line.Node.TheVariants.{Extend}
-use Rattle.ta_words.specs.declared.element.Element.{Element}
-use Rattle.ta_encode.specs.Search.{Comes, Pending, Search, longer, parts}
-use Rattle.ta_cursor.specs.TreeCalls.{Pushed, RootIs}
+use Rattle.ta_encode.specs.Search.{Pending, Search}
+use Rattle.ta_cursor.specs.TreeCalls.{RootIs}
+use Rattle.ta_cursor.specs.Cursors.{IsFirst, Within, left_at}
+use Rattle.ta_cursor.specs.declared.cursor.Cursor.{Cursor}
 use Rattle.ta_cursor.specs.declared.root.Root.{Root}
-use Rattle.ta_cursor.proofs.Beginning.{comes_first}
+use Rattle.ta_cursor.proofs.Beginning.{at_word, comes_first}
 use Rattle.ta_cursor.proofs.FramesKept.{next_dropped, none_dropped}
 use Rattle.ta_cursor.proofs.FramesParts.{in_at}
-use Rattle.ta_walk.specs.Inside.Parts.{ComesTo, LongerRoot, root_word}
+use Rattle.ta_walk.specs.Inside.Parts.{ComesTo, HasFewBounds, Stands, root_word}
+use Rattle.ta_walk.proofs.WordSoFar.{pending_is}
 
 -- the search comes to a word with which it begins
 pub root_comes : (s : Search) (number : ℕ) (root : Root) → RootIs s number root → ComesTo s root
 root_comes s number root is = comes_first s root.start_mask (reverse root.word) (root_word root, in_at s.roots number (root_word root) is.is, refl, refl)
 
--- and to one that is longer by an element that may follow
-pub child_longer : (s : Search) (root child : Root) (number : ℕ) → ComesTo s root → child.start_mask ≡ root.start_mask → Pushed s root.start_mask root.word child.word number true → LongerRoot s root number child
-child_longer s root child number comes start pushed =
-    let past : reverse child.word ≡ pushed.element ∷ reverse root.word = ap reverse pushed.word ∙ reverse-append root.word (pushed.element ∷ []) in
-    let word : longer (root_word root) pushed.element ≡ root_word child = cc in
-    let at : slice_get (parts s (root_word root) Extend) number ≡ Some (longer (root_word root) pushed.element) =
-    slice_get-map (longer (root_word root)) (s.following root.start_mask (reverse root.word)) number ∙ rw pushed.follows refl in
-    let longer_comes : Comes s root.start_mask (pushed.element ∷ reverse root.word) = inr (in_at (s.following root.start_mask (reverse root.word)) number pushed.element pushed.follows, comes) in
-    record {
-      is = at ∙ ap (λ (v : Pending). Some v) word;
-      comes = subst (λ (m : ℕ). Comes s m (reverse child.word)) (sym start) (subst (Comes s root.start_mask) (sym past) longer_comes);
-      small = pushed.small;
-    }
+-- the cursor at the first node of its tree leaves that word alone
+pub root_left : (s : Search) (root : Root) (c : Cursor) → ComesTo s root → IsFirst c (root_word root) → left_at s c ≡ root_word root ∷ []
+root_left s root c comes is = sym (pending_is s c (root_word root ∷ []) (at_word s c (root_word root) is (record { comes = comes; bounds = tt })))
 
-pub child_none : (s : Search) (root : Root) (number : ℕ) → slice_get (s.following root.start_mask (reverse root.word)) number ≡ None → slice_get (parts s (root_word root) Extend) number ≡ None
-child_none s root number none = slice_get-map (longer (root_word root)) (s.following root.start_mask (reverse root.word)) number ∙ rw none refl
+pub root_stands : (s : Search) (root : Root) (c : Cursor) (nodes : ℕ) → ComesTo s root → IsFirst c (root_word root) → nodes ≤ 1000000000 → Stands s nodes c
+root_stands s root c nodes comes is limit =
+    let left = sym (root_left s root c comes is) in
+    record {
+      within = subst (Within s c) left (at_word s c (root_word root) is (record { comes = comes; bounds = tt }));
+      most = 0;
+      room = omega arith;
+      few = subst (Each (HasFewBounds 0)) left (omega arith, tt);
+    }
 
 -- the first so many words of a list
 pub record Listed (s : Search) (all : List Pending) (roots : List Root) : Type 0 where

@@ -1,9 +1,8 @@
 -- searches that differ in the words with which they begin alone have the same nodes
-use Rattle.std.proofs.Common.{◌≡◌, ℕ, ℤ, List, [], ◌∷◌, ◌++◌, refl, sym, subst}
+use Rattle.std.proofs.Common.{◌≡◌, ℤ, List, [], ◌∷◌, ◌++◌, refl, subst}
 use Rattle.ta_linear.specs.declared.row.System.{System}
 use Rattle.ta_cert.specs.declared.line.Node.{Node}
 use Rattle.ta_cert.specs.declared.line.Node.TheVariants as node
-use Rattle.ta_encode.specs.Code.{SystemAt}
 use Rattle.ta_encode.specs.Search.{Pending, Search, parts}
 use Rattle.ta_simplex.specs.LeastIndex.{OverflowsAt}
 use Rattle.ta_simplex.specs.Refuted.{IsRefuted}

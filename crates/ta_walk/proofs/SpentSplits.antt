@@ -1,5 +1,5 @@
 -- a budget that is large enough for the words is spent only where a node was split
-use Rattle.std.proofs.Common.{◌≡◌, inl, inr, ℕ, zero, suc, ◌+◌, ◌<◌, ◌≤◌, ◌^◌, List, [], ◌∷◌, ◌++◌, length, length-append, map, slice_get, Some, arith, refl, sym, ap, ◌∙◌, subst}
+use Rattle.std.proofs.Common.{◌≡◌, inl, inr, ℕ, zero, suc, ◌+◌, ◌<◌, ◌≤◌, ◌^◌, Bool, List, [], ◌∷◌, ◌++◌, length, length-append, map, slice_get, Some, arith, refl, sym, ap, ◌∙◌, subst}
 use Rattle.std.proofs.lemmas.List.{length-map}
 use Rattle.ta_automaton.specs.declared.automaton.Automaton.{Automaton}
 use Rattle.ta_automaton.specs.declared.file.File.{File}
@@ -17,6 +17,7 @@ use Rattle.ta_words.proofs.Counts.{legal_length, legal_under}
 use Rattle.ta_words.proofs.Lists.{events_named}
 use Rattle.ta_encode.specs.PatternSearch.{all_starts, empty_word, pattern_search}
 use Rattle.ta_encode.specs.Search.{Comes, Pending, Search, parts}
+use Rattle.ta_encode.specs.System.{LinearRow}
 use Rattle.ta_cursor.proofs.PatternWords.{comes_legal}
 use Rattle.ta_walk.specs.Ends.{IsSpent, Visited}
 use Rattle.ta_walk.specs.Splits.{HasAtMost, HasSplit, SpentNeedsSplits, WasSplit}
@@ -24,7 +25,7 @@ use Rattle.ta_walk.specs.Visit.{Visits}
 use Rattle.ta_walk.proofs.ChildrenOnce.{children_once}
 use Rattle.ta_walk.proofs.DeterminedVisits.{word_once}
 use Rattle.ta_walk.proofs.SubtreesApart.{AllApart, Apart, Branches, IsPlain, UnderSome, mark, marks, not_again, parts_apart, split_or_plain, under_before, under_here, under_start}
-use Rattle.ta_walk.proofs.WordsVisited.{Waits, next_wait, starts_wait}
+use Rattle.ta_walk.proofs.WordsVisited.{Waits, next_wait, roots_wait, starts_unbounded}
 
 -- each mark is one that goes on from a word with which the visit begins
 marks_under : (s : Search) (ws : List Pending) (ns : List Node) (rest : List Pending) → Each IsPlain ns → Visits s ws ns rest → (t : ℕ × List Element) → In t (marks s ws ns) → UnderSome ws t.0 t.1
@@ -111,9 +112,18 @@ starts_apart a = starts_from 0 (2 ^ length a.fall)
 branches_of : (a : Automaton) (p : Pattern) (pairs : List (ℕ × ℕ)) → Branches (pattern_search a p pairs)
 branches_of a p pairs start past = children_once a p pairs start past
 
-pub spent_split : (a : Automaton) (p : Pattern) (pairs : List (ℕ × ℕ)) (budget count : ℕ) → HasAtMost a p pairs budget → IsSpent (pattern_search a p pairs) budget count → WasSplit (pattern_search a p pairs) budget
-spent_split a p pairs budget count most spent =
-    let s = pattern_search a p pairs in
+-- a search of a pattern's words, whatever else is asked of them
+abbrev pub words_with : Automaton → Pattern → List (ℕ × ℕ) → (ℕ → List Element → Bool) → (ℕ → List Element → ℕ) → (ℕ → List Element → List LinearRow) → Search
+words_with a p pairs complete unknowns rows = record { roots = all_starts a; following = children a p pairs; complete = complete; unknowns = unknowns; rows = rows }
+
+same_words : (a : Automaton) (p : Pattern) (pairs : List (ℕ × ℕ)) (complete : ℕ → List Element → Bool) (unknowns : ℕ → List Element → ℕ) (rows : ℕ → List Element → List LinearRow) (start : ℕ) (past : List Element) → Comes (words_with a p pairs complete unknowns rows) start past → Comes (pattern_search a p pairs) start past
+same_words a p pairs complete unknowns rows start [] c = c
+same_words a p pairs complete unknowns rows start (e ∷ past) (inl b) = inl b
+same_words a p pairs complete unknowns rows start (e ∷ past) (inr c) = inr (c.0, same_words a p pairs complete unknowns rows start past c.1)
+
+pub split_of_words : (a : Automaton) (p : Pattern) (pairs : List (ℕ × ℕ)) (complete : ℕ → List Element → Bool) (unknowns : ℕ → List Element → ℕ) (rows : ℕ → List Element → List LinearRow) (budget count : ℕ) → HasAtMost a p pairs budget → IsSpent (words_with a p pairs complete unknowns rows) budget count → WasSplit (words_with a p pairs complete unknowns rows) budget
+split_of_words a p pairs complete unknowns rows budget count most spent =
+    let s = words_with a p pairs complete unknowns rows in
     let v = spent.visited in
     let left = spent.word ∷ v.words in
     let counted = v.counted in
@@ -121,13 +131,18 @@ spent_split a p pairs budget count most spent =
     elim (split_or_plain v.nodes) [
       | inl split ↦ record { nodes = v.nodes; left = left; visits = v.visits; counted = counted; split = split }
       | inr plain ↦ absurd (
-          let once = marks_once s s.roots v.nodes left (branches_of a p pairs) (starts_apart a) plain v.visits in
+          let once = marks_once s s.roots v.nodes left (λ start past. children_once a p pairs start past) (starts_apart a) plain v.visits in
           let few = no_more (marks s s.roots v.nodes) most.words once (λ t h.
-          let legal = comes_legal a p pairs t.0 t.1 (marks_come s 0 s.roots v.nodes (starts_wait a p pairs) t h) in
+          let legal = comes_legal a p pairs t.0 t.1 (same_words a p pairs complete unknowns rows t.0 t.1 (marks_come s 0 s.roots v.nodes (roots_wait s (starts_unbounded a)) t h)) in
           most.each t.0 t.1 legal.start_is legal.under) in
           omega (arith, few, marks_count s s.roots v.nodes left v.visits)
           )
     ]
+
+pub spent_split : (a : Automaton) (p : Pattern) (pairs : List (ℕ × ℕ)) (budget count : ℕ) → HasAtMost a p pairs budget → IsSpent (pattern_search a p pairs) budget count → WasSplit (pattern_search a p pairs) budget
+spent_split a p pairs budget count most spent =
+    let s = pattern_search a p pairs in
+    split_of_words a p pairs s.complete s.unknowns s.rows budget count most spent
 
 left_marked : (s : Search) (ws : List Pending) (ns : List Node) (w : Pending) (rest : List Pending) → Visits s ws ns (w ∷ rest) → In (mark w) (marks s ws ns)
 left_marked s ws [] w rest v = subst (λ (xs : List Pending). In (mark w) (map mark xs)) v (inl refl)

@@ -1,19 +1,14 @@
 -- the words that a visit meets, where no node is a split: none of them twice
-use Rattle.std.proofs.Common.{◌≡◌, ◌⊎◌, inl, inr, ℕ, zero, suc, ◌+◌, ◌<◌, ◌≤◌, ◌^◌, List, [], ◌∷◌, ◌++◌, length, map, arith, refl, sym, ap, ◌∙◌, subst}
-use Rattle.ta_automaton.specs.declared.automaton.Automaton.{Automaton}
-use Rattle.ta_automaton.specs.declared.pattern.Pattern.{Pattern}
+use Rattle.std.proofs.Common.{◌≡◌, ◌⊎◌, inl, inr, ℕ, suc, ◌<◌, ◌≤◌, List, [], ◌∷◌, ◌++◌, length, map, arith, refl, sym, ap, ◌∙◌, subst}
 use Rattle.ta_automaton.specs.Lists.{Distinct, Each}
-use Rattle.ta_automaton.specs.Masks.{In, numbers_from}
+use Rattle.ta_automaton.specs.Masks.{In}
 use Rattle.ta_cert.specs.declared.line.Node.{Node}
 use Rattle.ta_cert.specs.declared.line.Node.TheVariants as node
 use Rattle.ta_implied.proofs.Implying.{each_in}
-use Rattle.ta_implied.proofs.Members.{in_append, in_map, in_numbers}
+use Rattle.ta_implied.proofs.Members.{in_append, in_map}
 use Rattle.ta_words.specs.declared.element.Element.{Element}
-use Rattle.ta_encode.specs.PatternSearch.{all_starts, empty_word, pattern_search}
 use Rattle.ta_encode.specs.Search.{Pending, Search, longer, parts}
 use Rattle.ta_walk.specs.Splits.{HasSplit}
-use Rattle.ta_walk.specs.Visit.{Visits}
-use Rattle.ta_walk.proofs.ChildrenOnce.{children_once}
 
 -- a start set and a past that go on from a word, or are its own
 abbrev pub Under : Pending → ℕ → List Element → Type 0

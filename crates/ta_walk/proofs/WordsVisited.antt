@@ -26,7 +26,7 @@ waits_more s few more (w ∷ ws) h all =
     let first = all.0 in
     (record { comes = first.comes; few = (let k = first.few in omega arith) }, waits_more s few more ws h all.1)
 
-each_append : (P : Pending → Type 0) (xs ys : List Pending) → Each P xs → Each P ys → Each P (xs ++ ys)
+pub each_append : (P : Pending → Type 0) (xs ys : List Pending) → Each P xs → Each P ys → Each P (xs ++ ys)
 each_append P [] ys h g = g
 each_append P (x ∷ xs) ys h g = (h.0, each_append P xs ys h.1 g)
 

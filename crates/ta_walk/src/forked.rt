@@ -1,29 +1,25 @@
 //! The walk of a pattern whose parts are visited beside each other.
 #![tactic(auto)]
 
-ghost use Rattle.std.specs.Prelude.{◌<◌, ◌≤◌, ◌≡◌, [], IfOk, is_some, length, true, false};
+ghost use Rattle.std.specs.Prelude.{◌<◌, ◌≤◌, ◌≡◌, [], IfNone, IfOk, IfSome, is_some, length, true, false};
 ghost use Rattle.ta_words.specs.Calls.{OfPattern};
 ghost use Rattle.ta_walk.specs.Ends.{IsEnd, IsTreeEnd, IsVisitEnd};
-ghost use Rattle.ta_walk.specs.Inside.Parts.{PartEnds, search_of};
+ghost use Rattle.ta_walk.specs.Inside.Parts.{IsSmallEnd, IsWholeEnd, search_of};
 
 use crate::end::{TreeEnd, VisitEnd, WalkEnd};
 use crate::forking::visit_list;
 use crate::gate::{Gate, Idle};
 use crate::keeper::{Keeper, Nodes, PartKeeper};
-use crate::part::{Board, Part, Watch};
+use crate::part::{BESIDE, Board, Part, Watch};
 use crate::roots::roots_of;
 use std::alloc::{AllocError, Global};
-use std::thread::Threads;
+use std::thread::{Threads, available_parallelism};
 use ta_cert::List;
 use ta_cursor::PatternTree;
 use ta_dense::Dictionary;
 use ta_encode::Solution;
 use ta_implied::Orders;
 use ta_scope::ScopedFile;
-
-/// How many lists of words in one another are forked where a search begins with several words; one
-/// more where it begins with one.
-const LEVELS: u32 = 0;
 
 /// Visits the tree of a pattern under pairs of rise guards, at most so many nodes of it. Each start set begins with the empty
 /// word. A node whose system is refuted is a leaf. At a vertex the word goes on to its children;
@@ -179,22 +175,41 @@ fn visit_parts<D: Dictionary, K: PartKeeper, R: Threads + Sync, G: Gate>(
 ) -> Result<Option<TreeEnd>, AllocError>
     requires limit { nodes ≤ 1000000000 }
     requires keeps { K.keeps keeper.old keeper.old [] }
-    ensures ends { IfOk result (PartEnds (search_of tree.now) nodes (K.keeps keeper.old keeper.new)) }
+    ensures ends { IfOk result (λ end. IfSome end (IsTreeEnd (search_of tree.now) nodes (K.keeps keeper.old keeper.new))) }
     ensures patient { patient ≡ true → IfOk result (λ end. is_some end ≡ true) }
     ensures kept { IfOk result (λ end. is_some end ≡ false → keeper.new ≡ keeper.old) }
 {
-    let board = Board::new();
+    let board = Board::new(alloc, nodes, most_beside(rt))?;
     let watch = Watch::new(&board, patient);
     let late = keeper.later(alloc)?;
     let words = roots_of(alloc, tree)?;
-    let levels = if words.len() > 1 { LEVELS } else { LEVELS + 1 };
-    let part = visit_list::<D, K, R, G>(rt, alloc, tree, gate, watch, words, levels, nodes, late)?;
+    let part = visit_list::<D, K, R, G>(rt, alloc, tree, gate, watch, words, nodes, late)?;
     let Part { end, keeper: late } = part;
-    match end {
+    match whole_end(nodes, end) {
         None => Ok(None),
         Some(end) => {
             keeper.append(alloc, late)?;
             Ok(Some(end))
         }
+    }
+}
+
+/// How many parts run beside the first one at most: no more than there are processors for.
+fn most_beside<R: Threads>(rt: &R) -> u64 {
+    match available_parallelism(rt) {
+        Ok(count) => (count.get() as u64).saturating_sub(1).min(BESIDE),
+        Err(_) => BESIDE,
+    }
+}
+
+/// The end of a part, unless it stopped before its budget was spent.
+fn whole_end(nodes: u64, end: TreeEnd) -> Option<TreeEnd>
+    requires { IsSmallEnd nodes end }
+    ensures some { IfSome result (λ whole. (whole ≡ end) × IsWholeEnd nodes whole) }
+    ensures none { IfNone result (IsWholeEnd nodes end → ⊥) }
+{
+    match end {
+        TreeEnd::Spent { count } if count < nodes => None,
+        end => Some(end),
     }
 }

@@ -1,27 +1,30 @@
-//! Forks: the halves of a list of words are visited beside each other.
+//! Forks: the parts of a visit that may be visited beside each other.
 #![tactic(auto)]
 
-ghost use Rattle.std.specs.Prelude.{◌+◌, ◌-◌, ◌<◌, ◌≤◌, ◌^◌, ◌≡◌, ◌++◌, [], ◌∷◌, IfOk, List, Some, None, is_some, map, true, vec_len};
+ghost use Rattle.std.specs.Prelude.{◌+◌, ◌-◌, ◌<◌, ◌≤◌, ◌^◌, ◌≡◌, ◌++◌, [], ◌∷◌, IfOk, map, true, vec_len};
 ghost use denote.Param.Send.{IsSend, IsSync};
 ghost use Rattle.ta_automaton.specs.Lists.{Each};
-ghost use Rattle.ta_walk.specs.Inside.Parts.{Begins, ComesTo, IsSmallEnd, PartVisited, beginning, root_word, search_of};
+ghost use Rattle.ta_cursor.specs.Cursors.{left_at};
+ghost use Rattle.ta_encode.specs.Marks.{IsEncoding};
+ghost use Rattle.ta_simplex.specs.Branch.{IsBranch};
+ghost use Rattle.ta_walk.specs.Inside.Parts.{Begins, ComesTo, IsSmallEnd, IsWholeEnd, PartVisited, Stands, beginning, root_word, search_of};
 
 use crate::end::TreeEnd;
 use crate::gate::Gate;
 use crate::keeper::{Keeper, PartKeeper};
-use crate::merging::{end_behind, merge, refuted};
+use crate::merging::{add, end_behind, merge, refuted};
 use crate::part::{Part, Watch};
-use crate::roots::{children_of, is_open};
-use crate::visiting::visit_word;
+use crate::visiting::{Stretch, visit_stretch};
 use std::alloc::{AllocError, Global};
 use std::sync::atomic::AtomicU64;
 use std::thread::{Threads, join};
-use ta_cert::Node;
-use ta_cursor::{PatternTree, Root, Tree};
+use ta_cursor::{Cursor, PatternTree, Root, Tree};
 use ta_dense::Dictionary;
+use ta_encode::Encoding;
+use ta_simplex::Branch;
 
-/// Visits the trees of the words of a list, at most so many nodes of them. A list of one word isn't
-/// forked, but the list of its children is, so many levels deep.
+/// Visits the trees of the words of a list, at most so many nodes of them: a list of several words is
+/// cut into halves.
 #[cycle(forks)]
 pub(crate) fn visit_list<D: Dictionary, K: PartKeeper, R: Threads + Sync, G: Gate>(
     rt: &R,
@@ -30,7 +33,6 @@ pub(crate) fn visit_list<D: Dictionary, K: PartKeeper, R: Threads + Sync, G: Gat
     gate: &G,
     watch: Watch<'_>,
     words: Vec<Root>,
-    levels: u32,
     nodes: u64,
     keeper: K,
 ) -> Result<Part<K>, AllocError>
@@ -39,27 +41,25 @@ pub(crate) fn visit_list<D: Dictionary, K: PartKeeper, R: Threads + Sync, G: Gat
     requires limit { nodes ≤ 1000000000 }
     ensures visited { IfOk result (λ part. PartVisited K.keeps (beginning (search_of tree.now) (map root_word words.items)) nodes keeper part.keeper part.end) }
     ensures small { IfOk result (λ part. IsSmallEnd nodes part.end) }
-    ensures patient { watch.entry.patient ≡ true → IfOk result (λ part. is_some part.end ≡ true) }
+    ensures patient { watch.entry.patient ≡ true → IfOk result (λ part. IsWholeEnd nodes part.end) }
 {
     let mut words = words;
     if words.len() < 2 {
         return match words.pop() {
             None => Ok(Part {
-                end: Some(TreeEnd::Refuted {
+                end: TreeEnd::Refuted {
                     count: 0,
                     leaves: 0,
-                }),
+                },
                 keeper,
             }),
-            Some(root) => visit_front::<D, K, R, G>(
-                rt, alloc, tree, gate, watch, root, levels, nodes, keeper,
+            Some(root) => visit_root::<D, K, R, G>(
+                rt, alloc, tree, gate, watch, root, nodes, keeper,
             ),
         };
     }
     let others = words.split_off(words.len() / 2)?;
-    visit_halves::<D, K, R, G>(
-        rt, alloc, tree, gate, watch, words, others, levels, nodes, keeper,
-    )
+    visit_halves::<D, K, R, G>(rt, alloc, tree, gate, watch, words, others, nodes, keeper)
 }
 
 /// Visits the words of the halves of a list, beside each other where that may be.
@@ -72,7 +72,6 @@ fn visit_halves<D: Dictionary, K: PartKeeper, R: Threads + Sync, G: Gate>(
     watch: Watch<'_>,
     words: Vec<Root>,
     others: Vec<Root>,
-    levels: u32,
     nodes: u64,
     keeper: K,
 ) -> Result<Part<K>, AllocError>
@@ -83,15 +82,16 @@ fn visit_halves<D: Dictionary, K: PartKeeper, R: Threads + Sync, G: Gate>(
     requires limit { nodes ≤ 1000000000 }
     ensures visited { IfOk result (λ part. PartVisited K.keeps (beginning (search_of tree.now) (map root_word words.items ++ map root_word others.items)) nodes keeper part.keeper part.end) }
     ensures small { IfOk result (λ part. IsSmallEnd nodes part.end) }
-    ensures patient { watch.entry.patient ≡ true → IfOk result (λ part. is_some part.end ≡ true) }
+    ensures patient { watch.entry.patient ≡ true → IfOk result (λ part. IsWholeEnd nodes part.end) }
 {
+    let late = keeper.later(alloc)?;
     if watch.goes_beside() {
         return visit_beside::<D, K, R, G>(
-            rt, alloc, tree, gate, watch, words, others, levels, nodes, keeper,
+            rt, alloc, tree, gate, watch, words, others, nodes, keeper, late,
         );
     }
     visit_in_turn::<D, K, R, G>(
-        rt, alloc, tree, gate, watch, words, others, levels, nodes, keeper,
+        rt, alloc, tree, gate, watch, words, others, nodes, keeper, late,
     )
 }
 
@@ -105,34 +105,32 @@ fn visit_beside<D: Dictionary, K: PartKeeper, R: Threads + Sync, G: Gate>(
     watch: Watch<'_>,
     words: Vec<Root>,
     others: Vec<Root>,
-    levels: u32,
     nodes: u64,
     keeper: K,
+    late: K,
 ) -> Result<Part<K>, AllocError>
     requires first { Each (ComesTo (search_of tree.now)) words.items }
     requires second { Each (ComesTo (search_of tree.now)) others.items }
     requires some { (0 < vec_len words) × (0 < vec_len others) }
     requires few { vec_len words + vec_len others ≤ 2 ^ 31 }
     requires limit { nodes ≤ 1000000000 }
+    requires fresh { Begins K.begins K.keeps keeper late }
     ensures visited { IfOk result (λ part. PartVisited K.keeps (beginning (search_of tree.now) (map root_word words.items ++ map root_word others.items)) nodes keeper part.keeper part.end) }
     ensures small { IfOk result (λ part. IsSmallEnd nodes part.end) }
-    ensures patient { watch.entry.patient ≡ true → IfOk result (λ part. is_some part.end ≡ true) }
+    ensures patient { watch.entry.patient ≡ true → IfOk result (λ part. IsWholeEnd nodes part.end) }
 {
-    let late = keeper.later(alloc)?;
     let low = watch.first_half();
-    let high = watch.second_half();
+    let high = watch.half_beside();
     let ended = AtomicU64::new(0);
     let ended = &ended;
     let front = move || -> Result<Part<K>, AllocError>
         requires { IsSync R.row × IsSync G.row × IsSend K.row × Each (ComesTo (search_of tree.now)) words.items × (vec_len words ≤ 2 ^ 31) × (nodes ≤ 1000000000) }
         ensures visited { IfOk result (λ part. PartVisited K.keeps (beginning (search_of tree.entry.now) (map root_word words.items)) nodes keeper part.keeper part.end) }
         ensures small { IfOk result (λ part. IsSmallEnd nodes part.end) }
-        ensures patient { low.entry.patient ≡ true → IfOk result (λ part. is_some part.end ≡ true) }
+        ensures patient { low.entry.patient ≡ true → IfOk result (λ part. IsWholeEnd nodes part.end) }
     {
         gate.enter();
-        let part = visit_list::<D, K, R, G>(
-            rt, alloc, tree, gate, low, words, levels, nodes, keeper,
-        );
+        let part = visit_list::<D, K, R, G>(rt, alloc, tree, gate, low, words, nodes, keeper);
         low.came_back(ended);
         part
     };
@@ -140,16 +138,15 @@ fn visit_beside<D: Dictionary, K: PartKeeper, R: Threads + Sync, G: Gate>(
         requires { IsSync R.row × IsSync G.row × IsSend K.row × Each (ComesTo (search_of tree.now)) others.items × (vec_len others ≤ 2 ^ 31) × (nodes ≤ 1000000000) }
         ensures visited { IfOk result (λ part. PartVisited K.keeps (beginning (search_of tree.entry.now) (map root_word others.items)) nodes late part.keeper part.end) }
         ensures small { IfOk result (λ part. IsSmallEnd nodes part.end) }
-        ensures patient { high.entry.patient ≡ true → IfOk result (λ part. is_some part.end ≡ true) }
+        ensures patient { high.entry.patient ≡ true → IfOk result (λ part. IsWholeEnd nodes part.end) }
     {
         gate.enter();
-        let part = visit_list::<D, K, R, G>(
-            rt, alloc, tree, gate, high, others, levels, nodes, late,
-        );
+        let part = visit_list::<D, K, R, G>(rt, alloc, tree, gate, high, others, nodes, late);
         high.came_back(ended);
         part
     };
     let (first, second) = join(rt, front, back);
+    watch.takes_in(high);
     merge(alloc, nodes, first?, second?)
 }
 
@@ -164,52 +161,39 @@ fn visit_in_turn<D: Dictionary, K: PartKeeper, R: Threads + Sync, G: Gate>(
     watch: Watch<'_>,
     words: Vec<Root>,
     others: Vec<Root>,
-    levels: u32,
     nodes: u64,
     keeper: K,
+    late: K,
 ) -> Result<Part<K>, AllocError>
     requires first { Each (ComesTo (search_of tree.now)) words.items }
     requires second { Each (ComesTo (search_of tree.now)) others.items }
     requires some { (0 < vec_len words) × (0 < vec_len others) }
     requires few { vec_len words + vec_len others ≤ 2 ^ 31 }
     requires limit { nodes ≤ 1000000000 }
+    requires fresh { Begins K.begins K.keeps keeper late }
     ensures visited { IfOk result (λ part. PartVisited K.keeps (beginning (search_of tree.now) (map root_word words.items ++ map root_word others.items)) nodes keeper part.keeper part.end) }
     ensures small { IfOk result (λ part. IsSmallEnd nodes part.end) }
-    ensures patient { watch.entry.patient ≡ true → IfOk result (λ part. is_some part.end ≡ true) }
+    ensures patient { watch.entry.patient ≡ true → IfOk result (λ part. IsWholeEnd nodes part.end) }
 {
     let low = watch.first_half();
     let high = watch.second_half();
-    let first = visit_list::<D, K, R, G>(rt, alloc, tree, gate, low, words, levels, nodes, keeper)?;
+    let first = visit_list::<D, K, R, G>(rt, alloc, tree, gate, low, words, nodes, keeper)?;
     let Some((count, leaves)) = refuted(&first.end) else {
         return Ok(first);
     };
-    let second = visit_list::<D, K, R, G>(
-        rt,
-        alloc,
-        tree,
-        gate,
-        high,
-        others,
-        levels,
-        nodes - count,
-        first.keeper,
-    )?;
-    Ok(Part {
-        end: end_behind(nodes, count, leaves, second.end),
-        keeper: second.keeper,
-    })
+    let left = nodes - count;
+    let second = visit_list::<D, K, R, G>(rt, alloc, tree, gate, high, others, left, late)?;
+    add(alloc, nodes, count, leaves, first.keeper, second)
 }
 
-/// Visits the tree of a word. The list of its children is forked, so many levels deep.
-#[cycle(forks)]
-fn visit_front<D: Dictionary, K: PartKeeper, R: Threads + Sync, G: Gate>(
+/// Visits the tree of a word, at most so many nodes of it.
+fn visit_root<D: Dictionary, K: PartKeeper, R: Threads + Sync, G: Gate>(
     rt: &R,
     alloc: Global,
     tree: &PatternTree<'_>,
     gate: &G,
     watch: Watch<'_>,
     root: Root,
-    levels: u32,
     nodes: u64,
     keeper: K,
 ) -> Result<Part<K>, AllocError>
@@ -217,48 +201,150 @@ fn visit_front<D: Dictionary, K: PartKeeper, R: Threads + Sync, G: Gate>(
     requires limit { nodes ≤ 1000000000 }
     ensures visited { IfOk result (λ part. PartVisited K.keeps (beginning (search_of tree.now) (root_word root ∷ [])) nodes keeper part.keeper part.end) }
     ensures small { IfOk result (λ part. IsSmallEnd nodes part.end) }
-    ensures patient { watch.entry.patient ≡ true → IfOk result (λ part. is_some part.end ≡ true) }
+    ensures patient { watch.entry.patient ≡ true → IfOk result (λ part. IsWholeEnd nodes part.end) }
 {
-    if levels == 0 || nodes < 2 || !is_open::<D, PatternTree<'_>>(alloc, tree, &root)? {
-        return visit_alone::<D, PatternTree<'_>, K>(alloc, tree, watch, root, nodes, keeper);
-    }
-    let children = children_of(alloc, tree, &root)?;
-    let mut keeper = keeper;
-    keeper.take(alloc, Node::Extend)?;
-    let part = visit_list::<D, K, R, G>(
-        rt,
-        alloc,
-        tree,
-        gate,
-        watch,
-        children,
-        levels - 1,
-        nodes - 1,
-        keeper,
-    )?;
-    Ok(Part {
-        end: end_behind(nodes, 1, 0, part.end),
-        keeper: part.keeper,
-    })
+    let cursor = Cursor::new(alloc, root);
+    visit_tree_at::<D, K, R, G>(rt, alloc, tree, gate, watch, cursor, nodes, keeper)
 }
 
-/// Visits the tree of a word by this thread alone, and tells the watch where it decides.
-fn visit_alone<D: Dictionary, T: Tree, K: PartKeeper>(
+/// Visits the words that are left at a cursor, at most so many nodes: none of their systems is solved yet.
+#[cycle(shares)]
+fn visit_tree_at<D: Dictionary, K: PartKeeper, R: Threads + Sync, G: Gate>(
+    rt: &R,
     alloc: Global,
-    tree: &T,
+    tree: &PatternTree<'_>,
+    gate: &G,
     watch: Watch<'_>,
-    root: Root,
+    cursor: Cursor,
     nodes: u64,
     keeper: K,
 ) -> Result<Part<K>, AllocError>
-    requires comes { ComesTo (T.search tree.now) root }
+    requires stands { Stands (search_of tree.now) nodes cursor }
     requires limit { nodes ≤ 1000000000 }
-    ensures visited { IfOk result (λ part. PartVisited K.keeps (beginning (T.search tree.now) (root_word root ∷ [])) nodes keeper part.keeper part.end) }
+    ensures visited { IfOk result (λ part. PartVisited K.keeps (beginning (search_of tree.now) (left_at (search_of tree.now) cursor)) nodes keeper part.keeper part.end) }
     ensures small { IfOk result (λ part. IsSmallEnd nodes part.end) }
-    ensures patient { watch.entry.patient ≡ true → IfOk result (λ part. is_some part.end ≡ true) }
+    ensures patient { watch.entry.patient ≡ true → IfOk result (λ part. IsWholeEnd nodes part.end) }
 {
+    let kept = tree.nothing(alloc);
+    let branch: Branch<D> = Branch::new(alloc);
+    visit_on::<D, K, R, G>(
+        rt, alloc, tree, gate, watch, cursor, kept, branch, nodes, keeper,
+    )
+}
+
+/// Visits the words that are left at a cursor, going on from a branch. Where a processor is free, the
+/// last of them are visited beside the others.
+#[cycle(shares)]
+fn visit_on<D: Dictionary, K: PartKeeper, R: Threads + Sync, G: Gate>(
+    rt: &R,
+    alloc: Global,
+    tree: &PatternTree<'_>,
+    gate: &G,
+    watch: Watch<'_>,
+    cursor: Cursor,
+    kept: Encoding,
+    branch: Branch<D>,
+    nodes: u64,
+    keeper: K,
+) -> Result<Part<K>, AllocError>
+    requires stands { Stands (search_of tree.now) nodes cursor }
+    requires limit { nodes ≤ 1000000000 }
+    requires kept { IsEncoding tree.now.file.now.automaton tree.now.pattern.now kept }
+    requires branch { IsBranch D.tableau D.pivot_of kept.system.rows branch }
+    ensures visited { IfOk result (λ part. PartVisited K.keeps (beginning (search_of tree.now) (left_at (search_of tree.now) cursor)) nodes keeper part.keeper part.end) }
+    ensures small { IfOk result (λ part. IsSmallEnd nodes part.end) }
+    ensures patient { watch.entry.patient ≡ true → IfOk result (λ part. IsWholeEnd nodes part.end) }
+{
+    let mut cursor = cursor;
+    let mut kept = kept;
+    let mut branch = branch;
     let mut keeper = keeper;
-    let end = visit_word::<D, T, K>(alloc, tree, watch, root, nodes, &mut keeper)?;
-    watch.tell(&end);
-    Ok(Part { end, keeper })
+    match visit_stretch::<D, PatternTree<'_>, K>(
+        alloc,
+        tree,
+        watch,
+        &mut cursor,
+        &mut kept,
+        &mut branch,
+        nodes,
+        &mut keeper,
+    )? {
+        Stretch::Ended(end) => {
+            watch.tell(&end);
+            Ok(Part { end, keeper })
+        }
+        Stretch::Shared {
+            count,
+            leaves,
+            later,
+        } => {
+            let left = nodes - count;
+            let part = visit_shared::<D, K, R, G>(
+                rt, alloc, tree, gate, watch, cursor, kept, branch, later, left, keeper,
+            )?;
+            Ok(Part {
+                end: end_behind(nodes, count, leaves, part.end),
+                keeper: part.keeper,
+            })
+        }
+    }
+}
+
+/// Visits the words of two cursors beside each other: those of the second come behind those of the
+/// first, which goes on from a branch in this thread.
+#[cycle(shares)]
+fn visit_shared<D: Dictionary, K: PartKeeper, R: Threads + Sync, G: Gate>(
+    rt: &R,
+    alloc: Global,
+    tree: &PatternTree<'_>,
+    gate: &G,
+    watch: Watch<'_>,
+    cursor: Cursor,
+    kept: Encoding,
+    branch: Branch<D>,
+    later: Cursor,
+    nodes: u64,
+    keeper: K,
+) -> Result<Part<K>, AllocError>
+    requires stands { Stands (search_of tree.now) nodes cursor }
+    requires later { Stands (search_of tree.now) nodes later }
+    requires limit { nodes ≤ 1000000000 }
+    requires kept { IsEncoding tree.now.file.now.automaton tree.now.pattern.now kept }
+    requires branch { IsBranch D.tableau D.pivot_of kept.system.rows branch }
+    ensures visited { IfOk result (λ part. PartVisited K.keeps (beginning (search_of tree.now) (left_at (search_of tree.now) cursor ++ left_at (search_of tree.now) later)) nodes keeper part.keeper part.end) }
+    ensures small { IfOk result (λ part. IsSmallEnd nodes part.end) }
+    ensures patient { watch.entry.patient ≡ true → IfOk result (λ part. IsWholeEnd nodes part.end) }
+{
+    let late = keeper.later(alloc)?;
+    let low = watch.first_half();
+    let high = watch.half_beside();
+    let ended = AtomicU64::new(0);
+    let ended = &ended;
+    let back = move || -> Result<Part<K>, AllocError>
+        requires { IsSync R.row × IsSync G.row × IsSend K.row × Stands (search_of tree.now) nodes later × (nodes ≤ 1000000000) }
+        ensures visited { IfOk result (λ part. PartVisited K.keeps (beginning (search_of tree.entry.now) (left_at (search_of tree.entry.now) later)) nodes late part.keeper part.end) }
+        ensures small { IfOk result (λ part. IsSmallEnd nodes part.end) }
+        ensures patient { high.entry.patient ≡ true → IfOk result (λ part. IsWholeEnd nodes part.end) }
+    {
+        gate.enter();
+        let part = visit_tree_at::<D, K, R, G>(rt, alloc, tree, gate, high, later, nodes, late);
+        high.came_back(ended);
+        part
+    };
+    let front = move || -> Result<Part<K>, AllocError>
+        requires { IsSync R.row × IsSync G.row × IsSend K.row × Stands (search_of tree.now) nodes cursor × (nodes ≤ 1000000000) × IsEncoding tree.now.file.now.automaton tree.now.pattern.now kept × IsBranch D.tableau D.pivot_of kept.system.rows branch }
+        ensures visited { IfOk result (λ part. PartVisited K.keeps (beginning (search_of tree.entry.now) (left_at (search_of tree.entry.now) cursor)) nodes keeper part.keeper part.end) }
+        ensures small { IfOk result (λ part. IsSmallEnd nodes part.end) }
+        ensures patient { low.entry.patient ≡ true → IfOk result (λ part. IsWholeEnd nodes part.end) }
+    {
+        gate.enter();
+        let part = visit_on::<D, K, R, G>(
+            rt, alloc, tree, gate, low, cursor, kept, branch, nodes, keeper,
+        );
+        low.came_back(ended);
+        part
+    };
+    let (second, first) = join(rt, back, front);
+    watch.takes_in(high);
+    merge(alloc, nodes, first?, second?)
 }

@@ -1,17 +1,18 @@
 //! How the ends of the parts of a visit are put together, in order.
 #![tactic(auto)]
 
-ghost use Rattle.std.specs.Prelude.{◌+◌, ◌-◌, ◌<◌, ◌≤◌, ◌≡◌, ◌++◌, IfNone, IfOk, IfSome, List, Some, is_some, true};
+ghost use Rattle.std.specs.Prelude.{ℕ, ◌+◌, ◌-◌, ◌<◌, ◌≤◌, ◌≡◌, ◌++◌, IfNone, IfOk, IfSome, List};
 ghost use Rattle.ta_encode.specs.Search.{Pending, Search};
 ghost use Rattle.ta_walk.specs.declared.end.TreeEnd.TheVariants.{Refuted};
-ghost use Rattle.ta_walk.specs.Inside.Parts.{Begins, IsNotRefuted, IsSmallEnd, PartVisited, beginning, behind, part_behind};
+ghost use Rattle.ta_walk.specs.Inside.Parts.{Begins, IsNotRefuted, IsSmallEnd, IsWholeEnd, PartVisited, beginning, behind};
 
 use crate::end::TreeEnd;
 use crate::keeper::{Keeper, PartKeeper};
 use crate::part::Part;
 use std::alloc::{AllocError, Global};
 
-/// The two halves of a list as one part: the ends in order, and the nodes one after the other.
+/// Two parts that were visited beside each other as one: the ends in order, and the nodes one after
+/// the other.
 pub(crate) fn merge<K: PartKeeper>(
     alloc: Global,
     nodes: u64,
@@ -25,7 +26,7 @@ pub(crate) fn merge<K: PartKeeper>(
         → PartVisited K.keeps (beginning s ws) nodes begun first.keeper first.end → PartVisited K.keeps (beginning s vs) nodes late second.keeper second.end → Begins K.begins K.keeps begun late
         → IfOk result (λ whole. PartVisited K.keeps (beginning s (ws ++ vs)) nodes begun whole.keeper whole.end) }
     ensures small { IfOk result (λ whole. IsSmallEnd nodes whole.end) }
-    ensures patient { is_some first.end ≡ true → is_some second.end ≡ true → IfOk result (λ whole. is_some whole.end ≡ true) }
+    ensures whole { IsWholeEnd nodes first.end → IsWholeEnd nodes second.end → IfOk result (λ whole. IsWholeEnd nodes whole.end) }
 {
     let Some((count, leaves)) = refuted(&first.end) else {
         return Ok(Part {
@@ -33,7 +34,29 @@ pub(crate) fn merge<K: PartKeeper>(
             keeper: first.keeper,
         });
     };
-    let mut keeper = first.keeper;
+    add(alloc, nodes, count, leaves, first.keeper, second)
+}
+
+/// A refuted part, and one behind it, as one.
+pub(crate) fn add<K: PartKeeper>(
+    alloc: Global,
+    nodes: u64,
+    count: u64,
+    leaves: u64,
+    keeper: K,
+    second: Part<K>,
+) -> Result<Part<K>, AllocError>
+    requires limit { nodes ≤ 1000000000 }
+    requires within { count ≤ nodes }
+    requires leaves { leaves ≤ count }
+    requires small { (later : ℕ) × IsSmallEnd later second.end }
+    ensures visited { (s : Search) (ws vs : List Pending) (later : ℕ) (begun late : K)
+        → PartVisited K.keeps (beginning s ws) nodes begun keeper (Refuted count leaves) → PartVisited K.keeps (beginning s vs) later late second.keeper second.end → Begins K.begins K.keeps begun late
+        → IfOk result (λ whole. PartVisited K.keeps (beginning s (ws ++ vs)) nodes begun whole.keeper whole.end) }
+    ensures small { IfOk result (λ whole. IsSmallEnd nodes whole.end) }
+    ensures whole { (later : ℕ) → nodes ≤ later + count → IsWholeEnd later second.end → IfOk result (λ whole. IsWholeEnd nodes whole.end) }
+{
+    let mut keeper = keeper;
     keeper.append(alloc, second.keeper)?;
     Ok(Part {
         end: end_behind(nodes, count, leaves, second.end),
@@ -42,46 +65,26 @@ pub(crate) fn merge<K: PartKeeper>(
 }
 
 /// How many nodes and leaves a part has that is refuted.
-pub(crate) fn refuted(end: &Option<TreeEnd>) -> Option<(u64, u64)>
-    ensures some { IfSome result (λ size. end.now ≡ Some (Refuted size.0 size.1)) }
+pub(crate) fn refuted(end: &TreeEnd) -> Option<(u64, u64)>
+    ensures some { IfSome result (λ size. end.now ≡ Refuted size.0 size.1) }
     ensures none { IfNone result (IsNotRefuted end.now) }
 {
     match end {
-        Some(TreeEnd::Refuted { count, leaves }) => Some((*count, *leaves)),
-        Some(TreeEnd::Found { .. } | TreeEnd::Spent { .. } | TreeEnd::Overflow { .. }) | None =>
-            None,
+        TreeEnd::Refuted { count, leaves } => Some((*count, *leaves)),
+        TreeEnd::Found { .. } | TreeEnd::Spent { .. } | TreeEnd::Overflow { .. } => None,
     }
 }
 
 /// The end of a part that came to some words behind so many nodes, of which so many are leaves, where
-/// the part of these words ended so.
-pub(crate) fn end_behind(
-    nodes: u64,
-    count: u64,
-    leaves: u64,
-    end: Option<TreeEnd>,
-) -> Option<TreeEnd>
+/// the part of these words ended so: the budget is spent where these are too many.
+pub(crate) fn end_behind(nodes: u64, count: u64, leaves: u64, end: TreeEnd) -> TreeEnd
     requires limit { nodes ≤ 1000000000 }
     requires within { count ≤ nodes }
     requires leaves { leaves ≤ count }
-    requires small { IsSmallEnd nodes end }
-    ensures is { result ≡ part_behind nodes count leaves end }
-    ensures small { IsSmallEnd nodes result }
-{
-    match end {
-        None => None,
-        Some(end) => Some(moved(nodes, count, leaves, end)),
-    }
-}
-
-/// The end with so many nodes and leaves in front; the budget is spent where these are too many.
-fn moved(nodes: u64, count: u64, leaves: u64, end: TreeEnd) -> TreeEnd
-    requires limit { nodes ≤ 1000000000 }
-    requires within { count ≤ nodes }
-    requires leaves { leaves ≤ count }
-    requires small { IsSmallEnd nodes (Some end) }
+    requires small { (later : ℕ) × IsSmallEnd later end }
     ensures is { result ≡ behind nodes count leaves end }
-    ensures small { IsSmallEnd nodes (Some result) }
+    ensures small { IsSmallEnd nodes result }
+    ensures whole { (later : ℕ) → nodes ≤ later + count → IsWholeEnd later end → IsWholeEnd nodes result }
 {
     let left = nodes - count;
     match end {
@@ -102,6 +105,9 @@ fn moved(nodes: u64, count: u64, leaves: u64, end: TreeEnd) -> TreeEnd
             start_mask,
             word,
             values,
+        },
+        TreeEnd::Spent { count: more } if more <= left => TreeEnd::Spent {
+            count: count + more,
         },
         TreeEnd::Overflow { node: more, kind } if more <= left => TreeEnd::Overflow {
             node: count + more,

@@ -1,12 +1,13 @@
-//! The visit of the tree of one word, by one thread.
+//! The visit of the tree at a cursor, by one thread.
 #![tactic(auto)]
 
-ghost use Rattle.std.specs.Prelude.{◌+◌, ◌<◌, ◌≤◌, ◌≡◌, ◌++◌, [], ◌∷◌, IfOk, List, Some, None, is_some, true};
+ghost use Rattle.std.specs.Prelude.{◌+◌, ◌<◌, ◌≤◌, ◌≡◌, ◌++◌, [], ◌∷◌, IfOk, List, Some, None, true};
 ghost use Rattle.ta_cert.specs.declared.line.Node.{Node};
 ghost use Rattle.ta_encode.specs.Search.{Pending, parts};
-ghost use Rattle.ta_cursor.specs.Cursors.{GoesOn, IsWithin, Within, here};
+ghost use Rattle.ta_cursor.specs.Cursors.{GoesOn, IsWithin, Shares, Within, here, left_at};
+ghost use Rattle.ta_simplex.specs.Branch.{IsBranch};
 ghost use Rattle.ta_walk.specs.Visit.{NodeAt};
-ghost use Rattle.ta_walk.specs.Inside.Parts.{ComesTo, IsSmallEnd, PartEnds, beginning, root_word};
+ghost use Rattle.ta_walk.specs.Inside.Parts.{IsSmallStretch, IsWholeStretch, OnShared, Stands, StretchEnds};
 
 use crate::end::TreeEnd;
 use crate::keeper::Keeper;
@@ -14,60 +15,108 @@ use crate::node::{Solved, grow, solve_node};
 use crate::part::Watch;
 use crate::walking::leaves_with;
 use std::alloc::{AllocError, Global};
+use std::mem;
 use ta_cert::Node;
-use ta_cursor::{Cursor, Root, Tree, Written};
+use ta_cursor::{Cursor, Tree, Written};
 use ta_dense::Dictionary;
 use ta_simplex::Branch;
 
-/// Visits the tree of a word, at most so many nodes of it, and hands each node on as it comes. It
-/// gives up where its watch says so.
-pub(crate) fn visit_word<D: Dictionary, T: Tree, K: Keeper>(
+/// What a visit comes to before another thread is asked.
+#[derive(Drop)]
+pub(crate) enum Stretch {
+    /// It ended.
+    Ended(TreeEnd),
+    /// So many nodes were visited, so many of them leaves, and a cursor gave words to this one.
+    Shared {
+        count: u64,
+        leaves: u64,
+        later: Cursor,
+    },
+}
+
+/// Visits the words that are left at a cursor, at most so many nodes, and hands each node on as it
+/// comes. It stops where its watch says so, and where words are given to another cursor.
+pub(crate) fn visit_stretch<D: Dictionary, T: Tree, K: Keeper>(
     alloc: Global,
     tree: &T,
     watch: Watch<'_>,
-    root: Root,
+    cursor: &mut Cursor,
+    kept: &mut T::Kept,
+    branch: &mut Branch<D>,
     nodes: u64,
     keeper: &mut K,
-) -> Result<Option<TreeEnd>, AllocError>
-    requires comes { ComesTo (T.search tree.now) root }
+) -> Result<Stretch, AllocError>
+    requires stands { Stands (T.search tree.now) nodes cursor.old }
     requires limit { nodes ≤ 1000000000 }
-    ensures ends { (first : K) (before : List Node) → K.keeps first keeper.old before → IfOk result (PartEnds (beginning (T.search tree.now) (root_word root ∷ [])) nodes (λ more. K.keeps first keeper.new (before ++ more))) }
-    ensures small { IfOk result (IsSmallEnd nodes) }
-    ensures patient { watch.entry.patient ≡ true → IfOk result (λ end. is_some end ≡ true) }
+    requires kept { T.is_kept tree.now kept.old }
+    requires branch { IsBranch D.tableau D.pivot_of (T.system_of kept.old).rows branch.old }
+    ensures ends { (first : K) (before : List Node) → K.keeps first keeper.old before → IfOk result (StretchEnds (T.search tree.now) (left_at (T.search tree.now) cursor.old) nodes cursor.new (λ more. K.keeps first keeper.new (before ++ more))) }
+    ensures small { IfOk result (IsSmallStretch (T.search tree.now) nodes cursor.new) }
+    ensures kept { IfOk result (OnShared (T.is_kept tree.now kept.new)) }
+    ensures branch { IfOk result (OnShared (IsBranch D.tableau D.pivot_of (T.system_of kept.new).rows branch.new)) }
+    ensures patient { watch.entry.patient ≡ true → IfOk result (IsWholeStretch nodes) }
 {
-    let mut cursor = Cursor::new(alloc, root);
-    let mut kept = tree.nothing(alloc);
-    let mut branch: Branch<D> = Branch::new(alloc);
     let mut leaves = 0;
     for before in 0..nodes {
-        if watch.is_late() {
-            return Ok(None);
+        if watch.can_stop(before) {
+            return Ok(Stretch::Ended(TreeEnd::Spent { count: before }));
         }
         let count = before + 1;
-        let Written { kept: next, same } = grow(alloc, tree, &cursor, kept)?;
-        kept = next;
-        let system = tree.system(&kept);
-        match solve_node(alloc, tree, &cursor, system, same, &mut branch)? {
-            Solved::Leaves(kind) => return Ok(Some(TreeEnd::Overflow { node: count, kind })),
+        let last = mem::replace(kept, tree.nothing(alloc));
+        let Written { kept: next, same } = grow(alloc, tree, cursor, last)?;
+        *kept = next;
+        match solve_node(alloc, tree, cursor, tree.system(kept), same, branch)? {
+            Solved::Leaves(kind) => {
+                return Ok(Stretch::Ended(TreeEnd::Overflow { node: count, kind }));
+            }
             Solved::Whole(values) => {
-                return Ok(Some(TreeEnd::Found {
+                return Ok(Stretch::Ended(TreeEnd::Found {
                     count,
                     start_mask: cursor.start_mask(),
-                    word: cursor.into_word(),
+                    word: cursor.word().again(),
                     values,
                 }));
             }
             Solved::Inner(node) => {
-                let more = go_on(tree, &mut cursor, &node)?;
+                let more = go_on(tree, cursor, &node)?;
                 leaves = leaves_with(leaves, &node);
                 keeper.take(alloc, node)?;
                 if !more {
-                    return Ok(Some(TreeEnd::Refuted { count, leaves }));
+                    return Ok(Stretch::Ended(TreeEnd::Refuted { count, leaves }));
+                }
+                if let Some(later) = give_away(alloc, tree, watch, count, cursor)? {
+                    return Ok(Stretch::Shared {
+                        count,
+                        leaves,
+                        later,
+                    });
                 }
             }
         }
     }
-    Ok(Some(TreeEnd::Spent { count: nodes }))
+    Ok(Stretch::Ended(TreeEnd::Spent { count: nodes }))
+}
+
+/// Gives the last words of a cursor to another one, where a processor is free and words are left
+/// behind one without bounds.
+fn give_away<T: Tree>(
+    alloc: Global,
+    tree: &T,
+    watch: Watch<'_>,
+    count: u64,
+    cursor: &mut Cursor,
+) -> Result<Option<Cursor>, AllocError>
+    requires { IsWithin (T.search tree.now) cursor.old }
+    ensures { IfOk result (Shares (T.search tree.now) cursor.old cursor.new) }
+{
+    if !watch.looks_around(count) || !cursor.bounds().is_empty() || !watch.goes_beside() {
+        return Ok(None);
+    }
+    let later = cursor.share(alloc, tree)?;
+    if later.is_none() {
+        watch.stays();
+    }
+    Ok(later)
 }
 
 /// Goes on behind the node that stands at a cursor, and says whether another comes.

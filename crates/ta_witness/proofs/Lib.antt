@@ -1,9 +1,9 @@
 -- lemmas for the crates above
 pub mod WitnessOnce
 mod Lookups
-mod Backward
-mod Marks
-mod Starts
-mod Witnesses
+pub mod Backward
+pub mod Marks
+pub mod Starts
+pub mod Witnesses
 mod Making
 mod Endings

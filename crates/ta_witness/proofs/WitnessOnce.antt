@@ -94,7 +94,7 @@ natural_back : (a : Automaton) (p : Pattern) (solution : Solution) (vs : List �
 natural_back a p solution vs pieces are of =
     subst (λ (zs : List ℤ). PiecesBack a (unknown_value (meanings a p solution.start_mask (reverse solution.word)) zs) (reverse solution.word) (reverse pieces)) are (pieces_back a (value_in a p solution) solution.word pieces of)
 
-run_same : (r s : Run) → r.pattern ≡ s.pattern → r.parameters ≡ s.parameters → r.counts ≡ s.counts → r.lines ≡ s.lines → r ≡ s
+pub run_same : (r s : Run) → r.pattern ≡ s.pattern → r.parameters ≡ s.parameters → r.counts ≡ s.counts → r.lines ≡ s.lines → r ≡ s
 run_same r s pattern parameters counts lines =
     ap (λ k. record r { pattern = k }) pattern ∙ ap (λ vs. record r { pattern = s.pattern; parameters = vs }) parameters ∙ ap (λ vs. record r { pattern = s.pattern; parameters = s.parameters; counts = vs }) counts ∙ ap (λ ls. record s { lines = ls }) lines
 

@@ -36,12 +36,12 @@ use Rattle.ta_witness.proofs.Marks.{all_steps, position_at, marks_in_order}
 use Rattle.ta_witness.proofs.Starts.{parameters_are, counts_are}
 
 -- a run of pieces whose events and steps are those of a solution
-record Parts (a : Automaton) (p : Pattern) (start : ℕ) (word : List Element) (vs : List ℕ) (run : Run) : Type 0 where
-  pieces : List Piece
-  are : PiecesOf a (values_of a p start (reverse word) vs) word pieces
-  parameters : run.parameters ≡ map (λ i. values_of a p start (reverse word) vs (Parameter i)) (numbers_from 0 (length a.parameters))
-  counts : run.counts ≡ map (λ l. values_of a p start (reverse word) vs (Start l)) a.initial
-  lines : run.lines ≡ pieces_lines pieces
+pub record Parts (a : Automaton) (p : Pattern) (start : ℕ) (word : List Element) (vs : List ℕ) (run : Run) : Type 0 where
+  pub pieces : List Piece
+  pub are : PiecesOf a (values_of a p start (reverse word) vs) word pieces
+  pub parameters : run.parameters ≡ map (λ i. values_of a p start (reverse word) vs (Parameter i)) (numbers_from 0 (length a.parameters))
+  pub counts : run.counts ≡ map (λ l. values_of a p start (reverse word) vs (Start l)) a.initial
+  pub lines : run.lines ≡ pieces_lines pieces
 
 -- the only events that a piece marks are those of its element
 marked_event : (value : Meaning → ℤ) (k : ℕ) (element : Element) (piece : Piece) (e : ℕ) → EndsPiece value k element piece → In e piece.marks → element ≡ Event e
@@ -92,7 +92,7 @@ shows_parts file n p at scope start word vs solved run h =
     } in
     show a p run h.pieces happen (marks_in_order a p start value earlier past h.pieces solved.legal solved.complete back)
 
-each_item : {X : Type 0} (P : X → Type 0) (xs : List X) → ((k : ℕ) (x : X) → slice_get xs k ≡ Some x → P x) → Each P xs
+pub each_item : {X : Type 0} (P : X → Type 0) (xs : List X) → ((k : ℕ) (x : X) → slice_get xs k ≡ Some x → P x) → Each P xs
 each_item P [] h = tt
 each_item P (x ∷ xs) h = (h 0 x refl, each_item P xs (λ k y at. h (suc k) y at))
 
@@ -123,7 +123,7 @@ short_parts file n p scope start word vs solved run h =
       fewer m n k s b c = let d = times_more m n k b in omega arith
 
 -- the parts of a solution's run
-parts_of : (file : File) (solution : Solution) (s : IsSolution file solution) (run : Run) (w : WitnessOf file solution run) → Parts file.automaton s.pattern solution.start_mask solution.word s.values run
+pub parts_of : (file : File) (solution : Solution) (s : IsSolution file solution) (run : Run) (w : WitnessOf file solution run) → Parts file.automaton s.pattern solution.start_mask solution.word s.values run
 parts_of file solution s run w =
     let a = file.automaton in
     let same : w.pattern ≡ s.pattern = same_pattern w.pattern s.pattern (sym w.named ∙ s.named) in

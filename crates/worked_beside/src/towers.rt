@@ -28,7 +28,7 @@ struct Course {
 }
 
 #[derive(Drop)]
-enum Step<D: Dictionary> {
+enum Step<D: Drop> {
     Next(D),
     Ended(End),
 }
@@ -96,6 +96,27 @@ fn next_step<D: Dictionary>(alloc: Global, dictionary: D) -> Result<Step<D>, All
     }
 }
 
+// One pivot over each kind of rows, where these are the same.
+fn next_steps(
+    alloc: Global,
+    wide: Beside,
+    narrow: NarrowDictionary,
+) -> Result<Step<(Beside, NarrowDictionary)>, AllocError> {
+    if !are_same(&wide, &narrow) {
+        return Ok(Step::Ended(End::Apart));
+    }
+    let first = next_step(alloc, wide)?;
+    let second = next_step(alloc, narrow)?;
+    match (first, second) {
+        (Step::Next(next), Step::Next(other)) => Ok(Step::Next((next, other))),
+        (Step::Ended(end), Step::Ended(other)) => {
+            let end = if end == other { end } else { End::Apart };
+            Ok(Step::Ended(end))
+        }
+        _ => Ok(Step::Ended(End::Apart)),
+    }
+}
+
 // The pivots of the least-index rule over each kind of rows, as long as these are the same.
 fn course_of(alloc: Global, system: &System) -> Result<Course, AllocError>
     requires { variables system.now < 2 ^ 32 }
@@ -107,33 +128,16 @@ fn course_of(alloc: Global, system: &System) -> Result<Course, AllocError>
         if wide_at.is_none() && narrow.is_wide() {
             wide_at = Some(pivots);
         }
-        if !are_same(&wide, &narrow) {
-            return Ok(Course {
-                pivots,
-                wide_at,
-                end: End::Apart,
-            });
-        }
-        let first = next_step(alloc, wide)?;
-        let second = next_step(alloc, narrow)?;
-        match (first, second) {
-            (Step::Next(next), Step::Next(other)) => {
-                wide = next;
-                narrow = other;
+        match next_steps(alloc, wide, narrow)? {
+            Step::Next(both) => {
+                wide = both.0;
+                narrow = both.1;
             }
-            (Step::Ended(end), Step::Ended(other)) => {
-                let end = if end == other { end } else { End::Apart };
+            Step::Ended(end) => {
                 return Ok(Course {
                     pivots,
                     wide_at,
                     end,
-                });
-            }
-            _ => {
-                return Ok(Course {
-                    pivots,
-                    wide_at,
-                    end: End::Apart,
                 });
             }
         }

@@ -38,51 +38,56 @@ fn length_of(read: Result<List<u8>, WholeFault>) -> Result<usize, WholeFault> {
     Ok(read?.as_slice().len())
 }
 
+/// A read of a file of this name up to a limit, and the length or the refusal that is wanted.
+type Read = (&'static str, u16, Result<usize, WholeFault>);
+
+/// Two reads of a shelf of the four files, behind the numbers of its calls that fail.
+const READS: [(&[u64], [Read; 2]); 7] = [
+    (
+        &[0],
+        [("three", 3, Ok(3)), ("four", 3, Err(WholeFault::TooLong))],
+    ),
+    (
+        &[0],
+        [("empty", 0, Ok(0)), ("three", 0, Err(WholeFault::TooLong))],
+    ),
+    (
+        &[0],
+        [
+            ("gone", 9, Err(WholeFault::Missing)),
+            ("gone", 9, Err(WholeFault::Missing)),
+        ],
+    ),
+    (
+        &[0],
+        [
+            ("long", 20_000, Ok(20_000)),
+            ("long", 19_999, Err(WholeFault::TooLong)),
+        ],
+    ),
+    (
+        &[1],
+        [("three", 9, Err(WholeFault::Failed)), ("three", 9, Ok(3))],
+    ),
+    (
+        &[2],
+        [("three", 9, Err(WholeFault::Failed)), ("three", 9, Ok(3))],
+    ),
+    (
+        &[3, 9],
+        [("three", 9, Ok(3)), ("gone", 9, Err(WholeFault::Failed))],
+    ),
+];
+
 #[test]
 fn reads_whole_files(rt: HostRuntime) -> Result<(), Fail> {
     let alloc = rt.alloc();
-    let rows = [
-        (
-            [0].as_slice(),
-            [("three", 3, Ok(3)), ("four", 3, Err(WholeFault::TooLong))],
-        ),
-        (
-            &[0],
-            [("empty", 0, Ok(0)), ("three", 0, Err(WholeFault::TooLong))],
-        ),
-        (
-            &[0],
-            [
-                ("gone", 9, Err(WholeFault::Missing)),
-                ("gone", 9, Err(WholeFault::Missing)),
-            ],
-        ),
-        (
-            &[0],
-            [
-                ("long", 20_000, Ok(20_000)),
-                ("long", 19_999, Err(WholeFault::TooLong)),
-            ],
-        ),
-        (
-            &[1],
-            [("three", 9, Err(WholeFault::Failed)), ("three", 9, Ok(3))],
-        ),
-        (
-            &[2],
-            [("three", 9, Err(WholeFault::Failed)), ("three", 9, Ok(3))],
-        ),
-        (
-            &[3, 9],
-            [("three", 9, Ok(3)), ("gone", 9, Err(WholeFault::Failed))],
-        ),
-    ];
-    for (failing, reads) in rows {
+    for (failing, reads) in READS {
         let files = four_files(alloc)?;
         assert!(rt; are_distinct(files.as_slice()));
         let mut shelf = MemoryShelf::new(files, numbers(alloc, failing)?)?;
         for (name, limit, want) in reads {
-            let read = length_of(read_whole(alloc, &mut shelf, name, limit));
+            let read = length_of(read_whole(alloc, &mut shelf, name, u64::from(limit)));
             assert_eq!(rt; read, want, "{name} up to {limit}, where {failing:?} fail");
         }
     }

@@ -1,4 +1,4 @@
-//! Walks over a dictionary for which there is never memory, and through a gate.
+//! Walks over a dictionary for which there is never memory, through a gate, and over words of rest.
 
 use std::alloc::{AllocError, Global};
 use std::sync::atomic::{AtomicU64, Ordering};
@@ -10,11 +10,16 @@ use ta_implied::Orders;
 use ta_linear::System;
 use ta_maker::make_family;
 use ta_meaning::read_file;
+use ta_rest::rest_scope;
+use ta_resting::rest_walk;
 use ta_syntax::print_tree;
 use ta_walk::{Gate, WalkEnd, walk, walk_gated};
 
 const FILE: &[u8] =
     b"automaton first; parameters n; shared; locations A initial, B; processes n; resilience n >= 1; rule r: A -> B; pattern reached { event done: B >= 1; }";
+
+const LEFT: &[u8] =
+    b"automaton first; parameters n; shared; locations A initial, B; processes n; resilience n >= 1; rule r: A -> B; pattern left { event stuck: A >= 1; }";
 
 /// Dense rows that are never made of a system.
 #[derive(Drop)]
@@ -163,5 +168,16 @@ fn halves_meet(rt: HostRuntime) -> Result<(), Fail> {
     )?;
     assert!(rt; matches!(end, WalkEnd::Refuted { count: 10, .. }));
     assert!(rt; gate.vain.load(Ordering::SeqCst) == 0);
+    Ok(())
+}
+
+// At rest nobody is in A, so the word of the event is refuted.
+#[test]
+fn words_of_rest_are_walked(rt: HostRuntime) -> Result<(), Fail> {
+    let scoped = read_file(rt.alloc(), LEFT)?;
+    let rest = rest_scope(rt.alloc(), scoped)?;
+    assert!(rt; !rest.ending().file().patterns.as_slice().is_empty());
+    let end = rest_walk::<NarrowDictionary>(rt.alloc(), &rest, 0, 10)?;
+    assert!(rt; matches!(end, WalkEnd::Refuted { count: 2, .. }));
     Ok(())
 }

@@ -1,14 +1,12 @@
--- The rows of a word without bounds, and multipliers of the rows that a leaf names
+-- Multipliers of the rows that a leaf names, and the system of a word without bounds
 use Rattle.std.specs.Prelude.{ℕ, ℤ, ◌+◌, List, [], ◌∷◌}
 use Rattle.ta_linear.specs.declared.row.System.{System}
-use Rattle.ta_automaton.specs.declared.automaton.Automaton.{Automaton}
-use Rattle.ta_automaton.specs.declared.pattern.Pattern.{Pattern}
-use Rattle.ta_encode.specs.Code.{SystemOf}
-use Rattle.ta_encode.specs.InPreorder.{Pending}
+use Rattle.ta_encode.specs.Code.{SystemAt}
+use Rattle.ta_encode.specs.Search.{Pending, Search}
 
 -- the system of a word, its bounds left out
-abbrev pub WithoutBounds : Automaton → Pattern → Pending → System → Type 0
-WithoutBounds a p w system = SystemOf a p w.start w.past [] system
+abbrev pub WithoutBounds : Search → Pending → System → Type 0
+WithoutBounds search w system = SystemAt search (record w { bounds = [] }) system
 
 -- multipliers numbered by their places, from a number on
 abbrev pub renumbered : ℕ → List (ℕ × ℤ) → List (ℕ × ℤ)

@@ -1,26 +1,26 @@
 -- The lines of a piece, taken one after another
 use Rattle.std.specs.Prelude.{ℕ, ◌<◌, ◌≤◌, List, ◌++◌, length, take, Option, Some, None, Result, Ok, Err}
-use Rattle.ta_automaton.specs.declared.file.File.{File}
 use Rattle.ta_cert.specs.declared.fault.CertFault.{CertFault}
 use Rattle.ta_cert.specs.declared.fault.CertFault.TheVariants as fault
 use Rattle.ta_cert.specs.declared.reader.Reader.{Reader}
 use Rattle.ta_check.specs.declared.position.Position.{Position}
+use Rattle.ta_check.specs.Subjects.{Subject}
 use Rattle.ta_check.specs.Checkers.{Stand}
-use Rattle.ta_check.specs.Faults.{IsLasting}
+use Rattle.ta_check.specs.Faults.{IsLastingFor}
 
 -- a reader and a position stand behind some text
-abbrev pub StandSomewhere : File → Reader → Position → Type 0
-StandSomewhere file reader position = (text : List ℕ) × Stand file reader position text
+abbrev pub StandSomewhere : Subject → Reader → Position → Type 0
+StandSomewhere subject reader position = (text : List ℕ) × Stand subject reader position text
 
 -- where they stand behind a piece that makes the text this one; want of memory is free
-abbrev pub TakenTo : File → List ℕ → Reader → Position → Result (Unit {0}) CertFault → Type 0
-TakenTo file text reader position (Ok _) = Stand file reader position text
-TakenTo file text reader position (Err fault.Memory) = Unit {0}
-TakenTo file text reader position (Err f) = IsLasting file text f
+abbrev pub TakenTo : Subject → List ℕ → Reader → Position → Result (Unit {0}) CertFault → Type 0
+TakenTo subject text reader position (Ok _) = Stand subject reader position text
+TakenTo subject text reader position (Err fault.Memory) = Unit {0}
+TakenTo subject text reader position (Err f) = IsLastingFor subject text f
 
 -- where they stand behind the bytes up to the next line feed, so many, or behind all where there is none
-abbrev pub NextTaken : File → List ℕ → List ℕ → Reader → Position → Result (Option ℕ) CertFault → Type 0
-NextTaken file text bytes reader position (Ok None) = Stand file reader position (text ++ bytes)
-NextTaken file text bytes reader position (Ok (Some taken)) = (0 < taken) × (taken ≤ length bytes) × Stand file reader position (text ++ take taken bytes)
-NextTaken file text bytes reader position (Err fault.Memory) = Unit {0}
-NextTaken file text bytes reader position (Err f) = IsLasting file (text ++ bytes) f
+abbrev pub NextTaken : Subject → List ℕ → List ℕ → Reader → Position → Result (Option ℕ) CertFault → Type 0
+NextTaken subject text bytes reader position (Ok None) = Stand subject reader position (text ++ bytes)
+NextTaken subject text bytes reader position (Ok (Some taken)) = (0 < taken) × (taken ≤ length bytes) × Stand subject reader position (text ++ take taken bytes)
+NextTaken subject text bytes reader position (Err fault.Memory) = Unit {0}
+NextTaken subject text bytes reader position (Err f) = IsLastingFor subject (text ++ bytes) f

@@ -19,6 +19,13 @@ pub record PutsText (number : ℕ) (report name text : List ℕ) (answer : Answe
   pub holds : put_bytes put ≡ text
   pub within : length text ≤ CERTIFICATE.bytes
 
+-- the refusal says that the certificate for the file of a name is too long
+abbrev pub SaysLong : List ℕ → Refusal → Type 0
+SaysLong name (Refused n who why) = (n ≡ CERTIFICATE.number) × (file_line who.now (phrase_text why) ≡ long_line name)
+SaysLong name (ReadFailed who) = ⊥
+SaysLong name (PutFailed who) = ⊥
+SaysLong name Memory = ⊥
+
 -- the text is put, or it is too long
 abbrev pub Certifies : ℕ → List ℕ → List ℕ → List ℕ → Result Answer Refusal → Type 0
 Certifies number report name text (Ok answer) = PutsText number report name text answer

@@ -1,12 +1,12 @@
 -- Judging a certificate while it is read
 use Rattle.std.specs.Prelude.{ℕ, ◌≡◌, ◌<◌, ◌≤◌, ◌⊎◌, Bool, true, false, List, ◌++◌, length, take, Option, None, Some, Result, Ok, Err}
-use Rattle.ta_automaton.specs.declared.file.File.{File}
 use Rattle.ta_cert.specs.declared.fault.CertFault.{CertFault}
 use Rattle.ta_cert.specs.declared.fault.CertFault.TheVariants as fault
 use Rattle.ta_check.specs.declared.accepted.Accepted.{Accepted}
 use Rattle.ta_check.specs.declared.checker.Checker.{Checker}
-use Rattle.ta_check.specs.Checkers.{StandsFor}
-use Rattle.ta_check.specs.Faults.{IsLasting}
+use Rattle.ta_check.specs.Checkers.{StandsFor, subject_of}
+use Rattle.ta_check.specs.Faults.{IsLastingFor}
+use Rattle.ta_check.specs.Subjects.{Subject}
 use Rattle.ta_report.specs.Faults.{cert_fault_text}
 use Rattle.ta_shelf.specs.Calls.{Call, Grew, ReadsFirst, Spells}
 use Rattle.ta_shelf.specs.Put.{Told}
@@ -39,19 +39,19 @@ pub record JudgedWhole (files : Option Told) (name : List ℕ) (checker : Checke
   pub stands : StandsFor checker text
 
 -- the certificate is no use
-abbrev pub Unproved : File → Option Told → List ℕ → Refusal → List Call → Type 0
-Unproved file files name refusal calls = Stage {T = Accepted} (certificate_kind file) (λ accepted. accepted.patterns) files name (Err refusal) calls
+abbrev pub Unproved : Subject → Option Told → List ℕ → Refusal → List Call → Type 0
+Unproved subject files name refusal calls = Stage {T = Accepted} (certificate_kind subject) (λ accepted. accepted.patterns) files name (Err refusal) calls
 
 -- what judging all pieces gives
-abbrev pub Judged : File → Option Told → List ℕ → Result Checker Refusal → List Call → Type 0
-Judged file files name (Ok checker) calls = JudgedWhole files name checker calls × (checker.scoped.now.file ≡ file)
-Judged file files name (Err refusal) calls = Unproved file files name refusal calls
+abbrev pub Judged : Subject → Option Told → List ℕ → Result Checker Refusal → List Call → Type 0
+Judged subject files name (Ok checker) calls = JudgedWhole files name checker calls × (subject_of checker ≡ subject)
+Judged subject files name (Err refusal) calls = Unproved subject files name refusal calls
 
 -- what judging one piece gives, which begins at an offset: the offset behind it, or that the file ended
-abbrev pub Turn : File → Option Told → List ℕ → ℕ → List Call → List Call → Checker → Result (Option ℕ) Refusal → Type 0
-Turn file files name at first now checker (Ok (Some next)) = (at < next) × (text : List ℕ) × (next ≡ length text) × JudgedTo files name first now checker text
-Turn file files name at first now checker (Ok None) = Grew (JudgedWhole files name checker) first now
-Turn file files name at first now checker (Err refusal) = Grew (Unproved file files name refusal) first now
+abbrev pub Turn : Subject → Option Told → List ℕ → ℕ → List Call → List Call → Checker → Result (Option ℕ) Refusal → Type 0
+Turn subject files name at first now checker (Ok (Some next)) = (at < next) × (text : List ℕ) × (next ≡ length text) × JudgedTo files name first now checker text
+Turn subject files name at first now checker (Ok None) = Grew (JudgedWhole files name checker) first now
+Turn subject files name at first now checker (Err refusal) = Grew (Unproved subject files name refusal) first now
 
 -- the checker stands for a text, which a certificate's limit allows
 pub record Allowed (checker : Checker) (text : List ℕ) : Type 0 where
@@ -59,23 +59,23 @@ pub record Allowed (checker : Checker) (text : List ℕ) : Type 0 where
   pub within : length text ≤ CERTIFICATE.bytes
 
 -- a text is longer than a certificate, and what is allowed of it has no fault that lasts
-pub record PassesLimit (file : File) (name text : List ℕ) (refusal : Refusal) : Type 0 where
+pub record PassesLimit (subject : Subject) (name text : List ℕ) (refusal : Refusal) : Type 0 where
   pub longer : CERTIFICATE.bytes < length text
-  pub goes_on : GoesOn (certificate_kind file) (take CERTIFICATE.bytes text)
+  pub goes_on : GoesOn (certificate_kind subject) (take CERTIFICATE.bytes text)
   pub says : SaysOfFile CERTIFICATE name (longer_than CERTIFICATE.bytes) refusal
 
 -- the first bytes of a text, which the limit allows, have this fault, and it lasts
-pub record Breaks (file : File) (name text : List ℕ) (refusal : Refusal) : Type 0 where
+pub record Breaks (subject : Subject) (name text : List ℕ) (refusal : Refusal) : Type 0 where
   pub front : List ℕ
   pub behind : List ℕ
   pub all : text ≡ front ++ behind
   pub within : length front ≤ CERTIFICATE.bytes
   pub fault : CertFault
-  pub lasting : IsLasting file front fault
+  pub lasting : IsLastingFor subject front fault
   pub says : SaysOfFile CERTIFICATE name (cert_fault_text fault) refusal
 
 -- what a piece behind a text gives, which may end the file: the offset behind it, or that the file ended
-abbrev pub PieceFed : File → List ℕ → List ℕ → List ℕ → Bool → Checker → Result (Option ℕ) Refusal → Type 0
-PieceFed file name text piece ended checker (Ok (Some next)) = (ended ≡ false) × (next ≡ length (text ++ piece)) × Allowed checker (text ++ piece)
-PieceFed file name text piece ended checker (Ok None) = (ended ≡ true) × Allowed checker (text ++ piece)
-PieceFed file name text piece ended checker (Err refusal) = (refusal ≡ Memory) ⊎ (PassesLimit file name (text ++ piece) refusal ⊎ Breaks file name (text ++ piece) refusal)
+abbrev pub PieceFed : Subject → List ℕ → List ℕ → List ℕ → Bool → Checker → Result (Option ℕ) Refusal → Type 0
+PieceFed subject name text piece ended checker (Ok (Some next)) = (ended ≡ false) × (next ≡ length (text ++ piece)) × Allowed checker (text ++ piece)
+PieceFed subject name text piece ended checker (Ok None) = (ended ≡ true) × Allowed checker (text ++ piece)
+PieceFed subject name text piece ended checker (Err refusal) = (refusal ≡ Memory) ⊎ (PassesLimit subject name (text ++ piece) refusal ⊎ Breaks subject name (text ++ piece) refusal)

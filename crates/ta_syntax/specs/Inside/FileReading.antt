@@ -3,14 +3,15 @@ use Rattle.std.specs.Prelude.{ℕ, ◌≡◌, ◌≤◌, List, [], ◌∷◌, �
 use Rattle.ta_syntax.specs.Grammar.{file_kinds, sum_kinds, listed, IsSum}
 use Rattle.ta_syntax.specs.PlainSums.{plain_sum, sum_depth}
 use Rattle.ta_syntax.specs.PlainTrees.{plain_tree}
-use Rattle.ta_syntax.specs.Inside.RuleBodies.{spell_location}
-use Rattle.ta_syntax.specs.Stated.{IsPlaced, at_first, unplaced, sum_stated, location_stated, tree_stated}
+use Rattle.ta_syntax.specs.Inside.RuleBodies.{spell_name, spell_location}
+use Rattle.ta_syntax.specs.Stated.{IsPlaced, at_first, unplaced, sum_stated, name_stated, location_stated, tree_stated}
 use Rattle.ta_syntax.specs.Limits.{Counts}
-use Rattle.ta_syntax.specs.Parts.{Part, Text, a_mark, a_sum, both}
+use Rattle.ta_syntax.specs.Parts.{Part, Text, a_mark, a_name, a_sum, both}
 use Rattle.ta_syntax.specs.Inside.Parts.{list_part, location_part}
 use Rattle.ta_syntax.specs.Faults.{kinds, Stopped}
+use Rattle.ta_syntax.specs.Reading.{BeginsWith}
 use Rattle.ta_syntax.specs.ListReading.{IsReady}
-use Rattle.ta_syntax.specs.Inside.BlockReading.{ReadsKept}
+use Rattle.ta_syntax.specs.Inside.BlockReading.{ReadsKept, TookNameThen, TookDeclared}
 use Rattle.ta_syntax.specs.declared.tokens.Kind.TheVariants as kind
 use Rattle.ta_syntax.specs.declared.tokens.Mark.TheVariants as mark
 use Rattle.ta_syntax.specs.declared.placed.Token.{Token}
@@ -18,6 +19,7 @@ use Rattle.ta_syntax.specs.declared.fault.FileFault.{FileFault}
 use Rattle.ta_syntax.specs.declared.sums.TreeSum.{TreeSum}
 use Rattle.ta_syntax.specs.declared.tree.TreeLocation.{TreeLocation}
 use Rattle.ta_syntax.specs.declared.tree.Tree.{Tree}
+use Rattle.ta_syntax.specs.declared.file.Head.{Head}
 
 -- the locations, and what comes after them
 abbrev pub locations_part : Part → Part
@@ -46,6 +48,20 @@ pub record TookProcesses (at : ℕ) (s : TreeSum) (tokens rest : List Token) : T
 -- the number of processes could not be read
 abbrev pub ProcessesStop : ℕ → List Token → FileFault → Type 0
 ProcessesStop end tokens e = (K : Part) (c : Counts) → IsReady c → Stopped (Text (processes_part K)) c end tokens e
+
+-- the head of a file was read, part behind part
+pub record TookHead (end : ℕ) (head : Head) (tokens rest : List Token) : Type 0 where
+  pub begun : List Token
+  pub after_name : List Token
+  pub after_parameters : List Token
+  pub after_shared : List Token
+  pub after_locations : List Token
+  pub keyword : BeginsWith tokens (kind.Fixed mark.Automaton) begun
+  pub name : TookNameThen mark.Semicolon end head.name begun after_name
+  pub parameters : TookDeclared mark.Parameters a_name spell_name name_stated 16 head.parameters after_name after_parameters
+  pub shared : TookDeclared mark.Shared a_name spell_name name_stated 16 head.shared after_parameters after_shared
+  pub locations : TookLocations head.locations_at head.locations after_shared after_locations
+  pub processes : TookProcesses head.processes_at head.processes after_locations rest
 
 -- the tokens are those of the tree, at the offsets that it states
 pub record IsSpelled (t : Tree) (tokens : List Token) : Type 0 where

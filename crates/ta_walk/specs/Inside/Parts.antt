@@ -1,15 +1,19 @@
 -- Parts of a visit: the words of a list, each with its tree
-use Rattle.std.specs.Prelude.{ℕ, ◌+◌, ◌-◌, ◌≤◌, ◌<◌, ◌^◌, ◌≡◌, List, [], ◌∷◌, ◌++◌, map, reverse, slice_get, nat_lt, if◌then◌else◌, Option, Some, None}
+use Rattle.std.specs.Prelude.{ℕ, ◌+◌, ◌-◌, ◌≤◌, ◌<◌, ◌≡◌, List, [], ◌++◌, length, reverse, nat_lt, if◌then◌else◌}
+use Rattle.ta_automaton.specs.Lists.{Each}
 use Rattle.ta_cert.specs.declared.line.Node.{Node}
-use Rattle.ta_cert.specs.declared.line.Node.TheVariants.{Extend}
-use Rattle.ta_encode.specs.Search.{Comes, Pending, Search, parts}
+use Rattle.ta_encode.specs.Search.{Comes, Pending, Search}
 use Rattle.ta_encode.specs.PatternSearch.{pattern_search}
-use Rattle.ta_cursor.specs.Cursors.{word_at}
+use Rattle.ta_cursor.specs.Cursors.{Within, left_at, word_at}
+use Rattle.ta_cursor.specs.declared.cursor.Cursor.{Cursor}
 use Rattle.ta_cursor.specs.declared.pattern_tree.PatternTree.{PatternTree}
 use Rattle.ta_cursor.specs.declared.root.Root.{Root}
-use Rattle.ta_walk.specs.Ends.{IsTreeEnd}
+use Rattle.ta_walk.specs.Visit.{Visits}
+use Rattle.ta_walk.specs.Ends.{IsSpent, IsTreeEnd, leaf_count}
 use Rattle.ta_walk.specs.declared.end.TreeEnd.{TreeEnd}
 use Rattle.ta_walk.specs.declared.end.TreeEnd.TheVariants as tree
+use Rattle.ta_walk.specs.declared.visiting.Stretch.{Stretch}
+use Rattle.ta_walk.specs.declared.visiting.Stretch.TheVariants as stretch
 
 -- the search of a pattern's tree
 abbrev pub search_of : PatternTree → Search
@@ -23,57 +27,94 @@ root_word root = word_at root.start_mask root.word []
 abbrev pub ComesTo : Search → Root → Type 0
 ComesTo s root = Comes s root.start_mask (reverse root.word)
 
--- a word that is longer by the element of a number, which the search comes to
-pub record LongerRoot (s : Search) (root : Root) (number : ℕ) (child : Root) : Type 0 where
-  pub is : slice_get (parts s (root_word root) Extend) number ≡ Some (root_word child)
-  pub comes : ComesTo s child
-  pub small : number < 2 ^ 31
-
--- whether there is one
-abbrev pub ChildIs : Search → Root → ℕ → Option Root → Type 0
-ChildIs s root number None = slice_get (parts s (root_word root) Extend) number ≡ None
-ChildIs s root number (Some child) = LongerRoot s root number child
-
 -- the search that begins with these words instead
 abbrev pub beginning : Search → List Pending → Search
 beginning s words = record { roots = words; following = s.following; complete = s.complete; unknowns = s.unknowns; rows = s.rows }
 
--- a visit ended so, or was given up
-abbrev pub PartEnds : Search → ℕ → (List Node → Type 0) → Option TreeEnd → Type 0
-PartEnds s budget Keeps None = Unit {0}
-PartEnds s budget Keeps (Some end) = IsTreeEnd s budget Keeps end
+-- a part of a visit ended so within its budget. Where it stopped, a word is left behind so many nodes, which may be fewer
+abbrev pub PartEnds : Search → ℕ → (List Node → Type 0) → TreeEnd → Type 0
+PartEnds s budget Keeps (tree.Refuted count leaves) = IsTreeEnd s budget Keeps (tree.Refuted count leaves)
+PartEnds s budget Keeps (tree.Found count start word values) = IsTreeEnd s budget Keeps (tree.Found count start word values)
+PartEnds s budget Keeps (tree.Spent count) = IsSpent s count count
+PartEnds s budget Keeps (tree.Overflow node kind) = IsTreeEnd s budget Keeps (tree.Overflow node kind)
 
 -- and its nodes were handed to a keeper, behind those that it took before
-abbrev pub PartVisited : {K : Type 0} → (K → K → List Node → Type 0) → Search → ℕ → K → K → Option TreeEnd → Type 0
+abbrev pub PartVisited : {K : Type 0} → (K → K → List Node → Type 0) → Search → ℕ → K → K → TreeEnd → Type 0
 PartVisited {K} Keeps s budget begun kept end = (first : K) (before : List Node) → Keeps first begun before → PartEnds s budget (λ nodes. Keeps first kept (before ++ nodes)) end
 
--- a visit came to some words behind so many nodes and leaves. Where the visit of these words ended so, the whole one ended so: the numbers
+-- a visit came to some words behind so many nodes and leaves. Where the part of these words ended so, the whole one ended so: the numbers
 -- are added, and the budget is spent where they pass it
 abbrev pub behind : ℕ → ℕ → ℕ → TreeEnd → TreeEnd
 behind budget count leaves (tree.Refuted more others) = if nat_lt (budget - count) more then tree.Spent budget else tree.Refuted (count + more) (leaves + others)
 behind budget count leaves (tree.Found more start word values) = if nat_lt (budget - count) more then tree.Spent budget else tree.Found (count + more) start word values
-behind budget count leaves (tree.Spent more) = tree.Spent budget
+behind budget count leaves (tree.Spent more) = if nat_lt (budget - count) more then tree.Spent budget else tree.Spent (count + more)
 behind budget count leaves (tree.Overflow more kind) = if nat_lt (budget - count) more then tree.Spent budget else tree.Overflow (count + more) kind
 
-abbrev pub part_behind : ℕ → ℕ → ℕ → Option TreeEnd → Option TreeEnd
-part_behind budget count leaves None = None
-part_behind budget count leaves (Some end) = Some (behind budget count leaves end)
-
 -- no more leaves than nodes, and these within the budget
-abbrev pub IsSmallEnd : ℕ → Option TreeEnd → Type 0
-IsSmallEnd budget None = Unit {0}
-IsSmallEnd budget (Some (tree.Refuted count leaves)) = (leaves ≤ count) × (count ≤ budget)
-IsSmallEnd budget (Some (tree.Found count start word values)) = Unit {0}
-IsSmallEnd budget (Some (tree.Spent count)) = Unit {0}
-IsSmallEnd budget (Some (tree.Overflow node kind)) = Unit {0}
+abbrev pub IsSmallEnd : ℕ → TreeEnd → Type 0
+IsSmallEnd budget (tree.Refuted count leaves) = (leaves ≤ count) × (count ≤ budget)
+IsSmallEnd budget (tree.Found count start word values) = Unit {0}
+IsSmallEnd budget (tree.Spent count) = count ≤ budget
+IsSmallEnd budget (tree.Overflow node kind) = Unit {0}
 
--- an end that decides, or none
-abbrev pub IsNotRefuted : Option TreeEnd → Type 0
-IsNotRefuted None = Unit {0}
-IsNotRefuted (Some (tree.Refuted count leaves)) = ⊥
-IsNotRefuted (Some (tree.Found count start word values)) = Unit {0}
-IsNotRefuted (Some (tree.Spent count)) = Unit {0}
-IsNotRefuted (Some (tree.Overflow node kind)) = Unit {0}
+-- an end of a part that didn't stop before its budget was spent
+abbrev pub IsWholeEnd : ℕ → TreeEnd → Type 0
+IsWholeEnd budget (tree.Refuted count leaves) = Unit {0}
+IsWholeEnd budget (tree.Found count start word values) = Unit {0}
+IsWholeEnd budget (tree.Spent count) = count ≡ budget
+IsWholeEnd budget (tree.Overflow node kind) = Unit {0}
+
+-- an end that decides
+abbrev pub IsNotRefuted : TreeEnd → Type 0
+IsNotRefuted (tree.Refuted count leaves) = ⊥
+IsNotRefuted (tree.Found count start word values) = Unit {0}
+IsNotRefuted (tree.Spent count) = Unit {0}
+IsNotRefuted (tree.Overflow node kind) = Unit {0}
+
+-- a word with so many bounds at most
+abbrev pub HasFewBounds : ℕ → Pending → Type 0
+HasFewBounds most w = length w.bounds ≤ most
+
+-- a cursor is before the first of the words that it leaves; these have so few bounds that so many nodes may follow
+pub record Stands (s : Search) (nodes : ℕ) (c : Cursor) : Type 0 where
+  pub within : Within s c (left_at s c)
+  pub most : ℕ
+  pub room : most + nodes ≤ 1000000000
+  pub few : Each (HasFewBounds most) (left_at s c)
+
+-- behind some nodes, so many of them leaves, the words are those of a cursor, and then those of another one
+pub record LeadsToBoth (s : Search) (words : List Pending) (Keeps : List Node → Type 0) (first later : Cursor) (count leaves : ℕ) : Type 0 where
+  pub nodes : List Node
+  pub visits : Visits s words nodes (left_at s first ++ left_at s later)
+  pub counted : count ≡ length nodes
+  pub leaves_are : leaves ≡ leaf_count nodes
+  pub kept : Keeps nodes
+
+-- what a stretch of a visit comes to, whose cursor is this one now
+abbrev pub StretchEnds : Search → List Pending → ℕ → Cursor → (List Node → Type 0) → Stretch → Type 0
+StretchEnds s words budget first Keeps (stretch.Ended end) = PartEnds (beginning s words) budget Keeps end
+StretchEnds s words budget first Keeps (stretch.Shared count leaves later) = LeadsToBoth s words Keeps first later count leaves
+
+-- a stretch visited some nodes, and both cursors may have the budget that it left
+pub record SharesBudget (s : Search) (budget count leaves : ℕ) (first later : Cursor) : Type 0 where
+  pub some : 0 < count
+  pub within : count ≤ budget
+  pub leaves_few : leaves ≤ count
+  pub here : Stands s (budget - count) first
+  pub there : Stands s (budget - count) later
+
+abbrev pub IsSmallStretch : Search → ℕ → Cursor → Stretch → Type 0
+IsSmallStretch s budget first (stretch.Ended end) = IsSmallEnd budget end
+IsSmallStretch s budget first (stretch.Shared count leaves later) = SharesBudget s budget count leaves first later
+
+abbrev pub IsWholeStretch : ℕ → Stretch → Type 0
+IsWholeStretch budget (stretch.Ended end) = IsWholeEnd budget end
+IsWholeStretch budget (stretch.Shared count leaves later) = Unit {0}
+
+-- a fact where the words were shared
+abbrev pub OnShared : Type 0 → Stretch → Type 0
+OnShared fact (stretch.Ended end) = Unit {0}
+OnShared fact (stretch.Shared count leaves later) = fact
 
 -- a keeper of a later part, which has no node yet
 abbrev pub Begins : {K : Type 0} → (K → K → Type 0) → (K → K → List Node → Type 0) → K → K → Type 0

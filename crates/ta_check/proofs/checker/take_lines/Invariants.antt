@@ -1,9 +1,10 @@
 use Rattle.std.proofs.Common.{length}
+use Rattle.ta_check.specs.Subjects.{claiming}
 use Rattle.ta_check.proofs.Pieces.{FrontTaken}
 use Rattle.ta_check.proofs.checker.take_lines.Given as goal
 
 abbrev pub invariant-lines : goal.invariant-lines
-invariant-lines l = FrontTaken l.file l.fn.reader l.fn.position l.piece l.rest l.reader l.position
+invariant-lines l = FrontTaken (claiming l.claim l.file) l.fn.reader l.fn.position l.piece l.rest l.reader l.position
 
 abbrev pub decreases-lines : goal.decreases-lines
 decreases-lines l = length l.rest

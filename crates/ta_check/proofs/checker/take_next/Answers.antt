@@ -1,24 +1,25 @@
 use Rattle.std.proofs.lemmas.Result.{err_from_is_err_and}
+use Rattle.ta_check.specs.Subjects.{claiming}
 use Rattle.ta_check.proofs.Pieces.{next_refused, next_some, next_fails, line_is}
 use Rattle.ta_check.proofs.checker.take_next.Goals as goal
 
 pub returns-in_err-feed_line : goal.returns-in_err-feed_line
 returns-in_err-feed_line c =
     let p = err_from_is_err_and c.from_residual.result c.from_residual.ensures.1 in
-    rw (p.1, p.2) (next_refused c.args.file.now c.args.reader.now c.feed_line.new.self c.args.position.now c.args.bytes.now c.in_err-feed_line.field-0.0 c.in_err-feed_line.ensures.answer)
+    rw (p.1, p.2) (next_refused (claiming c.args.claim c.args.file.now) c.args.reader.now c.feed_line.new.self c.args.position.now c.args.bytes.now c.in_err-feed_line.field-0.0 c.in_err-feed_line.ensures.answer)
 
 pub take_line-requires-clause-form : goal.take_line-requires-clause-form
 take_line-requires-clause-form c =
     let feeds = rw c.in-Some.is at c.in_ok-feed_line.ensures.answer in
-    line_is c.args.file.now c.args.reader.now c.feed_line.new.self c.args.position.now c.args.bytes.now c.in-Some.field-0 c.requires feeds
+    line_is (claiming c.args.claim c.args.file.now) c.args.reader.now c.feed_line.new.self c.args.position.now c.args.bytes.now c.in-Some.field-0 c.requires feeds
 
 pub returns-in_err-take_line-in-Some : goal.returns-in_err-take_line-in-Some
 returns-in_err-take_line-in-Some c =
     let p = err_from_is_err_and c.from_residual-in_err-take_line-in-Some.result c.from_residual-in_err-take_line-in-Some.ensures.1 in
     let feeds = rw c.in-Some.is at c.in_ok-feed_line.ensures.answer in
-    rw (p.1, p.2) (next_fails c.args.file.now c.args.reader.now c.feed_line.new.self c.args.position.now c.take_line.new.self c.args.bytes.now c.in-Some.field-0 c.in_err-take_line-in-Some.field-0.0 feeds c.in_err-take_line-in-Some.ensures)
+    rw (p.1, p.2) (next_fails (claiming c.args.claim c.args.file.now) c.args.reader.now c.feed_line.new.self c.args.position.now c.take_line.new.self c.args.bytes.now c.in-Some.field-0 c.in_err-take_line-in-Some.field-0.0 feeds c.in_err-take_line-in-Some.ensures)
 
 pub returns-in_ok-take_line-in-Some : goal.returns-in_ok-take_line-in-Some
 returns-in_ok-take_line-in-Some c =
     let feeds = rw c.in-Some.is at c.in_ok-feed_line.ensures.answer in
-    next_some c.args.file.now c.args.reader.now c.feed_line.new.self c.args.position.now c.take_line.new.self c.args.bytes.now c.in-Some.field-0 feeds c.in_ok-take_line-in-Some.ensures
+    next_some (claiming c.args.claim c.args.file.now) c.args.reader.now c.feed_line.new.self c.args.position.now c.take_line.new.self c.args.bytes.now c.in-Some.field-0 feeds c.in_ok-take_line-in-Some.ensures

@@ -1,39 +1,18 @@
-use Rattle.std.proofs.Common.{[], ap, ◌∙◌, subst}
-use Rattle.std.proofs.lemmas.Result.{err_from_is_err_and}
+use Rattle.std.proofs.Common.{◌≡◌, List, ℕ, Ok, Err, Result, IfOk, IfErr, subst}
+use Rattle.std.specs.Prelude.{◌≢◌}
 use Rattle.ta_automaton.specs.declared.file.File.{File}
-use Rattle.ta_scope.specs.declared.scoped.ScopedFile.{ScopedFile}
-use Rattle.ta_check.specs.Checkers.{Finished}
-use Rattle.ta_check.proofs.Answering.{exact_answer, refused_answer, finished_accepts, finished_faults, fed_faults}
+use Rattle.ta_cert.specs.Laws.{IsErrOrMemory}
+use Rattle.ta_cert.specs.declared.fault.CertFault.{CertFault}
+use Rattle.ta_cert.specs.declared.fault.CertFault.TheVariants as fault
+use Rattle.ta_rest.specs.Faults.{EndingsOf}
+use Rattle.ta_check.specs.Certificate.{AllHold, AllRestSafe, CertificateFor}
+use Rattle.ta_check.specs.Faults.{IsFirstFaultFor}
+use Rattle.ta_check.specs.Subjects.{Subject, claiming}
+use Rattle.ta_check.specs.declared.accepted.Accepted.{Accepted}
 use Rattle.ta_check.proofs.checking.check.Goals as goal
 
-pub returns-in_err-feed-clause-fault : goal.returns-in_err-feed-clause-fault
-returns-in_err-feed-clause-fault c =
-    let p = err_from_is_err_and c.from_residual.result c.from_residual.ensures.1 in
-    let same = ap (λ (s : ScopedFile). s.file) (c.feed.ensures.file ∙ c.new-checker.ensures.file) in
-    rw (p.1, p.2) (fed_faults c.feed.new.self c.args.scoped.now.file c.args.text.now c.in_err-feed.field-0.0 same (c.in_err-feed.ensures.answer [] c.new-checker.ensures.stands))
-
-pub returns-in_err-feed-clause-refused : goal.returns-in_err-feed-clause-refused
-returns-in_err-feed-clause-refused c = refused_answer c.args.scoped.now.file c.args.text.now c.from_residual.result (returns-in_err-feed-clause-fault c)
-
-pub returns-in_err-feed-clause-exact : goal.returns-in_err-feed-clause-exact
-returns-in_err-feed-clause-exact c =
-    let p = err_from_is_err_and c.from_residual.result c.from_residual.ensures.1 in
-    exact_answer c.args.scoped.now.file c.args.text.now c.from_residual.result (rw (p.1) tt) (returns-in_err-feed-clause-fault c)
-
-pub returns-clause-accepted : goal.returns-clause-accepted
-returns-clause-accepted c =
-    let same = ap (λ (s : ScopedFile). s.file) (c.feed.ensures.file ∙ c.new-checker.ensures.file) in
-    let answer = c.finish.ensures.answer c.args.text.now (c.in_ok-feed.ensures.answer [] c.new-checker.ensures.stands) in
-    finished_accepts c.args.scoped.now.file c.args.text.now c.finish.result (subst (λ (f : File). Finished f c.args.text.now c.finish.result) same answer)
-
-pub returns-clause-fault : goal.returns-clause-fault
-returns-clause-fault c =
-    let same = ap (λ (s : ScopedFile). s.file) (c.feed.ensures.file ∙ c.new-checker.ensures.file) in
-    let answer = c.finish.ensures.answer c.args.text.now (c.in_ok-feed.ensures.answer [] c.new-checker.ensures.stands) in
-    finished_faults c.args.scoped.now.file c.args.text.now c.finish.result (subst (λ (f : File). Finished f c.args.text.now c.finish.result) same answer)
-
 pub returns-clause-refused : goal.returns-clause-refused
-returns-clause-refused c = refused_answer c.args.scoped.now.file c.args.text.now c.finish.result (returns-clause-fault c)
+returns-clause-refused c = subst (λ (s : Subject). IfErr c.judge_whole.result (λ f. f ≢ fault.Memory → (numbers : List ℕ) → ¬ CertificateFor s c.args.text.now numbers)) c.new.ensures.subject c.judge_whole.ensures.refused
 
 pub returns-clause-exact : goal.returns-clause-exact
-returns-clause-exact c = exact_answer c.args.scoped.now.file c.args.text.now c.finish.result (returns-clause-accepted c) (returns-clause-fault c)
+returns-clause-exact c = subst (λ (s : Subject). (f : CertFault) → IsFirstFaultFor s c.args.text.now f → IsErrOrMemory c.judge_whole.result f) c.new.ensures.subject c.judge_whole.ensures.exact

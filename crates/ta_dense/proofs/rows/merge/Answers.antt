@@ -1,101 +1,77 @@
-use Rattle.std.proofs.Common.{◌≡◌, arith, ap, ◌∙◌, sym, refl, pos, rules, length, subst, true, false}
+use Rattle.std.proofs.Common.{◌<ℤ◌, ◌≡◌, arith, ap, ◌∙◌, sym, refl, pos, rules, length, subst, true, false}
 use Rattle.std.proofs.lemmas.Int.{to_z-of_z}
 use Rattle.std.proofs.lemmas.List.{get_or_read}
 use mir.Val.{SFits, of_z}
 use mir.Syntax.{w128}
 use Rattle.ta_dense.specs.Rows.{row_view}
 use Rattle.ta_dense.specs.Tableau.{TableauRow, merged_by, reduced}
-use Rattle.ta_dense.specs.Merge.{IsProper}
-use Rattle.ta_dense.proofs.ProperFacts.{factored, merged_from, IsProper-reduced, IsProper-merged_by, IsProper-self, merged-zero, zero_from_bits}
+use Rattle.ta_dense.specs.Merge.{IsProper, MergesByInRange}
+use Rattle.ta_dense.proofs.ProperFacts.{Factored, factored, merged_from, IsProper-reduced, IsProper-merged_by, IsProper-self, merged-zero, zero_from_bits}
 use Rattle.ta_dense.proofs.rows.merge.Goals as goal
+use Rattle.ta_dense.proofs.rows.merge.Goals.{After-factors-p}
+
+-- the two factors are those of the rows, and the first is positive
+ours : (c : After-factors-p) → Factored c.args.column (row_view c.args.chosen.now) (row_view c.args.row.now) c.factors-p.result.0 c.factors-p.result.1
+ours c =
+    let f1 : SFits w128 c.index-a.result.now = search rules in
+    let f2 : SFits w128 c.index.result.now = search rules in
+    let fp : SFits w128 c.factors-p.result.0 = search rules in
+    let fq : SFits w128 c.factors-p.result.1 = search rules in
+    let e = simp to_z-of_z at c.factors-p.ensures in
+    let long = c.requires.row.long in
+    let inside = c.requires.column in
+    factored c.args.column (row_view c.args.chosen.now) (row_view c.args.row.now) c.index-a.result.now c.index.result.now c.factors-p.result.0 c.factors-p.result.1
+    (get_or_read c.args.row.now.cells.items c.args.column c.index-a.result.now (omega arith) c.index-a.ensures (pos 0))
+    (get_or_read c.args.chosen.now.cells.items c.args.column c.index.result.now (omega arith) c.index.ensures (pos 0))
+    (λ zero. c.if-a-eq0.false (ap (of_z w128) zero)) e.first e.second
+
+-- a row that is merged by them is proper
+proper : (c : After-factors-p) → MergesByInRange c.factors-p.result.0 c.factors-p.result.1 c.args.column (row_view c.args.chosen.now) (row_view c.args.row.now) → IsProper (length c.args.chosen.now.cells.items) (merged_by c.factors-p.result.0 c.factors-p.result.1 c.args.column (row_view c.args.chosen.now) (row_view c.args.row.now))
+proper c within =
+    let f1 : SFits w128 c.index-a.result.now = search rules in
+    let f2 : SFits w128 c.index.result.now = search rules in
+    let fp : SFits w128 c.factors-p.result.0 = search rules in
+    let fq : SFits w128 c.factors-p.result.1 = search rules in
+    let e = simp to_z-of_z at c.factors-p.ensures in
+    IsProper-merged_by (length c.args.chosen.now.cells.items) c.factors-p.result.0 c.factors-p.result.1 c.args.column (row_view c.args.chosen.now) (row_view c.args.row.now) c.requires.column e.positive c.requires.chosen c.requires.row within
 
 pub returns-clause-value : goal.returns-clause-value
 returns-clause-value c =
-    let f1 : SFits w128 c.index-a.result.now = search rules in
-    let f2 : SFits w128 c.index.result.now = search rules in
     let fp : SFits w128 c.factors-p.result.0 = search rules in
     let fq : SFits w128 c.factors-p.result.1 = search rules in
-    let e = simp to_z-of_z at c.factors-p.ensures in
-    let long = c.requires.row.long in
-    let inside = c.requires.column in
-    let f = factored c.args.column (row_view c.args.chosen.now) (row_view c.args.row.now) c.index-a.result.now c.index.result.now c.factors-p.result.0 c.factors-p.result.1
-    (get_or_read c.args.row.now.cells.items c.args.column c.index-a.result.now (omega arith) c.index-a.ensures (pos 0))
-    (get_or_read c.args.chosen.now.cells.items c.args.column c.index.result.now (omega arith) c.index.ensures (pos 0))
-    (λ zero. c.if-a-eq0.false (ap (of_z w128) zero)) e.first e.second in
     let m = simp to_z-of_z at c.if-not-merge_by.ensures in
-    let within = m.within.0 refl in
-    let proper = IsProper-merged_by (length c.args.chosen.now.cells.items) c.factors-p.result.0 c.factors-p.result.1 c.args.column (row_view c.args.chosen.now) (row_view c.args.row.now) inside e.positive c.requires.chosen c.requires.row within in
-    c.reduce.ensures ∙ ap reduced m.value ∙ merged_from c.args.column (row_view c.args.chosen.now) (row_view c.args.row.now) c.factors-p.result.0 c.factors-p.result.1 f
+    c.reduce.ensures ∙ ap reduced m.value ∙ merged_from c.args.column (row_view c.args.chosen.now) (row_view c.args.row.now) c.factors-p.result.0 c.factors-p.result.1 (ours (goal.at.returns-clause-value c).After-factors-p)
 
 pub returns-clause-proper : goal.returns-clause-proper
 returns-clause-proper c =
-    let f1 : SFits w128 c.index-a.result.now = search rules in
-    let f2 : SFits w128 c.index.result.now = search rules in
     let fp : SFits w128 c.factors-p.result.0 = search rules in
     let fq : SFits w128 c.factors-p.result.1 = search rules in
-    let e = simp to_z-of_z at c.factors-p.ensures in
-    let long = c.requires.row.long in
-    let inside = c.requires.column in
-    let f = factored c.args.column (row_view c.args.chosen.now) (row_view c.args.row.now) c.index-a.result.now c.index.result.now c.factors-p.result.0 c.factors-p.result.1
-    (get_or_read c.args.row.now.cells.items c.args.column c.index-a.result.now (omega arith) c.index-a.ensures (pos 0))
-    (get_or_read c.args.chosen.now.cells.items c.args.column c.index.result.now (omega arith) c.index.ensures (pos 0))
-    (λ zero. c.if-a-eq0.false (ap (of_z w128) zero)) e.first e.second in
     let m = simp to_z-of_z at c.if-not-merge_by.ensures in
-    let within = m.within.0 refl in
-    let proper = IsProper-merged_by (length c.args.chosen.now.cells.items) c.factors-p.result.0 c.factors-p.result.1 c.args.column (row_view c.args.chosen.now) (row_view c.args.row.now) inside e.positive c.requires.chosen c.requires.row within in
     let P : TableauRow → Type 0 = IsProper (length c.args.chosen.now.cells.items) in
-    subst P (sym (c.reduce.ensures ∙ ap reduced m.value)) (IsProper-reduced (length c.args.chosen.now.cells.items) (merged_by c.factors-p.result.0 c.factors-p.result.1 c.args.column (row_view c.args.chosen.now) (row_view c.args.row.now)) proper)
+    subst P (sym (c.reduce.ensures ∙ ap reduced m.value)) (IsProper-reduced (length c.args.chosen.now.cells.items) (merged_by c.factors-p.result.0 c.factors-p.result.1 c.args.column (row_view c.args.chosen.now) (row_view c.args.row.now)) (proper (goal.at.returns-clause-proper c).After-factors-p (m.within.0 refl)))
 
 pub returns-clause-within : goal.returns-clause-within
 returns-clause-within c =
-    let f1 : SFits w128 c.index-a.result.now = search rules in
-    let f2 : SFits w128 c.index.result.now = search rules in
     let fp : SFits w128 c.factors-p.result.0 = search rules in
     let fq : SFits w128 c.factors-p.result.1 = search rules in
-    let e = simp to_z-of_z at c.factors-p.ensures in
-    let long = c.requires.row.long in
-    let inside = c.requires.column in
-    let f = factored c.args.column (row_view c.args.chosen.now) (row_view c.args.row.now) c.index-a.result.now c.index.result.now c.factors-p.result.0 c.factors-p.result.1
-    (get_or_read c.args.row.now.cells.items c.args.column c.index-a.result.now (omega arith) c.index-a.ensures (pos 0))
-    (get_or_read c.args.chosen.now.cells.items c.args.column c.index.result.now (omega arith) c.index.ensures (pos 0))
-    (λ zero. c.if-a-eq0.false (ap (of_z w128) zero)) e.first e.second in
+    let f = ours (goal.at.returns-clause-within c).After-factors-p in
     let m = simp to_z-of_z at c.if-not-merge_by.ensures in
     let within = m.within.0 refl in
-    let proper = IsProper-merged_by (length c.args.chosen.now.cells.items) c.factors-p.result.0 c.factors-p.result.1 c.args.column (row_view c.args.chosen.now) (row_view c.args.row.now) inside e.positive c.requires.chosen c.requires.row within in
     (λ t apart. rw (← f.first, ← f.second) within, λ h. refl)
 
 pub reduce-requires : goal.reduce-requires
 reduce-requires c =
-    let f1 : SFits w128 c.index-a.result.now = search rules in
-    let f2 : SFits w128 c.index.result.now = search rules in
     let fp : SFits w128 c.factors-p.result.0 = search rules in
     let fq : SFits w128 c.factors-p.result.1 = search rules in
-    let e = simp to_z-of_z at c.factors-p.ensures in
-    let long = c.requires.row.long in
-    let inside = c.requires.column in
-    let f = factored c.args.column (row_view c.args.chosen.now) (row_view c.args.row.now) c.index-a.result.now c.index.result.now c.factors-p.result.0 c.factors-p.result.1
-    (get_or_read c.args.row.now.cells.items c.args.column c.index-a.result.now (omega arith) c.index-a.ensures (pos 0))
-    (get_or_read c.args.chosen.now.cells.items c.args.column c.index.result.now (omega arith) c.index.ensures (pos 0))
-    (λ zero. c.if-a-eq0.false (ap (of_z w128) zero)) e.first e.second in
     let m = simp to_z-of_z at c.if-not-merge_by.ensures in
-    let within = m.within.0 refl in
-    let proper = IsProper-merged_by (length c.args.chosen.now.cells.items) c.factors-p.result.0 c.factors-p.result.1 c.args.column (row_view c.args.chosen.now) (row_view c.args.row.now) inside e.positive c.requires.chosen c.requires.row within in
     let P : TableauRow → Type 0 = λ r. IsProper (length r.cells) r in
-    subst P (sym m.value) (IsProper-self (length c.args.chosen.now.cells.items) (merged_by c.factors-p.result.0 c.factors-p.result.1 c.args.column (row_view c.args.chosen.now) (row_view c.args.row.now)) proper)
+    subst P (sym m.value) (IsProper-self (length c.args.chosen.now.cells.items) (merged_by c.factors-p.result.0 c.factors-p.result.1 c.args.column (row_view c.args.chosen.now) (row_view c.args.row.now)) (proper (goal.at.reduce-requires c).After-factors-p (m.within.0 refl)))
 
 pub returns-then-not-merge_by-clause-within : goal.returns-then-not-merge_by-clause-within
 returns-then-not-merge_by-clause-within c =
-    let f1 : SFits w128 c.index-a.result.now = search rules in
-    let f2 : SFits w128 c.index.result.now = search rules in
     let fp : SFits w128 c.factors-p.result.0 = search rules in
     let fq : SFits w128 c.factors-p.result.1 = search rules in
-    let e = simp to_z-of_z at c.factors-p.ensures in
-    let long = c.requires.row.long in
-    let inside = c.requires.column in
-    let f = factored c.args.column (row_view c.args.chosen.now) (row_view c.args.row.now) c.index-a.result.now c.index.result.now c.factors-p.result.0 c.factors-p.result.1
-    (get_or_read c.args.row.now.cells.items c.args.column c.index-a.result.now (omega arith) c.index-a.ensures (pos 0))
-    (get_or_read c.args.chosen.now.cells.items c.args.column c.index.result.now (omega arith) c.index.ensures (pos 0))
-    (λ zero. c.if-a-eq0.false (ap (of_z w128) zero)) e.first e.second in
+    let f = ours (goal.at.returns-then-not-merge_by-clause-within c).After-factors-p in
     let m = simp to_z-of_z at c.if-not-merge_by.ensures in
     (λ t. absurd (let k : false ≡ true = t in cc), λ all. m.within.1 (rw (f.first, f.second) (all f.apart)))
 

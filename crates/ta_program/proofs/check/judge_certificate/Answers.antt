@@ -1,7 +1,10 @@
-use Rattle.std.proofs.Common.{[], refl}
+use Rattle.std.proofs.Common.{[], refl, subst, Ok}
+use Rattle.ta_claim.specs.declared.claim.Claim.TheVariants as claim
+use Rattle.ta_check.specs.Subjects.{Subject, claiming}
+use Rattle.ta_shelf.specs.Calls.{Grew}
 use Rattle.ta_check.specs.declared.accepted.Accepted.{Accepted}
 use Rattle.ta_report.specs.Check.{check_text}
-use Rattle.ta_shell.specs.Stages.{Writes, replies}
+use Rattle.ta_shell.specs.Stages.{Stage, Writes, replies}
 use Rattle.ta_shell.proofs.Read.{grew_none, grew_then, replies_monotone}
 use Rattle.ta_program.specs.Kinds.{certificate_kind}
 use Rattle.ta_program.proofs.check.judge_certificate.Goals as goal
@@ -9,6 +12,7 @@ use Rattle.ta_program.proofs.check.judge_certificate.Goals as goal
 pub returns-in-Ok-clause-says : goal.returns-in-Ok-clause-says
 returns-in-Ok-clause-says g c =
     let file = c.args.scoped.now.file in
+    let stage = subst (λ (s : Subject). Grew (Stage (certificate_kind s) (λ (a : Accepted). a.patterns) (g.S.Shelf.files c.args.shelf.now) c.args.name.now (Ok c.in-Ok.accepted)) (g.S.Shelf.calls c.args.shelf.now) (g.S.Shelf.calls c.read_certificate.new.shelf)) c.new.ensures.subject c.in-Ok.ensures.stage in
     let says = c.answer_proved.ensures.says (g.S.Shelf.files c.args.shelf.now) in
-    grew_then (certificate_kind file) c.args.name.now [] (λ numbers. replies [] (Writes 0 (check_text file numbers))) (λ numbers. replies_monotone [] (Writes 0 (check_text file numbers))) (λ (a : Accepted). a.patterns) _ c.in-Ok.accepted c.answer_proved.result _ _ _ (λ v. refl)
-    c.in-Ok.ensures.stage (grew_none _ _ c.answer_proved.result _ (rw (c.file.ensures, c.as_slice.ensures) at says))
+    grew_then (certificate_kind (claiming claim.Safe file)) c.args.name.now [] (λ numbers. replies [] (Writes 0 (check_text file numbers))) (λ numbers. replies_monotone [] (Writes 0 (check_text file numbers))) (λ (a : Accepted). a.patterns) _ c.in-Ok.accepted c.answer_proved.result _ _ _ (λ v. refl)
+    stage (grew_none _ _ c.answer_proved.result _ (rw (c.file.ensures, c.as_slice.ensures) at says))

@@ -1,5 +1,6 @@
 use Rattle.std.proofs.Common.{◌≡◌, ◌∙◌, ◌≤◌, Option, arith, length, subst, sym}
 use Rattle.ta_shelf.specs.Put.{Told}
+use Rattle.ta_check.specs.Checkers.{subject_of}
 use Rattle.ta_program.specs.Inside.Judged.{JudgedTo}
 use Rattle.ta_program.proofs.PiecesJudged.{turn_more}
 use Rattle.ta_program.proofs.check.judge_pieces.Goals as goal
@@ -9,12 +10,12 @@ pieces-preserved g c =
     let here = c.pieces.invariant in
     let first = g.S.Shelf.calls c.args.shelf.now in
     let judged = subst (λ (o : Option Told). JudgedTo o c.args.name.now first (g.S.Shelf.calls c.pieces.shelf) c.pieces.checker here.text) (sym here.files_kept) here.judged in
-    let t = turn_more c.pieces.checker.scoped.now.file (g.S.Shelf.files c.args.shelf.now) (g.S.Shelf.files c.pieces.shelf) c.args.name.now c.pieces.at first (g.S.Shelf.calls c.judge_piece.new.shelf) c.judge_piece.new.checker c.in-Ok-Some.field-0 c.in-Ok-Some.next here.files_kept c.in-Ok-Some.field-0-is (c.in-Ok-Some.ensures.turn first here.text judged here.place) in
+    let t = turn_more (subject_of c.pieces.checker) (g.S.Shelf.files c.args.shelf.now) (g.S.Shelf.files c.pieces.shelf) c.args.name.now c.pieces.at first (g.S.Shelf.calls c.judge_piece.new.shelf) c.judge_piece.new.checker c.in-Ok-Some.field-0 c.in-Ok-Some.next here.files_kept c.in-Ok-Some.field-0-is (c.in-Ok-Some.ensures.turn first here.text judged here.place) in
     record {
       text = t.1;
       judged = t.3;
       place = t.2;
-      same = c.in-Ok-Some.ensures.file ∙ here.same;
+      same = c.in-Ok-Some.ensures.subject ∙ here.same;
       files_kept = c.in-Ok-Some.ensures.kept ∙ here.files_kept;
       faults_kept = c.in-Ok-Some.ensures.cause ∙ here.faults_kept;
     }
@@ -24,6 +25,6 @@ pieces-smaller g c =
     let here = c.pieces.invariant in
     let first = g.S.Shelf.calls c.args.shelf.now in
     let judged = subst (λ (o : Option Told). JudgedTo o c.args.name.now first (g.S.Shelf.calls c.pieces.shelf) c.pieces.checker here.text) (sym here.files_kept) here.judged in
-    let t = turn_more c.pieces.checker.scoped.now.file (g.S.Shelf.files c.args.shelf.now) (g.S.Shelf.files c.pieces.shelf) c.args.name.now c.pieces.at first (g.S.Shelf.calls c.judge_piece.new.shelf) c.judge_piece.new.checker c.in-Ok-Some.field-0 c.in-Ok-Some.next here.files_kept c.in-Ok-Some.field-0-is (c.in-Ok-Some.ensures.turn first here.text judged here.place) in
+    let t = turn_more (subject_of c.pieces.checker) (g.S.Shelf.files c.args.shelf.now) (g.S.Shelf.files c.pieces.shelf) c.args.name.now c.pieces.at first (g.S.Shelf.calls c.judge_piece.new.shelf) c.judge_piece.new.checker c.in-Ok-Some.field-0 c.in-Ok-Some.next here.files_kept c.in-Ok-Some.field-0-is (c.in-Ok-Some.ensures.turn first here.text judged here.place) in
     let within : length t.1 ≤ 1073741824 = t.3.within in
     omega (arith, t.0, t.2, within)

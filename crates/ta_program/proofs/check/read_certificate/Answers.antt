@@ -1,6 +1,6 @@
 use Rattle.std.proofs.Common.{Err, subst}
-use Rattle.ta_automaton.specs.declared.file.File.{File}
-use Rattle.ta_check.specs.Checkers.{Finished, IsExactEnd}
+use Rattle.ta_check.specs.Checkers.{Finished, IsExactEnd, subject_of}
+use Rattle.ta_check.specs.Subjects.{Subject}
 use Rattle.ta_program.proofs.PiecesJudged.{stage_ended}
 use Rattle.ta_program.proofs.check.read_certificate.Goals as goal
 
@@ -9,10 +9,10 @@ returns-in-Err-finish-clause-stage g c =
     let judged = c.in-Ok.ensures.judged in
     let whole = judged.such.0 in
     let f = c.in-Err-finish.fault in
-    let finished = subst (λ (file : File). Finished file whole.text (Err f)) judged.such.1 (c.in-Err-finish.ensures.answer whole.text whole.stands) in
-    let exact = subst (λ (file : File). IsExactEnd file whole.text (Err f)) judged.such.1 (c.in-Err-finish.ensures.exact whole.text whole.stands) in
+    let finished = subst (λ (s : Subject). Finished s whole.text (Err f)) judged.such.1 (c.in-Err-finish.ensures.answer whole.text whole.stands) in
+    let exact = subst (λ (s : Subject). IsExactEnd s whole.text (Err f)) judged.such.1 (c.in-Err-finish.ensures.exact whole.text whole.stands) in
     record {
       added = judged.added;
       grown = judged.grown;
-      such = stage_ended c.args.scoped.now.file (g.S.Shelf.files c.args.shelf.now) c.args.name.now c.in-Ok.checker judged.added whole f c.refused.result finished exact c.refused.ensures;
+      such = stage_ended (subject_of c.args.checker) (g.S.Shelf.files c.args.shelf.now) c.args.name.now c.in-Ok.checker judged.added whole f c.refused.result finished exact c.refused.ensures;
     }

@@ -1,3 +1,4 @@
+use Rattle.ta_search.proofs.OneFault.{one_fault}
 use Rattle.ta_program.proofs.FaultsOnce.{certificate_once, long_once, run_once, values_once}
 use Rattle.ta_program.proofs.fault_laws.faults_are_determined.Goals as goal
 
@@ -15,3 +16,6 @@ returns-clause-compressed c = long_once
 
 pub returns-clause-values : goal.returns-clause-values
 returns-clause-values c = values_once
+
+pub returns-clause-template : goal.returns-clause-template
+returns-clause-template c = one_fault

@@ -1,7 +1,7 @@
 use Rattle.std.proofs.Common.{◌≡◌, Bool, true, false, arith, refl, map}
 use Rattle.ta_shell.specs.Ends.{state}
 use Rattle.ta_program.specs.Requests.{request_of}
-use Rattle.ta_program.proofs.Clauses.{number_by, admitting, benches, certificate_written, check_proves, completes, exactly_so, exports, keeps_files, printed_holds, quiet, replay_shows, run_shortens, verify_reports, status_tells}
+use Rattle.ta_program.proofs.Clauses.{number_by, admitting, benches, certificate_written, check_proves, completes, exactly_so, exports, keeps_files, printed_holds, quiet, replay_shows, rest_proves, rests_report, run_shortens, searches, verify_reports, status_tells}
 use Rattle.ta_program.proofs.running.run.Goals as goal
 
 pub returns-clause-headline : goal.returns-clause-headline
@@ -37,6 +37,15 @@ returns-clause-export g c = exports (map (λ w. w.now) c.args.words.now) c.obey.
 
 pub returns-clause-admit : goal.returns-clause-admit
 returns-clause-admit g c = admitting (map (λ w. w.now) c.args.words.now) c.obey.result (state (g.S.Shelf.files c.args.shelf.now) (g.S.Shelf.calls c.args.shelf.now) (g.S.Shelf.faults c.args.shelf.now) (g.O.Sink.written c.args.out.now) (g.O.Sink.faults c.args.out.now) (g.O.Sink.stalls c.args.out.now) (g.E.Sink.written c.args.err.now) (g.E.Sink.faults c.args.err.now) (g.E.Sink.stalls c.args.err.now)) (state (g.S.Shelf.files c.obey.new.shelf) (g.S.Shelf.calls c.obey.new.shelf) (g.S.Shelf.faults c.obey.new.shelf) (g.O.Sink.written c.obey.new.out) (g.O.Sink.faults c.obey.new.out) (g.O.Sink.stalls c.obey.new.out) (g.E.Sink.written c.obey.new.err) (g.E.Sink.faults c.obey.new.err) (g.E.Sink.stalls c.obey.new.err)) c.obey.ensures
+
+pub returns-clause-rests : goal.returns-clause-rests
+returns-clause-rests g c = rests_report (map (λ w. w.now) c.args.words.now) c.obey.result (state (g.S.Shelf.files c.args.shelf.now) (g.S.Shelf.calls c.args.shelf.now) (g.S.Shelf.faults c.args.shelf.now) (g.O.Sink.written c.args.out.now) (g.O.Sink.faults c.args.out.now) (g.O.Sink.stalls c.args.out.now) (g.E.Sink.written c.args.err.now) (g.E.Sink.faults c.args.err.now) (g.E.Sink.stalls c.args.err.now)) (state (g.S.Shelf.files c.obey.new.shelf) (g.S.Shelf.calls c.obey.new.shelf) (g.S.Shelf.faults c.obey.new.shelf) (g.O.Sink.written c.obey.new.out) (g.O.Sink.faults c.obey.new.out) (g.O.Sink.stalls c.obey.new.out) (g.E.Sink.written c.obey.new.err) (g.E.Sink.faults c.obey.new.err) (g.E.Sink.stalls c.obey.new.err)) c.obey.ensures
+
+pub returns-clause-rest_proves : goal.returns-clause-rest_proves
+returns-clause-rest_proves g c = rest_proves (map (λ w. w.now) c.args.words.now) c.obey.result (state (g.S.Shelf.files c.args.shelf.now) (g.S.Shelf.calls c.args.shelf.now) (g.S.Shelf.faults c.args.shelf.now) (g.O.Sink.written c.args.out.now) (g.O.Sink.faults c.args.out.now) (g.O.Sink.stalls c.args.out.now) (g.E.Sink.written c.args.err.now) (g.E.Sink.faults c.args.err.now) (g.E.Sink.stalls c.args.err.now)) (state (g.S.Shelf.files c.obey.new.shelf) (g.S.Shelf.calls c.obey.new.shelf) (g.S.Shelf.faults c.obey.new.shelf) (g.O.Sink.written c.obey.new.out) (g.O.Sink.faults c.obey.new.out) (g.O.Sink.stalls c.obey.new.out) (g.E.Sink.written c.obey.new.err) (g.E.Sink.faults c.obey.new.err) (g.E.Sink.stalls c.obey.new.err)) c.obey.ensures
+
+pub returns-clause-searches : goal.returns-clause-searches
+returns-clause-searches g c = searches (map (λ w. w.now) c.args.words.now) c.obey.result (state (g.S.Shelf.files c.args.shelf.now) (g.S.Shelf.calls c.args.shelf.now) (g.S.Shelf.faults c.args.shelf.now) (g.O.Sink.written c.args.out.now) (g.O.Sink.faults c.args.out.now) (g.O.Sink.stalls c.args.out.now) (g.E.Sink.written c.args.err.now) (g.E.Sink.faults c.args.err.now) (g.E.Sink.stalls c.args.err.now)) (state (g.S.Shelf.files c.obey.new.shelf) (g.S.Shelf.calls c.obey.new.shelf) (g.S.Shelf.faults c.obey.new.shelf) (g.O.Sink.written c.obey.new.out) (g.O.Sink.faults c.obey.new.out) (g.O.Sink.stalls c.obey.new.out) (g.E.Sink.written c.obey.new.err) (g.E.Sink.faults c.obey.new.err) (g.E.Sink.stalls c.obey.new.err)) c.obey.ensures
 
 pub returns-clause-printed : goal.returns-clause-printed
 returns-clause-printed g c = printed_holds (map (λ w. w.now) c.args.words.now) c.obey.result (state (g.S.Shelf.files c.args.shelf.now) (g.S.Shelf.calls c.args.shelf.now) (g.S.Shelf.faults c.args.shelf.now) (g.O.Sink.written c.args.out.now) (g.O.Sink.faults c.args.out.now) (g.O.Sink.stalls c.args.out.now) (g.E.Sink.written c.args.err.now) (g.E.Sink.faults c.args.err.now) (g.E.Sink.stalls c.args.err.now)) (state (g.S.Shelf.files c.obey.new.shelf) (g.S.Shelf.calls c.obey.new.shelf) (g.S.Shelf.faults c.obey.new.shelf) (g.O.Sink.written c.obey.new.out) (g.O.Sink.faults c.obey.new.out) (g.O.Sink.stalls c.obey.new.out) (g.E.Sink.written c.obey.new.err) (g.E.Sink.faults c.obey.new.err) (g.E.Sink.stalls c.obey.new.err)) c.obey.ensures

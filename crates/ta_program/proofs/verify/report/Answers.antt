@@ -1,4 +1,4 @@
-use Rattle.ta_program.proofs.VerdictsMade.{as_many}
+use Rattle.ta_verdict.proofs.VerdictsMade.{as_many}
 use Rattle.ta_program.proofs.verify.report.Goals as goal
 
 pub report_json-requires-clause-all : goal.report_json-requires-clause-all

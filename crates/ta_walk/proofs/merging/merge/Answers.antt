@@ -1,7 +1,7 @@
-use Rattle.std.proofs.Common.{◌++◌, sym, subst, Option, Some}
+use Rattle.std.proofs.Common.{arith, subst}
 use Rattle.ta_walk.specs.declared.end.TreeEnd.{TreeEnd}
 use Rattle.ta_walk.specs.Inside.Parts.{PartVisited, beginning}
-use Rattle.ta_walk.proofs.PartsMerged.{decided_part, merged_parts}
+use Rattle.ta_walk.proofs.PartsMerged.{decided_part}
 use Rattle.ta_walk.proofs.merging.merge.Goals as goal
 
 pub returns-in_default-clause-visited : goal.returns-in_default-clause-visited
@@ -10,8 +10,9 @@ returns-in_default-clause-visited g c = λ s ws vs begun late one other fresh.
 
 pub returns-clause-visited : goal.returns-clause-visited
 returns-clause-visited g c = λ s ws vs begun late one other fresh.
-    let keeps = g.K.Keeper.keeps in
     let n = c.args.nodes in
-    let refuted = subst (λ (e : Option TreeEnd). PartVisited keeps (beginning s ws) n begun c.args.first.keeper e) c.in-Some.ensures.some one in
-    subst (λ (e : Option TreeEnd). PartVisited keeps (beginning s (ws ++ vs)) n begun c.append.new.self e) (sym c.end_behind.ensures.is)
-    (merged_parts keeps g.K.PartKeeper.begins s ws vs n c.in-Some.count c.in-Some.leaves begun late c.args.first.keeper c.args.second.keeper c.append.new.self c.args.second.end refuted other fresh c.in_ok-append.ensures)
+    let refuted = subst (λ (e : TreeEnd). PartVisited g.K.Keeper.keeps (beginning s ws) n begun c.args.first.keeper e) c.in-Some.ensures.some one in
+    c.add.ensures.visited s ws vs n begun late refuted other fresh
+
+pub returns-clause-whole : goal.returns-clause-whole
+returns-clause-whole g c = λ first second. c.add.ensures.whole c.args.nodes (omega arith) second

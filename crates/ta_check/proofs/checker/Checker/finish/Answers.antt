@@ -1,8 +1,11 @@
 use Rattle.std.proofs.Common.{sym, subst, Ok}
 use Rattle.std.proofs.lemmas.Result.{err_from_is_err_and}
+use Rattle.ta_claim.specs.declared.claim.Claim.{Claim}
 use Rattle.ta_scope.proofs.Judging.{loops_pure}
-use Rattle.ta_check.specs.Certificate.{Certificate}
-use Rattle.ta_check.proofs.Accepting.{certificate_safe, certificate_unsolved}
+use Rattle.ta_check.specs.Certificate.{Certificate, CertificateFor}
+use Rattle.ta_check.specs.Checkers.{subject_of}
+use Rattle.ta_check.specs.Subjects.{claiming}
+use Rattle.ta_check.proofs.Accepting.{certificate_unsolved, claims_hold}
 use Rattle.ta_check.proofs.Answering.{end_refused, exact_end, stands_somewhere}
 use Rattle.ta_check.proofs.Pieces.{end_accepts}
 use Rattle.ta_check.proofs.checker.Checker.finish.Goals as goal
@@ -11,27 +14,29 @@ pub returns-in_err-finish-clause-answer : goal.returns-in_err-finish-clause-answ
 returns-in_err-finish-clause-answer c =
     let p = err_from_is_err_and c.from_residual.result c.from_residual.ensures.1 in
     let s = c.args.self in
-    rw (p.1, p.2) (λ text stands. end_refused s.scoped.now.file s.reader s.position text c.in_err-finish.field-0.0 stands.stand (c.in_err-finish.ensures.answer text (stands.stand.ls, stands.stand.read)))
+    rw (p.1, p.2) (λ text stands. end_refused (subject_of s) s.reader s.position text c.in_err-finish.field-0.0 stands.stand (c.in_err-finish.ensures.answer text (stands.stand.ls, stands.stand.read)))
 
 pub returns-in_err-finish-clause-exact : goal.returns-in_err-finish-clause-exact
-returns-in_err-finish-clause-exact c = λ text stands. exact_end c.args.self.scoped.now.file text c.from_residual.result (returns-in_err-finish-clause-answer c text stands)
+returns-in_err-finish-clause-exact c = λ text stands. exact_end (subject_of c.args.self) text c.from_residual.result (returns-in_err-finish-clause-answer c text stands)
 
 pub returns-clause-answer : goal.returns-clause-answer
 returns-clause-answer c = λ text stands.
     let s = c.args.self in
-    subst (Certificate s.scoped.now.file text) (sym c.from_vec.ensures) (end_accepts s.scoped.now.file s.reader s.position text stands.stand (c.in_ok-finish.ensures.answer text (stands.stand.ls, stands.stand.read)))
+    subst (CertificateFor (subject_of s) text) (sym c.from_vec.ensures) (end_accepts (subject_of s) s.reader s.position text stands.stand (c.in_ok-finish.ensures.answer text (stands.stand.ls, stands.stand.read)))
 
 pub returns-clause-exact : goal.returns-clause-exact
-returns-clause-exact c = λ text stands. exact_end c.args.self.scoped.now.file text (Ok (record { patterns = c.from_vec.result })) (returns-clause-answer c text stands)
+returns-clause-exact c = λ text stands. exact_end (subject_of c.args.self) text (Ok (record { patterns = c.from_vec.result })) (returns-clause-answer c text stands)
 
-pub returns-clause-safe : goal.returns-clause-safe
-returns-clause-safe c =
+pub returns-clause-holds : goal.returns-clause-holds
+returns-clause-holds c =
     let s = c.args.self in
     let some = stands_somewhere s c.if-self.false c.requires in
-    certificate_safe s.scoped.now.file some.0 c.from_vec.result (loops_pure s.scoped.now.file.automaton s.scoped.now.in_scope) (returns-clause-answer c some.0 some.1)
+    claims_hold (subject_of s) some.0 c.from_vec.result some.1.may (loops_pure s.scoped.now.file.automaton s.scoped.now.in_scope) (returns-clause-answer c some.0 some.1)
 
 pub returns-clause-unsolved : goal.returns-clause-unsolved
-returns-clause-unsolved c =
+returns-clause-unsolved c = λ safe.
     let s = c.args.self in
+    let file = s.scoped.now.file in
     let some = stands_somewhere s c.if-self.false c.requires in
-    certificate_unsolved s.scoped.now.file some.0 c.from_vec.result (loops_pure s.scoped.now.file.automaton s.scoped.now.in_scope) s.scoped.now.in_scope (returns-clause-answer c some.0 some.1)
+    let certificate : Certificate file some.0 c.from_vec.result = subst (λ (claim : Claim). CertificateFor (claiming claim file) some.0 c.from_vec.result) safe (returns-clause-answer c some.0 some.1) in
+    certificate_unsolved file some.0 c.from_vec.result (loops_pure file.automaton s.scoped.now.in_scope) s.scoped.now.in_scope certificate

@@ -1,41 +1,56 @@
-use Rattle.std.proofs.Common.{◌≡◌, true, false, reverse, List, sym, ap, ◌∙◌, refl}
-use Rattle.ta_words.specs.declared.element.Element.{Element}
-use Rattle.ta_words.specs.Words.{is_complete}
+use Rattle.std.proofs.Common.{◌≡◌, true, false, reverse, List, ℕ, ◌<◌, ◌≤◌, sym, ap, ◌∙◌, refl, subst}
 use Rattle.ta_cert.specs.declared.line.Node.TheVariants as node
 use Rattle.ta_cursor.specs.InTrees.{here_at}
 use Rattle.ta_cursor.specs.declared.cursor.Cursor.{Cursor}
-use Rattle.ta_check.proofs.JudgingNodes.{newest, first_within, later, at_some_word, node_taken}
+use Rattle.ta_encode.specs.Search.{Search}
+use Rattle.ta_claim.specs.Claims.{search_for}
+use Rattle.ta_check.specs.Subjects.{claiming}
+use Rattle.ta_check.proofs.JudgingNodes.{some_newest, pattern_there, tree_within, told_at, went_on, first_within, later, at_some_word, node_taken}
 use Rattle.ta_check.proofs.position.Position.take_extend.Goals as goal
+
+pub new-tree-requires : goal.new-tree-requires
+new-tree-requires c = pattern_there (claiming c.args.claim c.args.file.now) c.args.self.now c.args.pattern c.requires.none c.requires.current c.requires.somewhere
+
+pub extend-requires : goal.extend-requires
+extend-requires c = tree_within (claiming c.args.claim c.args.file.now) c.args.self.now c.args.pattern _ c.requires.none c.requires.current c.new-tree.ensures.search c.requires.somewhere
 
 pub returns-then-is_complete : goal.returns-then-is_complete
 returns-then-is_complete c = λ at is.
     let s = c.args.self.now in
-    let p = c.new-tree.result.pattern.now in
-    let n = newest c.args.file.now s at c.args.pattern p c.new-tree.ensures.pattern c.requires.none c.requires.current is in
-    let word = c.word.ensures ∙ ap (λ (d : Cursor). d.word) c.cursor-2.ensures in
-    let complete : is_complete p (reverse s.place.cursor.word) ≡ true = ap (λ (es : List Element). is_complete p (reverse es)) (sym word) ∙ sym c.is_complete.ensures ∙ c.if-is_complete.true in
-    (refl, refl, at_some_word c.args.file.now s at c.args.pattern p (λ search w. search.complete w.start w.past ≡ true) n complete)
+    let subject = claiming c.args.claim c.args.file.now in
+    let n = some_newest subject s at c.args.pattern c.requires.none c.requires.current is in
+    let d = s.place.cursor in
+    let start = c.start_mask-start_mask.ensures ∙ ap (λ (e : Cursor). e.start_mask) c.cursor.ensures in
+    let word = c.word.ensures ∙ ap (λ (e : Cursor). e.word) c.cursor-2.ensures in
+    let told = told_at (λ (q : Search). q.complete) _ (search_for c.args.claim c.args.file.now.automaton n.0 s.orders) c.is_complete.result _ d.start_mask _ d.word (c.new-tree.ensures.search n.0 n.1.named) start word c.is_complete.ensures in
+    (refl, refl, at_some_word subject s at c.args.pattern n.0 (λ search w. search.complete w.start w.past ≡ true) n.1 (sym told ∙ c.if-is_complete.true))
 
 pub returns-then-not-branch : goal.returns-then-not-branch
 returns-then-not-branch c = λ at is.
     let s = c.args.self.now in
-    let p = c.new-tree.result.pattern.now in
-    let n = newest c.args.file.now s at c.args.pattern p c.new-tree.ensures.pattern c.requires.none c.requires.current is in
-    let word = c.word.ensures ∙ ap (λ (d : Cursor). d.word) c.cursor-2.ensures in
-    let may : is_complete p (reverse s.place.cursor.word) ≡ false = ap (λ (es : List Element). is_complete p (reverse es)) (sym word) ∙ sym c.is_complete.ensures ∙ c.if-is_complete.false in
-    let within = first_within c.args.file.now s at c.args.pattern p n in
-    let told = rw (c.if-not-branch.true, c.new-tree.ensures.file, c.new-tree.ensures.orders) at c.in_ok-extend.ensures in
-    let went = told (here_at s.place) (later c.args.file.now s at c.args.pattern p n) within in
-    node_taken c.args.file.now s _ at c.args.pattern c.args.number p node.Extend false n is (record { version = refl; orders = refl; waiting = refl }) may refl refl n.kept went
+    let subject = claiming c.args.claim c.args.file.now in
+    let n = some_newest subject s at c.args.pattern c.requires.none c.requires.current is in
+    let d = s.place.cursor in
+    let same = c.new-tree.ensures.search n.0 n.1.named in
+    let search = search_for c.args.claim c.args.file.now.automaton n.0 s.orders in
+    let start = c.start_mask-start_mask.ensures ∙ ap (λ (e : Cursor). e.start_mask) c.cursor.ensures in
+    let word = c.word.ensures ∙ ap (λ (e : Cursor). e.word) c.cursor-2.ensures in
+    let told = told_at (λ (q : Search). q.complete) _ search c.is_complete.result _ d.start_mask _ d.word same start word c.is_complete.ensures in
+    let more = rw c.if-not-branch.true at c.in_ok-extend.ensures in
+    let went = went_on _ search s.place _ node.Extend false (later subject s at c.args.pattern n.0 n.1) same more (first_within subject s at c.args.pattern n.0 n.1) in
+    node_taken subject s _ at c.args.pattern c.args.number n.0 node.Extend false n.1 is (record { version = refl; orders = refl; waiting = refl }) (sym told ∙ c.if-is_complete.false) refl refl n.1.kept went
 
 pub returns-else-not-branch : goal.returns-else-not-branch
 returns-else-not-branch c = λ at is.
     let s = c.args.self.now in
-    let p = c.new-tree.result.pattern.now in
-    let n = newest c.args.file.now s at c.args.pattern p c.new-tree.ensures.pattern c.requires.none c.requires.current is in
-    let word = c.word.ensures ∙ ap (λ (d : Cursor). d.word) c.cursor-2.ensures in
-    let may : is_complete p (reverse s.place.cursor.word) ≡ false = ap (λ (es : List Element). is_complete p (reverse es)) (sym word) ∙ sym c.is_complete.ensures ∙ c.if-is_complete.false in
-    let within = first_within c.args.file.now s at c.args.pattern p n in
-    let told = rw (c.if-not-branch.false, c.new-tree.ensures.file, c.new-tree.ensures.orders) at c.in_ok-extend.ensures in
-    let went = told (here_at s.place) (later c.args.file.now s at c.args.pattern p n) within in
-    node_taken c.args.file.now s _ at c.args.pattern c.args.number p node.Extend true n is (record { version = refl; orders = refl; waiting = refl }) may refl c.requires.current n.kept went
+    let subject = claiming c.args.claim c.args.file.now in
+    let n = some_newest subject s at c.args.pattern c.requires.none c.requires.current is in
+    let d = s.place.cursor in
+    let same = c.new-tree.ensures.search n.0 n.1.named in
+    let search = search_for c.args.claim c.args.file.now.automaton n.0 s.orders in
+    let start = c.start_mask-start_mask.ensures ∙ ap (λ (e : Cursor). e.start_mask) c.cursor.ensures in
+    let word = c.word.ensures ∙ ap (λ (e : Cursor). e.word) c.cursor-2.ensures in
+    let told = told_at (λ (q : Search). q.complete) _ search c.is_complete.result _ d.start_mask _ d.word same start word c.is_complete.ensures in
+    let more = rw c.if-not-branch.false at c.in_ok-extend.ensures in
+    let went = went_on _ search s.place _ node.Extend true (later subject s at c.args.pattern n.0 n.1) same more (first_within subject s at c.args.pattern n.0 n.1) in
+    node_taken subject s _ at c.args.pattern c.args.number n.0 node.Extend true n.1 is (record { version = refl; orders = refl; waiting = refl }) (sym told ∙ c.if-is_complete.false) refl c.requires.current n.1.kept went

@@ -1,5 +1,11 @@
+use Rattle.std.proofs.Common.{sym, ◌∙◌, refl}
+use Rattle.std.proofs.lemmas.Bool.{false≢true}
+use Rattle.ta_check.specs.Subjects.{claiming}
 use Rattle.ta_check.proofs.JudgingHeads.{header_taken}
 use Rattle.ta_check.proofs.position.Position.take_header.Goals as goal
 
-pub returns : goal.returns
-returns c = λ file number at is. header_taken file c.args.self.now at number c.args.version is
+pub returns-then-not-has_version-clause-taken : goal.returns-then-not-has_version-clause-taken
+returns-then-not-has_version-clause-taken c = λ at is. (refl, λ has. false≢true (sym c.if-not-has_version.true ∙ c.has_version.ensures.1 has))
+
+pub returns-clause-taken : goal.returns-clause-taken
+returns-clause-taken c = λ at is. header_taken (claiming c.args.claim c.args.file.now) c.args.self.now at c.args.number c.args.version (c.has_version.ensures.0 c.if-not-has_version.false) is

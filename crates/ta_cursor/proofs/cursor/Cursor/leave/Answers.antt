@@ -1,4 +1,4 @@
-use Rattle.std.proofs.Common.{◌+◌, ◌∷◌, refl, ap, arith, length, reverse, drop, sym, subst}
+use Rattle.std.proofs.Common.{◌+◌, ◌∷◌, refl, ap, arith, length, drop, sym, subst}
 use Rattle.std.proofs.lemmas.Result.{err_from_is_err_and}
 use Rattle.ta_encode.specs.Search.{parts}
 use Rattle.ta_cursor.specs.declared.cursor.Cursor.{Cursor}

@@ -1,4 +1,4 @@
-use Rattle.std.proofs.Common.{ℤ, ◌++◌, FitsSigned, Some, length, reverse, rules, subst}
+use Rattle.std.proofs.Common.{ℤ, ◌++◌, FitsSigned, Some, reverse, rules, subst}
 use Rattle.std.specs.Int.{w128}
 use Rattle.std.proofs.lemmas.Int.{to_z-of_z}
 use Rattle.ta_cert.specs.declared.line.Node.TheVariants.{Split}

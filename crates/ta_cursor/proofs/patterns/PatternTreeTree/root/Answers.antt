@@ -1,4 +1,4 @@
-use Rattle.std.proofs.Common.{◌≡◌, ◌<◌, ◌≤◌, ◌^◌, List, [], length, arith, sym, ap, ◌∙◌, subst, Some, slice_get, lit<}
+use Rattle.std.proofs.Common.{◌≡◌, ◌<◌, ◌^◌, List, [], length, arith, sym, subst, Some, slice_get, lit<}
 use Rattle.ta_words.specs.declared.element.Element.{Element}
 use Rattle.ta_cursor.proofs.PatternWords.{start_at, start_none, shifted}
 use Rattle.ta_cursor.specs.Cursors.{word_at}

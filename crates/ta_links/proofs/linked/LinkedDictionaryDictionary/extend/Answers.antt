@@ -8,13 +8,37 @@ use Rattle.ta_dense.specs.Extending.{raised, extended, new_rows, FirstLeaving}
 use Rattle.ta_links.specs.declared.row_head.RowHead.{RowHead}
 use Rattle.ta_links.specs.Linked.{Linked, table_rows, no_head}
 use Rattle.ta_links.proofs.LinkedFacts.{length-table_rows}
+use Rattle.ta_links.proofs.ExtendedRows.{Lengthened}
 use Rattle.ta_links.proofs.ExtendedTable.{basic_is, lengthen, room_for, extend_is, extend_within, extend_refused, names_long, taken_long, taken_proper}
 use Rattle.ta_links.proofs.linked.LinkedDictionaryDictionary.extend.Goals as goal
+use Rattle.ta_links.proofs.linked.LinkedDictionaryDictionary.extend.Goals.{After-deref, In_ok-links}
+
+-- the rows are as many as the heads, and the columns as the free variables
+long : (c : After-deref) → c.rows-first.result ≡ length c.self.inside.rows.items
+long c = c.rows-first.ensures ∙ ap (λ (e : Linked). length e.tableau.rows) (sym c.self.view_is) ∙ length-table_rows c.self.inside.links.cells.items (length c.self.inside.non_basic.items) 0 c.self.inside.rows.items
+
+wide : (c : After-deref) → c.columns-old.result ≡ length c.self.inside.non_basic.items
+wide c = c.columns-old.ensures ∙ ap (λ (e : Linked). length e.tableau.non_basic) (sym c.self.view_is)
+
+-- the longer system has as many unknowns at least, and as many rows
+few : (c : In_ok-links) → c.columns-old.result ≤ c.args.longer.now.unknowns
+few c = let h = c.requires.longer.columns in let e = c.columns-old.ensures in omega arith
+
+all : (c : In_ok-links) → length c.as_slice.result.now ≡ length c.args.longer.now.rows
+all c = ap (λ (xs : List Row). length xs) c.as_slice.ensures
+
+low : (c : In_ok-links) → c.rows-first.result ≤ length c.as_slice.result.now
+low c = let a = all c in let h = c.requires.longer.rows in let e = c.rows-first.ensures in omega arith
+
+-- the rows with the new ones behind them
+longer : (c : In_ok-links) → c.rows-first.result ≡ length c.self.inside.rows.items → Lengthened c.columns-old.result (c.args.longer.now.unknowns - c.columns-old.result) c.rows-first.result (length c.as_slice.result.now - c.rows-first.result) c.self.inside.rows.items c.self.inside.links c.args.longer.now.rows c.in_ok-rows.rows.items c.in_ok-links.links
+longer c is = lengthen c.columns-old.result c.args.longer.now.unknowns c.rows-first.result (length c.as_slice.result.now) c.self.inside.rows.items c.deref.result.now c.self.inside.links c.args.longer.now.rows c.in_ok-rows.rows.items c.in_ok-links.links c.deref.ensures.value is (few c) (low c) (all c) c.in_ok-rows.ensures c.in_ok-links.ensures.shows
 
 pub begun_heads-requires-clause-rows : goal.begun_heads-requires-clause-rows
 begun_heads-requires-clause-rows c =
     let l = c.self.inside.links in
-    let long : c.rows-first.result ≡ length c.self.inside.rows.items = c.rows-first.ensures ∙ ap (λ (e : Linked). length e.tableau.rows) (sym c.self.view_is) ∙ length-table_rows l.cells.items (length c.self.inside.non_basic.items) 0 c.self.inside.rows.items in
+    let at = goal.at.begun_heads-requires-clause-rows c in
+    let is_long = long at.After-deref in
     let d = ap (λ (xs : List RowHead). length xs) c.deref.ensures.value in
     let first = c.rows-first.ensures in
     let rows_ = c.requires.longer.rows in
@@ -23,7 +47,8 @@ begun_heads-requires-clause-rows c =
 pub begun_heads-requires-clause-basic : goal.begun_heads-requires-clause-basic
 begun_heads-requires-clause-basic c i b =
     let l = c.self.inside.links in
-    let long : c.rows-first.result ≡ length c.self.inside.rows.items = c.rows-first.ensures ∙ ap (λ (e : Linked). length e.tableau.rows) (sym c.self.view_is) ∙ length-table_rows l.cells.items (length c.self.inside.non_basic.items) 0 c.self.inside.rows.items in
+    let at = goal.at.begun_heads-requires-clause-basic c in
+    let is_long = long at.After-deref in
     let d = ap (λ (xs : List RowHead). length xs) c.deref.ensures.value in
     let first = c.rows-first.ensures in
     let old = c.columns-old.ensures in
@@ -48,13 +73,14 @@ carry_rows-requires-clause-room c =
     let m = c.args.longer.now.unknowns in
     let first = c.rows-first.result in
     let last = length c.as_slice.result.now in
-    let long : c.rows-first.result ≡ length c.self.inside.rows.items = c.rows-first.ensures ∙ ap (λ (e : Linked). length e.tableau.rows) (sym c.self.view_is) ∙ length-table_rows l.cells.items (length us) 0 hs in
-    let cols : c.columns-old.result ≡ length c.self.inside.non_basic.items = c.columns-old.ensures ∙ ap (λ (e : Linked). length e.tableau.non_basic) (sym c.self.view_is) in
-    let few : c.columns-old.result ≤ c.args.longer.now.unknowns = let h = c.requires.longer.columns in let e = c.columns-old.ensures in omega arith in
-    let all : length c.as_slice.result.now ≡ length c.args.longer.now.rows = ap (λ (xs : List Row). length xs) c.as_slice.ensures in
-    let low : c.rows-first.result ≤ length c.as_slice.result.now = let h = c.requires.longer.rows in let e = c.rows-first.ensures in omega arith in
-    let w = lengthen u m first last hs c.deref.result.now l s.rows c.in_ok-rows.rows.items c.in_ok-links.links c.deref.ensures.value long few low all c.in_ok-rows.ensures c.in_ok-links.ensures.shows in
-    room_for u m first last hs l s.rows c.in_ok-rows.rows.items c.in_ok-links.links few w c.self.invariant.proper c.in_ok-links.ensures.sound c.in_ok-links.ensures.rows c.in_ok-links.ensures.columns
+    let at = goal.at.carry_rows-requires-clause-room c in
+    let is_long = long at.After-deref in
+    let cols = wide at.After-deref in
+    let is_few = few at.In_ok-links in
+    let is_all = all at.In_ok-links in
+    let is_low = low at.In_ok-links in
+    let w = longer at.In_ok-links is_long in
+    room_for u m first last hs l s.rows c.in_ok-rows.rows.items c.in_ok-links.links is_few w c.self.invariant.proper c.in_ok-links.ensures.sound c.in_ok-links.ensures.rows c.in_ok-links.ensures.columns
 
 pub carry_rows-requires-clause-kept : goal.carry_rows-requires-clause-kept
 carry_rows-requires-clause-kept c j b =
@@ -75,17 +101,18 @@ returns-in-Some-clause-fault c =
     let m = c.args.longer.now.unknowns in
     let first = c.rows-first.result in
     let last = length c.as_slice.result.now in
-    let long : c.rows-first.result ≡ length c.self.inside.rows.items = c.rows-first.ensures ∙ ap (λ (e : Linked). length e.tableau.rows) (sym c.self.view_is) ∙ length-table_rows l.cells.items (length us) 0 hs in
-    let cols : c.columns-old.result ≡ length c.self.inside.non_basic.items = c.columns-old.ensures ∙ ap (λ (e : Linked). length e.tableau.non_basic) (sym c.self.view_is) in
-    let few : c.columns-old.result ≤ c.args.longer.now.unknowns = let h = c.requires.longer.columns in let e = c.columns-old.ensures in omega arith in
-    let all : length c.as_slice.result.now ≡ length c.args.longer.now.rows = ap (λ (xs : List Row). length xs) c.as_slice.ensures in
-    let low : c.rows-first.result ≤ length c.as_slice.result.now = let h = c.requires.longer.rows in let e = c.rows-first.ensures in omega arith in
-    let w = lengthen u m first last hs c.deref.result.now l s.rows c.in_ok-rows.rows.items c.in_ok-links.links c.deref.ensures.value long few low all c.in_ok-rows.ensures c.in_ok-links.ensures.shows in
+    let at = goal.at.returns-in-Some-clause-fault c in
+    let is_long = long at.After-deref in
+    let cols = wide at.After-deref in
+    let is_few = few at.In_ok-links in
+    let is_all = all at.In_ok-links in
+    let is_low = low at.In_ok-links in
+    let w = longer at.In_ok-links is_long in
     let itself = map-id c.args.kept.now in
     let below = rw c.in-Some.is at c.in_ok-refusal.ensures.below in
     let refused = rw c.in-Some.is at c.in_ok-refusal.ensures.refused in
     rw itself (subst (λ (t : Tableau). FirstLeaving t ks s c.in-Some.field-0.pivot c.in-Some.field-0.row) (ap (λ (e : Linked). e.tableau) c.self.view_is)
-    (extend_refused us hs c.in_ok-rows.rows.items l c.in_ok-links.links s ks u first last c.in-Some.field-0.pivot c.in-Some.field-0.row long few w below refused))
+    (extend_refused us hs c.in_ok-rows.rows.items l c.in_ok-links.links s ks u first last c.in-Some.field-0.pivot c.in-Some.field-0.row is_long is_few w below refused))
 
 pub invariant_of-result : goal.invariant_of-result
 invariant_of-result c =
@@ -98,18 +125,19 @@ invariant_of-result c =
     let m = c.args.longer.now.unknowns in
     let first = c.rows-first.result in
     let last = length c.as_slice.result.now in
-    let long : c.rows-first.result ≡ length c.self.inside.rows.items = c.rows-first.ensures ∙ ap (λ (e : Linked). length e.tableau.rows) (sym c.self.view_is) ∙ length-table_rows l.cells.items (length us) 0 hs in
-    let cols : c.columns-old.result ≡ length c.self.inside.non_basic.items = c.columns-old.ensures ∙ ap (λ (e : Linked). length e.tableau.non_basic) (sym c.self.view_is) in
-    let few : c.columns-old.result ≤ c.args.longer.now.unknowns = let h = c.requires.longer.columns in let e = c.columns-old.ensures in omega arith in
-    let all : length c.as_slice.result.now ≡ length c.args.longer.now.rows = ap (λ (xs : List Row). length xs) c.as_slice.ensures in
-    let low : c.rows-first.result ≤ length c.as_slice.result.now = let h = c.requires.longer.rows in let e = c.rows-first.ensures in omega arith in
-    let w = lengthen u m first last hs c.deref.result.now l s.rows c.in_ok-rows.rows.items c.in_ok-links.links c.deref.ensures.value long few low all c.in_ok-rows.ensures c.in_ok-links.ensures.shows in
+    let at = goal.at.invariant_of-result c in
+    let is_long = long at.After-deref in
+    let cols = wide at.After-deref in
+    let is_few = few at.In_ok-links in
+    let is_all = all at.In_ok-links in
+    let is_low = low at.In_ok-links in
+    let w = longer at.In_ok-links is_long in
     let a = rw c.in_default.is at c.in_ok-refusal.ensures.done in
     let names = c.in_ok-non_basic.ensures ∙ ap (λ (xs : List ℕ). map (raised u (m - u)) xs ++ range_with_len u (m - u)) c.deref-2.ensures.value in
     let whole : c.rows-first.result + (length c.as_slice.result.now - c.rows-first.result) ≡ length c.as_slice.result.now = omega arith in
     let high : length c.carry_rows.new.heads.items ≡ length c.as_slice.result.now + 1 = a.room.long ∙ ap (λ (k : ℕ). k + 1) whole in
     let short = taken_long last c.carry_rows.new.heads.items c.drop_last.new.heads.items c.drop_last.ensures.heads high in
-    let wide = names_long us c.in_ok-non_basic.non_basic.items u m few cols names in
+    let wide = names_long us c.in_ok-non_basic.non_basic.items u m is_few cols names in
     let room = c.requires.room in
     record {
       linked = c.drop_last.ensures.sound;
@@ -131,18 +159,19 @@ returns-clause-ok c =
     let m = c.args.longer.now.unknowns in
     let first = c.rows-first.result in
     let last = length c.as_slice.result.now in
-    let long : c.rows-first.result ≡ length c.self.inside.rows.items = c.rows-first.ensures ∙ ap (λ (e : Linked). length e.tableau.rows) (sym c.self.view_is) ∙ length-table_rows l.cells.items (length us) 0 hs in
-    let cols : c.columns-old.result ≡ length c.self.inside.non_basic.items = c.columns-old.ensures ∙ ap (λ (e : Linked). length e.tableau.non_basic) (sym c.self.view_is) in
-    let few : c.columns-old.result ≤ c.args.longer.now.unknowns = let h = c.requires.longer.columns in let e = c.columns-old.ensures in omega arith in
-    let all : length c.as_slice.result.now ≡ length c.args.longer.now.rows = ap (λ (xs : List Row). length xs) c.as_slice.ensures in
-    let low : c.rows-first.result ≤ length c.as_slice.result.now = let h = c.requires.longer.rows in let e = c.rows-first.ensures in omega arith in
-    let w = lengthen u m first last hs c.deref.result.now l s.rows c.in_ok-rows.rows.items c.in_ok-links.links c.deref.ensures.value long few low all c.in_ok-rows.ensures c.in_ok-links.ensures.shows in
+    let at = goal.at.returns-clause-ok c in
+    let is_long = long at.After-deref in
+    let cols = wide at.After-deref in
+    let is_few = few at.In_ok-links in
+    let is_all = all at.In_ok-links in
+    let is_low = low at.In_ok-links in
+    let w = longer at.In_ok-links is_long in
     let a = rw c.in_default.is at c.in_ok-refusal.ensures.done in
     let names = c.in_ok-non_basic.ensures ∙ ap (λ (xs : List ℕ). map (raised u (m - u)) xs ++ range_with_len u (m - u)) c.deref-2.ensures.value in
     let itself = map-id c.args.kept.now in
     let nb = c.in_ok-non_basic.non_basic.items in
     rw itself (subst (λ (t : Tableau). record { non_basic = nb; rows = table_rows c.drop_last.new.links.cells.items (length nb) 0 c.drop_last.new.heads.items } ≡ extended t ks s) (ap (λ (e : Linked). e.tableau) c.self.view_is)
-    (extend_is us nb hs c.in_ok-rows.rows.items c.carry_rows.new.heads.items c.drop_last.new.heads.items l c.in_ok-links.links c.carry_rows.new.links c.drop_last.new.links.cells.items s ks u first last cols long few low w c.self.invariant.linked (c.self.invariant.columns_long ∙ sym cols) a
+    (extend_is us nb hs c.in_ok-rows.rows.items c.carry_rows.new.heads.items c.drop_last.new.heads.items l c.in_ok-links.links c.carry_rows.new.links c.drop_last.new.links.cells.items s ks u first last cols is_long is_few is_low w c.self.invariant.linked (c.self.invariant.columns_long ∙ sym cols) a
     c.drop_last.ensures.heads c.drop_last.ensures.cells names))
 
 pub returns-clause-in_range : goal.returns-clause-in_range
@@ -156,13 +185,14 @@ returns-clause-in_range c =
     let m = c.args.longer.now.unknowns in
     let first = c.rows-first.result in
     let last = length c.as_slice.result.now in
-    let long : c.rows-first.result ≡ length c.self.inside.rows.items = c.rows-first.ensures ∙ ap (λ (e : Linked). length e.tableau.rows) (sym c.self.view_is) ∙ length-table_rows l.cells.items (length us) 0 hs in
-    let cols : c.columns-old.result ≡ length c.self.inside.non_basic.items = c.columns-old.ensures ∙ ap (λ (e : Linked). length e.tableau.non_basic) (sym c.self.view_is) in
-    let few : c.columns-old.result ≤ c.args.longer.now.unknowns = let h = c.requires.longer.columns in let e = c.columns-old.ensures in omega arith in
-    let all : length c.as_slice.result.now ≡ length c.args.longer.now.rows = ap (λ (xs : List Row). length xs) c.as_slice.ensures in
-    let low : c.rows-first.result ≤ length c.as_slice.result.now = let h = c.requires.longer.rows in let e = c.rows-first.ensures in omega arith in
-    let w = lengthen u m first last hs c.deref.result.now l s.rows c.in_ok-rows.rows.items c.in_ok-links.links c.deref.ensures.value long few low all c.in_ok-rows.ensures c.in_ok-links.ensures.shows in
+    let at = goal.at.returns-clause-in_range c in
+    let is_long = long at.After-deref in
+    let cols = wide at.After-deref in
+    let is_few = few at.In_ok-links in
+    let is_all = all at.In_ok-links in
+    let is_low = low at.In_ok-links in
+    let w = longer at.In_ok-links is_long in
     let a = rw c.in_default.is at c.in_ok-refusal.ensures.done in
     let itself = map-id c.args.kept.now in
     rw itself (subst (λ (t : Tableau). StayInRange m ks (length ks) (new_rows t s)) (ap (λ (e : Linked). e.tableau) c.self.view_is)
-    (extend_within us hs c.in_ok-rows.rows.items c.carry_rows.new.heads.items l c.in_ok-links.links c.carry_rows.new.links s ks u first last long few w a))
+    (extend_within us hs c.in_ok-rows.rows.items c.carry_rows.new.heads.items l c.in_ok-links.links c.carry_rows.new.links s ks u first last is_long is_few w a))

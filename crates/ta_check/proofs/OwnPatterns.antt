@@ -1,0 +1,36 @@
+-- what is shown of endings holds of the file's own patterns
+use Rattle.std.proofs.Common.{◌≡◌, ℕ, zero, suc, List, [], ◌∷◌, Some, slice_get, refl, subst}
+use Rattle.ta_automaton.specs.declared.automaton.Automaton.{Automaton}
+use Rattle.ta_automaton.specs.declared.file.File.{File}
+use Rattle.ta_automaton.specs.declared.pattern.Pattern.{Pattern}
+use Rattle.ta_rest.specs.Endings.{Endings, IsEnding}
+use Rattle.ta_rest.specs.Faults.{EndingsOf}
+use Rattle.ta_rest.specs.Rest.{RestSafe}
+use Rattle.ta_rest.proofs.EndingLaws.{endings_rest}
+use Rattle.ta_check.specs.Certificate.{AllRestSafe}
+
+-- a pattern, and its ending of this number
+record Own (ps : List Pattern) (number : ℕ) (ending : Pattern) : Type 0 where
+  pub pattern : Pattern
+  pub named : slice_get ps number ≡ Some pattern
+  pub is : IsEnding pattern ending
+
+own_of : (ps qs : List Pattern) (number : ℕ) (ending : Pattern) → Endings ps qs → slice_get qs number ≡ Some ending → Own ps number ending
+own_of [] [] number ending are named = absurd (cc)
+own_of (p ∷ ps) (q ∷ qs) zero ending are named = let same : q ≡ ending = cc in record { pattern = p; named = refl; is = subst (IsEnding p) same are.0 }
+own_of (p ∷ ps) (q ∷ qs) (suc n) ending are named =
+    let rest = own_of ps qs n ending are.1 named in
+    record { pattern = rest.pattern; named = rest.named; is = rest.is }
+own_of [] (q ∷ qs) number ending are named = absurd are
+own_of (p ∷ ps) [] number ending are named = absurd are
+
+-- no run comes to rest where the last event of the pattern happens, since none does of its ending
+own_rests : (a b : Automaton) (p ending : Pattern) → b ≡ a → IsEnding p ending → RestSafe b ending → RestSafe a p
+own_rests a b p ending same is safe = λ first rules occurs. subst (λ (c : Automaton). RestSafe c ending) same safe first rules ((endings_rest a p ending is first rules).0 occurs)
+
+pub all_own : (file ending : File) (added : ℕ) (numbers : List ℕ) → EndingsOf file ending added → AllRestSafe ending numbers → AllRestSafe file numbers
+all_own file ending added [] of safe = tt
+all_own file ending added (n ∷ ns) of safe =
+    let one = safe.0 in
+    let own = own_of file.patterns ending.patterns n one.pattern of.patterns one.named in
+    (record { pattern = own.pattern; named = own.named; safe = own_rests file.automaton ending.automaton own.pattern one.pattern of.automaton own.is one.safe }, all_own file ending added ns of safe.1)

@@ -1,0 +1,12 @@
+use Rattle.std.proofs.Common.{refl}
+use Rattle.ta_claim.specs.declared.claim.Claim.TheVariants.{RestSafe}
+use Rattle.ta_check.specs.Subjects.{claiming}
+use Rattle.ta_check.proofs.Accepting.{may_rest}
+use Rattle.ta_check.proofs.Pieces.{stands_first}
+use Rattle.ta_check.proofs.checker.Checker.resting.Goals as goal
+
+pub returns-clause-stands : goal.returns-clause-stands
+returns-clause-stands c =
+    let rest = c.args.rest.now in
+    let subject = claiming RestSafe rest.ending.file in
+    record { may = may_rest rest.ending.file rest.come_last; going_on = refl; stand = stands_first subject c.new.result c.new-2.result c.new.ensures (c.new-2.ensures subject) }

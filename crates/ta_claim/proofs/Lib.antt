@@ -1,0 +1,4 @@
+-- lemmas for the crates above
+pub mod RestRows
+pub mod ClaimsShown
+mod RestMasks

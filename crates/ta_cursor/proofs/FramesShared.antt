@@ -1,0 +1,139 @@
+-- open nodes of which the outermost go to another cursor
+use Rattle.std.proofs.Common.{◌≡◌, ℕ, zero, suc, ◌+◌, ◌≤◌, List, [], ◌∷◌, ◌++◌, length, take, drop, reverse, slice_get, Some, Ok, true, arith, sym, ap, ◌∙◌, refl, subst, append_assoc}
+use Rattle.std.proofs.lemmas.List.{length-take-le, reverse-append, take-append-drop}
+use Rattle.ta_encode.specs.Search.{Pending, Search}
+use Rattle.ta_cursor.specs.declared.cursor.Frame.{Frame}
+use Rattle.ta_cursor.specs.declared.cursor.Cursor.{Cursor}
+use Rattle.ta_cursor.specs.Cursors.{here, word_of, behind, all_behind, left_at, FramesFit, GoesOn, Inside, IsBefore, IsShared, IsWord, Within}
+use Rattle.ta_cursor.proofs.FramesLeft.{SamePlace, inside_moved}
+use Rattle.ta_cursor.proofs.FramesKept.{BeginAlike, frames_kept, left_kept, next_dropped, same_pending, take_less}
+
+-- the nodes around one that is open
+pub record Around (s : Search) (c : Cursor) (n m : ℕ) (g : Frame) (outers : List Frame) : Type 0 where
+  pub length : g.length ≤ n
+  pub bounds : g.bounds ≤ m
+  pub frames : FramesFit s c (word_of c g) g.length g.bounds outers
+
+around : (s : Search) (c : Cursor) (w : Pending) (n m : ℕ) (inner : List Frame) (g : Frame) (outers : List Frame) → FramesFit s c w n m (inner ++ g ∷ outers) → Around s c n m g outers
+around s c w n m [] g outers fit = record { length = fit.0; bounds = fit.1; frames = fit.4 }
+around s c w n m (f ∷ inner) g outers fit =
+    let rest = around s c (word_of c f) f.length f.bounds inner g outers fit.4 in
+    let few = fit.0 in
+    let low = fit.1 in
+    let more = rest.length in
+    let lower = rest.bounds in
+    record { length = omega arith; bounds = omega arith; frames = rest.frames }
+
+front_fits : (s : Search) (c : Cursor) (w : Pending) (n m : ℕ) (inner outers : List Frame) → FramesFit s c w n m (inner ++ outers) → FramesFit s c w n m inner
+front_fits s c w n m [] outers fit = tt
+front_fits s c w n m (f ∷ inner) outers fit = (fit.0, fit.1, fit.2, fit.3, front_fits s c (word_of c f) f.length f.bounds inner outers fit.4)
+
+behind_both : (s : Search) (c : Cursor) (inner outers : List Frame) → all_behind s c (inner ++ outers) ≡ all_behind s c inner ++ all_behind s c outers
+behind_both s c [] outers = refl
+behind_both s c (f ∷ inner) outers =
+    ap (λ (ws : List Pending). behind s c f ++ ws) (behind_both s c inner outers) ∙ sym (append_assoc (behind s c f) (all_behind s c inner) (all_behind s c outers))
+
+-- a list in order, cut
+reversed_parts : (k : ℕ) (fs : List Frame) → reverse fs ≡ reverse (drop k fs) ++ reverse (take k fs)
+reversed_parts k fs = ap reverse (sym (take-append-drop k fs)) ∙ reverse-append (take k fs) (drop k fs)
+
+reversed_at : (k : ℕ) (fs : List Frame) (g : Frame) → slice_get fs k ≡ Some g → reverse fs ≡ reverse (drop (k + 1) fs) ++ g ∷ reverse (take k fs)
+reversed_at k fs g at =
+    reversed_parts k fs
+    ∙ ap (λ (gs : List Frame). reverse gs ++ reverse (take k fs)) (next_dropped fs k g at)
+    ∙ ap (λ (gs : List Frame). gs ++ reverse (take k fs)) (reverse-append (g ∷ []) (drop (k + 1) fs))
+    ∙ append_assoc (reverse (drop (k + 1) fs)) (g ∷ []) (reverse (take k fs))
+
+-- a cursor that stands where an open node does, with the nodes around that one open
+pub record StandsAt (c d : Cursor) (k : ℕ) (g : Frame) : Type 0 where
+  pub start : d.start_mask ≡ c.start_mask
+  pub word : d.word ≡ take g.length c.word
+  pub bounds : d.bounds.items ≡ take g.bounds c.bounds.items
+  pub frames : d.frames.items ≡ take k c.frames.items
+
+pub frame_short : (s : Search) (c : Cursor) (k : ℕ) (g : Frame) (words : List Pending) → Inside s c words → slice_get c.frames.items k ≡ Some g → g.length ≤ length c.word
+frame_short s c k g words inside at =
+    let fit = subst (FramesFit s c (here c) (length c.word) (length c.bounds.items)) (reversed_at k c.frames.items g at) inside.frames in
+    (around s c (here c) (length c.word) (length c.bounds.items) (reverse (drop (k + 1) c.frames.items)) g (reverse (take k c.frames.items)) fit).length
+
+pub stands_inside : (s : Search) (c d : Cursor) (k : ℕ) (g : Frame) (words : List Pending) → Inside s c words → slice_get c.frames.items k ≡ Some g → StandsAt c d k g → Inside s d (all_behind s c (reverse (take k c.frames.items)))
+stands_inside s c d k g words inside at o =
+    let fs = reverse (take k c.frames.items) in
+    let fit = subst (FramesFit s c (here c) (length c.word) (length c.bounds.items)) (reversed_at k c.frames.items g at) inside.frames in
+    let a = around s c (here c) (length c.word) (length c.bounds.items) (reverse (drop (k + 1) c.frames.items)) g fs fit in
+    let alike : BeginAlike c d g.length g.bounds = record {
+      start = o.start;
+      word = ap (take g.length) o.word ∙ take_less g.length g.length c.word (omega arith);
+      bounds = ap (take g.bounds) o.bounds ∙ take_less g.bounds g.bounds c.bounds.items (omega arith);
+    } in
+    let is : here d ≡ word_of c g = same_pending d.start_mask c.start_mask (reverse d.word) (reverse (take g.length c.word)) d.bounds.items (take g.bounds c.bounds.items) o.start (ap reverse o.word) o.bounds in
+    let elements : length d.word ≡ g.length = ap length o.word ∙ length-take-le g.length c.word a.length in
+    let marks : length d.bounds.items ≡ g.bounds = ap length o.bounds ∙ length-take-le g.bounds c.bounds.items a.bounds in
+    let kept = subst (λ (v : Pending). FramesFit s d v g.length g.bounds fs) (sym is) (frames_kept s c d (word_of c g) g.length g.bounds fs alike a.frames) in
+    let all : fs ≡ reverse d.frames.items = ap reverse (sym o.frames) in
+    record {
+      frames =
+          subst (FramesFit s d (here d) (length d.word) (length d.bounds.items)) all
+          (subst (λ (n : ℕ). FramesFit s d (here d) n (length d.bounds.items) fs) (sym elements) (subst (λ (m : ℕ). FramesFit s d (here d) g.length m fs) (sym marks) kept));
+      left = sym (left_kept s c d (word_of c g) g.length g.bounds fs alike a.frames) ∙ ap (all_behind s d) all;
+    }
+
+-- a cursor at the same place whose outermost open nodes are gone
+pub record KeepsInner (c d : Cursor) (k : ℕ) : Type 0 where
+  pub start : d.start_mask ≡ c.start_mask
+  pub word : d.word ≡ c.word
+  pub bounds : d.bounds.items ≡ c.bounds.items
+  pub frames : d.frames.items ≡ drop k c.frames.items
+
+pub shared : (s : Search) (c d later : Cursor) (k : ℕ) (pending : List Pending) → Within s c pending → KeepsInner c d k → IsBefore s (all_behind s c (reverse (take k c.frames.items))) later → IsShared s c d later
+shared s c d later k pending within o is =
+    let n = length c.word in
+    let m = length c.bounds.items in
+    let inner = reverse (drop k c.frames.items) in
+    let outers = reverse (take k c.frames.items) in
+    let cut = reversed_parts k c.frames.items in
+    let fit = front_fits s c (here c) n m inner outers (subst (FramesFit s c (here c) n m) cut within.inside.frames) in
+    let alike : BeginAlike c d n m = record { start = o.start; word = ap (take n) o.word; bounds = ap (take m) o.bounds } in
+    let same : here d ≡ here c = same_pending d.start_mask c.start_mask (reverse d.word) (reverse c.word) d.bounds.items c.bounds.items o.start (ap reverse o.word) o.bounds in
+    let all : inner ≡ reverse d.frames.items = ap reverse (sym o.frames) in
+    let kept = subst (λ (v : Pending). FramesFit s d v n m inner) (sym same) (frames_kept s c d (here c) n m inner alike fit) in
+    let left : all_behind s d (reverse d.frames.items) ≡ all_behind s c inner = ap (all_behind s d) (sym all) ∙ left_kept s c d (here c) n m inner alike fit in
+    record {
+      words =
+          ap (λ (ws : List Pending). here c ∷ ws) (ap (all_behind s c) cut ∙ behind_both s c inner outers)
+          ∙ ap (λ (ws : List Pending). here c ∷ (ws ++ all_behind s c outers)) (sym left)
+          ∙ ap (λ (v : Pending). v ∷ (all_behind s d (reverse d.frames.items) ++ all_behind s c outers)) (sym same)
+          ∙ ap (λ (ws : List Pending). left_at s d ++ ws) (sym is.words);
+      first = record {
+        words = all_behind s d (reverse d.frames.items);
+        inside = record {
+          frames =
+              subst (FramesFit s d (here d) (length d.word) (length d.bounds.items)) all
+              (subst (λ (i : ℕ). FramesFit s d (here d) i (length d.bounds.items) inner) (sym (ap length o.word)) (subst (λ (j : ℕ). FramesFit s d (here d) n j inner) (sym (ap length o.bounds)) kept));
+          left = refl;
+        };
+        word = subst (IsWord s) (sym same) within.word;
+        left = refl;
+      };
+      second = is.within;
+    }
+
+-- a cursor that went on to some words is before the first of them
+pub is_before : (s : Search) (c : Cursor) (words : List Pending) → GoesOn s c words (Ok true) → IsBefore s words c
+is_before s c [] goes = absurd (cc)
+is_before s c (w ∷ ws) goes =
+    let within = goes.1 in
+    let left : w ∷ ws ≡ left_at s c = within.left ∙ ap (λ (us : List Pending). here c ∷ us) within.inside.left in
+    record { words = sym left; within = subst (Within s c) left within }
+
+pub take_whole : {X : Type 0} (k : ℕ) (xs : List X) → length xs ≤ k → take k xs ≡ xs
+take_whole zero [] most = refl
+take_whole zero (x ∷ xs) most = absurd (omega arith)
+take_whole (suc k) [] most = refl
+take_whole (suc k) (x ∷ xs) most = ap (λ ys. x ∷ ys) (take_whole k xs (omega arith))
+
+-- a cursor at the same place, with all nodes open
+pub all_inside : (s : Search) (c d : Cursor) (k : ℕ) (words : List Pending) → Inside s c words → SamePlace c d → length c.frames.items ≤ k → Inside s d (all_behind s c (reverse (take k c.frames.items)))
+all_inside s c d k words inside same most =
+    let left = inside.left ∙ ap (λ (fs : List Frame). all_behind s c (reverse fs)) (sym (take_whole k c.frames.items most)) in
+    subst (Inside s d) left (inside_moved s c d words inside same)

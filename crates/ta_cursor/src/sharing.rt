@@ -1,0 +1,69 @@
+//! How a cursor gives the last of its words to another one.
+#![tactic(auto)]
+
+ghost use Rattle.std.specs.Prelude.{◌≡◌, ◌≤◌, IfOk, IfSome, length, reverse, take};
+ghost use Rattle.ta_encode.specs.Search.{Search};
+ghost use Rattle.ta_cursor.specs.Cursors.{Inside, IsBefore, IsWithin, Shares, all_behind};
+
+use crate::cursor::Cursor;
+use crate::tree::Tree;
+use std::alloc::{AllocError, Global};
+
+impl Cursor {
+    /// Gives the words that the outermost open nodes leave to a cursor of their own, where any are
+    /// left: those of the fewest such nodes. This cursor keeps the words before them.
+    pub fn share<T: Tree>(&mut self, alloc: Global, tree: &T) -> Result<Option<Cursor>, AllocError>
+        requires { IsWithin (T.search tree.now) self.old }
+        ensures { IfOk result (Shares (T.search tree.now) self.old self.new) }
+    {
+        for outer in 0..self.frames.len() {
+            if let Some(later) = self.behind(alloc, tree, outer + 1)? {
+                self.frames = self.frames.split_off(outer + 1)?;
+                return Ok(Some(later));
+            }
+        }
+        Ok(None)
+    }
+
+    /// The cursor at the first of the words that so many open nodes leave, counted from the
+    /// outermost, if one is left.
+    fn behind<T: Tree>(
+        &self,
+        alloc: Global,
+        tree: &T,
+        outer: usize,
+    ) -> Result<Option<Cursor>, AllocError>
+        requires within { IsWithin (T.search tree.now) self.now }
+        requires most { outer ≤ length self.now.frames.items }
+        ensures { IfOk result (λ later. IfSome later (IsBefore (T.search tree.now) (all_behind (T.search tree.now) self.now (reverse (take outer self.now.frames.items))))) }
+    {
+        let mut later = self.outermost(alloc, outer)?;
+        if later.leave(tree)? {
+            Ok(Some(later))
+        } else {
+            Ok(None)
+        }
+    }
+
+    /// A cursor with so many nodes open, counted from the outermost, which stands where the next of
+    /// the open nodes does, or where this one does.
+    fn outermost(&self, alloc: Global, outer: usize) -> Result<Cursor, AllocError>
+        requires within { (s : Search) × IsWithin s self.now }
+        requires most { outer ≤ length self.now.frames.items }
+        ensures { (s : Search) → IsWithin s self.now → IfOk result (λ later. Inside s later (all_behind s self.now (reverse (take outer self.now.frames.items)))) }
+    {
+        let mut word = self.word.again();
+        let mut bounds = Vec::from_slice(alloc, self.bounds.as_slice())?;
+        if let Some(frame) = self.frames.get(outer) {
+            word.cut(frame.length);
+            bounds.truncate(frame.bounds);
+        }
+        let frames = Vec::from_slice(alloc, &self.frames[..outer])?;
+        Ok(Cursor {
+            start_mask: self.start_mask,
+            word,
+            bounds,
+            frames,
+        })
+    }
+}

@@ -1,0 +1,144 @@
+-- what the commands on runs that come to rest make of FILE's endings
+use Rattle.std.proofs.Common.{◌≡◌, ◌∙◌, ◌+◌, ◌≤◌, ℕ, true, List, [], ◌∷◌, ◌++◌, codes, Option, None, Some, Result, Ok, Err, refl, sym, ap, subst, arith, length}
+use Rattle.std.specs.List.{list_any}
+use Rattle.ta_automaton.specs.declared.automaton.Automaton.{Automaton}
+use Rattle.ta_automaton.specs.declared.file.File.{File}
+use Rattle.ta_automaton.specs.declared.pattern.Pattern.{Pattern}
+use Rattle.ta_check.specs.Certificate.{RestCertificate}
+use Rattle.ta_report.specs.Check.{proofs_told, rest_check_text, word_told}
+use Rattle.ta_report.specs.Report.{rest_text}
+use Rattle.ta_report.specs.declared.verdict.ReportSample.{ReportSample}
+use Rattle.ta_report.specs.declared.verdict.ReportSample.TheVariants as sample
+use Rattle.ta_report.specs.declared.verdict.Verdict.{Verdict}
+use Rattle.ta_rest.specs.Endings.{Endings}
+use Rattle.ta_rest.specs.Faults.{EndingsOf}
+use Rattle.ta_rest.specs.declared.rest_file.RestFile.{RestFile}
+use Rattle.ta_resting.specs.Verdicts.{AreRestVerdicts}
+use Rattle.ta_resting.proofs.TextsAlike.{texts_alike}
+use Rattle.ta_rest_verdict.specs.Certificates.{RestCertificateOf}
+use Rattle.ta_shelf.specs.Put.{Told}
+use Rattle.ta_shell.specs.declared.answer.Answer.{Answer}
+use Rattle.ta_shell.specs.declared.answer.Refusal.{Refusal}
+use Rattle.ta_shell.specs.declared.answer.Refusal.TheVariants.{Refused, ReadFailed, PutFailed, Memory}
+use Rattle.ta_shell.specs.Commands.{Meaning, Says}
+use Rattle.ta_shell.specs.Puts.{Within}
+use Rattle.ta_shell.specs.Reading.{ReadCause}
+use Rattle.ta_shell.specs.Stages.{finds}
+use Rattle.ta_shell.proofs.Read.{finds_memory, finds_wrong}
+use Rattle.ta_verdict.specs.Certificates.{safe_numbers}
+use Rattle.ta_verdict.specs.Verdicts.{IsSample, NoSample, SampleReal, place_of}
+use Rattle.ta_walk.specs.Samples.{IsSampleEnd}
+use Rattle.ta_walk.specs.declared.end.SampleEnd.TheVariants as samples
+use Rattle.ta_program.specs.Inside.Certifying.{Certifies}
+use Rattle.ta_program.specs.Inside.Found.{EndsRefused}
+use Rattle.ta_program.specs.Inside.Reported.{RestReported}
+use Rattle.ta_program.specs.Rest.{rest_report_meaning}
+use Rattle.ta_program.specs.RestEnds.{CycleHinders, Ends, IsEnds, ends_of}
+use Rattle.ta_program.specs.Statuses.{verdicts_number}
+use Rattle.ta_program.proofs.Certifying.{low_by, puts_within}
+
+-- a file without endings is told of, and nothing more is read
+pub ends_refused : (name : List ℕ) (file : File) (puts : List (List ℕ)) (rest : Ends → Meaning) (files : Option Told) (refusal : Refusal) → EndsRefused name file refusal → Says (finds (IsEnds file) (CycleHinders name file) puts rest) files (Err refusal) []
+ends_refused name file puts rest files (Refused number who why) h = let three : number ≡ 3 = h.numbered in finds_wrong (IsEnds file) (CycleHinders name file) puts rest files number who why (omega (arith, three)) (omega (arith, three)) h
+ends_refused name file puts rest files (ReadFailed who) h = absurd h
+ends_refused name file puts rest files (PutFailed who) h = absurd h
+ends_refused name file puts rest files Memory h = finds_memory (IsEnds file) (CycleHinders name file) puts rest files
+
+pub refused_cause : (T : Type 0) (name : List ℕ) (file : File) (refusal : Refusal) (count : ℕ) → EndsRefused name file refusal → ReadCause {T = T} (Err refusal) count count
+refused_cause T name file (Refused number who why) count h = refl
+refused_cause T name file (ReadFailed who) count h = absurd h
+refused_cause T name file (PutFailed who) count h = absurd h
+refused_cause T name file Memory count h = refl
+
+-- the text of `rest-check` names a file's own patterns as it names their endings
+told_alike : (numbers : List ℕ) (number : ℕ) (ps qs : List Pattern) → Endings ps qs → proofs_told true numbers number qs ≡ proofs_told true numbers number ps
+told_alike numbers number [] [] h = refl
+told_alike numbers number [] (q ∷ qs) h = absurd h
+told_alike numbers number (p ∷ ps) [] h = absurd h
+told_alike numbers number (p ∷ ps) (q ∷ qs) h =
+    ap (λ (n : List ℕ). (codes "pattern " ++ (n ++ (codes ": " ++ (word_told true numbers number ++ codes "\n")))) ++ proofs_told true numbers (number + 1) qs) h.0.name
+    ∙ ap (λ (t : List ℕ). (codes "pattern " ++ (p.name ++ (codes ": " ++ (word_told true numbers number ++ codes "\n")))) ++ t) (told_alike numbers (number + 1) ps qs h.1)
+
+pub check_alike : (file ending : File) (added : ℕ) → EndingsOf file ending added → (numbers : List ℕ) → rest_check_text ending numbers ≡ rest_check_text file numbers
+check_alike file ending added ends numbers =
+    ap (λ (a : Automaton). (codes "automaton " ++ (a.name ++ codes "\n")) ++ proofs_told true numbers 0 ending.patterns) ends.automaton
+    ∙ ap (λ (t : List ℕ). (codes "automaton " ++ (file.automaton.name ++ codes "\n")) ++ t) (told_alike numbers 0 file.patterns ending.patterns ends.patterns)
+
+-- what is said of the parameters of an ending's automaton is said of the file's
+sample_own : (file ending : File) (budget : ℕ) (s : ReportSample) → ending.automaton ≡ file.automaton → IsSample ending budget s → IsSample file budget s
+sample_own file ending budget (sample.Sample values) e h = record {
+  holds = subst (λ (a : Automaton). SampleReal a budget values) e h.holds;
+  fits = (h.fits.0 ∙ ap (λ (a : Automaton). length a.parameters) e, h.fits.1);
+}
+sample_own file ending budget sample.Empty e h = record { holds = subst (λ (a : Automaton). NoSample a budget) e h.holds; fits = tt }
+sample_own file ending budget (sample.Spent count) e h = record { holds = subst (λ (a : Automaton). IsSampleEnd a budget (samples.Spent count)) e h.holds; fits = h.fits }
+sample_own file ending budget (sample.Overflow node kind) e h = record { holds = subst (λ (a : Automaton). IsSampleEnd a budget (samples.Overflow node (place_of kind))) e h.holds; fits = h.fits }
+
+-- the report on a file's endings is one on the file
+module _ (rest : RestFile) (file : File) (ends : EndingsOf file rest.ending.file rest.added) (budget : ℕ) (vs : List Verdict) (are : AreRestVerdicts file rest.ending.file rest.added budget vs) (number : ℕ) (report : List ℕ) (numbered : number ≡ verdicts_number vs) (reported : RestReported rest.ending.file budget vs report) (files : Option Told) where
+  text_own : report ≡ rest_text file reported.sample vs
+  text_own = reported.written ∙ texts_alike file rest.ending.file rest.added ends reported.sample vs are.fit
+
+  low : number ≤ 2
+  low = subst (λ (n : ℕ). n ≤ 2) (sym numbered) (low_by (list_any _ vs) (list_any _ vs))
+
+  pub plain_says : (answer : Answer) → answer.number ≡ number → answer.text ≡ report → answer.puts ≡ [] → Says (rest_report_meaning budget None file (ends_of rest)) files (Ok answer) []
+  plain_says answer same written none = record {
+    opened = refl;
+    judges = record {
+      low = subst (λ (n : ℕ). n ≤ 2) (sym same) low;
+      holds = record {
+        sample = reported.sample;
+        is_sample = sample_own file rest.ending.file budget reported.sample ends.automaton reported.is_sample;
+        verdicts = vs;
+        are = are;
+        numbered = same ∙ numbered;
+        written = written ∙ text_own;
+        puts = none;
+      };
+      within = subst (Within []) (sym none) tt;
+    };
+  }
+
+  module _ (out text : List ℕ) (certificate : RestCertificateOf rest.ending.file budget vs text) (accepted : RestCertificate rest.ending.file text (safe_numbers rest.ending.file vs)) where
+    pub certified_says : (result : Result Answer Refusal) → Certifies number report out text result → Says (rest_report_meaning budget (Some out) file (ends_of rest)) files result []
+    certified_says (Ok answer) c = record {
+      opened = refl;
+      judges = record {
+        low = subst (λ (n : ℕ). n ≤ 2) (sym c.numbered) low;
+        holds = record {
+          sample = reported.sample;
+          is_sample = sample_own file rest.ending.file budget reported.sample ends.automaton reported.is_sample;
+          verdicts = vs;
+          are = are;
+          numbered = c.numbered ∙ numbered;
+          written = c.written ∙ text_own;
+          puts = record {
+            put = c.put;
+            only = c.only;
+            named = c.named;
+            certificate = subst (RestCertificateOf rest.ending.file budget vs) (sym c.holds) certificate;
+            within = (let few = c.within in let same = c.holds in omega (arith, ap length same));
+            accepted = subst (λ (t : List ℕ). RestCertificate rest.ending.file t (safe_numbers rest.ending.file vs)) (sym c.holds) accepted;
+          };
+        };
+        within = puts_within out c.put answer.puts c.only c.named;
+      };
+    }
+    certified_says (Err (Refused n who why)) c =
+        let four = c.0 in
+        record {
+          opened = refl;
+          judges = (
+            omega (arith, four),
+            omega (arith, four),
+            record {
+              numbered = c.0;
+              said = c.1;
+              long = record { verdicts = vs; are = are; text = text; certificate = certificate; longer = c.2 };
+            },
+          );
+        }
+    certified_says (Err (ReadFailed who)) c = absurd c
+    certified_says (Err (PutFailed who)) c = absurd c
+    certified_says (Err Memory) c = record { opened = refl; judges = tt }

@@ -1,0 +1,13 @@
+use Rattle.std.proofs.Common.{map}
+use Rattle.ta_program.specs.Rest.{rest_meaning}
+use Rattle.ta_program.specs.RestEnds.{LegalAtRest}
+use Rattle.ta_program.specs.RestSeen.{rest_seen}
+use Rattle.ta_program.specs.RestWords.{rest_words}
+use Rattle.ta_program.proofs.Meanings.{asked_where}
+use Rattle.ta_program.proofs.RestMeanings.{rest_decides, rest_passes}
+use Rattle.ta_program.proofs.rest.RestRequest.read.Goals as goal
+
+pub returns : goal.returns
+returns c =
+    asked_where rest_seen (λ asked. LegalAtRest asked.file) (λ asked. rest_meaning asked.file asked.nodes asked.out) (λ asked. rest_decides asked.file asked.nodes asked.out) (λ asked. rest_passes asked.file asked.nodes asked.out)
+    c.read_rest.result (rest_words (map (λ w. w.now) c.args.words.now)) c.read_rest.ensures

@@ -1,0 +1,14 @@
+use Rattle.std.proofs.Common.{map}
+use Rattle.ta_program.specs.declared.rest_check.RestCheck.{RestCheck}
+use Rattle.ta_program.specs.RestCheck.{rest_check_meaning}
+use Rattle.ta_program.specs.RestEnds.{LegalAtRest}
+use Rattle.ta_program.specs.Taken.{names_seen}
+use Rattle.ta_program.specs.Values.{two_names}
+use Rattle.ta_program.proofs.Meanings.{asked_where}
+use Rattle.ta_program.proofs.RestMeanings.{rest_check_decides, rest_check_passes}
+use Rattle.ta_program.proofs.rest_check.RestCheckRequest.read.Goals as goal
+
+pub returns : goal.returns
+returns c =
+    asked_where (λ (command : RestCheck). names_seen command.names) (λ names. LegalAtRest names.file) (λ names. rest_check_meaning names.file names.other) (λ names. rest_check_decides names.file names.other) (λ names. rest_check_passes names.file names.other)
+    c.read_rest_check.result (two_names (map (λ w. w.now) c.args.words.now)) c.read_rest_check.ensures

@@ -1,0 +1,26 @@
+-- What the end of a search that found gives
+use Rattle.std.specs.Prelude.{ℕ, ◌≡◌, true, List, [], ◌∷◌, ◌++◌}
+use Rattle.ta_search.specs.declared.outcome.Outcome.TheVariants.{Safe}
+use Rattle.ta_search.specs.declared.outcome.SearchEnd.{SearchEnd}
+use Rattle.ta_search.specs.declared.outcome.Tried.{Tried}
+use Rattle.ta_search.specs.declared.template.Template.{Template}
+use Rattle.ta_search.specs.Searching.{IsSearchEnd, LastIsFound}
+use Rattle.ta_search.specs.SearchText.{search_text}
+
+-- a template's search for a budget ended so, values were found, and this is its text
+pub record Ends (template : Template) (budget : ℕ) (end : SearchEnd) (text : List ℕ) : Type 0 where
+  pub is_end : IsSearchEnd template budget end
+  pub found : end.found ≡ true
+  pub last : LastIsFound template end
+  pub written : text ≡ search_text template end
+
+-- the last that was tried has these values, and is safe with this certificate
+pub record LastGives (end : SearchEnd) (values certificate : List ℕ) : Type 0 where
+  pub before : List Tried
+  pub whole : end.tried ≡ before ++ record { values = values; outcome = Safe certificate } ∷ []
+
+-- the search ended with these values and this certificate, and this is its text
+pub record FoundBy (template : Template) (budget : ℕ) (values certificate text : List ℕ) : Type 0 where
+  pub end : SearchEnd
+  pub ends : Ends template budget end text
+  pub gives : LastGives end values certificate

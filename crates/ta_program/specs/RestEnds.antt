@@ -1,0 +1,52 @@
+-- FILE of the commands on runs that come to rest (this project's profile)
+use Rattle.std.specs.Prelude.{ℕ, ◌≡◌, ◌++◌, List, codes, decimal}
+use Rattle.ta_automaton.specs.declared.automaton.Automaton.{Automaton}
+use Rattle.ta_automaton.specs.declared.file.File.{File}
+use Rattle.ta_automaton.specs.Runs.{Config, Run}
+use Rattle.ta_rest.specs.Faults.{EndingsOf}
+use Rattle.ta_rest.specs.Moves.{FewMoves}
+use Rattle.ta_rest.specs.declared.rest_file.RestFile.{RestFile}
+use Rattle.ta_scope.specs.LongerCycles.{FirstLongerCycle, LoopsAlone}
+use Rattle.ta_shelf.specs.Put.{Told}
+use Rattle.ta_shell.specs.Commands.{Meaning}
+use Rattle.ta_shell.specs.Lines.{file_line}
+use Rattle.ta_shell.specs.Sights.{in_files}
+use Rattle.ta_shell.specs.Stages.{after, finds}
+use Rattle.ta_program.specs.declared.limits.TheConstants.{FILE}
+use Rattle.ta_program.specs.Kinds.{IsFile, file_kind}
+
+-- the endings of a file's patterns, and the mask of the patterns that got an event
+pub record Ends : Type 0 where
+  pub ending : File
+  pub added : ℕ
+
+abbrev pub ends_of : RestFile → Ends
+ends_of rest = record { ending = rest.ending.file; added = rest.added }
+
+-- every cycle of the file's rules is a self-loop, so each run has at most as many steps of other rules as the number of processes times the
+-- number of locations but one; and these are the endings of its patterns
+pub record IsEnds (file : File) (ends : Ends) : Type 0 where
+  pub loops : LoopsAlone file.automaton
+  pub few : FewMoves file.automaton
+  pub endings : EndingsOf file ends.ending ends.added
+
+-- what is said of the first rule on a cycle of two or more locations
+abbrev pub cycle_text : ℕ → List ℕ
+cycle_text rule = codes "F14 longer cycle at rule " ++ decimal rule
+
+-- a rule lies on a cycle of two or more locations, and this is the first; so says the line, with the number of FILE
+pub record CycleHinders (name : List ℕ) (file : File) (number : ℕ) (line : List ℕ) : Type 0 where
+  pub numbered : number ≡ FILE.number
+  pub rule : ℕ
+  pub first : FirstLongerCycle file.automaton rule
+  pub said : line ≡ file_line name (cycle_text rule)
+
+-- FILE is read, its endings are found, and then comes what these ask for; the files of these names may be put
+abbrev pub with_ends : List ℕ → List (List ℕ) → (File → Ends → Meaning) → Meaning
+with_ends name puts rest = after file_kind name puts (λ file. finds (IsEnds file) (CycleHinders name file) puts (rest file))
+
+-- FILE means an automaton whose cycles of rules are self-loops
+pub record LegalAtRest (name : List ℕ) (told : Told) : Type 0 where
+  pub file : File
+  pub is_file : IsFile (in_files told) name file
+  pub loops : LoopsAlone file.automaton

@@ -1,0 +1,25 @@
+-- The words of `rest` and of `rest-check` (this project's profile)
+use Rattle.std.specs.Prelude.{false, List, [], ◌∷◌, codes, option_and_then, option_map, Option, ℕ}
+use Rattle.ta_program.specs.Values.{TwoNames, budget_of, name_of, out_of, two_names}
+use Rattle.ta_program.specs.VerifyWords.{VerifyWords}
+use Rattle.ta_program.specs.Words.{Taken, behind_name, plain_of, taken_by, value_of, valued}
+
+-- what `rest` asks for: the same as `verify` without JSON
+abbrev pub rest_taken : Taken → Option VerifyWords
+rest_taken taken =
+    option_and_then (λ file.
+    option_and_then (λ nodes.
+    option_map (λ out. record { file = file; nodes = nodes; out = out; json = false })
+    (out_of file (value_of taken 1))) (budget_of (value_of taken 0))) (name_of (plain_of taken 0))
+
+-- of the words behind the name
+abbrev pub rest_words : List (List ℕ) → Option VerifyWords
+rest_words words = option_and_then rest_taken (taken_by (record { plain = 1; options = valued (codes "--nodes") ∷ valued (codes "--certificate") ∷ [] }) words)
+
+-- `rest FILE [--nodes N] [--certificate OUT]`
+abbrev pub rest_of : List (List ℕ) → Option VerifyWords
+rest_of = behind_name (codes "rest") rest_words
+
+-- `rest-check FILE CERT`
+abbrev pub rest_check_of : List (List ℕ) → Option TwoNames
+rest_check_of = behind_name (codes "rest-check") two_names

@@ -1,0 +1,158 @@
+-- The command `search` (this project's profile)
+use Rattle.std.specs.Prelude.{ℕ, ◌<◌, ◌≤◌, ◌≡◌, ◌≢◌, ◌++◌, Bool, true, false, List, [], ◌∷◌, codes, decimal, length, map, Option, None, Some, IsSome, if◌then◌else◌}
+use Rattle.std.specs.List.{list_any}
+use Rattle.ta_search.specs.declared.fault.TemplateFault.{TemplateFault}
+use Rattle.ta_search.specs.declared.fault.TemplateFault.TheVariants as fault
+use Rattle.ta_search.specs.declared.outcome.Outcome.{Outcome}
+use Rattle.ta_search.specs.declared.outcome.Outcome.TheVariants as outcome
+use Rattle.ta_search.specs.declared.outcome.SearchEnd.{SearchEnd}
+use Rattle.ta_search.specs.declared.template.Template.{Template}
+use Rattle.ta_search.specs.Filling.{filled_text}
+use Rattle.ta_search.specs.Searching.{IsSearchEnd, LastIsFound}
+use Rattle.ta_search.specs.SearchText.{search_text}
+use Rattle.ta_search.specs.TemplateFaults.{FirstFault}
+use Rattle.ta_search.specs.Templates.{template_text}
+use Rattle.ta_shelf.specs.Put.{Told, WhereTold}
+use Rattle.ta_shelf.specs.Sink.{with_text}
+use Rattle.ta_shell.specs.declared.answer.Answer.{Answer}
+use Rattle.ta_shell.specs.declared.answer.Put.{Put}
+use Rattle.ta_shell.specs.Commands.{Meaning}
+use Rattle.ta_shell.specs.Puts.{put_bytes}
+use Rattle.ta_shell.specs.Sights.{View, in_files}
+use Rattle.ta_shell.specs.Stages.{IsOf, Kind, after, settles}
+use Rattle.ta_program.specs.declared.limits.TheConstants.{CERTIFICATE, FILE}
+use Rattle.ta_program.specs.Asked.{Asked, ask_where}
+use Rattle.ta_program.specs.Certified.{long_line, may_put}
+use Rattle.ta_program.specs.SearchWords.{SearchWords, search_words}
+
+-- why a text is no template, in words; want of memory is never told
+abbrev pub template_fault_text : TemplateFault → List ℕ
+template_fault_text (fault.Line line) = codes "S1 malformed at line " ++ decimal line
+template_fault_text (fault.Repeated line) = codes "S2 repeated hole at line " ++ decimal line
+template_fault_text (fault.Range line) = codes "S3 range at line " ++ decimal line
+template_fault_text (fault.TooMany line) = codes "S4 too many at line " ++ decimal line
+template_fault_text (fault.UnknownHole offset) = codes "S5 unknown hole at offset " ++ decimal offset
+template_fault_text fault.Memory = codes "out of memory"
+
+-- the bytes are the text of a template
+abbrev pub IsTemplateText : List ℕ → Template → Type 0
+IsTemplateText bytes template = template_text template ≡ bytes
+
+-- FILE of `search`: the text of a template, or one with a first fault
+abbrev pub template_kind : Kind Template TemplateFault
+template_kind = record { limit = FILE; means = IsTemplateText; at_fault = FirstFault; broken = λ bytes fault. ⊥; words = template_fault_text }
+
+-- the bytes of a name are the text of this template
+abbrev pub IsTemplate : View → List ℕ → Template → Type 0
+IsTemplate view name template = IsOf template_kind view name template
+
+-- whether an outcome says that something is unknown: the parameters or a pattern
+abbrev pub leaves_unknown : Outcome → Bool
+leaves_unknown outcome.Long = false
+leaves_unknown (outcome.Refused e) = false
+leaves_unknown outcome.Empty = false
+leaves_unknown (outcome.SampleUnknown s) = true
+leaves_unknown (outcome.Unsafe name run) = false
+leaves_unknown (outcome.Unknown name v) = true
+leaves_unknown (outcome.Safe certificate) = false
+
+-- 0 where values were found, else 2 where some outcome is unknown, else 1
+abbrev pub end_number : SearchEnd → ℕ
+end_number end = if end.found then 0 else (if list_any (λ x. leaves_unknown x.outcome) end.tried then 2 else 1)
+
+-- a file to be put: its name, and its text
+pub record PutText : Type 0 where
+  pub name : List ℕ
+  pub text : List ℕ
+
+abbrev pub put_text : Put → PutText
+put_text put = record { name = put.name; text = put_bytes put }
+
+-- a file of this text in front of others, where a name is given
+abbrev pub with_given : Option (List ℕ) → List ℕ → List PutText → List PutText
+with_given None text rest = rest
+with_given (Some name) text rest = record { name = name; text = text } ∷ rest
+
+-- the files that are put where values were found: OUT2 with the filled text, and then OUT with the certificate, as far as their names
+-- are given
+abbrev pub found_files : Option (List ℕ) → Option (List ℕ) → List ℕ → List ℕ → List PutText
+found_files filled out text certificate = with_given filled text (with_given out certificate [])
+
+-- values were found, and these files are put; the certificate that is asked for isn't longer than one may be
+pub record PutsFound (template : Template) (end : SearchEnd) (asked : SearchWords) (puts : List Put) : Type 0 where
+  pub last : LastIsFound template end
+  pub are : map put_text puts ≡ found_files asked.filled asked.out (filled_text template last.last.values) last.certificate
+  pub within : IsSome asked.out → length last.certificate ≤ CERTIFICATE.bytes
+
+-- the text of the search's end with the number that it gives, and the files of what was found; where nothing was, no file
+pub record Finds (template : Template) (asked : SearchWords) (answer : Answer) : Type 0 where
+  pub end : SearchEnd
+  pub is_end : IsSearchEnd template asked.nodes end
+  pub numbered : answer.number ≡ end_number end
+  pub written : answer.text ≡ search_text template end
+  pub found : end.found ≡ true → PutsFound template end asked answer.puts
+  pub nothing : end.found ≡ false → answer.puts ≡ []
+
+-- values were found, and their certificate is longer than a certificate may be
+pub record LongFound (template : Template) (budget : ℕ) : Type 0 where
+  pub end : SearchEnd
+  pub is_end : IsSearchEnd template budget end
+  pub found : end.found ≡ true
+  pub last : LastIsFound template end
+  pub longer : CERTIFICATE.bytes < length last.certificate
+
+-- and hinders
+pub record IsLongFound (template : Template) (budget : ℕ) (out : List ℕ) (number : ℕ) (line : List ℕ) : Type 0 where
+  pub numbered : number ≡ CERTIFICATE.number
+  pub said : line ≡ long_line out
+  pub long : LongFound template budget
+
+-- what hinders the certificate that is asked for
+abbrev pub HindersFound : Template → ℕ → Option (List ℕ) → ℕ → List ℕ → Type 0
+HindersFound template budget None number line = ⊥
+HindersFound template budget (Some out) number line = IsLongFound template budget out number line
+
+-- the names of the files that may be put
+abbrev pub found_names : SearchWords → List (List ℕ)
+found_names asked = may_put asked.filled ++ may_put asked.out
+
+-- the search of a template ends so, unless the certificate that is asked for is too long
+abbrev pub found_meaning : SearchWords → Template → Meaning
+found_meaning asked template = settles (found_names asked) (Finds template asked) (HindersFound template asked.nodes asked.out)
+
+-- FILE is read, and its holes are searched
+abbrev pub search_meaning : SearchWords → Meaning
+search_meaning asked = after template_kind asked.file (found_names asked) (found_meaning asked)
+
+-- FILE is a template
+abbrev pub LegalTemplate : SearchWords → Told → Type 0
+LegalTemplate asked told = (template : Template) × IsTemplate (in_files told) asked.file template
+
+abbrev pub search_asked : List (List ℕ) → Asked
+search_asked words = ask_where LegalTemplate search_meaning (search_words words)
+
+-- OUT2 holds the one text and OUT the other, as far as their names are given, and every other file is as it was
+pub record HoldFound (filled out : Option (List ℕ)) (text certificate : List ℕ) (before after : Told) : Type 0 where
+  pub first : (name : List ℕ) → filled ≡ Some name → after name ≡ Some text
+  pub second : (name : List ℕ) → out ≡ Some name → after name ≡ Some certificate
+  pub others : (name : List ℕ) → filled ≢ Some name → out ≢ Some name → after name ≡ before name
+
+-- values were found: every pattern of the filled text is safe and some parameters have an initial configuration, OUT2 holds that text, and
+-- OUT a certificate of it that proves all its patterns, so `check` accepts it
+pub record FoundStands (template : Template) (end : SearchEnd) (asked : SearchWords) (files files' : Option Told) : Type 0 where
+  pub last : LastIsFound template end
+  pub stands : WhereTold (HoldFound asked.filled asked.out (filled_text template last.last.values) last.certificate) files files'
+  pub within : IsSome asked.out → length last.certificate ≤ CERTIFICATE.bytes
+
+-- FILE is a template whose vectors were tried in order, each with an outcome that holds, up to the first that is Safe; the output gained
+-- the text that lists them, and the number is 0 where values were found, else 2 where some outcome is unknown, else 1. With 0 what was
+-- found stands; else every file is as it was
+pub record SearchHolds (number : ℕ) (view : View) (asked : SearchWords) (files files' : Option Told) (written written' : Option (List ℕ)) : Type 0 where
+  pub template : Template
+  pub is_template : IsTemplate view asked.file template
+  pub end : SearchEnd
+  pub is_end : IsSearchEnd template asked.nodes end
+  pub numbered : end_number end ≡ number
+  pub wrote : written' ≡ with_text written (search_text template end)
+  pub found : number ≡ 0 → FoundStands template end asked files files'
+  pub kept : number ≢ 0 → files' ≡ files

@@ -1,0 +1,30 @@
+-- The words of `search` (this project's profile)
+use Rattle.std.specs.Prelude.{ℕ, List, [], ◌∷◌, codes, option_and_then, option_map, Option}
+use Rattle.ta_program.specs.Values.{budget_of, filled_of, name_of, out_of}
+use Rattle.ta_program.specs.Words.{Form, Taken, behind_name, plain_of, taken_by, value_of, valued}
+
+-- what they ask for: the names of FILE, of OUT and of OUT2, as far as these are given, and the budget of nodes
+pub record SearchWords : Type 0 where
+  pub file : List ℕ
+  pub nodes : ℕ
+  pub out : Option (List ℕ)
+  pub filled : Option (List ℕ)
+
+abbrev pub search_form : Form
+search_form = record { plain = 1; options = valued (codes "--nodes") ∷ valued (codes "--certificate") ∷ valued (codes "--filled") ∷ [] }
+
+abbrev pub search_taken : Taken → Option SearchWords
+search_taken taken =
+    option_and_then (λ file.
+    option_and_then (λ nodes.
+    option_and_then (λ out.
+    option_map (λ filled. record { file = file; nodes = nodes; out = out; filled = filled })
+    (filled_of file out (value_of taken 2))) (out_of file (value_of taken 1))) (budget_of (value_of taken 0))) (name_of (plain_of taken 0))
+
+-- of the words behind the name
+abbrev pub search_words : List (List ℕ) → Option SearchWords
+search_words words = option_and_then search_taken (taken_by search_form words)
+
+-- `search FILE [--nodes N] [--certificate OUT] [--filled OUT2]`
+abbrev pub search_of : List (List ℕ) → Option SearchWords
+search_of = behind_name (codes "search") search_words

@@ -1,0 +1,195 @@
+//! The command `rest`.
+#![tactic(auto)]
+
+ghost use Rattle.std.specs.Prelude.{◌≡◌, [], IfOk, length, map, Option, option_map};
+ghost use Rattle.ta_automaton.specs.declared.file.File.{File};
+ghost use Rattle.ta_automaton.specs.Lists.{Each};
+ghost use Rattle.ta_report.specs.Report.{VerdictFits};
+ghost use Rattle.ta_rest.specs.Faults.{EndingsOf};
+ghost use Rattle.ta_shelf.specs.Calls.{Grew};
+ghost use Rattle.ta_shelf.specs.Put.{Told};
+ghost use Rattle.ta_shell.specs.Commands.{Says};
+ghost use Rattle.ta_shell.specs.Reading.{ReadCause};
+ghost use Rattle.ta_shell.specs.Stages.{finds};
+ghost use Rattle.ta_program.specs.Certified.{may_put};
+ghost use Rattle.ta_program.specs.Inside.Reported.{RestReported};
+ghost use Rattle.ta_program.specs.Rest.{rest_meaning, rest_report_meaning};
+ghost use Rattle.ta_program.specs.RestEnds.{CycleHinders, IsEnds, ends_of};
+ghost use Rattle.ta_program.specs.RestSeen.{rest_seen};
+ghost use Rattle.ta_program.specs.RestWords.{rest_taken, rest_words};
+ghost use Rattle.ta_program.specs.Taken.{taken_of};
+
+use crate::budget::Budget;
+use crate::certified::answer_certified;
+use crate::ends::find_ends;
+use crate::reading::read_legal;
+use crate::request::Request;
+use crate::values::{budget_of, name_of, out_of};
+use crate::verify::number_of;
+use crate::words::{OptionWord, Taken, take_words};
+use std::alloc::{AllocError, Global};
+use std::thread::Threads;
+use ta_automaton::File;
+use ta_report::{Verdict, rest_text};
+use ta_rest::RestFile;
+use ta_rest_verdict::judge_rest;
+use ta_scope::ScopedFile;
+use ta_shelf::{Shelf, Text};
+use ta_shell::{Answer, Command, Refusal};
+use ta_verdict::{Judged, sample_of};
+
+/// What `rest` is asked for.
+#[derive(Drop)]
+pub(crate) struct Rest<'a> {
+    file: &'a str,
+    budget: Budget,
+    out: Option<&'a str>,
+}
+
+impl<'a> Request<'a> for Rest<'a> {
+    ghost use Rattle.ta_program.specs.Rest.{rest_asked};
+
+    ghost asked = { rest_asked };
+
+    fn read(words: &[&'a str]) -> Option<Rest<'a>> {
+        read_rest(words)
+    }
+}
+
+impl<'a> Command for Rest<'a> {
+    ghost use Rattle.std.specs.Prelude.{option_map};
+    ghost use Rattle.ta_program.specs.Rest.{rest_meaning};
+
+    ghost meaning = { λ command. rest_meaning command.file.now command.budget.nodes (option_map (λ w. w.now) command.out) };
+
+    fn judge<R: Threads + Sync, S: Shelf>(
+        &self,
+        rt: &R,
+        alloc: Global,
+        shelf: &mut S,
+    ) -> Result<Answer, Refusal<'_>> {
+        let _ = rt;
+        judge_file(alloc, shelf, self.file, &self.budget, self.out)
+    }
+}
+
+/// Reads the words of `rest`.
+fn read_rest<'a>(words: &[&'a str]) -> Option<Rest<'a>>
+    ensures { option_map rest_seen result ≡ rest_words (map (λ w. w.now) words.now) }
+{
+    let options = [
+        OptionWord {
+            word: "--nodes",
+            valued: true,
+        },
+        OptionWord {
+            word: "--certificate",
+            valued: true,
+        },
+    ];
+    match take_words(1, &options, words) {
+        Some(taken) => rest_taken(taken),
+        None => None,
+    }
+}
+
+/// What is asked for by what was taken of the words.
+fn rest_taken(taken: Taken<'_>) -> Option<Rest<'_>>
+    ensures { option_map rest_seen result ≡ rest_taken (taken_of taken.entry) }
+{
+    let Some(file) = name_of(taken.plain(0)) else {
+        return None;
+    };
+    let Some(nodes) = budget_of(taken.value(0)) else {
+        return None;
+    };
+    match out_of(file, taken.value(1)) {
+        Some(out) => Some(Rest {
+            file,
+            budget: Budget { nodes },
+            out,
+        }),
+        None => None,
+    }
+}
+
+/// Reads a file, gives a sample of its parameters and says of each of its patterns whether a run in
+/// which it occurs comes to rest, and puts the certificate of those that are safe in the file OUT,
+/// where that is asked for.
+fn judge_file<'a, S: Shelf>(
+    alloc: Global,
+    shelf: &mut S,
+    file: &'a str,
+    budget: &Budget,
+    out: Option<&'a str>,
+) -> Result<Answer, Refusal<'a>>
+    ensures says { Grew (Says (rest_meaning file.now budget.now.nodes (option_map (λ w. w.now) out.entry)) (S.files shelf.old) result) (S.calls shelf.old) (S.calls shelf.new) }
+    ensures cause { ReadCause result (S.faults shelf.old) (S.faults shelf.new) }
+    ensures kept { S.files shelf.new ≡ S.files shelf.old }
+{
+    match read_legal(alloc, shelf, file) {
+        Ok(scoped) => answer_scoped(alloc, file, scoped, budget, out),
+        Err(refusal) => Err(refusal),
+    }
+}
+
+/// The answer of a file of a name, unless a rule lies on a longer cycle.
+fn answer_scoped<'a>(
+    alloc: Global,
+    name: &'a str,
+    scoped: ScopedFile,
+    budget: &Budget,
+    out: Option<&'a str>,
+) -> Result<Answer, Refusal<'a>>
+    ensures says { (files : Option Told) → Says (finds (IsEnds scoped.file) (CycleHinders name.now scoped.file) (may_put (option_map (λ w. w.now) out.entry)) (rest_report_meaning budget.now.nodes (option_map (λ w. w.now) out.entry) scoped.file)) files result [] }
+    ensures cause { ReadCause result 0 0 }
+{
+    match find_ends(alloc, name, scoped) {
+        Ok(rest) => answer_rest(alloc, &rest, budget, out),
+        Err(refusal) => Err(refusal),
+    }
+}
+
+/// The answer with a sample of the parameters and a verdict on each pattern of a file, and the
+/// certificate that is asked for.
+fn answer_rest<'a>(
+    alloc: Global,
+    rest: &RestFile,
+    budget: &Budget,
+    out: Option<&'a str>,
+) -> Result<Answer, Refusal<'a>>
+    ensures says { (files : Option Told) (file : File) → EndingsOf file rest.now.ending.file rest.now.added → Says (rest_report_meaning budget.now.nodes (option_map (λ w. w.now) out.entry) file (ends_of rest.now)) files result [] }
+    ensures cause { ReadCause result 0 0 }
+{
+    let Ok(judged) = judge_rest(alloc, rest, budget.nodes, out.is_some()) else {
+        return Err(Refusal::Memory);
+    };
+    let Judged {
+        verdicts,
+        certificate,
+    } = judged;
+    let number = number_of(verdicts.as_slice());
+    let Ok(text) = report(alloc, &rest.ending.file, budget, verdicts.as_slice()) else {
+        return Err(Refusal::Memory);
+    };
+    match out {
+        None => Ok(Answer::writing(alloc, number, text)),
+        Some(name) => answer_certified(alloc, number, text, name, certificate),
+    }
+}
+
+/// The report of a sample of the parameters and of these verdicts, for a file of endings.
+fn report(
+    alloc: Global,
+    ending: &File,
+    budget: &Budget,
+    verdicts: &[Verdict],
+) -> Result<Text, AllocError>
+    requires all { length verdicts.now ≡ length ending.now.patterns }
+    requires fit { Each (VerdictFits ending.now) verdicts.now }
+    ensures { IfOk result (RestReported ending.now budget.now.nodes verdicts.now) }
+{
+    let sample = sample_of(alloc, ending, budget.nodes)?;
+    let lines = rest_text(alloc, ending, &sample, verdicts)?;
+    Ok(Text::from_string(lines.into_string()))
+}

@@ -1,0 +1,384 @@
+//! The command `search`.
+#![tactic(auto)]
+
+ghost use Rattle.std.specs.Prelude.{◌≡◌, ◌≢◌, ◌≤◌, ◌<◌, ◌++◌, [], decimal, IfErr, IfOk, IfSome, IsSome, length, map, MatchOption, OnOk, Option, option_map, Some};
+ghost use Rattle.ta_search.specs.declared.fault.TemplateFault.TheVariants as fault;
+ghost use Rattle.ta_search.specs.Filling.{filled_text};
+ghost use Rattle.ta_search.specs.TemplateFaults.{FirstFault};
+ghost use Rattle.ta_shelf.specs.Calls.{Grew};
+ghost use Rattle.ta_shelf.specs.Put.{Told};
+ghost use Rattle.ta_shell.specs.Commands.{Says};
+ghost use Rattle.ta_shell.specs.Lines.{phrase_text};
+ghost use Rattle.ta_shell.specs.Puts.{content_bytes, texts_joined};
+ghost use Rattle.ta_shell.specs.Reading.{ReadCause};
+ghost use Rattle.ta_shell.specs.Stages.{Stage};
+ghost use Rattle.ta_program.specs.declared.limits.TheConstants.{CERTIFICATE as CERTIFICATE_LIMIT};
+ghost use Rattle.ta_program.specs.Inside.FoundFiles.{Ends, FoundBy, LastGives};
+ghost use Rattle.ta_program.specs.Search.{IsTemplateText, end_number, found_files, found_meaning, leaves_unknown, put_text, search_meaning, template_fault_text, template_kind, with_given};
+ghost use Rattle.ta_program.specs.SearchSeen.{search_seen};
+ghost use Rattle.ta_program.specs.SearchWords.{search_taken, search_words};
+ghost use Rattle.ta_program.specs.Taken.{taken_of};
+
+use crate::budget::Budget;
+use crate::certified::{are_within, long_certificate, put_of};
+use crate::limits::{CERTIFICATE, FILE};
+use crate::request::Request;
+use crate::values::{budget_of, filled_of, name_of, out_of};
+use crate::words::{OptionWord, Taken, take_words};
+use std::alloc::{AllocError, Global};
+use std::thread::Threads;
+use ta_search::{
+    Outcome, SearchEnd, Template, TemplateFault, Tried, fill, read_template, search, search_text,
+    searches_are_determined,
+};
+use ta_shelf::{List, Shelf, Text};
+use ta_shell::{Answer, Command, Content, Phrase, Put, Refusal, read_text};
+
+/// What `search` is asked for.
+#[derive(Drop)]
+pub(crate) struct Search<'a> {
+    file: &'a str,
+    budget: Budget,
+    out: Option<&'a str>,
+    filled: Option<&'a str>,
+}
+
+impl<'a> Request<'a> for Search<'a> {
+    ghost use Rattle.ta_program.specs.Search.{search_asked};
+
+    ghost asked = { search_asked };
+
+    fn read(words: &[&'a str]) -> Option<Search<'a>> {
+        // the law by which told files leave one answer; the call does nothing
+        searches_are_determined();
+        read_search(words)
+    }
+}
+
+impl<'a> Command for Search<'a> {
+    ghost use Rattle.ta_program.specs.Search.{search_meaning};
+    ghost use Rattle.ta_program.specs.SearchSeen.{search_seen};
+
+    ghost meaning = { λ command. search_meaning (search_seen command) };
+
+    fn judge<R: Threads + Sync, S: Shelf>(
+        &self,
+        rt: &R,
+        alloc: Global,
+        shelf: &mut S,
+    ) -> Result<Answer, Refusal<'_>> {
+        judge_search(rt, alloc, shelf, self)
+    }
+}
+
+/// Reads the words of `search`.
+fn read_search<'a>(words: &[&'a str]) -> Option<Search<'a>>
+    ensures { option_map search_seen result ≡ search_words (map (λ w. w.now) words.now) }
+{
+    let options = [
+        OptionWord {
+            word: "--nodes",
+            valued: true,
+        },
+        OptionWord {
+            word: "--certificate",
+            valued: true,
+        },
+        OptionWord {
+            word: "--filled",
+            valued: true,
+        },
+    ];
+    match take_words(1, &options, words) {
+        Some(taken) => search_taken(taken),
+        None => None,
+    }
+}
+
+/// What is asked for by what was taken of the words.
+fn search_taken(taken: Taken<'_>) -> Option<Search<'_>>
+    ensures { option_map search_seen result ≡ search_taken (taken_of taken.entry) }
+{
+    let Some(file) = name_of(taken.plain(0)) else {
+        return None;
+    };
+    let Some(nodes) = budget_of(taken.value(0)) else {
+        return None;
+    };
+    let Some(out) = out_of(file, taken.value(1)) else {
+        return None;
+    };
+    match filled_of(file, out, taken.value(2)) {
+        Some(filled) => Some(Search {
+            file,
+            budget: Budget { nodes },
+            out,
+            filled,
+        }),
+        None => None,
+    }
+}
+
+/// Reads a template, tries values in its holes, and puts what was found in the files that are asked
+/// for.
+fn judge_search<'a, R: Threads + Sync, S: Shelf>(
+    rt: &R,
+    alloc: Global,
+    shelf: &mut S,
+    asked: &Search<'a>,
+) -> Result<Answer, Refusal<'a>>
+    ensures says { Grew (Says (search_meaning (search_seen asked.now)) (S.files shelf.old) result) (S.calls shelf.old) (S.calls shelf.new) }
+    ensures cause { ReadCause result (S.faults shelf.old) (S.faults shelf.new) }
+    ensures kept { S.files shelf.new ≡ S.files shelf.old }
+{
+    match read_searched(alloc, shelf, asked.file) {
+        Ok(template) => answer_search(rt, alloc, &template, asked),
+        Err(refusal) => Err(refusal),
+    }
+}
+
+/// The template that a name's bytes are the text of.
+fn read_searched<'a, S: Shelf>(
+    alloc: Global,
+    shelf: &mut S,
+    name: &'a str,
+) -> Result<Template, Refusal<'a>>
+    ensures stage { Grew (Stage template_kind (λ template. template) (S.files shelf.old) name.now result) (S.calls shelf.old) (S.calls shelf.new) }
+    ensures cause { ReadCause result (S.faults shelf.old) (S.faults shelf.new) }
+    ensures kept { S.files shelf.new ≡ S.files shelf.old }
+{
+    match read_text(alloc, shelf, name, FILE) {
+        Ok(bytes) => match template_of(alloc, bytes.as_slice()) {
+            Ok(template) => Ok(template),
+            Err(TemplateFault::Memory) => Err(Refusal::Memory),
+            Err(fault) => Err(Refusal::Refused {
+                number: FILE.number,
+                name,
+                why: template_fault_phrase(&fault),
+            }),
+        },
+        Err(refusal) => Err(refusal),
+    }
+}
+
+/// The template that bytes are the text of.
+fn template_of(alloc: Global, bytes: &[u8]) -> Result<Template, TemplateFault>
+    requires { length bytes.now ≤ 1048576 }
+    ensures text { IfOk result (IsTemplateText bytes.now) }
+    ensures fault { IfErr result (λ found. found ≢ fault.Memory → FirstFault bytes.now found) }
+{
+    match read_template(alloc, bytes) {
+        Ok(template) => Ok(template),
+        Err(fault) => Err(fault),
+    }
+}
+
+/// Why a text is no template.
+fn template_fault_phrase(fault: &TemplateFault) -> Phrase
+    ensures { phrase_text result ≡ template_fault_text fault.now }
+{
+    match *fault {
+        TemplateFault::Line(line) => said_at("S1 malformed at line ", line),
+        TemplateFault::Repeated(line) => said_at("S2 repeated hole at line ", line),
+        TemplateFault::Range(line) => said_at("S3 range at line ", line),
+        TemplateFault::TooMany(line) => said_at("S4 too many at line ", line),
+        TemplateFault::UnknownHole(offset) => said_at("S5 unknown hole at offset ", offset),
+        TemplateFault::Memory => Phrase::Plain("out of memory"),
+    }
+}
+
+/// Words, and a place.
+fn said_at(head: &'static str, place: u32) -> Phrase
+    ensures { phrase_text result ≡ head.now ++ decimal place }
+{
+    Phrase::One {
+        head,
+        number: u128::from(place),
+        tail: "",
+    }
+}
+
+/// The answer with the end of the search of a template.
+fn answer_search<'a, R: Threads + Sync>(
+    rt: &R,
+    alloc: Global,
+    template: &Template,
+    asked: &Search<'a>,
+) -> Result<Answer, Refusal<'a>>
+    ensures says { (files : Option Told) → Says (found_meaning (search_seen asked.now) template.now) files result [] }
+    ensures cause { ReadCause result 0 0 }
+{
+    let Ok(end) = search(rt, alloc, template, asked.budget.nodes) else {
+        return Err(Refusal::Memory);
+    };
+    let Ok(lines) = search_text(alloc, template, &end) else {
+        return Err(Refusal::Memory);
+    };
+    let text = Text::from_string(lines.into_string());
+    if end.found {
+        answer_found(alloc, template, end, text, asked)
+    } else {
+        Ok(Answer::writing(alloc, end_number(&end), text))
+    }
+}
+
+/// The number of a search's end: 0 where values were found, else 2 where some outcome is unknown,
+/// else 1.
+fn end_number(end: &SearchEnd) -> u8
+    ensures { result ≡ end_number end.now }
+{
+    if end.found {
+        0
+    } else if end.tried.as_slice().iter().any(leaves_unknown) {
+        2
+    } else {
+        1
+    }
+}
+
+/// Whether an outcome leaves the parameters or a pattern unknown.
+fn leaves_unknown(tried: &Tried) -> bool
+    ensures { result ≡ leaves_unknown tried.now.outcome }
+{
+    matches!(
+        tried.outcome,
+        Outcome::SampleUnknown(_) | Outcome::Unknown { .. }
+    )
+}
+
+/// The answer with the files of what was found.
+fn answer_found<'a>(
+    alloc: Global,
+    template: &Template,
+    end: SearchEnd,
+    text: Text,
+    asked: &Search<'a>,
+) -> Result<Answer, Refusal<'a>>
+    requires { Ends template.now asked.now.budget.nodes end text }
+    ensures says { (files : Option Told) → Says (found_meaning (search_seen asked.now) template.now) files result [] }
+    ensures cause { ReadCause result 0 0 }
+{
+    match last_of(end) {
+        Some(last) => put_last(alloc, template, last, text, asked),
+        None => Err(Refusal::Memory),
+    }
+}
+
+/// Values with which every pattern is safe, and the pieces of the certificate.
+#[derive(Drop)]
+struct Last {
+    values: ta_syntax::List<u32>,
+    pieces: List<Text>,
+}
+
+/// What was found: the last that was tried.
+fn last_of(end: SearchEnd) -> Option<Last>
+    ensures { IfSome result (λ last. LastGives end last.values (texts_joined last.pieces)) }
+{
+    let mut tried = end.tried.into_vec();
+    let Some(last) = tried.pop() else {
+        return None;
+    };
+    let Tried { values, outcome } = last;
+    match outcome {
+        Outcome::Safe { certificate } => Some(Last {
+            values,
+            pieces: certificate.into_pieces(),
+        }),
+        _ => None,
+    }
+}
+
+/// The answer with the text of a search and the files of what was found, unless the certificate is
+/// asked for and too long.
+fn put_last<'a>(
+    alloc: Global,
+    template: &Template,
+    last: Last,
+    text: Text,
+    asked: &Search<'a>,
+) -> Result<Answer, Refusal<'a>>
+    requires { FoundBy template.now asked.now.budget.nodes last.values (texts_joined last.pieces) text }
+    ensures says { (files : Option Told) → Says (found_meaning (search_seen asked.now) template.now) files result [] }
+    ensures cause { ReadCause result 0 0 }
+{
+    match long_name(last.pieces.as_slice(), asked.out) {
+        Some(name) => Err(long_certificate(name)),
+        None => put_short(alloc, template, last, text, asked),
+    }
+}
+
+/// The answer with the text of a search and the files of what was found, whose certificate isn't too
+/// long.
+fn put_short<'a>(
+    alloc: Global,
+    template: &Template,
+    last: Last,
+    text: Text,
+    asked: &Search<'a>,
+) -> Result<Answer, Refusal<'a>>
+    requires found { FoundBy template.now asked.now.budget.nodes last.values (texts_joined last.pieces) text }
+    requires within { IsSome (search_seen asked.now).out → length (texts_joined last.pieces) ≤ CERTIFICATE_LIMIT.bytes }
+    ensures says { (files : Option Told) → Says (found_meaning (search_seen asked.now) template.now) files result [] }
+    ensures cause { ReadCause result 0 0 }
+{
+    match found_puts(alloc, template, last, asked) {
+        Ok(puts) => Ok(Answer {
+            number: 0,
+            text,
+            puts: List::from_vec(puts),
+        }),
+        Err(AllocError) => Err(Refusal::Memory),
+    }
+}
+
+/// The name under which a certificate is asked for that is longer than one may be.
+fn long_name<'a>(pieces: &[Text], out: Option<&'a str>) -> Option<&'a str>
+    ensures { MatchOption result (IsSome (option_map (λ w. w.now) out.entry) → length (texts_joined pieces.now) ≤ CERTIFICATE_LIMIT.bytes) (λ name. (option_map (λ w. w.now) out.entry ≡ Some name.now) × (CERTIFICATE_LIMIT.bytes < length (texts_joined pieces.now))) }
+{
+    let Some(name) = out else {
+        return None;
+    };
+    if are_within(pieces, CERTIFICATE.bytes) {
+        None
+    } else {
+        Some(name)
+    }
+}
+
+/// The files of what was found: the filled text, and then the certificate, as far as they are asked
+/// for.
+fn found_puts<'a>(
+    alloc: Global,
+    template: &Template,
+    last: Last,
+    asked: &Search<'a>,
+) -> Result<Vec<Put>, AllocError>
+    requires { length last.values ≡ length template.now.holes }
+    ensures { IfOk result (λ puts. map put_text puts.items ≡ found_files (search_seen asked.now).filled (search_seen asked.now).out (filled_text template.now last.values) (texts_joined last.pieces)) }
+{
+    let Last { values, pieces } = last;
+    let bytes = fill(alloc, template, values.as_slice())?;
+    let mut puts = Vec::new(alloc);
+    let filled = Content::Bytes(List::from_vec(bytes.into_vec()));
+    push_given(alloc, &mut puts, asked.filled, filled)?;
+    push_given(alloc, &mut puts, asked.out, Content::Pieces(pieces))?;
+    Ok(puts)
+}
+
+/// Adds a file of this content, where a name is given.
+fn push_given(
+    alloc: Global,
+    puts: &mut Vec<Put>,
+    name: Option<&str>,
+    content: Content,
+) -> Result<(), AllocError>
+    ensures { OnOk result (map put_text puts.new.items ≡ map put_text puts.old.items ++ with_given (option_map (λ w. w.now) name.entry) (content_bytes content) []) }
+{
+    let Some(name) = name else {
+        return Ok(());
+    };
+    let put = put_of(alloc, name, content)?;
+    puts.push(put)?;
+    Ok(())
+}

@@ -1,0 +1,7 @@
+use Rattle.std.proofs.Common.{◌≡◌, ◌++◌, drop}
+use Rattle.std.specs.String.{string_bytes}
+use Rattle.ta_report.specs.Check.{proofs_text, proofs_told}
+use Rattle.ta_report.proofs.check.proofs_text.Given as goal
+
+abbrev pub invariant-loop-number : goal.invariant-loop-number
+invariant-loop-number l = string_bytes l.text ++ proofs_told l.rest l.numbers l.number (drop l.number l.pattern-items) ≡ proofs_text l.rest l.file l.numbers

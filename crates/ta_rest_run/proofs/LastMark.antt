@@ -1,0 +1,89 @@
+-- the run of a solution of an added event's word ends with its mark
+use Rattle.std.proofs.Common.{◌≡◌, inl, inr, ℕ, ◌≤◌, ℤ, true, List, [], ◌∷◌, ◌++◌, map, length, length-append, append_assoc, append-nil, reverse, arith, sym, ap, ◌∙◌, refl, subst, slice_get, None, Option}
+use Rattle.std.proofs.lemmas.List.{reverse-append, reverse-reverse}
+use Rattle.std.proofs.lemmas.Option.{same_Some}
+use Rattle.ta_automaton.specs.declared.automaton.Automaton.{Automaton}
+use Rattle.ta_automaton.specs.declared.pattern.Event.{Event as PatternEvent}
+use Rattle.ta_automaton.specs.declared.pattern.Pattern.{Pattern}
+use Rattle.ta_automaton.specs.declared.file.File.{File}
+use Rattle.ta_automaton.specs.Lists.{Each}
+use Rattle.ta_automaton.specs.Masks.{has_bit}
+use Rattle.ta_automaton.proofs.MaskTests.{bit_set}
+use Rattle.ta_words.specs.declared.element.Element.{Element}
+use Rattle.ta_words.specs.declared.element.Element.TheVariants.{Event}
+use Rattle.ta_encode.specs.declared.encoded.Solution.{Solution}
+use Rattle.ta_encode.specs.declared.meaning.Meaning.{Meaning}
+use Rattle.ta_rest.specs.Faults.{EndingsOf}
+use Rattle.ta_rest.proofs.Solutions.{by_event}
+use Rattle.ta_replay.specs.declared.run.Run.{Run}
+use Rattle.ta_replay.specs.declared.run.RunLine.{RunLine}
+use Rattle.ta_replay.specs.declared.run.RunLine.TheVariants.{Mark}
+use Rattle.ta_replay.specs.Fits.{Fits, LineFits}
+use Rattle.ta_replay.specs.Pieces.{Piece, last_lines, piece_lines, pieces_lines, step_line}
+use Rattle.ta_replay.proofs.ListSteps.{each_back}
+use Rattle.ta_witness.specs.Witness.{WitnessOf}
+use Rattle.ta_witness.proofs.Backward.{PiecesBack, pieces_back, values_of}
+use Rattle.ta_witness.proofs.Witnesses.{parts_of}
+use Rattle.ta_rest_run.specs.Runs.{IsRestSolution}
+use Rattle.ta_rest_run.proofs.OwnRuns.{ending_at}
+use Rattle.ta_rest_run.proofs.Resting.{rest_at, solutions_solve}
+
+-- the lines of pieces whose newest one ends with a mark
+lines_append : (us vs : List Piece) → pieces_lines (us ++ vs) ≡ pieces_lines us ++ pieces_lines vs
+lines_append [] vs = refl
+lines_append (u ∷ us) vs = ap (λ (ls : List RunLine). piece_lines u ++ ls) (lines_append us vs) ∙ sym (append_assoc (piece_lines u) (pieces_lines us) (pieces_lines vs))
+
+-- lines that end with the mark of an event
+abbrev EndsWithMark : ℕ → List RunLine → Type 0
+EndsWithMark e lines = (front : List RunLine) × (lines ≡ front ++ Mark e ∷ [])
+
+marked_piece : (piece : Piece) (e : ℕ) → piece.last ≡ None → piece.marks ≡ e ∷ [] → piece_lines piece ≡ map step_line piece.steps ++ Mark e ∷ []
+marked_piece piece e last marks =
+    ap (λ (o : Option ℕ). map step_line piece.steps ++ (last_lines o ++ map Mark piece.marks)) last
+    ∙ ap (λ (es : List ℕ). map step_line piece.steps ++ map Mark es) marks
+
+newest_marked : (a : Automaton) (value : Meaning → ℤ) (e : ℕ) (older : List Element) (newest : List Piece) → PiecesBack a value (Event e ∷ older) newest → EndsWithMark e (pieces_lines (reverse newest))
+newest_marked a value e older [] back = absurd back
+newest_marked a value e older (piece ∷ back) h =
+    let before = pieces_lines (reverse back) in
+    let steps = map step_line piece.steps in (
+      before ++ steps,
+      ap pieces_lines (reverse-append (piece ∷ []) back)
+          ∙ lines_append (reverse back) (piece ∷ [])
+          ∙ ap (λ (ls : List RunLine). before ++ ls) (append-nil (piece_lines piece) ∙ marked_piece piece e h.0.ends.0 h.0.ends.1)
+          ∙ sym (append_assoc before steps (Mark e ∷ [])),
+    )
+
+-- the run of a solution of a system of rest ends with the mark of an event
+ends_marked : (file : File) (solution : Solution) (s : IsRestSolution file solution) (run : Run) → 1 ≤ length s.pattern.events → WitnessOf file solution run → (e : ℕ) × EndsWithMark e run.lines
+ends_marked file solution s run some w =
+    let a = file.automaton in
+    let p = s.pattern in
+    let word = solution.word in
+    let r = rest_at file solution s in
+    let h = parts_of file solution (solutions_solve file solution s) run w in
+    let value = values_of a p solution.start_mask (reverse word) s.solved.values in
+    let newest = by_event a p solution.start_mask (reverse word) some r.legal r.complete in
+    let back = subst (λ (past : List Element). PiecesBack a value past (reverse h.pieces)) newest.2 (pieces_back a value word h.pieces h.are) in
+    let found = newest_marked a value newest.0 newest.1 (reverse h.pieces) back in
+    (newest.0, (found.0, h.lines ∙ ap pieces_lines (sym (reverse-reverse h.pieces)) ∙ found.1))
+
+-- where an event was added, it is the only one
+pub ends_with_mark : (file ending : File) (added : ℕ) → EndingsOf file ending added → (solution : Solution) → IsRestSolution ending solution → (run : Run) → Fits ending run → WitnessOf ending solution run → has_bit added run.pattern ≡ true → (lines : List RunLine) × (run.lines ≡ lines ++ Mark 0 ∷ [])
+ends_with_mark file ending added ends solution s run fits w bit =
+    let q = fits.pattern in
+    let same : q ≡ s.pattern = same_Some q s.pattern (sym fits.named ∙ ap (slice_get ending.patterns) w.same_pattern ∙ s.named) in
+    let own = ending_at file.patterns ending.patterns ends.patterns run.pattern q fits.named in
+    let p = own.0 in
+    let x = (ends.added run.pattern).0 (bit_set added run.pattern bit) in
+    let eventless : p.events ≡ [] = ap (λ (y : Pattern). y.events) (same_Some p x.0 (sym own.1 ∙ x.1)) ∙ x.2 in
+    let one : length q.events ≡ 1 = elim own.2.events [
+      | inl m ↦ absurd (let size = ap (λ (xs : List PatternEvent). length xs) (sym m.was ∙ eventless) in omega (arith, length-append m.front (m.last ∷ [])))
+      | inr m ↦ ap (λ (xs : List PatternEvent). length xs) m.is
+    ] in
+    let some : 1 ≤ length s.pattern.events = subst (λ (y : Pattern). 1 ≤ length y.events) same (omega arith) in
+    let found = ends_marked ending solution s run some w in
+    let front = found.1.0 in
+    let fit = each_back (LineFits ending.automaton q) front (Mark found.0 ∷ []) (subst (Each (LineFits ending.automaton q)) found.1.1 fits.lines) in
+    let zero_is : found.0 ≡ 0 = (let b = fit.0 in omega arith) in
+    (front, found.1.1 ∙ ap (λ e. front ++ Mark e ∷ []) zero_is)

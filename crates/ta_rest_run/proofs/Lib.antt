@@ -1,0 +1,7 @@
+-- lemmas for the crates above
+mod Ends
+pub mod Resting
+pub mod OwnRuns
+mod LastMark
+pub mod Once
+mod Giving

@@ -1,0 +1,21 @@
+use Rattle.std.proofs.Common.{◌≡◌, ◌++◌, ◌∙◌, List, ap, subst, sym}
+use Rattle.std.specs.Prelude.{option_to_list}
+use Rattle.ta_automaton.specs.Lists.{Each}
+use Rattle.ta_replay.specs.declared.run.RunLine.{RunLine}
+use Rattle.ta_replay.specs.Fits.{LineFits}
+use Rattle.ta_replay.proofs.ListSteps.{each_front}
+use Rattle.ta_rest_run.proofs.witnessing.without_last.Goals as goal
+
+pub returns-clause-fits : goal.returns-clause-fits
+returns-clause-fits c = λ file fits.
+    let last = option_to_list c.pop.result in
+    let whole : c.args.run.lines ≡ c.from_vec.result ++ last = sym c.into_vec-lines.ensures ∙ c.pop.ensures.items ∙ ap (λ (xs : List RunLine). xs ++ last) (sym c.from_vec.ensures) in
+    record {
+      pattern = fits.pattern;
+      named = fits.named;
+      parameters = fits.parameters;
+      parameters_natural = fits.parameters_natural;
+      counts = fits.counts;
+      counts_natural = fits.counts_natural;
+      lines = each_front (LineFits file.automaton fits.pattern) c.from_vec.result last (subst (Each (LineFits file.automaton fits.pattern)) whole fits.lines);
+    }

@@ -1,0 +1,62 @@
+-- Runs of solutions of systems of rest, for a file's own patterns (this project's profile)
+use Rattle.std.specs.Prelude.{ℕ, pos, ◌≡◌, if◌then◌else◌, [], ◌∷◌, ◌++◌, length, map, reverse, slice_get, Some}
+use Rattle.ta_automaton.specs.declared.pattern.Pattern.{Pattern}
+use Rattle.ta_automaton.specs.declared.file.File.{File}
+use Rattle.ta_automaton.specs.Masks.{has_bit}
+use Rattle.ta_automaton.specs.Runs.{At, Config}
+use Rattle.ta_encode.specs.declared.encoded.Solution.{Solution}
+use Rattle.ta_rest.specs.Faults.{EndingsOf}
+use Rattle.ta_rest.specs.Laws.{RestSolved}
+use Rattle.ta_rest.specs.Rest.{AtRest}
+use Rattle.ta_rest.specs.declared.rest_file.RestFile.{RestFile}
+use Rattle.ta_replay.specs.declared.run.Run.{Run}
+use Rattle.ta_replay.specs.declared.run.RunLine.TheVariants.{Mark}
+use Rattle.ta_replay.specs.Fits.{Fits}
+use Rattle.ta_replay.specs.Replays.{ReplayStays}
+use Rattle.ta_replay.specs.Shows.{Shows, unit_steps}
+use Rattle.ta_witness.specs.Witness.{IsShortRun, WitnessOf}
+
+-- the word of a solution is complete and legal for its pattern and start set, and its values are natural numbers that solve
+-- the word's system of rest without bounds
+pub record IsRestSolution (file : File) (solution : Solution) : Type 0 where
+  pub pattern : Pattern
+  pub named : slice_get file.patterns solution.pattern ≡ Some pattern
+  pub solved : RestSolved file.automaton pattern
+  pub start : solved.start ≡ solution.start_mask
+  pub word : solved.past ≡ reverse solution.word
+  pub values : solution.values ≡ map pos solved.values
+
+-- a run with one more line at its end, a mark of event 0
+abbrev pub marked_at_end : Run → Run
+marked_at_end run = record { pattern = run.pattern; parameters = run.parameters; counts = run.counts; lines = run.lines ++ Mark 0 ∷ [] }
+
+-- the run of a pattern's ending that a run of the pattern itself stands for: with a mark of the event at its end where one was
+-- added to the pattern, else the run as it is
+abbrev pub ending_run : ℕ → Run → Run
+ending_run added run = if has_bit added run.pattern then marked_at_end run else run
+
+-- in whatever way the run shows the pattern that it names, its last configuration is at rest
+abbrev pub EndRests : File → Run → Type 0
+EndRests file run =
+    (shown : Shows file run) (c : Config) → At shown.shows.first shown.shows.later (length (unit_steps run.lines)) c
+    → AtRest file.automaton c
+
+-- the run fits the file, it shows the pattern that it names, no number of its replay leaves the range, and its last configuration is at rest
+pub record ComesToRest (file : File) (run : Run) : Type 0 where
+  pub fits : Fits file run
+  pub shows : Shows file run
+  pub stays : ReplayStays file run
+  pub rests : EndRests file run
+
+-- the run of a solution of an ending's system of rest, less the mark of an added event: it comes to rest as a run of the ending, with
+-- this mark, and as one of the file's own pattern
+pub record RestWitnessOf (file ending : File) (added : ℕ) (solution : Solution) (run : Run) : Type 0 where
+  pub witness : WitnessOf ending solution (ending_run added run)
+  pub of_ending : ComesToRest ending (ending_run added run)
+  pub short : IsShortRun ending (ending_run added run)
+  pub own : ComesToRest file run
+
+-- the same for each file whose patterns have these endings
+abbrev pub OwnWitness : RestFile → Solution → Run → Type 0
+OwnWitness rest solution run =
+    (file : File) → EndingsOf file rest.ending.file rest.added → RestWitnessOf file rest.ending.file rest.added solution run

@@ -1,0 +1,10 @@
+//! From a solution of a word's system of rest to a run of the file's own pattern that comes to rest.
+#![tactic(auto)]
+
+mod laws;
+mod witnessing;
+
+pub use laws::{
+    own_runs_rest, rest_solutions_solve, rest_witnesses_are_determined, rest_witnesses_rest,
+};
+pub use witnessing::rest_witness;

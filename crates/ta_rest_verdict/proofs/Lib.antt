@@ -1,0 +1,5 @@
+-- lemmas for the crates above
+pub mod CertificatesOnce
+pub mod CertificatesMade
+mod VerdictsMade
+mod Drafting

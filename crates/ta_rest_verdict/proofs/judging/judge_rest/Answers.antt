@@ -1,0 +1,25 @@
+use Rattle.std.proofs.Common.{◌≡◌, ◌∙◌, ◌++◌, List, [], append-nil, subst, sym}
+use Rattle.ta_cert.specs.Certificates.{head_text, proofs_text}
+use Rattle.ta_cert.specs.declared.line.Order.{Order}
+use Rattle.ta_report.specs.declared.verdict.Verdict.{Verdict}
+use Rattle.ta_shell.specs.Puts.{texts_joined}
+use Rattle.ta_verdict.specs.Certificates.{AreTreesOf, safe_ones}
+use Rattle.ta_rest_verdict.specs.Certificates.{rest_tree}
+use Rattle.ta_rest_verdict.proofs.CertificatesMade.{rest_accepted, rest_made}
+use Rattle.ta_rest_verdict.proofs.judging.judge_rest.Goals as goal
+
+pub returns-clause-certificate : goal.returns-clause-certificate
+returns-clause-certificate c = λ wanted.
+    let file = c.args.rest.now.ending.file in
+    let budget = c.args.nodes in
+    let head = head_text [] in
+    let begins = c.in_ok-draft.ensures.text in
+    let has = c.in_ok-verdicts.ensures.trees head (λ w. begins w ∙ sym (append-nil head)) in
+    let trees = subst (λ (vs : List Verdict). AreTreesOf (rest_tree file budget) (safe_ones 0 file.patterns vs) has.0) (sym c.from_vec.ensures) has.1 in
+    let same = c.in_ok-verdicts.ensures.wanted ∙ c.in_ok-draft.ensures.wanted ∙ wanted in
+    let text = c.in_ok-certificate.ensures.text same (head ++ proofs_text has.0) has.2 in
+    rest_made file budget c.from_vec.result has.0 trees (texts_joined c.in_ok-certificate.certificate) text
+
+pub returns-clause-accepted : goal.returns-clause-accepted
+returns-clause-accepted c = λ wanted.
+    rest_accepted c.args.rest.now.ending.file c.args.nodes c.requires.limit c.from_vec.result (texts_joined c.in_ok-certificate.certificate) (returns-clause-certificate c wanted)

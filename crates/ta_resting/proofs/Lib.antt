@@ -1,0 +1,5 @@
+-- lemmas for the crates above
+pub mod RestsVisited
+pub mod VerdictsMade
+pub mod VerdictsOnce
+pub mod TextsAlike

@@ -1,0 +1,87 @@
+//! The verdict on a pattern whose runs are to come to rest.
+#![tactic(auto)]
+
+ghost use Rattle.std.specs.Prelude.{ℕ, ◌<◌, ◌≤◌, ◌≡◌, [], IfOk, length};
+ghost use Rattle.ta_automaton.specs.declared.pattern.Pattern.{Pattern};
+ghost use Rattle.ta_report.specs.Report.{VerdictFits};
+ghost use Rattle.ta_rest_run.specs.Runs.{IsRestSolution};
+ghost use Rattle.ta_resting.specs.Ends.{SolutionIn};
+ghost use Rattle.ta_resting.specs.Verdicts.{IsNotSafe, KeepsSafe, OwnVerdict, place_of};
+ghost use Rattle.ta_rest.specs.RestSearch.{rest_search};
+ghost use Rattle.ta_walk.specs.Ends.{NodeOf};
+ghost use Rattle.ta_words.specs.Calls.{OfPattern};
+
+use crate::visiting::rest_visit;
+use std::alloc::{AllocError, Global};
+use ta_dense::Dictionary;
+use ta_encode::Solution;
+use ta_report::{ReportKind, Verdict};
+use ta_rest::RestFile;
+use ta_rest_run::rest_witness;
+use ta_walk::{Keeper, PlaceKind, VisitEnd};
+use ta_witness::WitnessFault;
+
+/// The verdict on the pattern of a number, from 0, within a budget of nodes: whether some run in which
+/// the pattern occurs comes to rest where its last event happens. The keeper takes the nodes of the
+/// tree of its ending.
+pub fn rest_verdict<D: Dictionary, K: Keeper>(
+    alloc: Global,
+    rest: &RestFile,
+    pattern: u32,
+    nodes: u64,
+    keeper: &mut K,
+) -> Result<Verdict, AllocError>
+    requires exists { pattern < length rest.now.ending.file.patterns }
+    requires limit { nodes ≤ 1000000000 }
+    requires keeps { K.keeps keeper.old keeper.old [] }
+    ensures holds { IfOk result (λ verdict. OfPattern rest.now.ending.file pattern (λ p. OwnVerdict rest.now nodes pattern p verdict)) }
+    ensures fits { IfOk result (VerdictFits rest.now.ending.file) }
+    ensures kept { IfOk result (λ verdict. OfPattern rest.now.ending.file pattern (λ p. KeepsSafe (rest_search rest.now.ending.file.automaton p) nodes (K.keeps keeper.old keeper.new) verdict)) }
+{
+    match rest_visit::<D, K>(alloc, rest, pattern, nodes, keeper)? {
+        VisitEnd::Refuted { count, leaves } => Ok(Verdict::Safe {
+            nodes: count,
+            leaves,
+        }),
+        VisitEnd::Found { count, solution } => verdict_of(alloc, rest, count, &solution),
+        VisitEnd::Spent { count } => Ok(Verdict::Spent { nodes: count }),
+        VisitEnd::Overflow { node, kind } => Ok(Verdict::Overflow {
+            node,
+            kind: report_kind(kind),
+        }),
+    }
+}
+
+/// The verdict where the node of a number is the first whole one: a run of the pattern comes to rest,
+/// that of the node's solution, unless a number of the run's replay leaves the range.
+fn verdict_of(
+    alloc: Global,
+    rest: &RestFile,
+    node: u64,
+    solution: &Solution,
+) -> Result<Verdict, AllocError>
+    requires { IsRestSolution rest.now.ending.file solution.now }
+    ensures holds { (budget number : ℕ) (p : Pattern) → NodeOf (rest_search rest.now.ending.file.automaton p) budget node (SolutionIn (rest_search rest.now.ending.file.automaton p) number solution.now) → IfOk result (λ verdict. OwnVerdict rest.now budget number p verdict) }
+    ensures fits { IfOk result (VerdictFits rest.now.ending.file) }
+    ensures other { IfOk result IsNotSafe }
+{
+    match rest_witness(alloc, rest, solution) {
+        Ok(run) => Ok(Verdict::Unsafe { nodes: node, run }),
+        Err(WitnessFault::Overflow) => Ok(Verdict::Overflow {
+            node,
+            kind: ReportKind::Run,
+        }),
+        Err(WitnessFault::Memory) => Err(AllocError),
+    }
+}
+
+/// The place of a walk, as a report names it.
+fn report_kind(kind: PlaceKind) -> ReportKind
+    ensures { place_of result ≡ kind }
+{
+    match kind {
+        PlaceKind::Pivot(pivot) => ReportKind::Pivot(pivot),
+        PlaceKind::Leaf => ReportKind::Leaf,
+        PlaceKind::Run => ReportKind::Run,
+    }
+}

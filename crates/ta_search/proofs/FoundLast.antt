@@ -1,0 +1,94 @@
+-- what is found is safe
+use Rattle.std.proofs.Common.{◌≡◌, ◌∙◌, inl, inr, ℕ, ◌+◌, true, List, [], ◌∷◌, ◌++◌, length, map, refl, sym, ap, subst, append_assoc}
+use Rattle.std.proofs.lemmas.Bool.{false≢true}
+use Rattle.ta_automaton.specs.declared.file.File.{File}
+use Rattle.ta_automaton.specs.declared.pattern.Pattern.{Pattern}
+use Rattle.ta_automaton.specs.Lists.{Each}
+use Rattle.ta_automaton.specs.Masks.{numbers_from}
+use Rattle.ta_automaton.specs.Runs as runs
+use Rattle.ta_check.specs.Certificate.{Certificate}
+use Rattle.ta_report.specs.declared.verdict.Verdict.{Verdict}
+use Rattle.ta_report.specs.declared.verdict.Verdict.TheVariants.{Safe, Unsafe, Spent, Overflow}
+use Rattle.ta_verdict.specs.Certificates.{SafeOne, safe_ones}
+use Rattle.ta_verdict.specs.Verdicts.{VerdictsHold}
+use Rattle.ta_search.specs.declared.outcome.Outcome.{Outcome}
+use Rattle.ta_search.specs.declared.outcome.Outcome.TheVariants as outcome
+use Rattle.ta_search.specs.declared.outcome.SearchEnd.{SearchEnd}
+use Rattle.ta_search.specs.declared.outcome.Tried.{Tried}
+use Rattle.ta_search.specs.declared.template.Template.{Template}
+use Rattle.ta_search.specs.Filling.{filled_text}
+use Rattle.ta_search.specs.Outcomes.{IsSafe, OutcomeHolds, is_safe}
+use Rattle.ta_search.specs.Searching.{AreTried, IsFound, IsSearchEnd, IsTried, LastIsFound, is_found}
+use Rattle.ta_search.specs.Vectors.{vectors}
+
+-- patterns whose verdicts are Safe are safe, and their numbers are all numbers
+all_safe : (file : File) (budget number : ℕ) (ps : List Pattern) (vs : List Verdict) → VerdictsHold file budget number ps vs → Each (λ v. is_safe v ≡ true) vs → Each (runs.Safe file.automaton) ps
+all_safe file budget number [] vs hold all = tt
+all_safe file budget number (p ∷ ps) [] hold all = absurd hold
+all_safe file budget number (p ∷ ps) (Safe nodes leaves ∷ vs) hold all =
+    let first = hold.0 in
+    let holds = first.holds in
+    (holds.safe, all_safe file budget (number + 1) ps vs hold.1 all.1)
+all_safe file budget number (p ∷ ps) (Unsafe nodes run ∷ vs) hold all = absurd (false≢true all.0)
+all_safe file budget number (p ∷ ps) (Spent nodes ∷ vs) hold all = absurd (false≢true all.0)
+all_safe file budget number (p ∷ ps) (Overflow node kind ∷ vs) hold all = absurd (false≢true all.0)
+
+all_numbers : (file : File) (budget number : ℕ) (ps : List Pattern) (vs : List Verdict) → VerdictsHold file budget number ps vs → Each (λ v. is_safe v ≡ true) vs → map (λ (one : SafeOne). one.number) (safe_ones number ps vs) ≡ numbers_from number (length ps)
+all_numbers file budget number [] vs hold all = refl
+all_numbers file budget number (p ∷ ps) [] hold all = absurd hold
+all_numbers file budget number (p ∷ ps) (Safe nodes leaves ∷ vs) hold all = ap (λ (ks : List ℕ). number ∷ ks) (all_numbers file budget (number + 1) ps vs hold.1 all.1)
+all_numbers file budget number (p ∷ ps) (Unsafe nodes run ∷ vs) hold all = absurd (false≢true all.0)
+all_numbers file budget number (p ∷ ps) (Spent nodes ∷ vs) hold all = absurd (false≢true all.0)
+all_numbers file budget number (p ∷ ps) (Overflow node kind ∷ vs) hold all = absurd (false≢true all.0)
+
+is_found_by : (bytes : List ℕ) (budget : ℕ) (certificate : List ℕ) → IsSafe bytes budget certificate → IsFound bytes certificate
+is_found_by bytes budget certificate h =
+    let file = h.file in
+    let judged = h.judged in
+    let sampled = judged.sampled in
+    let sample = sampled.sample in
+    let real = sample.holds in
+    let verdicts = judged.verdicts in
+    let numbers = all_numbers file budget 0 file.patterns h.verdicts verdicts.hold h.all in
+    record {
+      file = file;
+      legal = sampled.legal;
+      safe = all_safe file budget 0 file.patterns h.verdicts verdicts.hold h.all;
+      parameters = real.parameters;
+      start = real.start;
+      accepted = subst (Certificate file certificate) numbers h.accepted;
+    }
+
+-- a found outcome has a certificate
+record FoundBy (bytes : List ℕ) (o : Outcome) : Type 0 where
+  certificate : List ℕ
+  said : o ≡ outcome.Safe certificate
+  found : IsFound bytes certificate
+
+found_by : (bytes : List ℕ) (budget : ℕ) (o : Outcome) → OutcomeHolds bytes budget o → is_found o ≡ true → FoundBy bytes o
+found_by bytes budget outcome.Long h safe = absurd (false≢true safe)
+found_by bytes budget (outcome.Refused e) h safe = absurd (false≢true safe)
+found_by bytes budget outcome.Empty h safe = absurd (false≢true safe)
+found_by bytes budget (outcome.SampleUnknown s) h safe = absurd (false≢true safe)
+found_by bytes budget (outcome.Unsafe name run) h safe = absurd (false≢true safe)
+found_by bytes budget (outcome.Unknown name v) h safe = absurd (false≢true safe)
+found_by bytes budget (outcome.Safe certificate) h safe = record { certificate = certificate; said = refl; found = is_found_by bytes budget certificate h }
+
+last_of : (t : Template) (budget : ℕ) (before : List Tried) (v : List ℕ) (x : Tried) (end : SearchEnd) → end.tried ≡ before ++ x ∷ [] → IsTried t budget v x → is_found x.outcome ≡ true → LastIsFound t end
+last_of t budget before v x end whole is safe =
+    let by = found_by (filled_text t v) budget x.outcome is.holds safe in
+    record { before = before; last = x; whole = whole; certificate = by.certificate; said = by.said; found = subst (λ (w : List ℕ). IsFound (filled_text t w) by.certificate) (sym is.values) by.found }
+
+-- behind those before, the last of these is found
+last_found : (t : Template) (budget : ℕ) (vs : List (List ℕ)) (before later : List Tried) (end : SearchEnd) → end.tried ≡ before ++ later → AreTried t budget vs later true → LastIsFound t end
+last_found t budget [] before [] end whole h = absurd (false≢true (sym h))
+last_found t budget [] before (x ∷ xs) end whole h = absurd h
+last_found t budget (v ∷ vs) before [] end whole h = absurd h
+last_found t budget (v ∷ vs) before (x ∷ xs) end whole h =
+    elim h.1 [
+      | inl here ↦ last_of t budget before v x end (whole ∙ ap (λ (ys : List Tried). before ++ x ∷ ys) here.last) h.0 here.safe
+      | inr later ↦ last_found t budget vs (before ++ x ∷ []) xs end (whole ∙ sym (append_assoc before (x ∷ []) xs)) later.1
+    ]
+
+pub found_is_last : (t : Template) (budget : ℕ) (end : SearchEnd) → IsSearchEnd t budget end → end.found ≡ true → LastIsFound t end
+found_is_last t budget end h found = last_found t budget (vectors t.holes) [] end.tried end refl (subst (AreTried t budget (vectors t.holes) end.tried) found h)

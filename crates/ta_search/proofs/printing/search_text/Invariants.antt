@@ -1,0 +1,6 @@
+use Rattle.std.proofs.Common.{◌≡◌, string_bytes, take}
+use Rattle.ta_search.specs.SearchText.{tried_texts}
+use Rattle.ta_search.proofs.printing.search_text.Given as goal
+
+abbrev pub invariant-vectors : goal.invariant-vectors
+invariant-vectors l = record { so_far : string_bytes l.text ≡ tried_texts l.holes (take l.next-index l.tried) }

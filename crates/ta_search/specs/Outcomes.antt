@@ -1,0 +1,108 @@
+-- What comes of a template with values in its holes, within a budget of nodes (this project's profile)
+use Rattle.std.specs.Prelude.{ℕ, ℤ, ◌<◌, ◌≤◌, ◌≡◌, ◌≢◌, Bool, true, false, List, length, slice_get, Some}
+use Rattle.std.specs.List.{prefix_len}
+use Rattle.ta_automaton.specs.declared.file.File.{File}
+use Rattle.ta_automaton.specs.declared.pattern.Pattern.{Pattern}
+use Rattle.ta_automaton.specs.Lists.{Each}
+use Rattle.ta_check.specs.Certificate.{Certificate}
+use Rattle.ta_meaning.specs.FirstFault.{FirstFault}
+use Rattle.ta_meaning.specs.Reading.{Legal}
+use Rattle.ta_replay.specs.declared.run.Run.{Run}
+use Rattle.ta_replay.specs.RunText.{run_text}
+use Rattle.ta_report.specs.declared.verdict.ReportSample.{ReportSample}
+use Rattle.ta_report.specs.declared.verdict.ReportSample.TheVariants as sample
+use Rattle.ta_report.specs.declared.verdict.Verdict.{Verdict}
+use Rattle.ta_report.specs.declared.verdict.Verdict.TheVariants.{Safe, Unsafe, Spent, Overflow}
+use Rattle.ta_syntax.specs.declared.fault.FileFault.{FileFault}
+use Rattle.ta_syntax.specs.declared.fault.FileFault.TheVariants as fault
+use Rattle.ta_verdict.specs.Certificates.{CertificateOf, safe_numbers}
+use Rattle.ta_verdict.specs.Verdicts.{AreVerdicts, IsSample, is_unknown}
+use Rattle.ta_search.specs.declared.outcome.Outcome.{Outcome}
+use Rattle.ta_search.specs.declared.outcome.Outcome.TheVariants as outcome
+
+-- whether a verdict says that a pattern is safe
+abbrev pub is_safe : Verdict → Bool
+is_safe (Safe nodes leaves) = true
+is_safe (Unsafe nodes run) = false
+is_safe (Spent nodes) = false
+is_safe (Overflow node kind) = false
+
+-- whether the search for a sample gave none, and didn't refute that there is one
+abbrev pub is_unsampled : ReportSample → Bool
+is_unsampled (sample.Sample values) = false
+is_unsampled sample.Empty = false
+is_unsampled (sample.Spent count) = true
+is_unsampled (sample.Overflow node kind) = true
+
+-- the filled text is refused for this fault
+pub record IsRefused (bytes : List ℕ) (e : FileFault) : Type 0 where
+  pub within : length bytes ≤ 1048576
+  pub first : FirstFault bytes e
+  pub told : e ≢ fault.Memory
+
+-- the filled text means this file, and this is the sample of its parameters
+pub record IsSampled (bytes : List ℕ) (budget : ℕ) (file : File) (s : ReportSample) : Type 0 where
+  pub within : length bytes ≤ 1048576
+  pub legal : Legal bytes file
+  pub sample : IsSample file budget s
+
+-- its sample is this one
+pub record HasSample (bytes : List ℕ) (budget : ℕ) (s : ReportSample) : Type 0 where
+  pub file : File
+  pub sampled : IsSampled bytes budget file s
+
+-- there are parameters with an initial configuration, and each pattern of the file has its verdict
+pub record IsJudged (bytes : List ℕ) (budget : ℕ) (file : File) (vs : List Verdict) : Type 0 where
+  pub values : List ℤ
+  pub sampled : IsSampled bytes budget file (sample.Sample values)
+  pub verdicts : AreVerdicts file budget vs
+
+-- how many verdicts stand before the first that isn't Safe
+abbrev pub safe_before : List Verdict → ℕ
+safe_before vs = prefix_len is_safe vs
+
+-- the first pattern in the order of the file whose verdict isn't Safe is this one, with this verdict
+pub record Decides (file : File) (verdicts : List Verdict) (p : Pattern) (v : Verdict) : Type 0 where
+  pub pattern : slice_get file.patterns (safe_before verdicts) ≡ Some p
+  pub verdict : slice_get verdicts (safe_before verdicts) ≡ Some v
+
+-- that pattern has this name, and is unsafe with a run of this text
+pub record IsUnsafe (bytes : List ℕ) (budget : ℕ) (name text : List ℕ) : Type 0 where
+  pub file : File
+  pub verdicts : List Verdict
+  pub judged : IsJudged bytes budget file verdicts
+  pub p : Pattern
+  pub nodes : ℕ
+  pub run : Run
+  pub decides : Decides file verdicts p (Unsafe nodes run)
+  pub named : name ≡ p.name
+  pub shown : text ≡ run_text file run
+
+-- that pattern has this name, and is unknown with this verdict
+pub record IsUnknown (bytes : List ℕ) (budget : ℕ) (name : List ℕ) (v : Verdict) : Type 0 where
+  pub file : File
+  pub verdicts : List Verdict
+  pub judged : IsJudged bytes budget file verdicts
+  pub p : Pattern
+  pub decides : Decides file verdicts p v
+  pub unknown : is_unknown v ≡ true
+  pub named : name ≡ p.name
+
+-- every verdict is Safe, and this is the text of their certificate, which a judge accepts as one of exactly these patterns
+pub record IsSafe (bytes : List ℕ) (budget : ℕ) (text : List ℕ) : Type 0 where
+  pub file : File
+  pub verdicts : List Verdict
+  pub judged : IsJudged bytes budget file verdicts
+  pub all : Each (λ v. is_safe v ≡ true) verdicts
+  pub certificate : CertificateOf file budget verdicts text
+  pub accepted : Certificate file text (safe_numbers file verdicts)
+
+-- the outcome of a filled text holds, for a budget of nodes
+abbrev pub OutcomeHolds : List ℕ → ℕ → Outcome → Type 0
+OutcomeHolds bytes budget outcome.Long = 1048576 < length bytes
+OutcomeHolds bytes budget (outcome.Refused e) = IsRefused bytes e
+OutcomeHolds bytes budget outcome.Empty = HasSample bytes budget sample.Empty
+OutcomeHolds bytes budget (outcome.SampleUnknown s) = HasSample bytes budget s × (is_unsampled s ≡ true)
+OutcomeHolds bytes budget (outcome.Unsafe name run) = IsUnsafe bytes budget name run
+OutcomeHolds bytes budget (outcome.Unknown name v) = IsUnknown bytes budget name v
+OutcomeHolds bytes budget (outcome.Safe certificate) = IsSafe bytes budget certificate

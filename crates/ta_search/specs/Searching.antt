@@ -1,0 +1,72 @@
+-- The search for values of a template's holes with which every pattern is safe (this project's profile)
+use Rattle.std.specs.Prelude.{ℕ, ◌≡◌, Bool, true, false, List, [], ◌∷◌, ◌++◌, length, ◌⊎◌}
+use Rattle.ta_automaton.specs.declared.file.File.{File}
+use Rattle.ta_automaton.specs.Lists.{Each}
+use Rattle.ta_automaton.specs.Masks.{numbers_from}
+use Rattle.ta_automaton.specs.Runs as runs
+use Rattle.ta_check.specs.Certificate.{Certificate}
+use Rattle.ta_encode.specs.Sample.{HasStart}
+use Rattle.ta_meaning.specs.Reading.{Legal}
+use Rattle.ta_search.specs.declared.outcome.Outcome.{Outcome}
+use Rattle.ta_search.specs.declared.outcome.Outcome.TheVariants as outcome
+use Rattle.ta_search.specs.declared.outcome.SearchEnd.{SearchEnd}
+use Rattle.ta_search.specs.declared.outcome.Tried.{Tried}
+use Rattle.ta_search.specs.declared.template.Template.{Template}
+use Rattle.ta_search.specs.Filling.{filled_text}
+use Rattle.ta_search.specs.Outcomes.{OutcomeHolds}
+use Rattle.ta_search.specs.Vectors.{vectors}
+
+-- whether an outcome is Safe
+abbrev pub is_found : Outcome → Bool
+is_found outcome.Long = false
+is_found (outcome.Refused e) = false
+is_found outcome.Empty = false
+is_found (outcome.SampleUnknown s) = false
+is_found (outcome.Unsafe name run) = false
+is_found (outcome.Unknown name v) = false
+is_found (outcome.Safe certificate) = true
+
+-- a vector was tried: it is listed with the outcome that holds
+pub record IsTried (t : Template) (budget : ℕ) (vector : List ℕ) (x : Tried) : Type 0 where
+  pub values : x.values ≡ vector
+  pub holds : OutcomeHolds (filled_text t vector) budget x.outcome
+
+-- the outcome is Safe: the search has found, and nothing is tried behind it
+pub record EndsHere (x : Tried) (behind : List Tried) (found : Bool) : Type 0 where
+  pub safe : is_found x.outcome ≡ true
+  pub last : behind ≡ []
+  pub has_found : found ≡ true
+
+-- these vectors are tried in order, each once, up to the first whose outcome is Safe. Where none is Safe, all are tried, and nothing is found.
+abbrev pub AreTried : Template → ℕ → List (List ℕ) → List Tried → Bool → Type 0
+AreTried t budget [] [] found = found ≡ false
+AreTried t budget [] (x ∷ xs) found = ⊥
+AreTried t budget (v ∷ vs) [] found = ⊥
+AreTried t budget (v ∷ vs) (x ∷ xs) found = IsTried t budget v x × (EndsHere x xs found ⊎ ((is_found x.outcome ≡ false) × AreTried t budget vs xs found))
+
+-- the end of the search of a template, for a budget of nodes: its vectors are tried
+abbrev pub IsSearchEnd : Template → ℕ → SearchEnd → Type 0
+IsSearchEnd t budget end = AreTried t budget (vectors t.holes) end.tried end.found
+
+-- the text is that of a file whose patterns are all safe, some parameters have an initial configuration, and these bytes are a certificate
+-- that a judge accepts as one of all its patterns
+pub record IsFound (bytes certificate : List ℕ) : Type 0 where
+  pub file : File
+  pub legal : Legal bytes file
+  pub safe : Each (runs.Safe file.automaton) file.patterns
+  pub parameters : List ℕ
+  pub start : HasStart file.automaton parameters
+  pub accepted : Certificate file certificate (numbers_from 0 (length file.patterns))
+
+-- the last vector that was tried is found: it is listed with a certificate
+pub record LastIsFound (t : Template) (end : SearchEnd) : Type 0 where
+  pub before : List Tried
+  pub last : Tried
+  pub whole : end.tried ≡ before ++ last ∷ []
+  pub certificate : List ℕ
+  pub said : last.outcome ≡ outcome.Safe certificate
+  pub found : IsFound (filled_text t last.values) certificate
+
+-- a template has one end for a budget
+abbrev pub SearchesAreDetermined : Type 0
+SearchesAreDetermined = (t : Template) (budget : ℕ) (a b : SearchEnd) → IsSearchEnd t budget a → IsSearchEnd t budget b → a ≡ b

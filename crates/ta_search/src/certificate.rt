@@ -1,0 +1,47 @@
+//! The text of a certificate in pieces.
+#![tactic(auto)]
+
+ghost use Rattle.std.specs.Prelude.{◌≡◌};
+ghost use Rattle.ta_shell.specs.Puts.{texts_joined};
+
+use std::marker::Model;
+use ta_shelf::{List, Text};
+
+/// The text of a certificate in pieces, so that a long one is never copied as it grows. A contract
+/// sees it as the one text.
+#[derive(Drop)]
+pub struct CertificateText {
+    pieces: List<Text>,
+}
+
+impl Model for CertificateText {
+    ghost use Rattle.std.specs.Prelude.{List, ℕ};
+    ghost use Rattle.ta_shell.specs.Puts.{texts_joined};
+
+    ghost Value = { List ℕ };
+
+    ghost view = { λ c. texts_joined c.pieces };
+}
+
+impl CertificateText {
+    /// The text of these pieces. It takes no memory.
+    pub fn from_pieces(pieces: List<Text>) -> CertificateText
+        ensures { result ≡ texts_joined pieces }
+    {
+        CertificateText { pieces }
+    }
+
+    /// The pieces.
+    pub fn as_pieces(&self) -> &[Text]
+        ensures { texts_joined result.now ≡ self.now }
+    {
+        self.pieces.as_slice()
+    }
+
+    /// The pieces, handed out. It takes no memory.
+    pub fn into_pieces(self) -> List<Text>
+        ensures { texts_joined result ≡ self }
+    {
+        self.pieces
+    }
+}

@@ -1,0 +1,190 @@
+-- the text of the trees of safe patterns is a certificate that a judge accepts
+use Rattle.std.proofs.Common.{◌≡◌, ◌∙◌, ℕ, ◌+◌, ◌<◌, ◌≤◌, ◌^◌, suc, List, [], ◌∷◌, ◌++◌, length, map, Option, Some, None, slice_get, refl, sym, ap, subst, append_assoc, arith, codes, decimal, lit≤, lit<}
+use Rattle.std.specs.List.{AllByRecursion}
+use Rattle.std.proofs.lemmas.Option.{slice_get_within}
+use Rattle.ta_automaton.specs.declared.file.File.{File}
+use Rattle.ta_automaton.specs.declared.pattern.Pattern.{Pattern}
+use Rattle.ta_automaton.specs.Lists.{Distinct, Each}
+use Rattle.ta_automaton.specs.Runs.{LoopsPure}
+use Rattle.ta_cert.proofs.Writing.{cert_parts}
+use Rattle.ta_cert.specs.Certificates.{AreWritable, cert_lines, cert_text, head_text, order_lines, pair_of, proof_lines, proof_of, proofs_of, proofs_text, version_of}
+use Rattle.ta_cert.specs.Laws.{AreShort}
+use Rattle.ta_cert.specs.Lines.{IsNode, line_text}
+use Rattle.ta_cert.specs.Streams.{line_limit}
+use Rattle.ta_cert.specs.Tree.{Tree, all_preorder}
+use Rattle.ta_cert.specs.declared.line.Line.{Line}
+use Rattle.ta_cert.specs.declared.line.Line.TheVariants as line
+use Rattle.ta_cert.specs.declared.line.Node.{Node}
+use Rattle.ta_cert.specs.declared.line.Order.{Order}
+use Rattle.ta_cert.specs.declared.line.Proof.{Proof}
+use Rattle.ta_claim.specs.Claims.{search_for}
+use Rattle.ta_claim.specs.declared.claim.Claim.TheVariants.{Safe}
+use Rattle.ta_check.specs.Certificate.{Certificate, ProvesClaim, number_of}
+use Rattle.ta_check.specs.Subjects.{Subject, claiming}
+use Rattle.ta_check.proofs.Searches.{search_named}
+use Rattle.ta_cursor.specs.Range.{IsJudged}
+use Rattle.ta_encode.specs.InPreorder.{RefutedInOrder}
+use Rattle.ta_encode.specs.Search.{Search}
+use Rattle.ta_encode.proofs.Preorders.{in_order}
+use Rattle.ta_report.specs.declared.verdict.Verdict.{Verdict}
+use Rattle.ta_walk.proofs.NodesShort.{row_short}
+use Rattle.ta_walk.proofs.ProofsMade.{refuted_safe}
+use Rattle.ta_walk.proofs.OrdersOnce.{orders_once}
+use Rattle.ta_walk.proofs.OrdersSound.{orders_sound}
+use Rattle.ta_walk.specs.Ends.{IsShort, TreeIs}
+use Rattle.ta_walk.specs.FoundOrders.{FoundOrders}
+use Rattle.ta_encode.specs.PatternSearch.{pattern_search}
+use Rattle.ta_verdict.specs.Certificates.{AreTrees, AreTreesOf, CertificateOf, SafeOne, safe_numbers, safe_ones, tree_size, tree_under, with_safe}
+use Rattle.ta_verdict.specs.Drafts.{ended_line}
+
+all_of : {X : Type 0} (P : X → Type 0) (xs : List X) → Each P xs → AllByRecursion P xs
+all_of P [] each = tt
+all_of P (x ∷ xs) each = (each.0, all_of P xs each.1)
+
+-- the numbers of those that are safe
+abbrev numbers : List SafeOne → List ℕ
+numbers ones = map (λ one. one.number) ones
+
+one_named : (file : File) (number : ℕ) (p : Pattern) (size : Option ℕ) (rest : List SafeOne) → slice_get file.patterns number ≡ Some p → Each (λ one. slice_get file.patterns one.number ≡ Some one.pattern) rest → Each (λ one. slice_get file.patterns one.number ≡ Some one.pattern) (with_safe number p size rest)
+one_named file number p None rest at named = named
+one_named file number p (Some nodes) rest at named = (at, named)
+
+ones_named : (file : File) (number : ℕ) (ps : List Pattern) (vs : List Verdict) → ((k : ℕ) (p : Pattern) → slice_get ps k ≡ Some p → slice_get file.patterns (number + k) ≡ Some p) → Each (λ one. slice_get file.patterns one.number ≡ Some one.pattern) (safe_ones number ps vs)
+ones_named file number [] vs at = tt
+ones_named file number (p ∷ ps) [] at = tt
+ones_named file number (p ∷ ps) (v ∷ vs) at =
+    let here : number + 0 ≡ number = omega arith in
+    one_named file number p (tree_size v) (safe_ones (number + 1) ps vs) (subst (λ (k : ℕ). slice_get file.patterns k ≡ Some p) here (at 0 p refl))
+    (ones_named file (number + 1) ps vs (λ k q given. let there : number + suc k ≡ (number + 1) + k = omega arith in subst (λ (n : ℕ). slice_get file.patterns n ≡ Some q) there (at (suc k) q given)))
+
+weaker : (low high : ℕ) (ks : List ℕ) → low ≤ high → Each (λ k. high ≤ k) ks → Each (λ k. low ≤ k) ks
+weaker low high [] less each = tt
+weaker low high (k ∷ ks) less each = (let first = each.0 in omega arith, weaker low high ks less each.1)
+
+one_low : (number : ℕ) (p : Pattern) (size : Option ℕ) (rest : List SafeOne) → Each (λ k. number + 1 ≤ k) (numbers rest) → Each (λ k. number ≤ k) (numbers (with_safe number p size rest))
+one_low number p None rest low = weaker number (number + 1) (numbers rest) (omega arith) low
+one_low number p (Some nodes) rest low = (omega arith, weaker number (number + 1) (numbers rest) (omega arith) low)
+
+ones_low : (number : ℕ) (ps : List Pattern) (vs : List Verdict) → Each (λ k. number ≤ k) (numbers (safe_ones number ps vs))
+ones_low number [] vs = tt
+ones_low number (p ∷ ps) [] = tt
+ones_low number (p ∷ ps) (v ∷ vs) = one_low number p (tree_size v) (safe_ones (number + 1) ps vs) (ones_low (number + 1) ps vs)
+
+apart : (number : ℕ) (ks : List ℕ) → Each (λ k. number + 1 ≤ k) ks → Each (λ k. number ≡ k → ⊥) ks
+apart number [] low = tt
+apart number (k ∷ ks) low = (λ same. let first = low.0 in omega arith, apart number ks low.1)
+
+one_distinct : (number : ℕ) (p : Pattern) (size : Option ℕ) (rest : List SafeOne) → Each (λ k. number + 1 ≤ k) (numbers rest) → Distinct (numbers rest) → Distinct (numbers (with_safe number p size rest))
+one_distinct number p None rest low distinct = distinct
+one_distinct number p (Some nodes) rest low distinct = (apart number (numbers rest) low, distinct)
+
+pub ones_distinct : (number : ℕ) (ps : List Pattern) (vs : List Verdict) → Distinct (numbers (safe_ones number ps vs))
+ones_distinct number [] vs = tt
+ones_distinct number (p ∷ ps) [] = tt
+ones_distinct number (p ∷ ps) (v ∷ vs) = one_distinct number p (tree_size v) (safe_ones (number + 1) ps vs) (ones_low (number + 1) ps vs) (ones_distinct (number + 1) ps vs)
+
+-- the line of a pattern is short, and so are those of nodes
+pattern_short : (k : ℕ) → k < 2 ^ 32 → length (codes "pattern " ++ decimal k) ≤ line_limit
+pattern_short k below = let digits = row_short k below in omega arith
+
+lines_short : (ns : List Node) (ls : List Line) → Each IsShort ns → AreShort ls → AreShort (map line.Tree ns ++ ls)
+lines_short [] ls short rest = rest
+lines_short (n ∷ ns) ls short rest = (short.0, lines_short ns ls short.1 rest)
+
+-- so is the first line
+version_short : (k : ℕ) → k < 2 ^ 32 → length (codes "threshold-certificate " ++ decimal k) ≤ line_limit
+version_short k below = let digits = row_short k below in omega arith
+
+head_short : (os : List Order) → length (line_text (line.Header (version_of os))) ≤ line_limit
+head_short [] = version_short 1 (lit< tt)
+head_short (o ∷ os) = version_short 2 (lit< tt)
+
+both_short : (ls ms : List Line) → AreShort ls → AreShort ms → AreShort (ls ++ ms)
+both_short [] ms short rest = rest
+both_short (l ∷ ls) ms short rest = (short.0, both_short ls ms short.1 rest)
+
+-- proofs of what is claimed of such patterns, whose nodes are these
+pub record Made (subject : Subject) (pairs : List (ℕ × ℕ)) (ones : List SafeOne) (trees : List Proof) : Type 0 where
+  pub proofs : List (ℕ × List Tree)
+  pub are : proofs_of proofs ≡ trees
+  pub prove : Each (ProvesClaim subject pairs) proofs
+  pub named : map number_of proofs ≡ numbers ones
+  pub writable : AreWritable trees
+  pub short : AreShort (proof_lines trees)
+
+-- nodes that a judge accepts as refuting a search, and that can be written
+pub record Judgeable (s : Search) (nodes : List Node) : Type 0 where
+  pub refutes : RefutedInOrder s (IsJudged s) s.roots nodes
+  pub writable : Each IsNode nodes
+  pub short : Each IsShort nodes
+
+pub made : (subject : Subject) (pairs : List (ℕ × ℕ)) (Of : Pattern → List Node → ℕ → Type 0) → ((number : ℕ) (p : Pattern) → slice_get subject.file.patterns number ≡ Some p → (nodes : List Node) (count : ℕ) → Of p nodes count → Judgeable (search_for subject.claim subject.file.automaton p pairs) nodes) → (ones : List SafeOne) (trees : List Proof) → Each (λ one. slice_get subject.file.patterns one.number ≡ Some one.pattern) ones → AreTreesOf Of ones trees → Made subject pairs ones trees
+made subject pairs Of judgeable [] [] named are = record { proofs = []; are = refl; prove = tt; named = refl; writable = tt; short = (lit≤ tt, tt) }
+made subject pairs Of judgeable [] (t ∷ ts) named are = absurd are
+made subject pairs Of judgeable (one ∷ ones) [] named are = absurd are
+made subject pairs Of judgeable (one ∷ ones) (t ∷ ts) named are =
+    let is = are.0 in
+    let file = subject.file in
+    let search = search_for subject.claim file.automaton one.pattern pairs in
+    let proof = judgeable one.number one.pattern named.0 t.nodes one.nodes is.is in
+    let trees = (in_order IsJudged search t.nodes).0 proof.refutes in
+    let rest = made subject pairs Of judgeable ones ts named.1 are.1 in
+    let number : one.number ≡ t.pattern = sym is.numbered in
+    let nodes : all_preorder trees.0 ≡ t.nodes = trees.2 in
+    let same : proof_of one.number trees.0 ≡ t = (λ i. record { pattern = number i; nodes = nodes i }) in
+    let inside : one.number < length file.patterns = slice_get_within file.patterns one.number one.pattern named.0 in
+    let few = file.shape.limit in
+    let room : 16 < 2 ^ 32 = lit< tt in
+    let below : t.pattern < 2 ^ 32 = omega arith in
+    record {
+      proofs = (one.number, trees.0) ∷ rest.proofs;
+      are = ap (λ (p : Proof). p ∷ proofs_of rest.proofs) same ∙ ap (λ (ps : List Proof). t ∷ ps) rest.are;
+      prove = (record { search = search; searched = search_named subject pairs one.number one.pattern named.0; proves = trees.1 }, rest.prove);
+      named = ap (λ (ks : List ℕ). one.number ∷ ks) rest.named;
+      writable = (record { pattern = below; nodes = all_of IsNode t.nodes proof.writable }, rest.writable);
+      short = (pattern_short t.pattern below, lines_short t.nodes (proof_lines ts) proof.short rest.short);
+    }
+
+-- the nodes of trees under the orders that are found
+judgeable_under : (file : File) (orders : List Order) → FoundOrders file.automaton orders → (budget : ℕ) → LoopsPure file.automaton → budget ≤ 1000000000 → (number : ℕ) (p : Pattern) → slice_get file.patterns number ≡ Some p → (nodes : List Node) (count : ℕ) → tree_under file budget p nodes count → Judgeable (pattern_search file.automaton p (map pair_of orders)) nodes
+judgeable_under file orders found budget loops within number p at nodes count is =
+    let pairs = map pair_of orders in
+    let same_orders = orders_once file.automaton is.orders orders is.found found in
+    let tree = subst (λ (os : List Order). TreeIs (pattern_search file.automaton p (map pair_of os)) budget nodes count) same_orders is.holds in
+    let proof = (refuted_safe file number p at loops pairs (orders_sound file.automaton orders found).good budget within nodes count tree).0 in
+    record { refutes = proof.refutes; writable = proof.writable; short = proof.short }
+
+-- the numbers of those of a file that are safe are distinct and name their patterns
+pub safe_named : (file : File) (vs : List Verdict) → Each (λ one. slice_get file.patterns one.number ≡ Some one.pattern) (safe_ones 0 file.patterns vs)
+safe_named file vs = ones_named file 0 file.patterns vs (λ k p given. let here : k ≡ 0 + k = omega arith in subst (λ (n : ℕ). slice_get file.patterns n ≡ Some p) here given)
+
+-- the lines of a certificate with such proofs are short
+pub all_short : (orders : List Order) (trees : List Proof) → AreShort (order_lines orders) → AreShort (proof_lines trees) → AreShort (cert_lines orders trees)
+all_short orders trees before behind = (head_short orders, both_short (order_lines orders) (proof_lines trees) before behind)
+
+pub certificate_accepted : (file : File) (budget : ℕ) → LoopsPure file.automaton → budget ≤ 1000000000 → (vs : List Verdict) (text : List ℕ) → CertificateOf file budget vs text → Certificate file text (safe_numbers file vs)
+certificate_accepted file budget loops within vs text c =
+    let ones = safe_ones 0 file.patterns vs in
+    let sound = orders_sound file.automaton c.orders c.found in
+    let m = made (claiming Safe file) (map pair_of c.orders) (tree_under file budget) (judgeable_under file c.orders c.found budget loops within) ones c.trees (safe_named file vs) c.are in
+    record {
+      orders = c.orders;
+      proofs = m.proofs;
+      written = c.written ∙ ap (cert_text c.orders) (sym m.are);
+      ordered = sound.writable;
+      legal = subst AreWritable (sym m.are) m.writable;
+      short = subst (λ (ts : List Proof). AreShort (cert_lines c.orders ts)) (sym m.are) (all_short c.orders c.trees sound.short m.short);
+      shown = sound.shown;
+      good = sound.good;
+      prove = m.prove;
+      named = sym m.named;
+      distinct = ones_distinct 0 file.patterns vs;
+    }
+
+-- what stands in front of the proofs, the proofs and the end are the text of a certificate
+pub cert_written : (orders : List Order) (proofs : List Proof) → (head_text orders ++ proofs_text proofs) ++ ended_line line.End ≡ cert_text orders proofs
+cert_written orders proofs = append_assoc (head_text orders) (proofs_text proofs) (ended_line line.End) ∙ cert_parts orders proofs
+
+-- such a text is the certificate of verdicts whose trees the proofs are
+pub certificate_made : (file : File) (budget : ℕ) (vs : List Verdict) (orders : List Order) → FoundOrders file.automaton orders → (proofs : List Proof) → AreTrees file budget (safe_ones 0 file.patterns vs) proofs → (text : List ℕ) → text ≡ (head_text orders ++ proofs_text proofs) ++ ended_line line.End → CertificateOf file budget vs text
+certificate_made file budget vs orders found proofs trees text is = record { orders = orders; found = found; trees = proofs; are = trees; written = is ∙ cert_written orders proofs }

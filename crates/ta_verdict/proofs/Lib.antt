@@ -1,0 +1,8 @@
+-- lemmas for the crates above
+pub mod VerdictsMade
+pub mod VerdictsOnce
+mod PiecesMade
+pub mod DraftsMade
+pub mod CertificatesMade
+pub mod CertificatesOnce
+pub mod SamplesMade

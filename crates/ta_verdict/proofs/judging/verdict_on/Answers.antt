@@ -1,0 +1,45 @@
+use Rattle.std.proofs.Common.{◌≡◌, subst, ℕ}
+use Rattle.ta_encode.specs.PatternSearch.{pattern_search}
+use Rattle.ta_scope.proofs.Judging.{loops_pure}
+use Rattle.ta_walk.specs.Ends.{NodeOf, TreeIs}
+use Rattle.ta_verdict.specs.Verdicts.{LeavesIn, SpentHolds}
+use Rattle.ta_verdict.proofs.VerdictsMade.{overflow_holds, safe_holds, solution_found, spent_holds, under}
+use Rattle.ta_verdict.proofs.judging.verdict_on.Goals as goal
+
+pub verdict_of-requires : goal.verdict_of-requires
+verdict_of-requires g c =
+    let s = c.args.scoped.now in
+    solution_found s.file c.args.pattern c.requires.exists c.args.found.now.orders c.args.nodes c.in-Found.count c.in-Found.solution (rw c.in-Found.is at c.in_ok-count.ensures)
+
+pub returns-in-Refuted-clause-holds : goal.returns-in-Refuted-clause-holds
+returns-in-Refuted-clause-holds g c = λ p at.
+    let s = c.args.scoped.now in
+    let tree = (rw c.in-Refuted.is at c.in_ok-count.ensures) p at in
+    safe_holds s.file c.args.pattern p at (loops_pure s.file.automaton s.in_scope) c.args.found.now.list c.args.found.now.orders c.requires.found c.requires.same c.args.nodes c.requires.limit tree.nodes c.in-Refuted.count c.in-Refuted.leaves tree.is tree.counted
+
+pub returns-in-Refuted-clause-drafted : goal.returns-in-Refuted-clause-drafted
+returns-in-Refuted-clause-drafted g c = λ p at nodes size.
+    let file = c.args.scoped.now.file in
+    let budget = c.args.nodes in
+    let tree = (rw c.in-Refuted.is at c.in_ok-count.ensures) p at in
+    let same : c.in-Refuted.count ≡ nodes = cc in (
+      tree.nodes,
+      under file (λ pairs. TreeIs (pattern_search file.automaton p pairs) budget tree.nodes nodes) c.args.found.now.list c.args.found.now.orders c.requires.found c.requires.same
+          (subst (λ (n : ℕ). TreeIs (pattern_search file.automaton p c.args.found.now.orders) budget tree.nodes n) same tree.is),
+      tree.kept,
+    )
+
+pub returns-in-Spent-clause-holds : goal.returns-in-Spent-clause-holds
+returns-in-Spent-clause-holds g c = λ p at.
+    let file = c.args.scoped.now.file in
+    let budget = c.args.nodes in
+    let spent = (rw c.in-Spent.is at c.in_ok-count.ensures) p at in
+    under file (λ pairs. SpentHolds file pairs p budget c.in-Spent.count) c.args.found.now.list c.args.found.now.orders c.requires.found c.requires.same (spent_holds file c.args.found.now.orders p budget c.in-Spent.count spent)
+
+pub returns-in-Overflow-clause-holds : goal.returns-in-Overflow-clause-holds
+returns-in-Overflow-clause-holds g c = λ p at.
+    let file = c.args.scoped.now.file in
+    let budget = c.args.nodes in
+    let left = (rw c.in-Overflow.is at c.in_ok-count.ensures) p at in
+    under file (λ pairs. NodeOf (pattern_search file.automaton p pairs) budget c.in-Overflow.node (LeavesIn file pairs c.args.pattern p c.report_kind.result)) c.args.found.now.list c.args.found.now.orders c.requires.found c.requires.same
+    (overflow_holds file c.args.found.now.orders c.args.pattern p budget c.in-Overflow.node c.in-Overflow.kind c.report_kind.result c.report_kind.ensures left)

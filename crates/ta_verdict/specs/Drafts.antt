@@ -1,0 +1,51 @@
+-- What a certificate is while it is written
+use Rattle.std.specs.Prelude.{ℕ, ◌≡◌, true, List, [], ◌∷◌, ◌++◌, string_bytes, Some}
+use Rattle.ta_automaton.specs.declared.pattern.Pattern.{Pattern}
+use Rattle.ta_cert.specs.Certificates.{nodes_text, proofs_text}
+use Rattle.ta_cert.specs.Lines.{line_text}
+use Rattle.ta_cert.specs.declared.line.Line.{Line}
+use Rattle.ta_cert.specs.declared.line.Node.{Node}
+use Rattle.ta_cert.specs.declared.line.Proof.{Proof}
+use Rattle.ta_report.specs.declared.verdict.Verdict.{Verdict}
+use Rattle.ta_shell.specs.Puts.{texts_joined}
+use Rattle.ta_verdict.specs.declared.pieces.Pieces.{Pieces}
+use Rattle.ta_verdict.specs.declared.draft.Draft.{Draft}
+use Rattle.ta_verdict.specs.Certificates.{AreTreesOf, SafeOne, tree_size, with_safe}
+
+-- the pieces, and the one that is still open
+abbrev pub pieces_text : Pieces → List ℕ
+pieces_text pieces = texts_joined pieces.whole.items ++ string_bytes pieces.open
+
+-- where lines are wanted, the draft has these
+abbrev pub HasText : Draft → List ℕ → Type 0
+HasText draft text = draft.wanted ≡ true → pieces_text draft.lines ≡ text
+
+-- the second draft is the first and the lines of these nodes
+pub record DraftKeeps (first now : Draft) (nodes : List Node) : Type 0 where
+  pub wanted : now.wanted ≡ first.wanted
+  pub text : (begun : List ℕ) → HasText first begun → HasText now (begun ++ nodes_text nodes)
+
+-- the second is a draft of a later part, which has no line yet
+pub record DraftBegins (first part : Draft) : Type 0 where
+  pub wanted : part.wanted ≡ first.wanted
+  pub empty : pieces_text part.lines ≡ []
+
+-- the text of a line, with its line feed
+abbrev pub ended_line : Line → List ℕ
+ended_line l = line_text l ++ (10 ∷ [])
+
+-- a draft of a certificate with these proofs behind a text, before its end
+abbrev pub HasProofs : Draft → List ℕ → List Proof → Type 0
+HasProofs draft head proofs = HasText draft (head ++ proofs_text proofs)
+
+-- the draft has the lines of nodes of which a fact holds for the pattern, where a verdict says that it is safe
+abbrev pub Drafted : (Pattern → List Node → ℕ → Type 0) → Pattern → Verdict → Draft → Draft → Type 0
+Drafted Tree p verdict first now = (nodes : ℕ) → tree_size verdict ≡ Some nodes → (tree : List Node) × Tree p tree nodes × DraftKeeps first now tree
+
+-- behind a text the draft has such nodes of these, and no other proofs
+abbrev pub HasTrees : (Pattern → List Node → ℕ → Type 0) → List ℕ → List SafeOne → Draft → Type 0
+HasTrees Tree head ones draft = (proofs : List Proof) × AreTreesOf Tree ones proofs × HasProofs draft head proofs
+
+-- such nodes of a pattern were added where a verdict says that it is safe
+abbrev pub AddsTree : (Pattern → List Node → ℕ → Type 0) → ℕ → Pattern → Verdict → Draft → Draft → Type 0
+AddsTree Tree number p verdict first now = (head : List ℕ) (proofs : List Proof) → HasProofs first head proofs → (more : List Proof) × AreTreesOf Tree (with_safe number p (tree_size verdict) []) more × HasProofs now head (proofs ++ more)

@@ -1,0 +1,29 @@
+use Rattle.std.proofs.Common.{◌-◌, sym, subst}
+use Rattle.ta_cursor.specs.Cursors.{left_at}
+use Rattle.ta_walk.specs.declared.end.TreeEnd.{TreeEnd}
+use Rattle.ta_walk.specs.Inside.Parts.{PartVisited, SharesBudget, beginning, search_of}
+use Rattle.ta_walk.proofs.PartsMerged.{shared_part}
+use Rattle.ta_walk.proofs.forking.+shares.Goals as goal
+
+pub visit_shared-returns-clause-visited : goal.visit_shared-returns-clause-visited
+visit_shared-returns-clause-visited g t c =
+    let s = search_of c.args.tree.now in
+    let one = rw c.in_ok-first.was at c.join-second.ensures.second.0 in
+    let other = rw c.in_ok-second.was at c.join-second.ensures.first.0 in
+    c.merge.ensures.visited s (left_at s c.args.cursor) (left_at s c.args.later) c.args.keeper c.in_ok-late.late one other (c.in_ok-late.ensures.begins, c.in_ok-late.ensures.keeps)
+
+pub visit_on-returns-in-Ended-clause-visited : goal.visit_on-returns-in-Ended-clause-visited
+visit_on-returns-in-Ended-clause-visited g t c = λ first before has. rw c.in-Ended.is at (c.in_ok-end.ensures.ends first before has)
+
+pub visit_on-returns-in_ok-part-in-Shared-clause-visited : goal.visit_on-returns-in_ok-part-in-Shared-clause-visited
+visit_on-returns-in_ok-part-in-Shared-clause-visited g t c =
+    let s = search_of c.args.tree.now in
+    let keeps = g.K.Keeper.keeps in
+    let n = c.args.nodes in
+    let count = c.in-Shared.count in
+    let words = left_at s c.args.cursor in
+    let part = c.in_ok-part-in-Shared.part in
+    let small : SharesBudget s n count c.in-Shared.leaves c.visit_stretch.new.cursor c.in-Shared.later = rw c.in-Shared.is at c.in_ok-end.ensures.small in
+    subst (λ (e : TreeEnd). PartVisited keeps (beginning s words) n c.args.keeper part.keeper e) (sym c.end_behind.ensures.is)
+    (shared_part keeps s words c.visit_stretch.new.cursor c.in-Shared.later n (n - count) count c.in-Shared.leaves c.args.keeper c.visit_stretch.new.keeper part.keeper part.end small.within
+    (λ first before has. rw c.in-Shared.is at (c.in_ok-end.ensures.ends first before has)) c.in_ok-part-in-Shared.ensures.visited)

@@ -1,0 +1,165 @@
+use Rattle.std.proofs.Common.{ℕ, ◌≡◌, ◌+◌, ◌≤◌, [], ◌∷◌, ◌++◌, ◌∙◌, reverse, refl, sym, ap, subst, arith, append_assoc, append-nil}
+use Rattle.ta_cursor.specs.Cursors.{IsShared, here, left_at}
+use Rattle.ta_cursor.specs.declared.cursor.Cursor.{Cursor}
+use Rattle.ta_linear.specs.declared.row.System.{System}
+use Rattle.ta_simplex.specs.Branch.{IsBranch}
+use Rattle.ta_walk.specs.Ends.{IsSpent, WholeWord, leaf_count}
+use Rattle.ta_walk.specs.Visit.{LeavesAt, NodeAt}
+use Rattle.ta_walk.specs.Inside.Parts.{beginning}
+use Rattle.ta_walk.proofs.LeavesCounted.{leaves_few, leaves_more}
+use Rattle.ta_walk.proofs.SearchesMoved.{moved_leaves, moved_whole}
+use Rattle.ta_walk.proofs.WordSoFar.{WordSoFar, both_stand, word_at_node, word_begins, word_few, word_goes, word_refutes, word_shared, word_spent}
+use Rattle.ta_walk.proofs.visiting.visit_stretch.Goals as goal
+
+pub loop-before-init : goal.loop-before-init
+loop-before-init g c = record {
+  found = [];
+  walked = word_begins (g.T.Tree.search c.args.tree.now) c.args.cursor.now c.requires.stands.within;
+  counted = refl;
+  keeps = λ first before has. subst (g.K.Keeper.keeps first c.args.keeper.now) (sym (append-nil before)) has;
+  kept = c.requires.kept;
+  branch = c.requires.branch;
+}
+
+pub returns-then-can_stop-clause-ends : goal.returns-then-can_stop-clause-ends
+returns-then-can_stop-clause-ends g c = λ first before has.
+    let s = g.T.Tree.search c.args.tree.now in
+    let l = c.loop-before in
+    word_spent s (left_at s c.args.cursor.now) l.cursor l.before l.invariant.found l.invariant.walked
+
+pub grow-requires-clause-word : goal.grow-requires-clause-word
+grow-requires-clause-word g c = c.loop-before.invariant.walked.within.word
+
+pub solve_node-requires-clause-few : goal.solve_node-requires-clause-few
+solve_node-requires-clause-few g c κs within =
+    let s = g.T.Tree.search c.args.tree.now in
+    let l = c.loop-before in
+    let done : l.before ≤ c.args.nodes = omega arith in
+    let room = c.requires.stands.room in
+    let few = (word_few s (left_at s c.args.cursor.now) l.cursor l.before c.requires.stands.most l.invariant.found c.requires.stands.few l.invariant.walked).0 in
+    omega arith
+
+pub leaves_with-leaves-requires : goal.leaves_with-leaves-requires
+leaves_with-leaves-requires g c =
+    let l = c.loop-before in
+    let limit = c.requires.limit in
+    let counted = l.invariant.counted in
+    let done = l.invariant.walked.counted in
+    let few = leaves_few l.invariant.found in
+    omega arith
+
+pub returns-in-Leaves-clause-ends : goal.returns-in-Leaves-clause-ends
+returns-in-Leaves-clause-ends g c = λ first before has.
+    let s = g.T.Tree.search c.args.tree.now in
+    let l = c.loop-before in
+    let begun = left_at s c.args.cursor.now in
+    let kind = c.in-Leaves.kind in
+    let within : l.before + 1 ≤ c.args.nodes = omega arith in
+    word_at_node s begun l.cursor l.before c.args.nodes l.invariant.found (λ w. LeavesAt (beginning s begun) w kind) l.invariant.walked
+    (moved_leaves s s.roots begun (here l.cursor) kind (rw c.in-Leaves.is at c.in_ok-kind.ensures.solved)) within
+
+pub returns-in-Whole-clause-ends : goal.returns-in-Whole-clause-ends
+returns-in-Whole-clause-ends g c = λ first before has.
+    let s = g.T.Tree.search c.args.tree.now in
+    let l = c.loop-before in
+    let begun = left_at s c.args.cursor.now in
+    let values = c.in-Whole.values in
+    let within : l.before + 1 ≤ c.args.nodes = omega arith in
+    word_at_node s begun l.cursor l.before c.args.nodes l.invariant.found (WholeWord (beginning s begun) c.start_mask.result c.again.result values) l.invariant.walked
+    (record {
+      start_is = c.start_mask.ensures;
+      word_is = ap reverse (c.again.ensures ∙ c.word.ensures);
+      whole = moved_whole s s.roots begun (here l.cursor) values (rw c.in-Whole.is at c.in_ok-kind.ensures.solved);
+    }) within
+
+pub returns-then-not-more-clause-ends : goal.returns-then-not-more-clause-ends
+returns-then-not-more-clause-ends g c = λ first before has.
+    let s = g.T.Tree.search c.args.tree.now in
+    let l = c.loop-before in
+    let n = c.in-Inner.node in
+    let within : l.before + 1 ≤ c.args.nodes = omega arith in
+    let stands : NodeAt s (here l.cursor) n = rw c.in-Inner.is at c.in_ok-kind.ensures.solved in
+    let ends = rw c.if-not-more.true at c.in_ok-more-in-Inner.ensures in
+    record {
+      nodes = l.invariant.found ++ n ∷ [];
+      is = word_refutes s (left_at s c.args.cursor.now) l.cursor c.go_on.new.cursor l.before c.args.nodes l.invariant.found n l.invariant.walked stands ends within;
+      counted = c.leaves_with-leaves.ensures ∙ ap (λ (k : ℕ). k + leaf_count (n ∷ [])) l.invariant.counted ∙ sym (leaves_more l.invariant.found n);
+      kept = subst (g.K.Keeper.keeps first c.take.new.self) (append_assoc before l.invariant.found (n ∷ [])) (c.in_ok-take-in-Inner.ensures first (before ++ l.invariant.found) (l.invariant.keeps first before has));
+    }
+
+pub returns-then-not-more-clause-small : goal.returns-then-not-more-clause-small
+returns-then-not-more-clause-small g c =
+    let l = c.loop-before in
+    let n = c.in-Inner.node in
+    let counted = l.invariant.counted in
+    let done = l.invariant.walked.counted in
+    let few = leaves_few l.invariant.found in
+    let one = leaves_few (n ∷ []) in
+    let all = c.leaves_with-leaves.ensures in
+    (omega arith, omega arith)
+
+pub give_away-requires : goal.give_away-requires
+give_away-requires g c =
+    let s = g.T.Tree.search c.args.tree.now in
+    let l = c.loop-before in
+    let n = c.in-Inner.node in
+    let stands : NodeAt s (here l.cursor) n = rw c.in-Inner.is at c.in_ok-kind.ensures.solved in
+    let goes = rw c.if-not-more.false at c.in_ok-more-in-Inner.ensures in
+    let walked = word_goes s (left_at s c.args.cursor.now) l.cursor c.go_on.new.cursor l.before l.invariant.found n l.invariant.walked stands goes in
+    (walked.pending, walked.within)
+
+pub returns-in-Some-clause-ends : goal.returns-in-Some-clause-ends
+returns-in-Some-clause-ends g c = λ first before has.
+    let s = g.T.Tree.search c.args.tree.now in
+    let l = c.loop-before in
+    let n = c.in-Inner.node in
+    let begun = left_at s c.args.cursor.now in
+    let found = l.invariant.found ++ n ∷ [] in
+    let stands : NodeAt s (here l.cursor) n = rw c.in-Inner.is at c.in_ok-kind.ensures.solved in
+    let goes = rw c.if-not-more.false at c.in_ok-more-in-Inner.ensures in
+    let walked = word_goes s begun l.cursor c.go_on.new.cursor l.before l.invariant.found n l.invariant.walked stands goes in
+    let shared : IsShared s c.go_on.new.cursor c.give_away.new.cursor c.in-Some.later = rw c.in-Some.is at c.in_ok-later-in-Inner.ensures in
+    word_shared s begun c.go_on.new.cursor c.give_away.new.cursor c.in-Some.later (l.before + 1) c.leaves_with-leaves.result found (λ more. g.K.Keeper.keeps first c.take.new.self (before ++ more)) walked shared
+    (c.leaves_with-leaves.ensures ∙ ap (λ (k : ℕ). k + leaf_count (n ∷ [])) l.invariant.counted ∙ sym (leaves_more l.invariant.found n))
+    (subst (g.K.Keeper.keeps first c.take.new.self) (append_assoc before l.invariant.found (n ∷ [])) (c.in_ok-take-in-Inner.ensures first (before ++ l.invariant.found) (l.invariant.keeps first before has)))
+
+pub returns-in-Some-clause-small : goal.returns-in-Some-clause-small
+returns-in-Some-clause-small g c =
+    let s = g.T.Tree.search c.args.tree.now in
+    let l = c.loop-before in
+    let n = c.in-Inner.node in
+    let begun = left_at s c.args.cursor.now in
+    let found = l.invariant.found ++ n ∷ [] in
+    let stands : NodeAt s (here l.cursor) n = rw c.in-Inner.is at c.in_ok-kind.ensures.solved in
+    let goes = rw c.if-not-more.false at c.in_ok-more-in-Inner.ensures in
+    let walked = word_goes s begun l.cursor c.go_on.new.cursor l.before l.invariant.found n l.invariant.walked stands goes in
+    let shared : IsShared s c.go_on.new.cursor c.give_away.new.cursor c.in-Some.later = rw c.in-Some.is at c.in_ok-later-in-Inner.ensures in
+    let within : l.before + 1 ≤ c.args.nodes = omega arith in
+    both_stand s begun c.go_on.new.cursor c.give_away.new.cursor c.in-Some.later (l.before + 1) c.args.nodes c.requires.stands.most c.leaves_with-leaves.result found c.requires.stands.few c.requires.stands.room walked shared (omega arith) within
+    (c.leaves_with-leaves.ensures ∙ ap (λ (k : ℕ). k + leaf_count (n ∷ [])) l.invariant.counted ∙ sym (leaves_more l.invariant.found n))
+
+pub returns-clause-ends : goal.returns-clause-ends
+returns-clause-ends g c = λ first before has.
+    let s = g.T.Tree.search c.args.tree.now in
+    let l = c.loop-before in
+    let all : l.before ≡ c.args.nodes = omega arith in
+    let spent = word_spent s (left_at s c.args.cursor.now) l.cursor l.before l.invariant.found l.invariant.walked in
+    subst (λ (k : ℕ). IsSpent (beginning s (left_at s c.args.cursor.now)) k k) all spent
+
+pub loop-before-preserved : goal.loop-before-preserved
+loop-before-preserved g c =
+    let s = g.T.Tree.search c.args.tree.now in
+    let l = c.loop-before in
+    let n = c.in-Inner.node in
+    let begun = left_at s c.args.cursor.now in
+    let stands : NodeAt s (here l.cursor) n = rw c.in-Inner.is at c.in_ok-kind.ensures.solved in
+    let goes = rw c.if-not-more.false at c.in_ok-more-in-Inner.ensures in
+    let same : c.give_away.new.cursor ≡ c.go_on.new.cursor = rw c.in_default.is at c.in_ok-later-in-Inner.ensures in
+    record {
+      found = l.invariant.found ++ n ∷ [];
+      walked = subst (λ (d : Cursor). WordSoFar s begun d (l.before + 1) (l.invariant.found ++ n ∷ [])) (sym same) (word_goes s begun l.cursor c.go_on.new.cursor l.before l.invariant.found n l.invariant.walked stands goes);
+      counted = c.leaves_with-leaves.ensures ∙ ap (λ (k : ℕ). k + leaf_count (n ∷ [])) l.invariant.counted ∙ sym (leaves_more l.invariant.found n);
+      keeps = λ first before has. subst (g.K.Keeper.keeps first c.take.new.self) (append_assoc before l.invariant.found (n ∷ [])) (c.in_ok-take-in-Inner.ensures first (before ++ l.invariant.found) (l.invariant.keeps first before has));
+      kept = c.in_ok-next.ensures.kept;
+      branch = subst (λ (z : System). IsBranch g.D.Dictionary.tableau g.D.Dictionary.pivot_of z.rows c.solve_node.new.branch) c.system.ensures (rw c.in-Inner.is at c.in_ok-kind.ensures.branch);
+    }

@@ -1,0 +1,17 @@
+use Rattle.std.proofs.Common.{◌≡◌, ◌++◌, List}
+use Rattle.ta_cert.specs.declared.line.Node.{Node}
+use Rattle.ta_cursor.specs.Cursors.{left_at}
+use Rattle.ta_simplex.specs.Branch.{IsBranch}
+use Rattle.ta_walk.specs.Ends.{leaf_count}
+use Rattle.ta_walk.proofs.WordSoFar.{WordSoFar}
+use Rattle.ta_walk.proofs.visiting.visit_stretch.Given as goal
+
+abbrev pub invariant-loop-before : goal.invariant-loop-before
+invariant-loop-before g l = record {
+  found : List Node;
+  walked : WordSoFar (g.T.Tree.search l.tree) (left_at (g.T.Tree.search l.tree) l.fn.cursor) l.cursor l.before found;
+  counted : l.leaves ≡ leaf_count found;
+  keeps : (first : g.row.K.Denot) (before : List Node) → g.K.Keeper.keeps first l.fn.keeper before → g.K.Keeper.keeps first l.keeper (before ++ found);
+  kept : g.T.Tree.is_kept l.tree l.kept;
+  branch : IsBranch g.D.Dictionary.tableau g.D.Dictionary.pivot_of (g.T.Tree.system_of l.kept).rows l.branch;
+}
