@@ -3,6 +3,9 @@ use Rattle.std.proofs.Common.{◌≡◌, ℕ, zero, suc, ◌+◌, ℤ, pos, negs
 use Rattle.std.proofs.lemmas.Int.{ints}
 use Rattle.std.proofs.lemmas.Bool.Decides.{nat_tests}
 use Rattle.std.proofs.lemmas.List.Elements.{All-cons}
+use Rattle.ta_base.proofs.Bits.{no_bit}
+use Rattle.ta_base.proofs.Each.{all_none}
+use Rattle.ta_base.proofs.Lists.{letters_apart}
 use Rattle.ta_linear.specs.Terms.{IsTerm}
 use Rattle.ta_linear.specs.Values.{RowHolds}
 use Rattle.ta_linear.specs.declared.form.Form.{Form}
@@ -16,13 +19,10 @@ use Rattle.ta_automaton.specs.declared.pattern.Pattern.{Pattern}
 use Rattle.ta_automaton.specs.Forms.{FormOver}
 use Rattle.ta_automaton.specs.Runs.{Config, Initial, Move, Occurs, HoldsAt, HappensAt, number_at, value_at}
 use Rattle.ta_automaton.specs.Laws.{SomeUnsafe}
-use Rattle.ta_automaton.proofs.ShortNames.{letter_name, letters_apart}
+use Rattle.ta_automaton.proofs.ShortNames.{letter_name}
 
 one_term : (x : ℕ) → IsTerm (x, pos 1)
 one_term x = record { not_zero = λ e. absurd (omega (arith, ints)); in_range = omega arith }
-
-all_none : {X : Type 0} (P : X → Type 0) → All P []
-all_none P j d b = absurd (omega arith)
 
 -- the number of a parameter n, and one less than it
 abbrev whole : Form
@@ -113,13 +113,10 @@ starts = record {
   others (suc zero) h = refl
   others (suc (suc l)) h = refl
 
-no_bits : (i : ℕ) → IsBitSet 0 i → ⊥
-no_bits i b = b refl
-
 moves : Move first move at_first at_last
 moves = record {
-  rise = λ i row e b. absurd (no_bits i b);
-  fall = λ i row e b. absurd (no_bits i b);
+  rise = λ i row e b. absurd (no_bit i b);
+  fall = λ i row e b. absurd (no_bit i b);
   some = omega arith;
   moved = goes;
   counters_count = refl;
@@ -137,7 +134,7 @@ occurs = record {
   later = at_last ∷ [];
   run = record { initial = starts; steps = (record { rule = move; named = refl; move = moves }, tt) };
   start = all_none (λ (k : Comparison). All (RowHolds (value_at at_first)) k.rows);
-  kept_empty = λ l b. absurd (no_bits l b);
+  kept_empty = λ l b. absurd (no_bit l b);
   positions = 1 ∷ [];
   each_has_one = refl;
   happens = happens;
@@ -151,7 +148,7 @@ occurs = record {
   happens (suc e) event k named at = absurd (cc)
 
   order : (e f : ℕ) (event : Event) → slice_get reached.events e ≡ Some event → IsBitSet event.after f → get_or (1 ∷ []) f 0 ≤ get_or (1 ∷ []) e 0
-  order zero f event named b = absurd (let same : 0 ≡ event.after = cc in no_bits f (subst (λ (n : ℕ). IsBitSet n f) (sym same) b))
+  order zero f event named b = absurd (let same : 0 ≡ event.after = cc in no_bit f (subst (λ (n : ℕ). IsBitSet n f) (sym same) b))
   order (suc e) f event named b = absurd (cc)
 
 -- some pattern isn't safe

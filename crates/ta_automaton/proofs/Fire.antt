@@ -1,41 +1,19 @@
 -- firing a rule
-use Rattle.std.proofs.Common.{◌≡◌, inl, inr, ℕ, zero, suc, ◌+◌, ◌<◌, ◌≤◌, ℤ, pos, negsuc, ◌+ℤ◌, ◌-ℤ◌, ◌≤ℤ◌, map, length, eqb, cond, false, arith, sym, ap, ◌∙◌, refl, slice_get, get_or, Some}
+use Rattle.std.proofs.Common.{◌≡◌, inl, inr, ℕ, ◌+◌, ◌≤◌, pos, ◌+ℤ◌, ◌-ℤ◌, map, length, eqb, cond, false, arith, sym, ap, ◌∙◌, refl, slice_get, get_or, Some}
 use Rattle.std.proofs.lemmas.Int.{ints}
 use Rattle.std.proofs.lemmas.Bool.{cases_lt}
 use Rattle.std.proofs.lemmas.Bool.Decides.{nat_tests, eqb_tells}
 use Rattle.std.proofs.lemmas.List.{length-map, get_or_past}
+use Rattle.ta_base.proofs.Integers.{natural, pos_natural}
+use Rattle.ta_base.proofs.Ranges.{at_index, length_numbers, past_numbers}
 use Rattle.ta_linear.specs.Terms.{coefficient}
 use Rattle.ta_automaton.specs.declared.rule.Rule.{Rule}
 use Rattle.ta_automaton.specs.declared.automaton.Automaton.{Automaton}
 use Rattle.ta_automaton.specs.Runs.{Config, Step, MaskedHold}
-use Rattle.ta_automaton.specs.Masks.{numbers_from}
+use Rattle.ta_base.specs.Masks.{numbers_from}
 use Rattle.ta_automaton.specs.Places.{one_if}
 pub use Rattle.ta_automaton.specs.Places.{Whole}
 use Rattle.ta_automaton.proofs.Thresholds.{updates_natural, updates_within, from_within, to_within}
-
--- a whole number as a natural one
-abbrev pub natural : ℤ → ℕ
-natural (pos n) = n
-natural (negsuc n) = 0
-
-pub pos_natural : (z : ℤ) → pos 0 ≤ℤ z → pos (natural z) ≡ z
-pos_natural (pos n) h = refl
-pos_natural (negsuc n) h = absurd (omega (arith, ints))
-
-pub length_numbers : (k n : ℕ) → length (numbers_from k n) ≡ n
-length_numbers k zero = refl
-length_numbers k (suc n) = omega (arith, length_numbers (k + 1) n)
-
-at_number : (f : ℕ → ℕ) (k n i : ℕ) → i < n → get_or (map f (numbers_from k n)) i 0 ≡ f (k + i)
-at_number f k zero i h = absurd (omega arith)
-at_number f k (suc n) zero h = ap f (omega arith)
-at_number f k (suc n) (suc i) h = at_number f (k + 1) n i (omega arith) ∙ ap f (omega arith)
-
-pub at_index : (f : ℕ → ℕ) (n i : ℕ) → i < n → get_or (map f (numbers_from 0 n)) i 0 ≡ f i
-at_index f n i h = at_number f 0 n i h ∙ ap f (omega arith)
-
-pub past_numbers : (f : ℕ → ℕ) (n i : ℕ) → n ≤ i → get_or (map f (numbers_from 0 n)) i 0 ≡ 0
-past_numbers f n i h = get_or_past (map f (numbers_from 0 n)) i 0 (omega (arith, length-map (numbers_from 0 n) f, length_numbers 0 n))
 
 abbrev pub fire : Automaton → Rule → Config → Config
 fire a rule c = record {

@@ -4,9 +4,10 @@ use Rattle.std.specs.Prelude.{filter}
 use Rattle.std.proofs.lemmas.Int.{ints}
 use Rattle.std.proofs.lemmas.Bool.{cases_Bool}
 use Rattle.std.proofs.lemmas.Bool.Decides.{nat_tests, eqb_tells}
-use Rattle.std.proofs.Math.IntN.{*ℤ-zero, *ℤ-one, one}
-use Rattle.ta_linear.proofs.Integers.{distributes}
-use Rattle.ta_automaton.specs.Masks.{numbers_from}
+use Rattle.std.proofs.Math.IntN.{*ℤ-zero}
+use Rattle.ta_base.specs.Masks.{numbers_from}
+use Rattle.ta_base.proofs.Integers.{by_one, distributes}
+use Rattle.ta_base.proofs.Lists.{filter_false, filter_true}
 use Rattle.ta_automaton.specs.Sums.{total, times_in}
 use Rattle.ta_automaton.specs.Places.{one_if}
 use Rattle.ta_automaton.proofs.Sums.{total-zero, total-same, total-add, one_if-same, one_if-other}
@@ -16,13 +17,9 @@ abbrev pub EachOnce : List ℕ → List ℕ → Type 0
 EachOnce [] rules = Unit {0}
 EachOnce (x ∷ xs) rules = (times_in x rules ≡ 1) × EachOnce xs rules
 
-pub times_one : (z : ℤ) → (z *ℤ pos 1) ≡ z
-unfolding one
-times_one z = *ℤ-one z
-
 one_more : (x r : ℕ) (g : ℤ) (m : ℕ) → (g *ℤ pos (cond (eqb x r) 1 0 + m)) ≡ ((one_if r x *ℤ g) +ℤ (g *ℤ pos m))
 one_more x r g m = elim (eqb_tells x r) [
-  | inl e ↦ rw (e.0, ← e.1, one_if-same x g) (ap (λ z. g *ℤ z) (let s : pos (1 + m) ≡ (pos 1 +ℤ pos m) = omega (arith, ints) in s) ∙ distributes g (pos 1) (pos m) ∙ ap (λ z. z +ℤ (g *ℤ pos m)) (times_one g))
+  | inl e ↦ rw (e.0, ← e.1, one_if-same x g) (ap (λ z. g *ℤ z) (let s : pos (1 + m) ≡ (pos 1 +ℤ pos m) = omega (arith, ints) in s) ∙ distributes g (pos 1) (pos m) ∙ ap (λ z. z +ℤ (g *ℤ pos m)) (by_one g))
   | inr ne ↦ rw (ne.0, one_if-other r x g (λ e. ne.1 (sym e))) (omega (arith, ints, ap (λ z. g *ℤ pos z) (zero-add m)))
 ]
 
@@ -43,13 +40,7 @@ firings g rules (x ∷ xs) h =
     let rest = firings g rules xs h.1 in
     let split = total-same (λ r. g r *ℤ pos (times_in r (x ∷ xs))) (λ r. (one_if r x *ℤ g r) +ℤ (g r *ℤ pos (times_in r xs))) rules (λ r. one_more x r (g r) (times_in r xs)) in
     let parts = total-add (λ r. one_if r x *ℤ g r) (λ r. g r *ℤ pos (times_in r xs)) rules in
-    omega (arith, ints, rest, split, parts, times_in-total g x rules, ap (λ z. g x *ℤ pos z) h.0, times_one (g x))
-
-pub filter_true : (ok : ℕ → Bool) (k : ℕ) (xs : List ℕ) → ok k ≡ true → filter ok (k ∷ xs) ≡ k ∷ filter ok xs
-filter_true ok k xs e = rw e refl
-
-pub filter_false : (ok : ℕ → Bool) (k : ℕ) (xs : List ℕ) → ok k ≡ false → filter ok (k ∷ xs) ≡ filter ok xs
-filter_false ok k xs e = rw e refl
+    omega (arith, ints, rest, split, parts, times_in-total g x rules, ap (λ z. g x *ℤ pos z) h.0, by_one (g x))
 
 outside : (ok : ℕ → Bool) (o k n : ℕ) → o < k → times_in o (filter ok (numbers_from k n)) ≡ 0
 unfolding times_in

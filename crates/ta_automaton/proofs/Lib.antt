@@ -1,7 +1,6 @@
 -- lemmas for the crates above
 pub mod Sums
 pub mod Fired
-pub mod MaskTests
 pub mod Thresholds
 pub mod Moves
 pub mod Fire

@@ -1,28 +1,15 @@
 -- what a unit step does at each place
-use Rattle.std.proofs.Common.{◌≡◌, ◌≢◌, ◌⊎◌, inl, inr, ℕ, ◌+◌, ◌-◌, ◌<◌, pos, ◌+ℤ◌, List, ◌++◌, length, eqb, ltb, cond, true, false, arith, sym, ap, ◌∙◌, refl, slice_get, get_or, Option, length-append}
+use Rattle.std.proofs.Common.{◌≡◌, ◌≢◌, ◌⊎◌, inl, inr, ℕ, ◌+◌, ◌-◌, ◌<◌, pos, ◌+ℤ◌, List, length, eqb, ltb, cond, true, false, arith, sym, ap, ◌∙◌, refl, slice_get, get_or, Option}
 use Rattle.std.proofs.lemmas.Int.{ints}
 use Rattle.std.proofs.lemmas.Bool.Decides.{nat_tests, eqb_tells}
 use Rattle.std.proofs.lemmas.Bool.{cases_lt}
-use Rattle.std.proofs.lemmas.List.{get_or_append_left, get_or-append-add}
+use Rattle.ta_base.proofs.Lists.{left_place, middle_place, right_place}
 use Rattle.ta_linear.specs.Terms.{coefficient}
 use Rattle.ta_automaton.specs.declared.rule.Rule.{Rule}
 use Rattle.ta_automaton.specs.declared.automaton.Automaton.{Automaton}
 use Rattle.ta_automaton.specs.Runs.{Config, value_at, Step}
 use Rattle.ta_automaton.proofs.Thresholds.{Later, updates_natural}
 use Rattle.ta_automaton.specs.Places.{one_if, shared_change, rule_change, location_place}
-
-left_place : (p s c : List ℕ) (i : ℕ) → i < length p → get_or ((p ++ s) ++ c) i 0 ≡ get_or p i 0
-left_place p s c i h =
-    let h' : i < length (p ++ s) = omega (arith, length-append p s) in
-    get_or_append_left (p ++ s) c 0 i h' ∙ get_or_append_left p s 0 i h
-
-middle_place : (p s c : List ℕ) (x : ℕ) → x < length s → get_or ((p ++ s) ++ c) (length p + x) 0 ≡ get_or s x 0
-middle_place p s c x h =
-    let h' : length p + x < length (p ++ s) = omega (arith, length-append p s) in
-    get_or_append_left (p ++ s) c 0 (length p + x) h' ∙ get_or-append-add p s x 0
-
-right_place : (p s c : List ℕ) (l : ℕ) → get_or ((p ++ s) ++ c) (length p + length s + l) 0 ≡ get_or c l 0
-right_place p s c l = rw (← length-append p s) (get_or-append-add (p ++ s) c l 0)
 
 -- a configuration has one value for each parameter, shared variable and location
 pub record Fits (a : Automaton) (c : Config) : Type 0 where

@@ -2,13 +2,14 @@
 use Rattle.std.proofs.Common.{◌≡◌, ◌≢◌, inl, inr, ℕ, ◌+◌, ◌-◌, ◌<◌, ◌≤◌, ℤ, pos, ◌+ℤ◌, ◌-ℤ◌, ◌≤ℤ◌, List, [], ◌∷◌, length, arith, ap, ◌∙◌, refl, slice_get, get_or, Some, Option, IsBitSet}
 use Rattle.std.proofs.lemmas.Int.{ints}
 use Rattle.std.proofs.lemmas.Bool.Decides.{eqb_tells}
+use Rattle.ta_base.proofs.Lists.{without_last}
 use Rattle.ta_linear.specs.Terms.{coefficient}
 use Rattle.ta_linear.specs.Values.{RowHolds}
 use Rattle.ta_linear.specs.declared.row.Row.{Row}
 use Rattle.ta_automaton.specs.declared.rule.Rule.{Rule}
 use Rattle.ta_automaton.specs.declared.automaton.Automaton.{Automaton}
 use Rattle.ta_automaton.specs.Runs.{At, Config, value_at, Steps, MaskedHold}
-use Rattle.ta_automaton.specs.Masks.{In}
+use Rattle.ta_base.specs.Masks.{In}
 use Rattle.ta_automaton.specs.Places.{one_if, shared_change, rule_change, location_place}
 use Rattle.ta_automaton.specs.Sums.{total}
 use Rattle.ta_automaton.proofs.Sums.{terms_value-same}
@@ -37,12 +38,6 @@ EachRule a (o ∷ os) = ((rule : Rule) × (slice_get a.rules o ≡ Some rule)) �
 -- where firings lead, as a point
 abbrev pub after : Automaton → (ℕ → ℤ) → List ℕ → ℕ → ℤ
 after a f os i = f i +ℤ total (change_of a i) os
-
--- a list without its last item
-abbrev pub without_last : List ℕ → List ℕ
-without_last [] = []
-without_last (o ∷ []) = []
-without_last (o ∷ q ∷ os) = o ∷ without_last (q ∷ os)
 
 -- firings whose rise guards hold at their beginning, whose fall guards hold before their last one, and at whose end no counter is below 0
 pub record Piece (a : Automaton) (d : Config) (os : List ℕ) : Type 0 where

@@ -1,15 +1,16 @@
 -- firings from which the circuits are taken out stand in an order in which nobody arrives any more where one leaves
-use Rattle.std.proofs.Common.{◌≡◌, ◌≢◌, ◌⊎◌, inl, inr, ℕ, zero, suc, ◌+◌, ◌≤◌, ℤ, pos, ◌≤ℤ◌, List, [], ◌∷◌, ◌++◌, length, arith, sym, ap, ◌∙◌, refl, subst, slice_get, Some, append_assoc}
+use Rattle.std.proofs.Common.{◌≡◌, ◌≢◌, ◌⊎◌, inl, inr, ℕ, zero, suc, ◌≤◌, ℤ, pos, ◌≤ℤ◌, List, [], ◌∷◌, ◌++◌, length, arith, sym, ap, ◌∙◌, refl, subst, slice_get, Some, append_assoc}
 use Rattle.std.proofs.lemmas.Int.{ints}
 use Rattle.std.proofs.lemmas.Bool.Decides.{eqb_tells}
+use Rattle.ta_base.proofs.Lists.{length_parts}
+use Rattle.ta_base.proofs.Members.{In-left, In-right, in_append}
 use Rattle.ta_linear.specs.Terms.{coefficient}
 use Rattle.ta_automaton.specs.declared.rule.Rule.{Rule}
 use Rattle.ta_automaton.specs.declared.automaton.Automaton.{Automaton}
 use Rattle.ta_automaton.specs.Runs.{Walk, InScope}
-use Rattle.ta_automaton.specs.Masks.{In}
+use Rattle.ta_base.specs.Masks.{In}
 use Rattle.ta_automaton.specs.Sums.{total}
 use Rattle.ta_automaton.proofs.Sums.{total-append}
-use Rattle.ta_automaton.proofs.MaskTests.{In-left, In-right}
 use Rattle.ta_automaton.proofs.Thresholds.{updates_natural}
 use Rattle.ta_automaton.proofs.Onward.{change_of, NoneInto, Onward, EachRule}
 use Rattle.ta_automaton.proofs.Circuits.{EachPure, circuit_total}
@@ -78,21 +79,12 @@ record Same (os ps : List ℕ) : Type 0 where
   pub back : (q : ℕ) → In q ps → In q os
   pub size : length os ≡ length ps
 
-pub in_cases : (q : ℕ) (xs ys : List ℕ) → In q (xs ++ ys) → In q xs ⊎ In q ys
-in_cases q [] ys h = inr h
-in_cases q (x ∷ xs) ys (inl e) = inl (inl e)
-in_cases q (x ∷ xs) ys (inr h) = elim (in_cases q xs ys h) [ inl i ↦ inl (inr i) | inr i ↦ inr i ]
-
 same_trans : (os ps qs : List ℕ) → Same os ps → Same ps qs → Same os qs
 same_trans os ps qs s t = record {
   sums = λ g. s.sums g ∙ t.sums g;
   back = λ q i. s.back q (t.back q i);
   size = s.size ∙ t.size;
 }
-
-length_parts : (xs ys : List ℕ) → length (xs ++ ys) ≡ length xs + length ys
-length_parts [] ys = omega arith
-length_parts (x ∷ xs) ys = omega (arith, length_parts xs ys)
 
 -- one item moves from behind to the front
 same_moved : (rs front : List ℕ) (o : ℕ) (behind : List ℕ) → Same (rs ++ (front ++ o ∷ behind)) ((o ∷ rs) ++ (front ++ behind))
@@ -101,9 +93,9 @@ same_moved rs front o behind = record {
   sums = λ g. omega (arith, ints, total-append g rs (front ++ o ∷ behind), total-append g front (o ∷ behind), total-append g rs (front ++ behind), total-append g front behind);
   back = λ q i. elim i [
     | inl e ↦ In-right q rs (front ++ o ∷ behind) (In-right q front (o ∷ behind) (inl e))
-    | inr j ↦ elim (in_cases q rs (front ++ behind) j) [
+    | inr j ↦ elim (in_append q rs (front ++ behind) j) [
       | inl k ↦ In-left q rs (front ++ o ∷ behind) k
-      | inr k ↦ In-right q rs (front ++ o ∷ behind) (elim (in_cases q front behind k) [ inl m ↦ In-left q front (o ∷ behind) m | inr m ↦ In-right q front (o ∷ behind) (inr m) ])
+      | inr k ↦ In-right q rs (front ++ o ∷ behind) (elim (in_append q front behind k) [ inl m ↦ In-left q front (o ∷ behind) m | inr m ↦ In-right q front (o ∷ behind) (inr m) ])
     ]
   ];
   size = omega (arith, length_parts rs (front ++ o ∷ behind), length_parts front (o ∷ behind), length_parts rs (front ++ behind), length_parts front behind);

@@ -1,29 +1,29 @@
 -- the laws of runs
-use Rattle.std.proofs.Common.{◌≡◌, inl, inr, ℕ, zero, suc, ◌+◌, ◌<◌, ◌≤◌, ℤ, pos, negsuc, ◌+ℤ◌, ◌≤ℤ◌, ◌<ℤ◌, List, [], ◌∷◌, length, take, sum, count_by, eqb, cond, Bool, true, false, arith, sym, ap, ◌∙◌, refl, subst, slice_get, get_or, Some}
-use Rattle.std.specs.Prelude.{filter}
+use Rattle.std.proofs.Common.{◌≡◌, inl, inr, ℕ, zero, suc, ◌+◌, ◌<◌, ◌≤◌, ℤ, pos, ◌+ℤ◌, ◌≤ℤ◌, ◌<ℤ◌, List, [], ◌∷◌, length, take, sum, count_by, eqb, cond, true, false, arith, sym, ap, ◌∙◌, refl, subst, slice_get, get_or, Some}
 use Rattle.std.proofs.lemmas.Int.{ints}
 use Rattle.std.proofs.lemmas.Bool.Decides.{nat_tests, eqb_tells}
-use Rattle.std.proofs.lemmas.Option.{slice_get_within}
+use Rattle.std.proofs.lemmas.Option.{slice_get_within, same_Some}
 use Rattle.std.proofs.lemmas.List.Sums.{sum_by-cons}
+use Rattle.ta_base.proofs.Integers.{not_held}
+use Rattle.ta_base.proofs.Lists.{filter_all}
+use Rattle.ta_base.proofs.Naturals.{one_if_turned}
+use Rattle.ta_base.proofs.Sums.{count-cons}
 use Rattle.ta_linear.specs.Terms.{coefficient}
 use Rattle.ta_linear.specs.Values.{value_of}
 use Rattle.ta_automaton.specs.declared.rule.Rule.{Rule}
 use Rattle.ta_automaton.specs.declared.automaton.Automaton.{Automaton}
 use Rattle.ta_automaton.specs.Runs.{Config, Initial, Step, Steps, Run, At, value_at, number_at}
-use Rattle.ta_automaton.specs.Masks.{numbers_from}
+use Rattle.ta_base.specs.Masks.{numbers_from}
 use Rattle.ta_automaton.specs.Sums.{total, times_in}
 use Rattle.ta_automaton.specs.Laws.{CountersAddUp, ParametersStay, SharedNeverFalls, RiseGuardsStayTrue, FallGuardsStayFalse, CountersByFirings, SharedByFirings, leads_into, leads_out_of, update_of}
 use Rattle.ta_automaton.proofs.Thresholds.{Later, updates_natural, stays_true, stays_below, from_within, to_within}
 use Rattle.ta_automaton.proofs.Moves.{Fits, fits_after, step_later}
 use Rattle.ta_automaton.proofs.Fired.{EachOnce, firings, once}
 
-same_config : (x y : Config) → Some x ≡ Some y → x ≡ y
-same_config x y e = cc
-
 -- a relation between configurations that each further step at the front keeps holds between the first and each later one
 pub along : (a : Automaton) (R : List ℕ → Config → Config → Type 0) → ((c : Config) → R [] c c) → ((r : ℕ) (rs : List ℕ) (b c d : Config) → Step a r b c → R rs c d → R (r ∷ rs) b d) → (c : Config) (rules : List ℕ) (later : List Config) → Steps a c rules later → (k : ℕ) (d : Config) → slice_get (c ∷ later) k ≡ Some d → R (take k rules) c d
-along a R here more c [] [] steps zero d at = subst (R [] c) (same_config c d at) (here c)
-along a R here more c (r ∷ rs) (e ∷ es) steps zero d at = subst (R [] c) (same_config c d at) (here c)
+along a R here more c [] [] steps zero d at = subst (R [] c) (same_Some c d at) (here c)
+along a R here more c (r ∷ rs) (e ∷ es) steps zero d at = subst (R [] c) (same_Some c d at) (here c)
 along a R here more c [] [] steps (suc k) d at = absurd (cc)
 along a R here more c [] (e ∷ es) steps k d at = absurd steps
 along a R here more c (r ∷ rs) [] steps k d at = absurd steps
@@ -31,7 +31,7 @@ along a R here more c (r ∷ rs) (e ∷ es) steps (suc k) d at = more r (take k 
 
 -- the same between each configuration and each that isn't before it
 pub between : (a : Automaton) (R : Config → Config → Type 0) → ((c : Config) → R c c) → ((r : ℕ) (b c d : Config) → Step a r b c → R c d → R b d) → (c : Config) (rules : List ℕ) (later : List Config) → Steps a c rules later → (j k : ℕ) (b d : Config) → j ≤ k → slice_get (c ∷ later) j ≡ Some b → slice_get (c ∷ later) k ≡ Some d → R b d
-between a R here more c rules later steps zero k b d le at there = subst (λ x. R x d) (same_config c b at) (along a (λ rs x y. R x y) here (λ r rs x y z. more r x y z) c rules later steps k d there)
+between a R here more c rules later steps zero k b d le at there = subst (λ x. R x d) (same_Some c b at) (along a (λ rs x y. R x y) here (λ r rs x y z. more r x y z) c rules later steps k d there)
 between a R here more c rules later steps (suc j) zero b d le at there = absurd (omega arith)
 between a R here more c [] [] steps (suc j) (suc k) b d le at there = absurd (cc)
 between a R here more c [] (e ∷ es) steps (suc j) (suc k) b d le at there = absurd steps
@@ -71,10 +71,6 @@ pub rise_guards_stay_true : RiseGuardsStayTrue
 rise_guards_stay_true a first rules later run j k b c le at there i row named holds =
     stays_true a (value_at b) (value_at c) (later_at a first rules later run j k b c le at there) i row named holds
 
-not_held : (z : ℤ) → (pos 0 ≤ℤ z → ⊥) → z <ℤ pos 0
-not_held (pos n) h = absurd (h (omega (arith, ints)))
-not_held (negsuc n) h = omega (arith, ints)
-
 pub fall_guards_stay_false : FallGuardsStayFalse
 fall_guards_stay_false a first rules later run j k b c le at there i row named fails holds =
     let less : value_of (value_at b) row.form <ℤ pos 0 = not_held (value_of (value_at b) row.form) fails in
@@ -88,12 +84,6 @@ out_named a l r rule e = ap (leads_out_of l) e
 into_named : (a : Automaton) (l r : ℕ) (rule : Rule) → slice_get a.rules r ≡ Some rule → leads_into l (slice_get a.rules r) ≡ eqb rule.to l
 into_named a l r rule e = ap (leads_into l) e
 
-turned : (x y : ℕ) → cond {A = ℕ} (eqb x y) 1 0 ≡ cond {A = ℕ} (eqb y x) 1 0
-turned x y = elim (eqb_tells x y) [ inl e ↦ grind (arith, nat_tests) | inr ne ↦ grind (arith, nat_tests) ]
-
-count-cons : (p : ℕ → Bool) (x : ℕ) (xs : List ℕ) → count_by p (x ∷ xs) ≡ cond (p x) 1 0 + count_by p xs
-count-cons p x xs = sum_by-cons (λ y. cond (p y) 1 0) x xs
-
 pub counters_by_firings : CountersByFirings
 counters_by_firings a first rules later run k c at l =
     along a (λ rs b d. get_or d.counters l 0 + count_by (λ r. leads_out_of l (slice_get a.rules r)) rs ≡ get_or b.counters l 0 + count_by (λ r. leads_into l (slice_get a.rules r)) rs)
@@ -101,8 +91,8 @@ counters_by_firings a first rules later run k c at l =
     (λ r rs b x d step h.
     let out = count-cons (λ q. leads_out_of l (slice_get a.rules q)) r rs in
     let into = count-cons (λ q. leads_into l (slice_get a.rules q)) r rs in
-    let from = ap (λ t. cond t 1 0) (out_named a l r step.rule step.named) ∙ turned step.rule.from l in
-    let to = ap (λ t. cond t 1 0) (into_named a l r step.rule step.named) ∙ turned step.rule.to l in
+    let from = ap (λ t. cond t 1 0) (out_named a l r step.rule step.named) ∙ one_if_turned step.rule.from l in
+    let to = ap (λ t. cond t 1 0) (into_named a l r step.rule step.named) ∙ one_if_turned step.rule.to l in
     omega (arith, out, into, from, to, step.move.moved l, h))
     first rules later run.steps k c at
 
@@ -118,16 +108,12 @@ added a x c rules later steps k d at =
     (λ r rs b e f step h. omega (arith, ints, h, step.move.added x, change-named a x r step.rule step.named))
     c rules later steps k d at
 
-keeps_all : (xs : List ℕ) → filter (λ r. true) xs ≡ xs
-keeps_all [] = refl
-keeps_all (x ∷ xs) = ap (λ ys. x ∷ ys) (keeps_all xs)
-
 -- each rule of a run is once among the numbers of the rules
 each_once : (a : Automaton) (c : Config) (rules : List ℕ) (later : List Config) → Steps a c rules later → (k : ℕ) (d : Config) → slice_get (c ∷ later) k ≡ Some d → EachOnce (take k rules) (numbers_from 0 (length a.rules))
 each_once a c rules later steps k d at =
     along a (λ rs b e. EachOnce rs (numbers_from 0 (length a.rules))) (λ b. tt)
     (λ r rs b e f step h. (
-      ap (times_in r) (sym (keeps_all (numbers_from 0 (length a.rules)))) ∙ once (λ q. true) r 0 (length a.rules) refl (omega arith) (omega (arith, slice_get_within a.rules r step.rule step.named)),
+      ap (times_in r) (sym (filter_all (numbers_from 0 (length a.rules)))) ∙ once (λ q. true) r 0 (length a.rules) refl (omega arith) (omega (arith, slice_get_within a.rules r step.rule step.named)),
       h,
     ))
     c rules later steps k d at

@@ -1,13 +1,12 @@
 -- names of one letter
-use Rattle.std.proofs.Common.{◌≡◌, ℕ, [], ◌∷◌, false, arith, sym, ap, ◌∙◌, refl, IsTrue, eqb}
-use Rattle.std.proofs.lemmas.Bool.{false≢true, eq-eqb}
+use Rattle.std.proofs.Common.{◌≡◌, ℕ, [], ◌∷◌, arith, refl, IsTrue}
+use Rattle.ta_base.proofs.Lists.{no_sign}
+use Rattle.ta_base.proofs.Naturals.{word_letter}
 use Rattle.ta_syntax.specs.declared.tokens.Mark.{Mark}
 use Rattle.ta_syntax.specs.declared.tokens.Mark.TheVariants as mark
-use Rattle.ta_syntax.specs.Kinds.{is_letter, is_word, mark_bytes}
+use Rattle.ta_syntax.specs.Kinds.{mark_bytes}
+use Rattle.ta_base.specs.Bytes.{is_letter}
 use Rattle.ta_automaton.specs.Names.{Name}
-
-no_sign : (b c : ℕ) → IsTrue (is_letter b) → is_letter c ≡ false → (c ∷ []) ≡ (b ∷ []) → ⊥
-no_sign b c letter other e = let same : c ≡ b = cc in false≢true (sym other ∙ ap is_letter same ∙ letter)
 
 no_mark : (b : ℕ) → IsTrue (is_letter b) → (m : Mark) → mark_bytes m ≡ (b ∷ []) → ⊥
 no_mark b l mark.Semicolon e = no_sign b 59 l refl e
@@ -43,16 +42,9 @@ no_mark b l mark.Empty e = cc
 no_mark b l mark.Event e = cc
 no_mark b l mark.After e = cc
 
-word_letter : (b : ℕ) → IsTrue (is_letter b) → IsTrue (is_word b)
-word_letter b l = rw l refl
-
 -- a letter is a name
 pub letter_name : (b : ℕ) → IsTrue (is_letter b) → Name (b ∷ [])
 letter_name b l = record {
   spelled = record { first = l; each = (word_letter b l, tt); free = no_mark b l };
   limit = omega arith;
 }
-
--- two letters are distinct names
-pub letters_apart : (b c : ℕ) → eqb b c ≡ false → (b ∷ []) ≡ (c ∷ []) → ⊥
-letters_apart b c test e = let same : b ≡ c = cc in false≢true (sym test ∙ eq-eqb b c same)

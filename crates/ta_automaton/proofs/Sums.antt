@@ -1,10 +1,10 @@
-use Rattle.std.proofs.Common.{◌≡◌, ◌≢◌, ◌⊎◌, inl, inr, ℕ, zero, suc, ◌+◌, ◌<◌, ◌≤◌, ℤ, pos, ◌+ℤ◌, ◌-ℤ◌, ◌*ℤ◌, List, [], ◌∷◌, ◌++◌, map, arith, sym, ap, ◌∙◌, refl}
+use Rattle.std.proofs.Common.{◌≡◌, ◌≢◌, ◌⊎◌, inl, inr, ℕ, zero, suc, ◌+◌, ◌<◌, ◌≤◌, ℤ, pos, ◌+ℤ◌, ◌*ℤ◌, List, [], ◌∷◌, ◌++◌, arith, sym, ap, refl}
 use Rattle.std.proofs.lemmas.Int.{ints}
 use Rattle.std.proofs.lemmas.Bool.Decides.{eqb_tells}
-use Rattle.std.proofs.Math.IntN.{zero-*ℤ, *ℤ-zero, *ℤ_comm, *ℤ-one, one}
-use Rattle.ta_linear.proofs.Integers.{distributes, distributes_right, times_assoc}
+use Rattle.std.proofs.Math.IntN.{zero-*ℤ, *ℤ-zero}
+use Rattle.ta_base.proofs.Integers.{distributes, one_times}
 use Rattle.ta_linear.specs.Values.{terms_value}
-use Rattle.ta_automaton.specs.Masks.{numbers_from}
+use Rattle.ta_base.specs.Masks.{numbers_from}
 use Rattle.ta_automaton.specs.Sums.{total}
 use Rattle.ta_automaton.specs.Places.{one_if}
 
@@ -12,11 +12,6 @@ pub total-append : {X : Type 0} (f : X → ℤ) (xs ys : List X) → total f (xs
 unfolding total
 total-append f [] ys = omega (arith, ints)
 total-append f (x ∷ xs) ys = omega (arith, ints, total-append f xs ys)
-
-pub total-map : {X Y : Type 0} (f : Y → ℤ) (g : X → Y) (xs : List X) → total f (map g xs) ≡ total (λ x. f (g x)) xs
-unfolding total
-total-map f g [] = refl
-total-map f g (x ∷ xs) = ap (λ z. f (g x) +ℤ z) (total-map f g xs)
 
 pub total-same : {X : Type 0} (f g : X → ℤ) (xs : List X) → ((x : X) → f x ≡ g x) → total f xs ≡ total g xs
 unfolding total
@@ -27,11 +22,6 @@ pub total-add : {X : Type 0} (f g : X → ℤ) (xs : List X) → total (λ x. f 
 unfolding total
 total-add f g [] = omega (arith, ints)
 total-add f g (x ∷ xs) = omega (arith, ints, total-add f g xs)
-
-pub total-minus : {X : Type 0} (f g : X → ℤ) (xs : List X) → total (λ x. f x -ℤ g x) xs ≡ (total f xs -ℤ total g xs)
-unfolding total
-total-minus f g [] = omega (arith, ints)
-total-minus f g (x ∷ xs) = omega (arith, ints, total-minus f g xs)
 
 pub total-zero : {X : Type 0} (f : X → ℤ) (xs : List X) → ((x : X) → f x ≡ pos 0) → total f xs ≡ pos 0
 unfolding total
@@ -47,10 +37,6 @@ pub total-swap : {X Y : Type 0} (f : X → Y → ℤ) (xs : List X) (ys : List Y
 unfolding total
 total-swap f [] ys = sym (total-zero (λ y. pos 0) ys (λ y. refl))
 total-swap f (x ∷ xs) ys = omega (arith, ints, total-swap f xs ys, total-add (f x) (λ y. total (λ z. f z y) xs) ys)
-
-pub one_times : (z : ℤ) → (pos 1 *ℤ z) ≡ z
-unfolding one
-one_times z = *ℤ_comm (pos 1) z ∙ *ℤ-one z
 
 pub one_if-same : (x : ℕ) (z : ℤ) → (one_if x x *ℤ z) ≡ z
 one_if-same x z = elim (eqb_tells x x) [ inl e ↦ rw e.0 (one_times z) | inr ne ↦ absurd (ne.1 refl) ]
@@ -74,17 +60,6 @@ one_inside f k (suc n) i h g = elim (eqb_tells k i) [
   | inl e ↦ omega (arith, ints, one_outside f (k + 1) n i (inl (let p = e.1 in omega arith)), ap (λ z. one_if k z *ℤ f k) (sym e.1), one_if-same k (f k), ap f e.1)
   | inr ne ↦ omega (arith, ints, one_if-other k i (f k) ne.1, one_inside f (k + 1) n i (let p = ne.1 in omega arith) (omega arith))
 ]
-
--- terms at a point that is itself a sum
-pub terms_value-total : {X : Type 0} (f : X → ℕ → ℤ) (v : X → ℤ) (xs : List X) (ts : List (ℕ × ℤ)) → terms_value (λ i. total (λ x. f x i *ℤ v x) xs) ts ≡ total (λ x. terms_value (f x) ts *ℤ v x) xs
-terms_value-total f v xs [] = sym (total-zero _ xs (λ x. zero-*ℤ (v x)))
-terms_value-total f v xs (t ∷ ts) =
-    let rest = terms_value-total f v xs ts in
-    let first = total-times t.1 (λ x. f x t.0 *ℤ v x) xs in
-    let assoc = total-same (λ x. t.1 *ℤ (f x t.0 *ℤ v x)) (λ x. (t.1 *ℤ f x t.0) *ℤ v x) xs (λ x. sym (times_assoc t.1 (f x t.0) (v x))) in
-    let both = total-add (λ x. (t.1 *ℤ f x t.0) *ℤ v x) (λ x. terms_value (f x) ts *ℤ v x) xs in
-    let whole = total-same (λ x. ((t.1 *ℤ f x t.0) *ℤ v x) +ℤ (terms_value (f x) ts *ℤ v x)) (λ x. terms_value (f x) (t ∷ ts) *ℤ v x) xs (λ x. sym (distributes_right (t.1 *ℤ f x t.0) (terms_value (f x) ts) (v x))) in
-    omega (arith, ints, rest, first, assoc, both, whole)
 
 pub terms_value-same : (ts : List (ℕ × ℤ)) (f g : ℕ → ℤ) → ((i : ℕ) → f i ≡ g i) → terms_value f ts ≡ terms_value g ts
 terms_value-same [] f g h = refl

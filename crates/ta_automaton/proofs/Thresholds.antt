@@ -1,41 +1,29 @@
 -- what the types of an automaton and of a file keep, in the form that the laws of runs need
-use Rattle.std.proofs.Common.{◌≡◌, ◌⊎◌, inl, inr, ℕ, zero, suc, ◌+◌, ◌<◌, ◌≤◌, ◌^◌, ◌/◌, ◌%◌, ℤ, pos, ◌+ℤ◌, ◌*ℤ◌, ◌-ℤ◌, ◌≤ℤ◌, ◌<ℤ◌, List, [], ◌∷◌, ◌++◌, length, arith, sym, ap, ◌∙◌, refl, slice_get, Some, IsBitSet, eqb, false, subst, length-append, All}
+use Rattle.std.proofs.Common.{◌≡◌, ◌⊎◌, inl, inr, ℕ, zero, suc, ◌+◌, ◌<◌, ◌≤◌, ℤ, pos, ◌+ℤ◌, ◌*ℤ◌, ◌≤ℤ◌, ◌<ℤ◌, List, [], ◌∷◌, ◌++◌, length, arith, sym, ap, ◌∙◌, refl, slice_get, Some, IsBitSet, eqb, false, length-append, All}
 use Rattle.std.proofs.lemmas.Int.{ints}
-use Rattle.std.proofs.lemmas.Bool.{cases_lt, false≢true}
+use Rattle.std.proofs.lemmas.Bool.{cases_lt}
 use Rattle.std.proofs.lemmas.Bool.Decides.{nat_tests, eqb_tells}
 use Rattle.std.proofs.lemmas.List.{get_or_append_left}
-use Rattle.std.proofs.Math.Nat.{pow-le-pow_right, div-eq_of_lt}
+use Rattle.std.specs.List.{AllByRecursion}
+use Rattle.ta_base.proofs.Bits.{bit_below}
+use Rattle.ta_base.proofs.Each.{each_at, each_from_at}
+use Rattle.ta_base.proofs.Integers.{less_times, times_le}
 use Rattle.ta_linear.specs.Terms.{coefficient, IsNormal}
 use Rattle.ta_linear.specs.Values.{terms_value, value_of, RowHolds}
 use Rattle.ta_linear.specs.declared.form.Form.{Form}
 use Rattle.ta_linear.specs.declared.row.Row.{Row}
-use Rattle.ta_linear.proofs.Integers.{distributes}
-use Rattle.ta_linear.proofs.Signs.{mul-ge-zero, mul-le-zero}
 use Rattle.ta_linear.proofs.TermLemmas.{IsNormal-le}
 use Rattle.ta_automaton.specs.declared.rule.Rule.{Rule}
 use Rattle.ta_automaton.specs.declared.automaton.Automaton.{Automaton}
 use Rattle.ta_automaton.specs.declared.pattern.Event.{Event}
 use Rattle.ta_automaton.specs.declared.pattern.Pattern.{Pattern}
 use Rattle.ta_automaton.specs.declared.file.File.{File}
-use Rattle.ta_automaton.specs.Lists.{Each, EachFrom}
 use Rattle.ta_automaton.specs.Forms.{FormOver, RowOver, ConditionOver, RiseRow, FallRow}
 use Rattle.ta_automaton.specs.Shape.{Update, RuleWithin}
 use Rattle.ta_automaton.specs.Patterns.{EventWithin, PatternWithin}
 use Rattle.ta_automaton.specs.declared.condition.Comparison.{Comparison}
 use Rattle.ta_automaton.specs.declared.condition.Condition.{Condition}
 use Rattle.ta_automaton.specs.Runs.{Config, value_at, number_at, HoldsAt}
-use Rattle.ta_automaton.specs.Masks.{has_bit}
-use Rattle.ta_automaton.proofs.MaskTests.{bit_true}
-
-pub each_at : {X : Type 0} (P : X → Type 0) (xs : List X) (i : ℕ) (x : X) → Each P xs → slice_get xs i ≡ Some x → P x
-each_at P [] i x h e = absurd (cc)
-each_at P (y ∷ ys) zero x h e = let same : y ≡ x = cc in subst P same h.0
-each_at P (y ∷ ys) (suc i) x h e = each_at P ys i x h.1 e
-
-pub each_from_at : {X : Type 0} (P : ℕ → X → Type 0) (k : ℕ) (xs : List X) (i : ℕ) (x : X) → EachFrom P k xs → slice_get xs i ≡ Some x → P (k + i) x
-each_from_at P k [] i x h e = absurd (cc)
-each_from_at P k (y ∷ ys) zero x h e = let same : y ≡ x = cc in subst (P (k + 0)) same (let n : k ≡ k + 0 = omega arith in subst (λ m. P m y) n h.0)
-each_from_at P k (y ∷ ys) (suc i) x h e = let n : k + 1 + i ≡ k + suc i = omega arith in subst (λ m. P m x) n (each_from_at P (k + 1) ys i x h.1 e)
 
 -- terms over parameters and shared variables, with no positive coefficient of a shared variable
 abbrev pub FallTerms : ℕ → ℕ → List (ℕ × ℤ) → Type 0
@@ -49,14 +37,14 @@ RiseTerms parameters shared [] = Unit {0}
 RiseTerms parameters shared (t ∷ ts) =
     ((t.0 < parameters) ⊎ ((parameters ≤ t.0) × (t.0 < parameters + shared) × (pos 0 ≤ℤ t.1))) × RiseTerms parameters shared ts
 
-fall_terms : (p s low : ℕ) (ts : List (ℕ × ℤ)) → IsNormal low (p + s) ts → Each (λ (t : ℕ × ℤ). p ≤ t.0 → t.1 ≤ℤ pos 0) ts → FallTerms p s ts
+fall_terms : (p s low : ℕ) (ts : List (ℕ × ℤ)) → IsNormal low (p + s) ts → AllByRecursion (λ (t : ℕ × ℤ). p ≤ t.0 → t.1 ≤ℤ pos 0) ts → FallTerms p s ts
 fall_terms p s low [] n h = tt
 fall_terms p s low (t ∷ ts) n h = (
   elim (cases_lt t.0 p) [ inl b ↦ inl b | inr b ↦ inr (b, omega (arith, IsNormal-le (t.0 + 1) (p + s) ts n.2), h.0 b) ],
   fall_terms p s (t.0 + 1) ts n.2 h.1,
 )
 
-rise_terms : (p s low : ℕ) (ts : List (ℕ × ℤ)) → IsNormal low (p + s) ts → Each (λ (t : ℕ × ℤ). p ≤ t.0 → pos 0 ≤ℤ t.1) ts → RiseTerms p s ts
+rise_terms : (p s low : ℕ) (ts : List (ℕ × ℤ)) → IsNormal low (p + s) ts → AllByRecursion (λ (t : ℕ × ℤ). p ≤ t.0 → pos 0 ≤ℤ t.1) ts → RiseTerms p s ts
 rise_terms p s low [] n h = tt
 rise_terms p s low (t ∷ ts) n h = (
   elim (cases_lt t.0 p) [ inl b ↦ inl b | inr b ↦ inr (b, omega (arith, IsNormal-le (t.0 + 1) (p + s) ts n.2), h.0 b) ],
@@ -83,14 +71,14 @@ from_within a r rule at = (rule_within a r rule at).from
 pub to_within : (a : Automaton) (r : ℕ) (rule : Rule) → slice_get a.rules r ≡ Some rule → rule.to < length a.locations
 to_within a r rule at = (rule_within a r rule at).to
 
-pub natural_terms : (shared : ℕ) (ts : List (ℕ × ℤ)) (x : ℕ) → Each (Update shared) ts → pos 0 ≤ℤ coefficient ts x
+pub natural_terms : (shared : ℕ) (ts : List (ℕ × ℤ)) (x : ℕ) → AllByRecursion (Update shared) ts → pos 0 ≤ℤ coefficient ts x
 natural_terms shared [] x h = omega (arith, ints)
 natural_terms shared (t ∷ ts) x h =
     let least = (h.0).least in
     let rest = natural_terms shared ts x h.1 in
     elim (eqb_tells t.0 x) [ inl e ↦ rw e.0 (omega (arith, ints)) | inr ne ↦ rw ne.0 (omega (arith, ints)) ]
 
-terms_within : (shared : ℕ) (ts : List (ℕ × ℤ)) (x : ℕ) → Each (Update shared) ts → shared ≤ x → coefficient ts x ≡ pos 0
+terms_within : (shared : ℕ) (ts : List (ℕ × ℤ)) (x : ℕ) → AllByRecursion (Update shared) ts → shared ≤ x → coefficient ts x ≡ pos 0
 terms_within shared [] x h b = refl
 terms_within shared (t ∷ ts) x h b =
     let here = (h.0).exists in
@@ -105,17 +93,6 @@ updates_natural a r rule at x = natural_terms (length a.shared) rule.updates x (
 pub updates_within : (a : Automaton) (r : ℕ) (rule : Rule) → slice_get a.rules r ≡ Some rule → (x : ℕ) → length a.shared ≤ x → coefficient rule.updates x ≡ pos 0
 updates_within a r rule at x b = terms_within (length a.shared) rule.updates x (rule_within a r rule at).updates b
 
--- a bit that is set is below a limit of the mask
-pub bit_below : (mask n i : ℕ) → mask < 2 ^ n → IsBitSet mask i → i < n
-unfolding has_bit
-bit_below mask n i h b = elim (cases_lt i n) [
-  | inl c ↦ c
-  | inr c ↦ (
-      let more : 2 ^ n ≤ 2 ^ i = pow-le-pow_right (omega arith) c in
-      let none : mask / 2 ^ i ≡ 0 = div-eq_of_lt (omega arith) in
-      absurd (false≢true (sym (ap (λ q. eqb (q % 2) 1) none) ∙ bit_true mask i b)))
-]
-
 pub pattern_within : (file : File) (n : ℕ) (p : Pattern) → slice_get file.patterns n ≡ Some p → PatternWithin (length file.automaton.parameters + length file.automaton.shared + length file.automaton.locations) (length file.automaton.locations) p
 pattern_within file n p at = each_at (PatternWithin (length file.automaton.parameters + length file.automaton.shared + length file.automaton.locations) (length file.automaton.locations)) file.patterns n p file.shape.within at
 
@@ -126,7 +103,7 @@ after_earlier places locations p within e event at f b =
     let n = bit_below event.after (0 + e) f w.after b in
     omega arith
 
-terms_same : (f g : ℕ → ℤ) (low high : ℕ) (ts : List (ℕ × ℤ)) → IsNormal low high ts → ((i : ℕ) → i < high → f i ≡ g i) → terms_value f ts ≡ terms_value g ts
+pub terms_same : (f g : ℕ → ℤ) (low high : ℕ) (ts : List (ℕ × ℤ)) → IsNormal low high ts → ((i : ℕ) → i < high → f i ≡ g i) → terms_value f ts ≡ terms_value g ts
 terms_same f g low high [] n h = refl
 terms_same f g low high (t ∷ ts) n h =
     let same = h t.0 (omega (arith, IsNormal-le (t.0 + 1) high ts n.2)) in
@@ -149,14 +126,14 @@ form_at_parameters a c form count over = form_same (value_at c) (number_at c.par
 pub processes_value : (a : Automaton) (c : Config) → length c.parameters ≡ length a.parameters → value_of (value_at c) a.processes ≡ value_of (number_at c.parameters) a.processes
 processes_value a c count = form_at_parameters a c a.processes count a.shape.processes_over
 
-rows_same : (f g : ℕ → ℤ) (places : ℕ) → ((i : ℕ) → i < places → f i ≡ g i) → (rows : List Row) → Each (RowOver places) rows → All (RowHolds f) rows → All (RowHolds g) rows
+rows_same : (f g : ℕ → ℤ) (places : ℕ) → ((i : ℕ) → i < places → f i ≡ g i) → (rows : List Row) → AllByRecursion (RowOver places) rows → All (RowHolds f) rows → All (RowHolds g) rows
 rows_same f g places same [] over h j d b = absurd (omega arith)
 rows_same f g places same (r ∷ rows) over h zero d b =
     let was : pos 0 ≤ℤ value_of f r.form = h 0 d (omega arith) in
     omega (arith, ints, form_same f g places r.form over.0 same)
 rows_same f g places same (r ∷ rows) over h (suc j) d b = rows_same f g places same rows over.1 (λ i e c. h (suc i) e (omega arith)) j d (omega arith)
 
-comparisons_same : (f g : ℕ → ℤ) (places : ℕ) → ((i : ℕ) → i < places → f i ≡ g i) → (ks : List Comparison) → Each (λ (k : Comparison). Each (RowOver places) k.rows) ks → All (λ (k : Comparison). All (RowHolds f) k.rows) ks → All (λ (k : Comparison). All (RowHolds g) k.rows) ks
+comparisons_same : (f g : ℕ → ℤ) (places : ℕ) → ((i : ℕ) → i < places → f i ≡ g i) → (ks : List Comparison) → AllByRecursion (λ (k : Comparison). AllByRecursion (RowOver places) k.rows) ks → All (λ (k : Comparison). All (RowHolds f) k.rows) ks → All (λ (k : Comparison). All (RowHolds g) k.rows) ks
 comparisons_same f g places same [] over h j d b = absurd (omega arith)
 comparisons_same f g places same (k ∷ ks) over h zero d b = rows_same f g places same k.rows over.0 (h 0 d (omega arith))
 comparisons_same f g places same (k ∷ ks) over h (suc j) d b = comparisons_same f g places same ks over.1 (λ i e c. h (suc i) e (omega arith)) j d (omega arith)
@@ -177,20 +154,6 @@ pub record Later (a : Automaton) (f g : ℕ → ℤ) : Type 0 where
   pub parameters : (i : ℕ) → i < length a.parameters → g i ≡ f i
   pub shared : (i : ℕ) → length a.parameters ≤ i → i < length a.parameters + length a.shared → f i ≤ℤ g i
 
-less_times : (c x y : ℤ) → c ≤ℤ pos 0 → x ≤ℤ y → (c *ℤ y) ≤ℤ (c *ℤ x)
-less_times c x y h le =
-    let u = y -ℤ x in
-    let e : y ≡ (x +ℤ u) = omega (arith, ints) in
-    let g : pos 0 ≤ℤ u = omega (arith, ints) in
-    omega (arith, ints, ap (λ z. c *ℤ z) e, distributes c x u, mul-le-zero c u h g)
-
-more_times : (c x y : ℤ) → pos 0 ≤ℤ c → x ≤ℤ y → (c *ℤ x) ≤ℤ (c *ℤ y)
-more_times c x y h le =
-    let u = y -ℤ x in
-    let e : y ≡ (x +ℤ u) = omega (arith, ints) in
-    let g : pos 0 ≤ℤ u = omega (arith, ints) in
-    omega (arith, ints, ap (λ z. c *ℤ z) e, distributes c x u, mul-ge-zero c u h g)
-
 pub fall_back : (a : Automaton) (f g : ℕ → ℤ) → Later a f g → (ts : List (ℕ × ℤ)) → FallTerms (length a.parameters) (length a.shared) ts → terms_value g ts ≤ℤ terms_value f ts
 fall_back a f g l [] h = omega (arith, ints)
 fall_back a f g l (t ∷ ts) h = elim h.0 [
@@ -202,7 +165,7 @@ pub rise_on : (a : Automaton) (f g : ℕ → ℤ) → Later a f g → (ts : List
 rise_on a f g l [] h = omega (arith, ints)
 rise_on a f g l (t ∷ ts) h = elim h.0 [
   | inl b ↦ omega (arith, ints, ap (λ z. t.1 *ℤ z) (l.parameters t.0 b), rise_on a f g l ts h.1)
-  | inr w ↦ omega (arith, ints, more_times t.1 (f t.0) (g t.0) w.2 (l.shared t.0 w.0 w.1), rise_on a f g l ts h.1)
+  | inr w ↦ omega (arith, ints, times_le t.1 (f t.0) (g t.0) w.2 (l.shared t.0 w.0 w.1), rise_on a f g l ts h.1)
 ]
 
 -- a rise guard that holds at a point holds at a later one

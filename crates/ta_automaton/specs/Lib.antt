@@ -1,10 +1,8 @@
-pub mod Lists
 pub mod Names
 pub mod Forms
 pub mod Shape
 pub mod Patterns
 pub mod Runs
-pub mod Masks
 pub mod Sums
 pub mod Places
 pub mod Laws

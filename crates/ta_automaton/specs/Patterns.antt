@@ -1,9 +1,10 @@
 -- What the type of a file keeps of its patterns (this project's profile)
 use Rattle.std.specs.Prelude.{ℕ, ◌<◌, ◌≤◌, ◌^◌, List, length, map}
 use Rattle.std.proofs.Props.{props}
+use Rattle.std.specs.List.{AllByRecursion, AllByRecursion-prop}
 use Rattle.ta_automaton.specs.declared.pattern.Event.{Event}
 use Rattle.ta_automaton.specs.declared.pattern.Pattern.{Pattern}
-use Rattle.ta_automaton.specs.Lists.{Each, Each-prop, EachFrom, EachFrom-prop, Distinct, Distinct-prop}
+use Rattle.ta_base.specs.Lists.{EachFrom, EachFrom-prop, Distinct, Distinct-prop}
 use Rattle.ta_automaton.specs.Names.{Name, Name-prop}
 use Rattle.ta_automaton.specs.Forms.{ConditionOver, ConditionOver-prop}
 
@@ -40,9 +41,9 @@ pattern_name pattern = pattern.name
 -- the patterns of a file
 pub record PatternsShape (places locations : ℕ) (patterns : List Pattern) : Type 0 where
   pub limit : length patterns ≤ 16
-  pub within : Each (PatternWithin places locations) patterns
+  pub within : AllByRecursion (PatternWithin places locations) patterns
   pub distinct : Distinct (map pattern_name patterns)
 
 pub PatternsShape-prop : (places locations : ℕ) (patterns : List Pattern) → IsProp (PatternsShape places locations patterns)
 PatternsShape-prop places locations patterns =
-    hlevel (props, Each-prop (PatternWithin places locations) (PatternWithin-prop places locations) patterns, Distinct-prop (map pattern_name patterns))
+    hlevel (props, AllByRecursion-prop (PatternWithin places locations) (PatternWithin-prop places locations) patterns, Distinct-prop (map pattern_name patterns))

@@ -1,11 +1,12 @@
 -- What the types of an automaton and of a file keep (this project's profile)
 use Rattle.std.specs.Prelude.{ℕ, ℤ, pos, ◌<◌, ◌≤◌, ◌^◌, ◌≤ℤ◌, ◌++◌, List, length, map}
 use Rattle.std.proofs.Props.{props}
+use Rattle.std.specs.List.{AllByRecursion, AllByRecursion-prop}
 use Rattle.ta_linear.specs.declared.form.Form.{Form}
 use Rattle.ta_linear.specs.declared.row.Row.{Row}
 use Rattle.ta_automaton.specs.declared.condition.Condition.{Condition}
 use Rattle.ta_automaton.specs.declared.rule.Rule.{Rule}
-use Rattle.ta_automaton.specs.Lists.{Each, Each-prop, Distinct, Distinct-prop, Rises, Rises-prop}
+use Rattle.ta_base.specs.Lists.{Distinct, Distinct-prop, Rises, Rises-prop}
 use Rattle.ta_automaton.specs.Names.{Name, Name-prop}
 use Rattle.ta_automaton.specs.Forms.{FormOver, FormOver-prop, ConditionOver, ConditionOver-prop, RiseRow, RiseRow-prop, FallRow, FallRow-prop}
 
@@ -30,12 +31,12 @@ pub record RuleWithin (shared locations rise fall : ℕ) (rule : Rule) : Type 0 
   pub rise_mask : rule.rise < 2 ^ rise
   pub fall_mask : rule.fall < 2 ^ fall
   pub updates_limit : length rule.updates ≤ 16
-  pub updates : Each (Update shared) rule.updates
+  pub updates : AllByRecursion (Update shared) rule.updates
   pub variables_distinct : Distinct (map variable_of rule.updates)
 
 RuleWithin-prop : (shared locations rise fall : ℕ) (rule : Rule) → IsProp (RuleWithin shared locations rise fall rule)
 RuleWithin-prop shared locations rise fall rule =
-    hlevel (props, Name-prop rule.name, Each-prop (Update shared) (Update-prop shared) rule.updates, Distinct-prop (map variable_of rule.updates))
+    hlevel (props, Name-prop rule.name, AllByRecursion-prop (Update shared) (Update-prop shared) rule.updates, Distinct-prop (map variable_of rule.updates))
 
 -- the name of a rule
 abbrev pub name_of : Rule → List ℕ
@@ -54,17 +55,17 @@ pub record WithinLimits (parameters shared locations : List (List ℕ)) (rise fa
 pub record AutomatonShape (name : List ℕ) (parameters shared locations : List (List ℕ)) (initial : List ℕ) (processes : Form) (resilience : Condition) (rise fall : List Row) (rules : List Rule) : Type 0 where
   pub limits : WithinLimits parameters shared locations rise fall rules
   pub name_legal : Name name
-  pub names_legal : Each Name (parameters ++ shared ++ locations)
+  pub names_legal : AllByRecursion Name (parameters ++ shared ++ locations)
   pub names_distinct : Distinct (parameters ++ shared ++ locations)
   pub some_initial : 1 ≤ length initial
   pub initial_rises : Rises 0 (length locations) initial
   pub processes_over : FormOver (length parameters) processes
   pub resilience_over : ConditionOver (length parameters) resilience
-  pub rise_rows : Each (RiseRow (length parameters) (length shared)) rise
+  pub rise_rows : AllByRecursion (RiseRow (length parameters) (length shared)) rise
   pub rise_distinct : Distinct rise
-  pub fall_rows : Each (FallRow (length parameters) (length shared)) fall
+  pub fall_rows : AllByRecursion (FallRow (length parameters) (length shared)) fall
   pub fall_distinct : Distinct fall
-  pub rules_within : Each (RuleWithin (length shared) (length locations) (length rise) (length fall)) rules
+  pub rules_within : AllByRecursion (RuleWithin (length shared) (length locations) (length rise) (length fall)) rules
   pub rules_distinct : Distinct (map name_of rules)
 
 pub AutomatonShape-prop : (name : List ℕ) (parameters shared locations : List (List ℕ)) (initial : List ℕ) (processes : Form) (resilience : Condition) (rise fall : List Row) (rules : List Rule) → IsProp (AutomatonShape name parameters shared locations initial processes resilience rise fall rules)
@@ -72,15 +73,15 @@ AutomatonShape-prop name parameters shared locations initial processes resilienc
     hlevel (
       props,
       Name-prop name,
-      Each-prop Name Name-prop (parameters ++ shared ++ locations),
+      AllByRecursion-prop Name Name-prop (parameters ++ shared ++ locations),
       Distinct-prop (parameters ++ shared ++ locations),
       Rises-prop 0 (length locations) initial,
       FormOver-prop (length parameters) processes,
       ConditionOver-prop (length parameters) resilience,
-      Each-prop (RiseRow (length parameters) (length shared)) (RiseRow-prop (length parameters) (length shared)) rise,
+      AllByRecursion-prop (RiseRow (length parameters) (length shared)) (RiseRow-prop (length parameters) (length shared)) rise,
       Distinct-prop rise,
-      Each-prop (FallRow (length parameters) (length shared)) (FallRow-prop (length parameters) (length shared)) fall,
+      AllByRecursion-prop (FallRow (length parameters) (length shared)) (FallRow-prop (length parameters) (length shared)) fall,
       Distinct-prop fall,
-      Each-prop (RuleWithin (length shared) (length locations) (length rise) (length fall)) (RuleWithin-prop (length shared) (length locations) (length rise) (length fall)) rules,
+      AllByRecursion-prop (RuleWithin (length shared) (length locations) (length rise) (length fall)) (RuleWithin-prop (length shared) (length locations) (length rise) (length fall)) rules,
       Distinct-prop (map name_of rules),
     )

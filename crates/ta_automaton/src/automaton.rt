@@ -4,9 +4,8 @@
 ghost use Rattle.ta_automaton.specs.Shape.{AutomatonShape, AutomatonShape-prop};
 
 use crate::condition::Condition;
-use crate::list::List;
 use crate::rule::Rule;
-use crate::text::Text;
+use ta_base::{List, Text};
 use ta_linear::{Form, Row};
 
 /// A threshold automaton. Places are numbered: parameters, then shared variables, then locations.

@@ -3,7 +3,7 @@
 
 ghost use Rattle.std.specs.Prelude.{◌≤◌, length};
 
-use crate::list::List;
+use ta_base::List;
 use ta_linear::Row;
 
 /// One row over place numbers, or two for `==`; they all have to hold.

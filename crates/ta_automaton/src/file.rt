@@ -5,8 +5,8 @@ ghost use Rattle.std.specs.Prelude.{◌+◌, length};
 ghost use Rattle.ta_automaton.specs.Patterns.{PatternsShape, PatternsShape-prop};
 
 use crate::automaton::Automaton;
-use crate::list::List;
 use crate::pattern::Pattern;
+use ta_base::List;
 
 /// An automaton and the patterns that are to be refuted or shown.
 #[derive(Drop)]

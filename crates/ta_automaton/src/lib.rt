@@ -5,16 +5,12 @@ mod automaton;
 mod condition;
 mod file;
 mod law;
-mod list;
 mod pattern;
 mod rule;
-mod text;
 
 pub use automaton::Automaton;
 pub use condition::{Comparison, Condition};
 pub use file::File;
 pub use law::laws;
-pub use list::List;
 pub use pattern::{Event, Pattern};
 pub use rule::Rule;
-pub use text::Text;

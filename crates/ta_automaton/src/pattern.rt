@@ -2,8 +2,7 @@
 #![tactic(auto)]
 
 use crate::condition::Condition;
-use crate::list::List;
-use crate::text::Text;
+use ta_base::{List, Text};
 
 /// An event: bit f of `after` names an earlier event f that it comes after.
 #[derive(Drop)]

@@ -1,8 +1,7 @@
 //! Rules.
 #![tactic(auto)]
 
-use crate::list::List;
-use crate::text::Text;
+use ta_base::{List, Text};
 
 /// A rule from one location to another. Bit i of `rise` names rise guard i, bit j of `fall` fall
 /// guard j. An update adds a natural number to a shared variable, numbered from 0.

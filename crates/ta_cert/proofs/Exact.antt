@@ -2,7 +2,7 @@
 use Rattle.std.proofs.Common.{ℕ, ◌≡◌, true, false, List, [], ◌++◌, length, Result, Ok, Err, refl, sym, ap, ◌∙◌, inl, inr}
 use Rattle.std.proofs.lemmas.Bool.{false≢true}
 use Rattle.ta_cert.specs.Lines.{has_end}
-use Rattle.ta_cert.specs.Streams.{line_number, StandsFor, Fed}
+use Rattle.ta_cert.specs.Streams.{line_number, StandsFor, FeedAnswers}
 use Rattle.ta_cert.specs.Laws.{IsExact, IsExactEnd}
 use Rattle.ta_cert.specs.declared.line.Line.{Line}
 use Rattle.ta_cert.specs.declared.fault.CertFault.{CertFault}
@@ -11,7 +11,7 @@ use Rattle.ta_cert.specs.declared.reader.Reader.{Reader}
 use Rattle.ta_cert.proofs.Unique.{reads_unique, reads_malformed, reads_trailing, malformed_trailing, malformed_place, trailing_place}
 
 -- the answer to a piece
-pub exact : (text piece : List ℕ) (reader : Reader) (answer : Result (List (ℕ × Line)) CertFault) → Fed text piece reader answer → IsExact (text ++ piece) answer
+pub exact : (text piece : List ℕ) (reader : Reader) (answer : Result (List (ℕ × Line)) CertFault) → FeedAnswers text piece reader answer → IsExact (text ++ piece) answer
 exact text piece reader (Ok lines) f =
     let reads = f.1.reads in
     let ls = f.1.before ++ f.1.new in

@@ -1,23 +1,18 @@
 -- The fields of splits and pairs, one after another.
-use Rattle.std.proofs.Common.{ℕ, ℤ, pos, negsuc, ◌<◌, ◌^◌, ◌≡◌, ◌≤ℤ◌, ◌<ℤ◌, List, ◌∷◌, ◌++◌, decimal, refl, sym, ap, ◌∙◌, append_assoc, arith, lit≤, le_refl}
+use Rattle.std.proofs.Common.{ℕ, ℤ, pos, ◌^◌, ◌≡◌, List, ◌∷◌, ◌++◌, decimal, refl, sym, ap, ◌∙◌, append_assoc, arith, lit≤}
 use Rattle.std.specs.Fmt.{signed_decimal}
-use Rattle.std.proofs.lemmas.Int.{ints}
-use Rattle.ta_cert.specs.Numbers.{NumberAt, NoNumberAt}
-use Rattle.ta_cert.specs.Inside.Numbers.{IsNumber, IsSplitText, AreGuardsText, PairAt}
-use Rattle.ta_cert.proofs.Decimals.{number_is}
+use Rattle.ta_base.specs.Decimals.{DecimalAt, NoDecimalAt, NoDecimal}
+use Rattle.ta_base.proofs.DecimalDigits.{multiplier_number, number_is}
+use Rattle.ta_base.proofs.Lists.{floor_number}
+use Rattle.ta_cert.specs.Inside.Numbers.{IsSplitText, AreGuardsText, PairAt}
 
 -- what stands behind the unknown
-pub split_rest : (m u : ℕ) (f : ℤ) (bytes r : List ℕ) → NumberAt (2 ^ 32) bytes m r → IsSplitText bytes u f → r ≡ 32 ∷ signed_decimal f
+pub split_rest : (m u : ℕ) (f : ℤ) (bytes r : List ℕ) → DecimalAt (2 ^ 32) bytes m r → IsSplitText bytes u f → r ≡ 32 ∷ signed_decimal f
 split_rest m u f bytes r at is =
     (number_is (2 ^ 32) m u bytes r (32 ∷ signed_decimal f) (lit≤ tt) at record { split = is.text; below = is.is.number; ends = refl }).1
 
--- the floor is a number
-pub floor_number : (f : ℤ) (x : List ℕ) → pos 0 ≤ℤ f → f <ℤ pos (2 ^ 126) → x ≡ signed_decimal f → (k : ℕ) × IsNumber (2 ^ 126) x k
-floor_number (pos k) x low high e = (k, record { text = e; below = omega (arith, ints) })
-floor_number (negsuc k) x low high e = absurd (omega (arith, ints))
-
 -- no floor stands behind the unknown
-pub no_floor : (m : ℕ) (bytes r x : List ℕ) → NumberAt (2 ^ 32) bytes m r → r ≡ 32 ∷ x → ((k : ℕ) → IsNumber (2 ^ 126) x k → ⊥) → (u : ℕ) (f : ℤ) → IsSplitText bytes u f → ⊥
+pub no_floor : (m : ℕ) (bytes r x : List ℕ) → DecimalAt (2 ^ 32) bytes m r → r ≡ 32 ∷ x → NoDecimal (2 ^ 126) x → (u : ℕ) (f : ℤ) → IsSplitText bytes u f → ⊥
 no_floor m bytes r x at e none u f is =
     let same = split_rest m u f bytes r at is in
     let tail : x ≡ signed_decimal f = cc in
@@ -25,31 +20,26 @@ no_floor m bytes r x at e none u f is =
     none found.0 found.1
 
 -- what stands behind the first guard
-pub guards_rest : (m before after : ℕ) (bytes r : List ℕ) → NumberAt (2 ^ 32) bytes m r → AreGuardsText bytes before after → r ≡ 32 ∷ decimal after
+pub guards_rest : (m before after : ℕ) (bytes r : List ℕ) → DecimalAt (2 ^ 32) bytes m r → AreGuardsText bytes before after → r ≡ 32 ∷ decimal after
 guards_rest m before after bytes r at are =
     (number_is (2 ^ 32) m before bytes r (32 ∷ decimal after) (lit≤ tt) at record { split = are.text; below = are.first; ends = refl }).1
 
 -- no guard stands behind the first
-pub no_second : (m : ℕ) (bytes r x : List ℕ) → NumberAt (2 ^ 32) bytes m r → r ≡ 32 ∷ x → ((k : ℕ) → IsNumber (2 ^ 32) x k → ⊥) → (before after : ℕ) → AreGuardsText bytes before after → ⊥
+pub no_second : (m : ℕ) (bytes r x : List ℕ) → DecimalAt (2 ^ 32) bytes m r → r ≡ 32 ∷ x → NoDecimal (2 ^ 32) x → (before after : ℕ) → AreGuardsText bytes before after → ⊥
 no_second m bytes r x at e none before after are =
     let same = guards_rest m before after bytes r at are in
     let tail : x ≡ decimal after = cc in
     none after record { text = tail; below = are.second }
 
 -- what stands behind the row number
-pub pair_rest : (m : ℕ) (t : ℕ × ℤ) (bytes b r rest : List ℕ) → bytes ≡ 32 ∷ b → NumberAt (2 ^ 32) b m r → PairAt bytes t rest → r ≡ 58 ∷ (signed_decimal t.1 ++ rest)
+pub pair_rest : (m : ℕ) (t : ℕ × ℤ) (bytes b r rest : List ℕ) → bytes ≡ 32 ∷ b → DecimalAt (2 ^ 32) b m r → PairAt bytes t rest → r ≡ 58 ∷ (signed_decimal t.1 ++ rest)
 pair_rest m t bytes b r rest e at is =
     let text = is.split in
     let tail : b ≡ (decimal t.0 ++ (58 ∷ signed_decimal t.1)) ++ rest = cc in
     (number_is (2 ^ 32) m t.0 b r (58 ∷ (signed_decimal t.1 ++ rest)) (lit≤ tt) at record { split = tail ∙ append_assoc (decimal t.0) (58 ∷ signed_decimal t.1) rest; below = is.is.row; ends = refl }).1
 
--- the multiplier is a number and not 0
-pub multiplier_number : (z : ℤ) (x rest : List ℕ) → pos 1 ≤ℤ z → z <ℤ pos (2 ^ 127) → x ≡ signed_decimal z ++ rest → (k : ℕ) × (0 < k) × (k < 2 ^ 127) × (x ≡ decimal k ++ rest) × (z ≡ pos k)
-multiplier_number (pos k) x rest low high e = (k, omega (arith, ints), omega (arith, ints), e, refl)
-multiplier_number (negsuc k) x rest low high e = absurd (omega (arith, ints))
-
 -- no multiplier stands behind the row number
-pub no_multiplier : (m : ℕ) (bytes b r x : List ℕ) → bytes ≡ 32 ∷ b → NumberAt (2 ^ 32) b m r → r ≡ 58 ∷ x → NoNumberAt (2 ^ 127) x → (t : ℕ × ℤ) (rest : List ℕ) → PairAt bytes t rest → ⊥
+pub no_multiplier : (m : ℕ) (bytes b r x : List ℕ) → bytes ≡ 32 ∷ b → DecimalAt (2 ^ 32) b m r → r ≡ 58 ∷ x → NoDecimalAt (2 ^ 127) x → (t : ℕ × ℤ) (rest : List ℕ) → PairAt bytes t rest → ⊥
 no_multiplier m bytes b r x e at f none t rest is =
     let same = pair_rest m t bytes b r rest e at is in
     let tail : x ≡ signed_decimal t.1 ++ rest = cc in
@@ -57,13 +47,13 @@ no_multiplier m bytes b r x e at f none t rest is =
     none found.0 rest record { split = found.3; below = found.2; ends = is.ends }
 
 -- the multiplier behind the row number is 0
-pub zero_multiplier : (m k : ℕ) (bytes b r x s : List ℕ) → bytes ≡ 32 ∷ b → NumberAt (2 ^ 32) b m r → r ≡ 58 ∷ x → NumberAt (2 ^ 127) x k s → k ≡ 0 → (t : ℕ × ℤ) (rest : List ℕ) → PairAt bytes t rest → ⊥
+pub zero_multiplier : (m k : ℕ) (bytes b r x s : List ℕ) → bytes ≡ 32 ∷ b → DecimalAt (2 ^ 32) b m r → r ≡ 58 ∷ x → DecimalAt (2 ^ 127) x k s → k ≡ 0 → (t : ℕ × ℤ) (rest : List ℕ) → PairAt bytes t rest → ⊥
 zero_multiplier m k bytes b r x s e at f number zero t rest is =
     let same = pair_rest m t bytes b r rest e at is in
     let tail : x ≡ signed_decimal t.1 ++ rest = cc in
     let found = multiplier_number t.1 x rest is.is.low is.is.high tail in
     let some = found.1 in
-    let one = (number_is (2 ^ 127) k found.0 x s rest (le_refl (2 ^ 127)) number record { split = found.3; below = found.2; ends = is.ends }).0 in
+    let one = (number_is (2 ^ 127) k found.0 x s rest (lit≤ tt) number record { split = found.3; below = found.2; ends = is.ends }).0 in
     omega arith
 
 -- a pair and what stands behind it are determined
@@ -71,7 +61,7 @@ pub pair_unique : (t u : ℕ × ℤ) (bytes r s : List ℕ) → PairAt bytes t r
 pair_unique t u bytes r s at is =
     let b = decimal t.0 ++ (58 ∷ (signed_decimal t.1 ++ r)) in
     let text : bytes ≡ 32 ∷ b = at.split ∙ ap (λ xs. 32 ∷ xs) (append_assoc (decimal t.0) (58 ∷ signed_decimal t.1) r) in
-    let row : NumberAt (2 ^ 32) b t.0 (58 ∷ (signed_decimal t.1 ++ r)) = record { split = refl; below = at.is.row; ends = refl } in
+    let row : DecimalAt (2 ^ 32) b t.0 (58 ∷ (signed_decimal t.1 ++ r)) = record { split = refl; below = at.is.row; ends = refl } in
     let same = pair_rest t.0 u bytes b (58 ∷ (signed_decimal t.1 ++ r)) s text row is in
     let other = is.split in
     let tail : b ≡ (decimal u.0 ++ (58 ∷ signed_decimal u.1)) ++ s = cc in
@@ -79,5 +69,5 @@ pair_unique t u bytes r s at is =
     let tails : signed_decimal t.1 ++ r ≡ signed_decimal u.1 ++ s = cc in
     let m = multiplier_number t.1 (signed_decimal t.1 ++ r) r at.is.low at.is.high refl in
     let n = multiplier_number u.1 (signed_decimal t.1 ++ r) s is.is.low is.is.high tails in
-    let numbers = number_is (2 ^ 127) m.0 n.0 (signed_decimal t.1 ++ r) r s (le_refl (2 ^ 127)) record { split = m.3; below = m.2; ends = at.ends } record { split = n.3; below = n.2; ends = is.ends } in
+    let numbers = number_is (2 ^ 127) m.0 n.0 (signed_decimal t.1 ++ r) r s (lit≤ tt) record { split = m.3; below = m.2; ends = at.ends } record { split = n.3; below = n.2; ends = is.ends } in
     (rows, numbers.1, m.4 ∙ ap pos numbers.0 ∙ sym n.4)

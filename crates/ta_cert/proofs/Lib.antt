@@ -1,5 +1,4 @@
 -- lemmas for the crates above
-pub mod Decimals
 pub mod Standing
 pub mod Unique
 pub mod CertLines

@@ -1,12 +1,15 @@
 -- What a reader stands for, step by step.
-use Rattle.std.proofs.Common.{ℕ, ◌+◌, ◌-◌, ◌^◌, ◌<◌, ◌≤◌, ◌≡◌, min, Bool, true, false, not, eqb, ◌||◌, List, [], ◌∷◌, ◌++◌, length, take, get_or, Option, Some, None, refl, sym, ap, subst, ◌∙◌, inl, inr, append_assoc, append-nil, length-append, arith, Result, Ok, Err, is_err}
+use Rattle.std.proofs.Common.{ℕ, ◌+◌, ◌-◌, ◌^◌, ◌<◌, ◌≤◌, ◌≡◌, min, true, false, not, eqb, ◌||◌, List, [], ◌∷◌, ◌++◌, length, take, get_or, Option, Some, None, refl, sym, ap, subst, ◌∙◌, inl, inr, append_assoc, append-nil, length-append, arith, Result, Ok, Err, is_err}
 use mathlib.Core.Bool.{beq}
 use Rattle.std.proofs.Math.Seq.{take-length}
-use Rattle.std.proofs.lemmas.Bool.{false≢true}
+use Rattle.std.proofs.lemmas.Bool.{false≢true, or_parts}
 use Rattle.std.proofs.lemmas.List.{take-append-le}
-use Rattle.ta_cert.specs.Lines.{line_text, lines_text, IsLine, Says, is_header, is_end, has_end}
-use Rattle.ta_cert.specs.Streams.{line_limit, AreLater, AreLines, IsUnbroken, Reads, line_number, IsMalformed, IsTrailing, IsRefused, IsRefusedBehind, numbered, has_line, StandsAt, StandsFor, Completes, Fed, Ends, FedLine}
-use Rattle.ta_cert.specs.Steps.{IsFaultAt, IsFaultHere, IsLineTaken, NextLine, AreTaken, IsTaken}
+use Rattle.ta_base.specs.Bytes.{SplitAt}
+use Rattle.ta_base.proofs.Booleans.{beq_true, or_false, other_header, place_is}
+use Rattle.ta_base.proofs.Lists.{avoids-append, whole_more}
+use Rattle.ta_cert.specs.Lines.{line_text, cert_lines_text, IsLine, SaysLine, is_header, is_end, has_end}
+use Rattle.ta_cert.specs.Streams.{line_limit, AreLater, AreLines, IsUnbroken, ReadsLines, line_number, IsMalformed, IsTrailing, IsRefusedText, IsRefusedBehind, numbered_lines, has_line, StandsAt, StandsFor, CompletesLines, FeedAnswers, EndsLine, FeedLineAnswers}
+use Rattle.ta_cert.specs.Steps.{IsFaultAt, IsFaultHere, TakeLineAnswers, AreTaken, TakeAnswers}
 use Rattle.ta_cert.specs.declared.reader.Ended.{Ended}
 use Rattle.ta_cert.specs.declared.line.Line.{Line}
 use Rattle.ta_cert.specs.declared.line.Line.TheVariants as line
@@ -15,25 +18,10 @@ use Rattle.ta_cert.specs.declared.fault.CertFault.{CertFault}
 use Rattle.ta_cert.specs.declared.fault.CertFault.TheVariants as fault
 use Rattle.ta_cert.specs.declared.reader.Reader.{Reader}
 
--- what has no line feed, twice
-pub unbroken-append : (xs ys : List ℕ) → IsUnbroken xs → IsUnbroken ys → IsUnbroken (xs ++ ys)
-unbroken-append [] ys u v = v
-unbroken-append (x ∷ xs) ys u v = (u.0, unbroken-append xs ys u.1 v)
-
 -- the text of more lines
-pub lines_text-append : (ls ms : List Line) → lines_text (ls ++ ms) ≡ lines_text ls ++ lines_text ms
+pub lines_text-append : (ls ms : List Line) → cert_lines_text (ls ++ ms) ≡ cert_lines_text ls ++ cert_lines_text ms
 lines_text-append [] ms = refl
-lines_text-append (l ∷ ls) ms = ap (λ xs. line_text l ++ (10 ∷ xs)) (lines_text-append ls ms) ∙ sym (append_assoc (line_text l) (10 ∷ lines_text ls) (lines_text ms))
-
--- tests joined
-or_false : (b : Bool) → b || false ≡ b
-or_false true = refl
-or_false false = refl
-
--- tests that both fail
-or_parts : (b d : Bool) → b || d ≡ false → (b ≡ false) × (d ≡ false)
-or_parts true d e = absurd (false≢true (sym e))
-or_parts false d e = (refl, e)
+lines_text-append (l ∷ ls) ms = ap (λ xs. line_text l ++ (10 ∷ xs)) (lines_text-append ls ms) ∙ sym (append_assoc (line_text l) (10 ∷ cert_lines_text ls) (cert_lines_text ms))
 
 -- whether the end is among them, with one more line
 has_end_push : (ls : List Line) (l : Line) → has_end ls ≡ false → has_end (ls ++ (l ∷ [])) ≡ is_end l
@@ -79,10 +67,6 @@ pub legal_last : (ls : List Line) (l : Line) → AreLines (ls ++ (l ∷ [])) →
 legal_last [] l legal = (legal.0.0, legal.0.1)
 legal_last (m ∷ ls) l legal = later_last ls l legal.1
 
--- the text, its lines and what comes behind it
-whole_more : (text lines rest bytes : List ℕ) → text ≡ lines ++ rest → text ++ bytes ≡ lines ++ (rest ++ bytes)
-whole_more text lines rest bytes e = ap (λ xs. xs ++ bytes) e ∙ append_assoc lines rest bytes
-
 -- a fault stays one
 malformed_more : (text more : List ℕ) (n : ℕ) (m : IsMalformed text n) → (k : IsMalformed (text ++ more) n) × (k.ls ≡ m.ls)
 malformed_more text more n m = (
@@ -90,7 +74,7 @@ malformed_more text more n m = (
     ls = m.ls;
     bytes = m.bytes;
     after = m.after ++ more;
-    whole = whole_more text (lines_text m.ls) (m.bytes ++ m.after) more m.whole ∙ ap (λ xs. lines_text m.ls ++ xs) (append_assoc m.bytes m.after more);
+    whole = whole_more text (cert_lines_text m.ls) (m.bytes ++ m.after) more m.whole ∙ ap (λ xs. cert_lines_text m.ls ++ xs) (append_assoc m.bytes m.after more);
     legal = m.legal;
     going_on = m.going_on;
     unbroken = m.unbroken;
@@ -107,7 +91,7 @@ trailing_more text more n t = (
     ls = t.ls;
     byte = t.byte;
     after = t.after ++ more;
-    whole = whole_more text (lines_text t.ls) (t.byte ∷ t.after) more t.whole;
+    whole = whole_more text (cert_lines_text t.ls) (t.byte ∷ t.after) more t.whole;
     legal = t.legal;
     ended = t.ended;
     place = t.place;
@@ -116,7 +100,7 @@ trailing_more text more n t = (
 )
 
 -- the same of each fault
-pub refused_more : (text more : List ℕ) (e : CertFault) → IsRefused text e → IsRefused (text ++ more) e
+pub refused_more : (text more : List ℕ) (e : CertFault) → IsRefusedText text e → IsRefusedText (text ++ more) e
 refused_more text more (fault.Line n) r = (malformed_more text more n r).0
 refused_more text more (fault.Trailing n) r = (trailing_more text more n r).0
 refused_more text more fault.Memory r = tt
@@ -130,7 +114,7 @@ refused_behind_more ls text more fault.Memory r = tt
 refused_behind_more ls text more _ r = absurd r
 
 -- a text that is refused behind some lines is refused
-pub refused_behind : (ls : List Line) (text : List ℕ) (e : CertFault) → IsRefusedBehind ls text e → IsRefused text e
+pub refused_behind : (ls : List Line) (text : List ℕ) (e : CertFault) → IsRefusedBehind ls text e → IsRefusedText text e
 refused_behind ls text (fault.Line n) r = r.0
 refused_behind ls text (fault.Trailing n) r = r.0
 refused_behind ls text fault.Memory r = tt
@@ -145,7 +129,7 @@ trailing_at reader text (b ∷ bs) ls at ended some =
         ls = ls;
         byte = b;
         after = bs;
-        whole = whole_more text (lines_text ls) reader.line (b ∷ bs) at.reads.whole ∙ ap (λ xs. lines_text ls ++ (xs ++ (b ∷ bs))) (at.reads.ended end);
+        whole = whole_more text (cert_lines_text ls) reader.line (b ∷ bs) at.reads.whole ∙ ap (λ xs. cert_lines_text ls ++ (xs ++ (b ∷ bs))) (at.reads.ended end);
         legal = at.reads.legal;
         ended = end;
         place = at.number;
@@ -164,10 +148,10 @@ long_at reader text bytes ls at going_on unbroken long = (
     ls = ls;
     bytes = reader.line ++ bytes;
     after = [];
-    whole = whole_more text (lines_text ls) reader.line bytes at.reads.whole ∙ ap (λ xs. lines_text ls ++ xs) (sym (append-nil (reader.line ++ bytes)));
+    whole = whole_more text (cert_lines_text ls) reader.line bytes at.reads.whole ∙ ap (λ xs. cert_lines_text ls ++ xs) (sym (append-nil (reader.line ++ bytes)));
     legal = at.reads.legal;
     going_on = sym at.ended ∙ going_on;
-    unbroken = unbroken-append reader.line bytes at.reads.unbroken unbroken;
+    unbroken = avoids-append 10 reader.line bytes at.reads.unbroken unbroken;
     no_line = inl (omega (arith, length-append reader.line bytes));
     place = at.number;
   },
@@ -193,17 +177,17 @@ fault_here reader bytes e f = record { fresh = f.fresh; refused = λ text ls at.
 pub fault_after : (old reader : Reader) (front bytes : List ℕ) (more : List Line) (e : CertFault) → ((text : List ℕ) (ls : List Line) → StandsAt old text ls → StandsAt reader (text ++ front) (ls ++ more)) → IsFaultAt reader bytes e → IsFaultAt old (front ++ bytes) e
 fault_after old reader front bytes more e stands f = record {
   fresh = f.fresh;
-  refused = λ text ls at. subst (λ t. IsRefused t e) (append_assoc text front bytes) (f.refused (text ++ front) (ls ++ more) (stands text ls at));
+  refused = λ text ls at. subst (λ t. IsRefusedText t e) (append_assoc text front bytes) (f.refused (text ++ front) (ls ++ more) (stands text ls at));
 }
 
 -- a line feed behind what is no line there
-bad_line : (reader : Reader) (text : List ℕ) (ls : List Line) → StandsAt reader text ls → has_end ls ≡ false → ((l : Line) → Says reader.line l → is_header l ≡ not (has_line ls) → ⊥) → (m : IsMalformed (text ++ (10 ∷ [])) reader.number) × (m.ls ≡ ls)
+bad_line : (reader : Reader) (text : List ℕ) (ls : List Line) → StandsAt reader text ls → has_end ls ≡ false → ((l : Line) → SaysLine reader.line l → is_header l ≡ not (has_line ls) → ⊥) → (m : IsMalformed (text ++ (10 ∷ [])) reader.number) × (m.ls ≡ ls)
 bad_line reader text ls at going_on none = (
   record {
     ls = ls;
     bytes = reader.line;
     after = 10 ∷ [];
-    whole = whole_more text (lines_text ls) reader.line (10 ∷ []) at.reads.whole;
+    whole = whole_more text (cert_lines_text ls) reader.line (10 ∷ []) at.reads.whole;
     legal = at.reads.legal;
     going_on = going_on;
     unbroken = at.reads.unbroken;
@@ -218,30 +202,18 @@ abbrev pub Keeps : Reader → Reader → List ℕ → Type 0
 Keeps old mid front = (text : List ℕ) (ls : List Line) → StandsAt old text ls → StandsAt mid (text ++ front) ls
 
 -- the line isn't of any form
-pub no_line : (old mid : Reader) (front : List ℕ) → old.ended ≡ false → Keeps old mid front → ((l : Line) → Says mid.line l → ⊥) → IsFaultHere old (front ++ (10 ∷ [])) (fault.Line mid.number)
+pub no_line : (old mid : Reader) (front : List ℕ) → old.ended ≡ false → Keeps old mid front → ((l : Line) → SaysLine mid.line l → ⊥) → IsFaultHere old (front ++ (10 ∷ [])) (fault.Line mid.number)
 no_line old mid front going_on keeps none = record {
   fresh = tt;
   refused = λ text ls at. subst (λ t. (m : IsMalformed t mid.number) × (m.ls ≡ ls)) (append_assoc text front (10 ∷ [])) (bad_line mid (text ++ front) ls (keeps text ls at) (sym at.ended ∙ going_on) (λ l says header. none l says));
 }
 
--- tests that agree and differ
-other_header : (b d : Bool) → b ≡ d → b ≡ not d → ⊥
-other_header b true e f = false≢true (sym f ∙ e)
-other_header b false e f = false≢true (sym e ∙ f)
-
 -- lines of one text are both the header or neither
-same_header : (bytes : List ℕ) (l m : Line) → Says bytes l → Says bytes m → is_header m ≡ is_header l
+same_header : (bytes : List ℕ) (l m : Line) → SaysLine bytes l → SaysLine bytes m → is_header m ≡ is_header l
 same_header bytes l m says other = header_text m ∙ ap (λ t. eqb (get_or t 0 0) 116) (sym other.text ∙ says.text) ∙ sym (header_text l)
 
--- a test of tests
-beq_true : (b d : Bool) → beq b d ≡ true → b ≡ d
-beq_true true true e = refl
-beq_true true false e = absurd (false≢true e)
-beq_true false true e = absurd (false≢true e)
-beq_true false false e = refl
-
 -- the header isn't first, or another line is
-pub wrong_place : (old mid : Reader) (front : List ℕ) (l : Line) → old.ended ≡ false → Keeps old mid front → Says mid.line l → beq (is_header l) mid.begun ≡ true → IsFaultHere old (front ++ (10 ∷ [])) (fault.Line mid.number)
+pub wrong_place : (old mid : Reader) (front : List ℕ) (l : Line) → old.ended ≡ false → Keeps old mid front → SaysLine mid.line l → beq (is_header l) mid.begun ≡ true → IsFaultHere old (front ++ (10 ∷ [])) (fault.Line mid.number)
 wrong_place old mid front l going_on keeps says place = record {
   fresh = tt;
   refused = λ text ls at.
@@ -250,25 +222,18 @@ wrong_place old mid front l going_on keeps says place = record {
       subst (λ t. (m : IsMalformed t mid.number) × (m.ls ≡ ls)) (append_assoc text front (10 ∷ [])) (bad_line mid (text ++ front) ls stands (sym at.ended ∙ going_on) (λ m other is. other_header (is_header m) (has_line ls) (same_header mid.line l m says other ∙ header) is));
 }
 
--- a line that ended
-place_is : (b d : Bool) → beq b d ≡ false → b ≡ not d
-place_is true true n = absurd (false≢true (sym n))
-place_is true false n = refl
-place_is false true n = refl
-place_is false false n = absurd (false≢true (sym n))
-
 -- the number after one more line
 number_push : (n k : ℕ) (ls : List Line) (l : Line) → n ≡ line_number (length ls) → k ≡ min (n + 1) (2 ^ 64 - 1) → k ≡ line_number (length (ls ++ (l ∷ [])))
 number_push n k ls l e f = omega (arith, length-append ls (l ∷ []))
 
 -- the reader after a line feed
-ended_at : (mid new : Reader) (l : Line) (text : List ℕ) (ls : List Line) → StandsAt mid text ls → has_end ls ≡ false → Says mid.line l → is_header l ≡ not (has_line ls) → new.line ≡ [] → new.number ≡ min (mid.number + 1) (2 ^ 64 - 1) → new.begun ≡ true → new.ended ≡ is_end l → new.failed ≡ mid.failed → StandsAt new (text ++ (10 ∷ [])) (ls ++ (l ∷ []))
+ended_at : (mid new : Reader) (l : Line) (text : List ℕ) (ls : List Line) → StandsAt mid text ls → has_end ls ≡ false → SaysLine mid.line l → is_header l ≡ not (has_line ls) → new.line ≡ [] → new.number ≡ min (mid.number + 1) (2 ^ 64 - 1) → new.begun ≡ true → new.ended ≡ is_end l → new.failed ≡ mid.failed → StandsAt new (text ++ (10 ∷ [])) (ls ++ (l ∷ []))
 ended_at mid new l text ls at going_on says header line number begun ended failed =
-    let shown = ap (λ xs. lines_text ls ++ (xs ++ (10 ∷ []))) says.text in
+    let shown = ap (λ xs. cert_lines_text ls ++ (xs ++ (10 ∷ []))) says.text in
     let pushed = lines_text-append ls (l ∷ []) in
     record {
-      reads = subst (Reads (text ++ (10 ∷ [])) (ls ++ (l ∷ []))) (sym line) record {
-        whole = whole_more text (lines_text ls) mid.line (10 ∷ []) at.reads.whole ∙ shown ∙ sym pushed ∙ sym (append-nil (lines_text (ls ++ (l ∷ []))));
+      reads = subst (ReadsLines (text ++ (10 ∷ [])) (ls ++ (l ∷ []))) (sym line) record {
+        whole = whole_more text (cert_lines_text ls) mid.line (10 ∷ []) at.reads.whole ∙ shown ∙ sym pushed ∙ sym (append-nil (cert_lines_text (ls ++ (l ∷ []))));
         legal = legal_push ls l at.reads.legal going_on says.form (subst (λ t. length t ≤ line_limit) says.text at.reads.short) header;
         unbroken = tt;
         short = omega arith;
@@ -281,7 +246,7 @@ ended_at mid new l text ls at going_on says header line number begun ended faile
     }
 
 -- the same, behind the bytes of this piece
-pub ended_line : (old mid new : Reader) (front : List ℕ) (l : Line) → old.ended ≡ false → Keeps old mid front → Says mid.line l → beq (is_header l) mid.begun ≡ false → new.line ≡ [] → new.number ≡ min (mid.number + 1) (2 ^ 64 - 1) → new.begun ≡ true → new.ended ≡ is_end l → new.failed ≡ mid.failed → (text : List ℕ) (ls : List Line) → StandsAt old text ls → StandsAt new (text ++ (front ++ (10 ∷ []))) (ls ++ (l ∷ []))
+pub ended_line : (old mid new : Reader) (front : List ℕ) (l : Line) → old.ended ≡ false → Keeps old mid front → SaysLine mid.line l → beq (is_header l) mid.begun ≡ false → new.line ≡ [] → new.number ≡ min (mid.number + 1) (2 ^ 64 - 1) → new.begun ≡ true → new.ended ≡ is_end l → new.failed ≡ mid.failed → (text : List ℕ) (ls : List Line) → StandsAt old text ls → StandsAt new (text ++ (front ++ (10 ∷ []))) (ls ++ (l ∷ []))
 ended_line old mid new front l going_on keeps says place line number begun ended failed text ls at =
     let stands = keeps text ls at in
     let header = place_is (is_header l) mid.begun place ∙ ap not stands.begun in
@@ -293,7 +258,7 @@ pub record TakenSoFar (old reader : Reader) (piece rest : List ℕ) (lines : Lis
   pub front : List ℕ
   pub split : piece ≡ front ++ rest
   pub stands : (text : List ℕ) (ls : List Line) → StandsAt old text ls → StandsAt reader (text ++ front) (ls ++ more)
-  pub numbers : (text : List ℕ) (ls : List Line) → StandsAt old text ls → lines ≡ numbered (length ls) more
+  pub numbers : (text : List ℕ) (ls : List Line) → StandsAt old text ls → lines ≡ numbered_lines (length ls) more
 
 -- before the first line
 pub begins_taking : (reader : Reader) (piece : List ℕ) → TakenSoFar reader reader piece piece []
@@ -306,14 +271,14 @@ begins_taking reader piece = record {
 }
 
 -- the number of one more line
-numbered-push : (n : ℕ) (ls : List Line) (l : Line) → numbered n (ls ++ (l ∷ [])) ≡ numbered n ls ++ ((line_number (n + length ls), l) ∷ [])
+numbered-push : (n : ℕ) (ls : List Line) (l : Line) → numbered_lines n (ls ++ (l ∷ [])) ≡ numbered_lines n ls ++ ((line_number (n + length ls), l) ∷ [])
 numbered-push n [] l = let e : n + 0 ≡ n = omega arith in ap (λ k. (line_number k, l) ∷ []) (sym e)
 numbered-push n (m ∷ ls) l =
     let e : n + 1 + length ls ≡ n + length (m ∷ ls) = omega arith in
-    ap (λ xs. (line_number n, m) ∷ xs) (numbered-push (n + 1) ls l ∙ ap (λ k. numbered (n + 1) ls ++ ((line_number k, l) ∷ [])) e)
+    ap (λ xs. (line_number n, m) ∷ xs) (numbered-push (n + 1) ls l ∙ ap (λ k. numbered_lines (n + 1) ls ++ ((line_number k, l) ∷ [])) e)
 
 -- one line more
-pub goes_on_taking : (old reader new : Reader) (piece rest front behind : List ℕ) (lines : List (ℕ × Line)) (l : Line) → TakenSoFar old reader piece rest lines → NextLine rest front behind → ((text : List ℕ) (ls : List Line) → StandsAt reader text ls → StandsAt new (text ++ (front ++ (10 ∷ []))) (ls ++ (l ∷ []))) → TakenSoFar old new piece behind (lines ++ ((reader.number, l) ∷ []))
+pub goes_on_taking : (old reader new : Reader) (piece rest front behind : List ℕ) (lines : List (ℕ × Line)) (l : Line) → TakenSoFar old reader piece rest lines → SplitAt 10 rest front behind → ((text : List ℕ) (ls : List Line) → StandsAt reader text ls → StandsAt new (text ++ (front ++ (10 ∷ []))) (ls ++ (l ∷ []))) → TakenSoFar old new piece behind (lines ++ ((reader.number, l) ∷ []))
 goes_on_taking old reader new piece rest front behind lines l so next ends = record {
   more = so.more ++ (l ∷ []);
   front = so.front ++ (front ++ (10 ∷ []));
@@ -323,11 +288,11 @@ goes_on_taking old reader new piece rest front behind lines l so next ends = rec
       (subst (StandsAt new ((text ++ so.front) ++ (front ++ (10 ∷ [])))) (append_assoc ls so.more (l ∷ [])) (ends (text ++ so.front) (ls ++ so.more) (so.stands text ls at)));
   numbers = λ text ls at.
       let number : reader.number ≡ line_number (length ls + length so.more) = (so.stands text ls at).number ∙ ap line_number (length-append ls so.more) in
-      ap (λ xs. xs ++ ((reader.number, l) ∷ [])) (so.numbers text ls at) ∙ ap (λ n. numbered (length ls) so.more ++ ((n, l) ∷ [])) number ∙ sym (numbered-push (length ls) so.more l);
+      ap (λ xs. xs ++ ((reader.number, l) ∷ [])) (so.numbers text ls at) ∙ ap (λ n. numbered_lines (length ls) so.more ++ ((n, l) ∷ [])) number ∙ sym (numbered-push (length ls) so.more l);
 }
 
 -- a fault in a line of the piece
-pub faults_taking : (old reader : Reader) (piece rest front behind : List ℕ) (lines : List (ℕ × Line)) (e : CertFault) → TakenSoFar old reader piece rest lines → NextLine rest front behind → IsFaultHere reader (front ++ (10 ∷ [])) e → IsFaultAt old piece e
+pub faults_taking : (old reader : Reader) (piece rest front behind : List ℕ) (lines : List (ℕ × Line)) (e : CertFault) → TakenSoFar old reader piece rest lines → SplitAt 10 rest front behind → IsFaultHere reader (front ++ (10 ∷ [])) e → IsFaultAt old piece e
 faults_taking old reader piece rest front behind lines e so next f =
     let regroup : piece ≡ so.front ++ ((front ++ (10 ∷ [])) ++ behind) = so.split ∙ ap (λ xs. so.front ++ xs) (next.split ∙ sym (append_assoc front (10 ∷ []) behind)) in
     subst (λ p. IsFaultAt old p e) (sym regroup) (fault_after old reader so.front ((front ++ (10 ∷ [])) ++ behind) so.more e so.stands (fault_here reader ((front ++ (10 ∷ [])) ++ behind) e (fault_more reader (front ++ (10 ∷ [])) behind e f)))
@@ -344,14 +309,10 @@ ends_taking old reader new piece rest lines so keeps = record {
   numbers = so.numbers;
 }
 
--- a line leaves less behind it
-pub next_shorter : (rest front behind : List ℕ) → NextLine rest front behind → length behind < length rest
-next_shorter rest front behind next = omega (arith, ap length next.split, length-append front (10 ∷ behind))
-
 -- a reader with the same fields stands for the same text
 moved : (mid new : Reader) (text : List ℕ) (ls : List Line) → new.line ≡ mid.line → new.number ≡ mid.number → new.begun ≡ mid.begun → new.ended ≡ mid.ended → new.failed ≡ false → StandsAt mid text ls → StandsAt new text ls
 moved mid new text ls line number begun ended failed stands = record {
-  reads = subst (Reads text ls) (sym line) stands.reads;
+  reads = subst (ReadsLines text ls) (sym line) stands.reads;
   number = number ∙ stands.number;
   begun = begun ∙ stands.begun;
   ended = ended ∙ stands.ended;
@@ -359,11 +320,11 @@ moved mid new text ls line number begun ended failed stands = record {
 }
 
 -- what a piece gave
-pub fed : (old mid new : Reader) (piece : List ℕ) (answer : Result (List (ℕ × Line)) CertFault) → IsTaken old piece mid answer → new.line ≡ mid.line → new.number ≡ mid.number → new.begun ≡ mid.begun → new.ended ≡ mid.ended → new.failed ≡ is_err answer → (text : List ℕ) → StandsFor old text → Fed text piece new answer
+pub fed : (old mid new : Reader) (piece : List ℕ) (answer : Result (List (ℕ × Line)) CertFault) → TakeAnswers old piece mid answer → new.line ≡ mid.line → new.number ≡ mid.number → new.begun ≡ mid.begun → new.ended ≡ mid.ended → new.failed ≡ is_err answer → (text : List ℕ) → StandsFor old text → FeedAnswers text piece new answer
 fed old mid new piece (Ok lines) taken line number begun ended failed text (ls, at) =
     let stands = taken.stands text ls at in
     let now = moved mid new (text ++ piece) (ls ++ taken.more) line number begun ended failed stands in
-    let completes : Completes text piece lines = record {
+    let completes : CompletesLines text piece lines = record {
       before = ls;
       new = taken.more;
       old_rest = old.line;
@@ -376,7 +337,7 @@ fed old mid new piece (Ok lines) taken line number begun ended failed text (ls, 
 fed old mid new piece (Err e) taken line number begun ended failed text (ls, at) = taken.refused text ls at
 
 -- the line that the first line feed of a piece ends
-pub line_ends : (old new : Reader) (piece front behind : List ℕ) (found : Ended) → NextLine piece front behind → found.number ≡ old.number → found.taken ≡ length front + 1 → ((text : List ℕ) (ls : List Line) → StandsAt old text ls → StandsAt new (text ++ (front ++ (10 ∷ []))) (ls ++ (found.line ∷ []))) → (text : List ℕ) (ls : List Line) → StandsAt old text ls → Ends text ls piece new found
+pub line_ends : (old new : Reader) (piece front behind : List ℕ) (found : Ended) → SplitAt 10 piece front behind → found.number ≡ old.number → found.taken ≡ length front + 1 → ((text : List ℕ) (ls : List Line) → StandsAt old text ls → StandsAt new (text ++ (front ++ (10 ∷ []))) (ls ++ (found.line ∷ []))) → (text : List ℕ) (ls : List Line) → StandsAt old text ls → EndsLine text ls piece new found
 line_ends old new piece front behind found next number taken ends text ls at =
     let whole : length (front ++ (10 ∷ [])) ≡ length front + 1 = length-append front (10 ∷ []) in
     let split : piece ≡ (front ++ (10 ∷ [])) ++ behind = next.split ∙ sym (append_assoc front (10 ∷ []) behind) in
@@ -389,7 +350,7 @@ line_ends old new piece front behind found next number taken ends text ls at =
     }
 
 -- a line that was taken by a reader whose refusals are kept
-pub fed_line : (old mid new : Reader) (piece : List ℕ) (answer : Result (Option Ended) CertFault) → IsLineTaken old piece mid answer → new.line ≡ mid.line → new.number ≡ mid.number → new.begun ≡ mid.begun → new.ended ≡ mid.ended → new.failed ≡ is_err answer → (text : List ℕ) (ls : List Line) → StandsAt old text ls → FedLine text ls piece new answer
+pub fed_line : (old mid new : Reader) (piece : List ℕ) (answer : Result (Option Ended) CertFault) → TakeLineAnswers old piece mid answer → new.line ≡ mid.line → new.number ≡ mid.number → new.begun ≡ mid.begun → new.ended ≡ mid.ended → new.failed ≡ is_err answer → (text : List ℕ) (ls : List Line) → StandsAt old text ls → FeedLineAnswers text ls piece new answer
 fed_line old mid new piece (Ok None) taken line number begun ended failed text ls at = moved mid new (text ++ piece) ls line number begun ended failed (taken text ls at)
 fed_line old mid new piece (Ok (Some found)) taken line number begun ended failed text ls at =
     let e = taken text ls at in

@@ -1,40 +1,21 @@
 -- Texts and lines determine each other.
-use Rattle.std.proofs.Common.{ℕ, ℤ, pos, negsuc, ◌+◌, ◌<◌, ◌≤◌, ◌^◌, ◌≡◌, ◌≤ℤ◌, ◌<ℤ◌, ◌⊎◌, Bool, true, false, not, eqb, ◌||◌, ◌&&◌, List, [], ◌∷◌, ◌++◌, length, get_or, refl, sym, ap, subst, ◌∙◌, inl, inr, append_assoc, append-nil, length-append, decimal, arith, rules, tests, lit≤, le_refl, codes, false-eqb}
+use Rattle.std.proofs.Common.{ℕ, ℤ, ◌+◌, ◌<◌, ◌≤◌, ◌^◌, ◌≡◌, ◌⊎◌, true, false, List, [], ◌∷◌, ◌++◌, length, refl, sym, ap, subst, ◌∙◌, inl, inr, append_assoc, append-nil, length-append, decimal, arith, lit<, lit≤, codes}
 use Rattle.std.specs.Fmt.{signed_decimal}
 use Rattle.std.specs.List.{AllByRecursion}
-use Rattle.std.specs.Str.Parse.{AllDigits}
-use Rattle.std.proofs.lemmas.Bool.{false≢true}
-use Rattle.std.proofs.lemmas.Int.{ints}
-use Rattle.std.proofs.lemmas.Str.Parse.{digit_from_value}
+use Rattle.std.proofs.lemmas.Bool.{false≢true, false_from_ne_true, or_from}
 use Rattle.std.proofs.lemmas.List.{append_cancel_left}
-use Rattle.ta_cert.specs.Lines.{line_text, lines_text, ArePairs, IsSplit, pair_text, pairs_text, split_text, guards_text, IsVersion, IsLine, is_header, is_end, has_end}
-use Rattle.ta_cert.specs.Streams.{line_limit, AreLater, AreLines, IsUnbroken, Reads, line_number, IsMalformed, IsTrailing}
+use Rattle.ta_base.proofs.DecimalDigits.{decimal_avoids, decimal_same, floor_same, guards_same, multiplier_number, number_is}
+use Rattle.ta_base.proofs.Integers.{floor_is}
+use Rattle.ta_base.proofs.Lists.{avoids-append, avoids_known, differ, first_byte, not_parted}
+use Rattle.ta_cert.specs.Lines.{line_text, cert_lines_text, ArePairs, IsSplit, pair_text, pairs_text, split_text, guards_text, IsVersion, IsLine, is_header, is_end, has_end}
+use Rattle.ta_cert.specs.Streams.{line_limit, AreLater, AreLines, IsUnbroken, ReadsLines, line_number, IsMalformed, IsTrailing}
 use Rattle.ta_cert.specs.declared.line.Node.TheVariants as node
 use Rattle.ta_cert.specs.declared.line.Line.{Line}
 use Rattle.ta_cert.specs.declared.line.Line.TheVariants as line
-use Rattle.ta_cert.proofs.Decimals.{number_is, decimal_digits, wide}
-use Rattle.ta_cert.proofs.Fields.{pair_unique, multiplier_number}
+use Rattle.ta_cert.proofs.Fields.{pair_unique}
 use Rattle.ta_cert.proofs.Pairs.{pairs_begin}
 use Rattle.ta_cert.proofs.Meanings.{header_one, header_two}
-use Rattle.ta_cert.proofs.Standing.{unbroken-append, legal_last}
-
--- a number is determined by its text
-number_same : (limit m n : ℕ) → limit ≤ 2 ^ 127 → m < limit → n < limit → decimal m ≡ decimal n → m ≡ n
-number_same limit m n small low below e =
-    (number_is limit m n (decimal m) [] [] small record { split = sym (append-nil (decimal m)); below = low; ends = tt } record { split = e ∙ sym (append-nil (decimal n)); below = below; ends = tt }).0
-
--- a floor is natural
-floor_is : (f : ℤ) → pos 0 ≤ℤ f → f <ℤ pos (2 ^ 126) → (k : ℕ) × (f ≡ pos k) × (k < 2 ^ 126)
-floor_is (pos k) low high = (k, refl, omega (arith, ints))
-floor_is (negsuc k) low high = absurd (omega (arith, ints))
-
--- a floor is determined by its text
-floor_same : (f g : ℤ) → pos 0 ≤ℤ f → f <ℤ pos (2 ^ 126) → pos 0 ≤ℤ g → g <ℤ pos (2 ^ 126) → signed_decimal f ≡ signed_decimal g → f ≡ g
-floor_same f g low high least most e =
-    let a = floor_is f low high in
-    let b = floor_is g least most in
-    let texts : decimal a.0 ≡ decimal b.0 = ap signed_decimal (sym a.1) ∙ e ∙ ap signed_decimal b.1 in
-    a.1 ∙ ap pos (number_same (2 ^ 126) a.0 b.0 (lit≤ tt) a.2 b.2 texts) ∙ sym b.1
+use Rattle.ta_cert.proofs.Standing.{legal_last}
 
 -- a split is determined by its text
 split_same : (u v : ℕ) (f g : ℤ) → IsSplit u f → IsSplit v g → decimal u ++ (32 ∷ signed_decimal f) ≡ decimal v ++ (32 ∷ signed_decimal g) → (u ≡ v) × (f ≡ g)
@@ -43,14 +24,6 @@ split_same u v f g is are e =
     let rest = parts.1 in
     let floors : signed_decimal f ≡ signed_decimal g = cc in
     (parts.0, floor_same f g is.low is.high are.low are.high floors)
-
--- two guards are determined by their text
-guards_same : (j h i g : ℕ) → j < 2 ^ 32 → h < 2 ^ 32 → i < 2 ^ 32 → g < 2 ^ 32 → decimal j ++ (32 ∷ decimal i) ≡ decimal h ++ (32 ∷ decimal g) → (j ≡ h) × (i ≡ g)
-guards_same j h i g low least high most e =
-    let parts = number_is (2 ^ 32) j h (decimal j ++ (32 ∷ decimal i)) (32 ∷ decimal i) (32 ∷ decimal g) (lit≤ tt) record { split = refl; below = low; ends = refl } record { split = e; below = least; ends = refl } in
-    let rest = parts.1 in
-    let seconds : decimal i ≡ decimal g = cc in
-    (parts.0, number_same (2 ^ 32) i g (lit≤ tt) high most seconds)
 
 -- versions are small
 version_small : (v : ℕ) → IsVersion v → v < 2 ^ 32
@@ -68,13 +41,9 @@ pairs_same low least (t ∷ ts) (u ∷ us) is are e =
     let first : t ≡ u = ap (λ n. (n, t.1)) same.0 ∙ ap (λ z. (u.0, z)) same.2 in
     cc
 
--- lists that differ at a place
-differ : (k : ℕ) (xs ys : List ℕ) → eqb (get_or xs k 0) (get_or ys k 0) ≡ false → xs ≡ ys → ⊥
-differ k xs ys apart e = let at = ap (λ zs. get_or zs k 0) e in let other = false-eqb (get_or xs k 0) (get_or ys k 0) (sym apart) in other at
-
 -- a text is that of one line
 pub line_unique : (a b : Line) → IsLine a → IsLine b → line_text a ≡ line_text b → a ≡ b
-line_unique (line.Header n) (line.Header o) x y e = let texts = append_cancel_left (codes "threshold-certificate ") (decimal n) (decimal o) e in ap line.Header (number_same (2 ^ 32) n o (lit≤ tt) (version_small n x) (version_small o y) texts)
+line_unique (line.Header n) (line.Header o) x y e = let texts = append_cancel_left (codes "threshold-certificate ") (decimal n) (decimal o) e in ap line.Header (decimal_same (2 ^ 32) n o (lit≤ tt) (version_small n x) (version_small o y) texts)
 line_unique (line.Header n) (line.Order h g) x y e = absurd (differ 0 (line_text (line.Header n)) (line_text (line.Order h g)) refl e)
 line_unique (line.Header n) (line.Pattern m) x y e = absurd (differ 0 (line_text (line.Header n)) (line_text (line.Pattern m)) refl e)
 line_unique (line.Header n) (line.Tree node.Extend) x y e = absurd (differ 0 (line_text (line.Header n)) (line_text (line.Tree node.Extend)) refl e)
@@ -90,7 +59,7 @@ line_unique (line.Order j i) (line.Tree (node.Leaf us)) x y e = absurd (differ 0
 line_unique (line.Order j i) line.End x y e = absurd (differ 0 (line_text (line.Order j i)) (line_text line.End) refl e)
 line_unique (line.Pattern k) (line.Header o) x y e = absurd (differ 0 (line_text (line.Pattern k)) (line_text (line.Header o)) refl e)
 line_unique (line.Pattern k) (line.Order h g) x y e = absurd (differ 0 (line_text (line.Pattern k)) (line_text (line.Order h g)) refl e)
-line_unique (line.Pattern k) (line.Pattern m) x y e = let texts = append_cancel_left (codes "pattern ") (decimal k) (decimal m) e in ap line.Pattern (number_same (2 ^ 32) k m (lit≤ tt) x y texts)
+line_unique (line.Pattern k) (line.Pattern m) x y e = let texts = append_cancel_left (codes "pattern ") (decimal k) (decimal m) e in ap line.Pattern (decimal_same (2 ^ 32) k m (lit≤ tt) x y texts)
 line_unique (line.Pattern k) (line.Tree node.Extend) x y e = absurd (differ 0 (line_text (line.Pattern k)) (line_text (line.Tree node.Extend)) refl e)
 line_unique (line.Pattern k) (line.Tree (node.Split v g)) x y e = absurd (differ 0 (line_text (line.Pattern k)) (line_text (line.Tree (node.Split v g))) refl e)
 line_unique (line.Pattern k) (line.Tree (node.Leaf us)) x y e = absurd (differ 0 (line_text (line.Pattern k)) (line_text (line.Tree (node.Leaf us))) refl e)
@@ -124,72 +93,27 @@ line_unique line.End (line.Tree (node.Split v g)) x y e = absurd (differ 0 (line
 line_unique line.End (line.Tree (node.Leaf us)) x y e = absurd (differ 0 (line_text line.End) (line_text (line.Tree (node.Leaf us))) refl e)
 line_unique line.End line.End x y e = refl
 
--- digits have no line feed
-digits_unbroken : (ds : List ℕ) → AllDigits 10 ds → IsUnbroken ds
-digits_unbroken [] digits = tt
-digits_unbroken (c ∷ cs) digits =
-    let range = digit_from_value c digits.0 in
-    let low = range.0 in
-    ((λ e. omega arith), digits_unbroken cs digits.1)
-
--- numbers have no line feed
-decimal_unbroken : (limit n : ℕ) → n < limit → limit ≤ 2 ^ 127 → IsUnbroken (decimal n)
-decimal_unbroken limit n below small = digits_unbroken (decimal n) (decimal_digits n (wide n limit below small))
-
--- a text whose bytes are known
-plain : List ℕ → Bool
-plain [] = true
-plain (b ∷ bs) = not (eqb b 10) && plain bs
-
--- tests that both hold
-plain_parts : (b d : Bool) → b && d ≡ true → (b ≡ true) × (d ≡ true)
-plain_parts true d e = (refl, e)
-plain_parts false d e = absurd (false≢true e)
-
--- a byte that is no line feed
-not_ten : (b : ℕ) → not (eqb b 10) ≡ true → b ≡ 10 → ⊥
-not_ten b e ten = search (rules, tests)
-
--- known bytes have no line feed
-plain_unbroken : (bs : List ℕ) → plain bs ≡ true → IsUnbroken bs
-unfolding plain
-plain_unbroken [] e = tt
-plain_unbroken (b ∷ bs) e = let parts = plain_parts (not (eqb b 10)) (plain bs) e in (not_ten b parts.0, plain_unbroken bs parts.1)
-
 -- pairs have no line feed
 pairs_unbroken : (low : ℕ) (ts : List (ℕ × ℤ)) → ArePairs low ts → IsUnbroken (pairs_text ts)
 pairs_unbroken low [] are = tt
 pairs_unbroken low (t ∷ ts) are =
     let m = multiplier_number t.1 (signed_decimal t.1 ++ []) [] are.1.low are.1.high refl in
-    let number = subst (λ z. IsUnbroken (signed_decimal z)) (sym m.4) (decimal_unbroken (2 ^ 127) m.0 m.2 (le_refl (2 ^ 127))) in
-    let row = decimal_unbroken (2 ^ 32) t.0 are.1.row (lit≤ tt) in
-    unbroken-append (pair_text t) (pairs_text ts) ((λ e. omega arith), unbroken-append (decimal t.0) (58 ∷ signed_decimal t.1) row ((λ e. omega arith), number)) (pairs_unbroken (t.0 + 1) ts are.2)
+    let number = subst (λ z. IsUnbroken (signed_decimal z)) (sym m.4) (decimal_avoids 10 (2 ^ 127) m.0 (lit< tt) m.2 (lit≤ tt)) in
+    let row = decimal_avoids 10 (2 ^ 32) t.0 (lit< tt) are.1.row (lit≤ tt) in
+    avoids-append 10 (pair_text t) (pairs_text ts) ((λ e. omega arith), avoids-append 10 (decimal t.0) (58 ∷ signed_decimal t.1) row ((λ e. omega arith), number)) (pairs_unbroken (t.0 + 1) ts are.2)
 
 -- no line has a line feed in its text
 pub line_unbroken : (l : Line) → IsLine l → IsUnbroken (line_text l)
-unfolding plain
-line_unbroken (line.Header v) form = unbroken-append (codes "threshold-certificate ") (decimal v) (plain_unbroken (codes "threshold-certificate ") refl) (decimal_unbroken (2 ^ 32) v (version_small v form) (lit≤ tt))
-line_unbroken (line.Order j i) form = unbroken-append (codes "o ") (guards_text j i) (plain_unbroken (codes "o ") refl) (unbroken-append (decimal j) (32 ∷ decimal i) (decimal_unbroken (2 ^ 32) j form.0 (lit≤ tt)) ((λ e. omega arith), decimal_unbroken (2 ^ 32) i form.1 (lit≤ tt)))
-line_unbroken (line.Pattern k) form = unbroken-append (codes "pattern ") (decimal k) (plain_unbroken (codes "pattern ") refl) (decimal_unbroken (2 ^ 32) k form (lit≤ tt))
-line_unbroken (line.Tree node.Extend) form = plain_unbroken (codes "e") refl
+line_unbroken (line.Header v) form = avoids-append 10 (codes "threshold-certificate ") (decimal v) (avoids_known 10 (codes "threshold-certificate ") refl) (decimal_avoids 10 (2 ^ 32) v (lit< tt) (version_small v form) (lit≤ tt))
+line_unbroken (line.Order j i) form = avoids-append 10 (codes "o ") (guards_text j i) (avoids_known 10 (codes "o ") refl) (avoids-append 10 (decimal j) (32 ∷ decimal i) (decimal_avoids 10 (2 ^ 32) j (lit< tt) form.0 (lit≤ tt)) ((λ e. omega arith), decimal_avoids 10 (2 ^ 32) i (lit< tt) form.1 (lit≤ tt)))
+line_unbroken (line.Pattern k) form = avoids-append 10 (codes "pattern ") (decimal k) (avoids_known 10 (codes "pattern ") refl) (decimal_avoids 10 (2 ^ 32) k (lit< tt) form (lit≤ tt))
+line_unbroken (line.Tree node.Extend) form = avoids_known 10 (codes "e") refl
 line_unbroken (line.Tree (node.Split u f)) form =
     let k = floor_is f form.low form.high in
-    let floor = subst (λ z. IsUnbroken (signed_decimal z)) (sym k.1) (decimal_unbroken (2 ^ 126) k.0 k.2 (lit≤ tt)) in
-    unbroken-append (codes "s ") (split_text u f) (plain_unbroken (codes "s ") refl) (unbroken-append (decimal u) (32 ∷ signed_decimal f) (decimal_unbroken (2 ^ 32) u form.number (lit≤ tt)) ((λ e. omega arith), floor))
-line_unbroken (line.Tree (node.Leaf ts)) form = unbroken-append (codes "f") (pairs_text ts) (plain_unbroken (codes "f") refl) (pairs_unbroken 0 ts form.1)
-line_unbroken line.End form = plain_unbroken (codes "end") refl
-
--- the first line feed of a text
-pub first_feed : (xs ys p q : List ℕ) → IsUnbroken xs → IsUnbroken ys → xs ++ (10 ∷ p) ≡ ys ++ (10 ∷ q) → (xs ≡ ys) × (p ≡ q)
-first_feed [] [] p q u v e = (refl, cc)
-first_feed [] (y ∷ ys) p q u v e = let head : y ≡ 10 = cc in absurd (v.0 head)
-first_feed (x ∷ xs) [] p q u v e = let head : x ≡ 10 = cc in absurd (u.0 head)
-first_feed (x ∷ xs) (y ∷ ys) p q u v e =
-    let head : x ≡ y = cc in
-    let tail : xs ++ (10 ∷ p) ≡ ys ++ (10 ∷ q) = cc in
-    let more = first_feed xs ys p q u.1 v.1 tail in
-    let same = more.0 in
-    (cc, more.1)
+    let floor = subst (λ z. IsUnbroken (signed_decimal z)) (sym k.1) (decimal_avoids 10 (2 ^ 126) k.0 (lit< tt) k.2 (lit≤ tt)) in
+    avoids-append 10 (codes "s ") (split_text u f) (avoids_known 10 (codes "s ") refl) (avoids-append 10 (decimal u) (32 ∷ signed_decimal f) (decimal_avoids 10 (2 ^ 32) u (lit< tt) form.number (lit≤ tt)) ((λ e. omega arith), floor))
+line_unbroken (line.Tree (node.Leaf ts)) form = avoids-append 10 (codes "f") (pairs_text ts) (avoids_known 10 (codes "f") refl) (pairs_unbroken 0 ts form.1)
+line_unbroken line.End form = avoids_known 10 (codes "end") refl
 
 -- a line feed before the end of what has none
 feed_within : (xs ys bs after : List ℕ) → IsUnbroken bs → length xs < length bs → xs ++ (10 ∷ ys) ≡ bs ++ after → ⊥
@@ -198,13 +122,6 @@ feed_within [] ys (b ∷ bs) after u within e = let head : b ≡ 10 = cc in u.0 
 feed_within (x ∷ xs) ys (b ∷ bs) after u within e =
     let tail : xs ++ (10 ∷ ys) ≡ bs ++ after = cc in
     feed_within xs ys bs after u.1 (omega arith) tail
-
--- what has no line feed
-no_feed : (xs ys rest : List ℕ) → IsUnbroken rest → rest ≡ xs ++ (10 ∷ ys) → ⊥
-no_feed [] ys [] u e = cc
-no_feed [] ys (b ∷ rest) u e = let head : b ≡ 10 = cc in u.0 head
-no_feed (x ∷ xs) ys [] u e = cc
-no_feed (x ∷ xs) ys (b ∷ rest) u e = let tail : rest ≡ xs ++ (10 ∷ ys) = cc in no_feed xs ys rest u.1 tail
 
 -- each line has a text
 unfoldable pub Forms : List Line → Type 0
@@ -224,16 +141,16 @@ legal_forms (l ∷ ls) legal = (legal.0.0, later_forms ls legal.1)
 
 -- of two lists of lines at the front of one text, one begins with the other
 unfoldable pub GoesOn : List Line → List Line → List ℕ → List ℕ → Type 0
-GoesOn ls ms x y = (more : List Line) × (ms ≡ ls ++ more) × (x ≡ lines_text more ++ y)
+GoesOn ls ms x y = (more : List Line) × (ms ≡ ls ++ more) × (x ≡ cert_lines_text more ++ y)
 
 -- two lists of lines at the front of one text
-pub compare : (ls ms : List Line) (x y : List ℕ) → Forms ls → Forms ms → lines_text ls ++ x ≡ lines_text ms ++ y → GoesOn ls ms x y ⊎ GoesOn ms ls y x
+pub compare : (ls ms : List Line) (x y : List ℕ) → Forms ls → Forms ms → cert_lines_text ls ++ x ≡ cert_lines_text ms ++ y → GoesOn ls ms x y ⊎ GoesOn ms ls y x
 unfolding Forms GoesOn
 compare [] ms x y f g e = inl (ms, refl, e)
 compare (l ∷ ls) [] x y f g e = inr (l ∷ ls, refl, sym e)
 compare (l ∷ ls) (m ∷ ms) x y f g e =
-    let apart = sym (append_assoc (line_text l) (10 ∷ lines_text ls) x) ∙ e ∙ append_assoc (line_text m) (10 ∷ lines_text ms) y in
-    let first = first_feed (line_text l) (line_text m) (lines_text ls ++ x) (lines_text ms ++ y) (line_unbroken l f.0) (line_unbroken m g.0) apart in
+    let apart = sym (append_assoc (line_text l) (10 ∷ cert_lines_text ls) x) ∙ e ∙ append_assoc (line_text m) (10 ∷ cert_lines_text ms) y in
+    let first = first_byte 10 (line_text l) (line_text m) (cert_lines_text ls ++ x) (cert_lines_text ms ++ y) (line_unbroken l f.0) (line_unbroken m g.0) apart in
     let same = line_unique l m f.0 g.0 first.0 in
     elim (compare ls ms x y f.1 g.1 first.1) [
       | inl (more, lines, rest) ↦ inl (more, ap (λ k. m ∷ k) lines ∙ ap (λ k. k ∷ (ls ++ more)) (sym same), rest)
@@ -259,10 +176,10 @@ stuck_ends : (ls ms : List Line) (x y : List ℕ) → AreLines ms → Stuck ls x
 unfolding Stuck GoesOn
 stuck_ends ls ms x y legal stuck ([], lines, rest) = (sym (lines ∙ append-nil ls), rest)
 stuck_ends ls ms x y legal stuck (m ∷ more, lines, rest) =
-    absurd (stuck m (lines_text more ++ y) (legal_prefix ls more m (subst AreLines lines legal)) (rest ∙ append_assoc (line_text m) (10 ∷ lines_text more) y))
+    absurd (stuck m (cert_lines_text more ++ y) (legal_prefix ls more m (subst AreLines lines legal)) (rest ∙ append_assoc (line_text m) (10 ∷ cert_lines_text more) y))
 
 -- a text has one list of lines behind which no further line begins
-stuck_unique : (ls ms : List Line) (text x y : List ℕ) → AreLines ls → AreLines ms → Stuck ls x → Stuck ms y → text ≡ lines_text ls ++ x → text ≡ lines_text ms ++ y → (ls ≡ ms) × (x ≡ y)
+stuck_unique : (ls ms : List Line) (text x y : List ℕ) → AreLines ls → AreLines ms → Stuck ls x → Stuck ms y → text ≡ cert_lines_text ls ++ x → text ≡ cert_lines_text ms ++ y → (ls ≡ ms) × (x ≡ y)
 stuck_unique ls ms text x y legal right stuck other e f =
     elim (compare ls ms x y (legal_forms ls legal) (legal_forms ms right) (sym e ∙ f)) [
       | inl on ↦ stuck_ends ls ms x y right stuck on
@@ -270,9 +187,9 @@ stuck_unique ls ms text x y legal right stuck other e f =
     ]
 
 -- a beginning of a line is no line
-pub reads_stuck : (text rest : List ℕ) (ls : List Line) → Reads text ls rest → Stuck ls rest
+pub reads_stuck : (text rest : List ℕ) (ls : List Line) → ReadsLines text ls rest → Stuck ls rest
 unfolding Stuck
-reads_stuck text rest ls r l more legal e = no_feed (line_text l) more rest r.unbroken e
+reads_stuck text rest ls r l more legal e = not_parted 10 (line_text l) more rest r.unbroken e
 
 -- the last of legal lines is short
 last_short : (ls : List Line) (l : Line) → AreLines (ls ++ (l ∷ [])) → length (line_text l) ≤ line_limit
@@ -300,22 +217,13 @@ unfolding Stuck
 malformed_stuck text n m l more legal e =
     elim m.no_line [
       | inl long ↦ let short = last_short m.ls l legal in feed_within (line_text l) more m.bytes m.after m.unbroken (omega arith) (sym e)
-      | inr (rest, feed, none) ↦ none l legal (sym (first_feed m.bytes (line_text l) rest more m.unbroken (line_unbroken l (legal_last m.ls l legal).0) (ap (λ a. m.bytes ++ a) (sym feed) ∙ e)).0)
+      | inr (rest, feed, none) ↦ none l legal (sym (first_byte 10 m.bytes (line_text l) rest more m.unbroken (line_unbroken l (legal_last m.ls l legal).0) (ap (λ a. m.bytes ++ a) (sym feed) ∙ e)).0)
     ]
-
--- a test that doesn't hold
-no_end : (b : Bool) → (b ≡ true → ⊥) → b ≡ false
-no_end true n = absurd (n refl)
-no_end false n = refl
-
--- tests that both fail, joined
-or_none : (b d : Bool) → b ≡ false → d ≡ false → b || d ≡ false
-or_none b d e f = ap (λ x. x || d) e ∙ f
 
 -- no line before the last is the end
 end_later : (ls : List Line) (l : Line) → AreLater (ls ++ (l ∷ [])) → has_end ls ≡ false
 end_later [] l later = refl
-end_later (m ∷ ls) l later = or_none (is_end m) (has_end ls) (no_end (is_end m) (λ ends. omega (arith, ap length (later.3 ends), length-append ls (l ∷ [])))) (end_later ls l later.4)
+end_later (m ∷ ls) l later = or_from (is_end m) (has_end ls) (false_from_ne_true (is_end m) (λ ends. omega (arith, ap length (later.3 ends), length-append ls (l ∷ [])))) (end_later ls l later.4)
 
 -- the header isn't the end
 header_end : (l : Line) → is_header l ≡ true → is_end l ≡ false
@@ -328,7 +236,7 @@ header_end line.End e = absurd (false≢true e)
 -- no line before the last of legal lines is the end
 end_last : (ls : List Line) (l : Line) → AreLines (ls ++ (l ∷ [])) → has_end ls ≡ false
 end_last [] l legal = refl
-end_last (m ∷ ls) l legal = or_none (is_end m) (has_end ls) (header_end m legal.0.1) (end_later ls l legal.1)
+end_last (m ∷ ls) l legal = or_from (is_end m) (has_end ls) (header_end m legal.0.1) (end_later ls l legal.1)
 
 -- no line stands behind the end
 pub trailing_stuck : (text : List ℕ) (n : ℕ) (t : IsTrailing text n) → Stuck t.ls (t.byte ∷ t.after)
@@ -336,21 +244,21 @@ unfolding Stuck
 trailing_stuck text n t l more legal e = false≢true (sym (end_last t.ls l legal) ∙ t.ended)
 
 -- a text has one reading
-pub reads_unique : (text : List ℕ) (ls ms : List Line) (r s : List ℕ) → Reads text ls r → Reads text ms s → (ls ≡ ms) × (r ≡ s)
+pub reads_unique : (text : List ℕ) (ls ms : List Line) (r s : List ℕ) → ReadsLines text ls r → ReadsLines text ms s → (ls ≡ ms) × (r ≡ s)
 reads_unique text ls ms r s a b = stuck_unique ls ms text r s a.legal b.legal (reads_stuck text r ls a) (reads_stuck text s ms b) a.whole b.whole
 
 -- a text with a reading isn't malformed, and has nothing behind its end
-pub reads_malformed : (text : List ℕ) (ls : List Line) (rest : List ℕ) (n : ℕ) → Reads text ls rest → IsMalformed text n → ⊥
+pub reads_malformed : (text : List ℕ) (ls : List Line) (rest : List ℕ) (n : ℕ) → ReadsLines text ls rest → IsMalformed text n → ⊥
 reads_malformed text ls rest n r m =
     let same = stuck_unique ls m.ls text rest (m.bytes ++ m.after) r.legal m.legal (reads_stuck text rest ls r) (malformed_stuck text n m) r.whole m.whole in
     let short = r.short in
     elim m.no_line [
       | inl long ↦ omega (arith, ap length same.1, length-append m.bytes m.after)
-      | inr (more, feed, none) ↦ no_feed m.bytes more rest r.unbroken (same.1 ∙ ap (λ a. m.bytes ++ a) feed)
+      | inr (more, feed, none) ↦ not_parted 10 m.bytes more rest r.unbroken (same.1 ∙ ap (λ a. m.bytes ++ a) feed)
     ]
 
 -- the same of a byte after the end
-pub reads_trailing : (text : List ℕ) (ls : List Line) (rest : List ℕ) (n : ℕ) → Reads text ls rest → IsTrailing text n → ⊥
+pub reads_trailing : (text : List ℕ) (ls : List Line) (rest : List ℕ) (n : ℕ) → ReadsLines text ls rest → IsTrailing text n → ⊥
 reads_trailing text ls rest n r t =
     let same = stuck_unique ls t.ls text rest (t.byte ∷ t.after) r.legal t.legal (reads_stuck text rest ls r) (trailing_stuck text n t) r.whole t.whole in
     let none = r.ended (ap has_end same.0 ∙ t.ended) in
@@ -375,12 +283,12 @@ trailing_place text n k t o =
     t.place ∙ ap (λ ls. line_number (length ls)) same.0 ∙ sym o.place
 
 -- lines are those of one text
-pub lines_unique : (ls ms : List Line) → AllByRecursion IsLine ls → AllByRecursion IsLine ms → lines_text ls ≡ lines_text ms → ls ≡ ms
+pub lines_unique : (ls ms : List Line) → AllByRecursion IsLine ls → AllByRecursion IsLine ms → cert_lines_text ls ≡ cert_lines_text ms → ls ≡ ms
 unfolding Forms GoesOn
 lines_unique ls ms f g e =
     elim (compare ls ms [] [] f g (ap (λ xs. xs ++ []) e)) [
       | inl ([], lines, rest) ↦ sym (lines ∙ append-nil ls)
-      | inl (m ∷ more, lines, rest) ↦ absurd (omega (arith, ap length rest, length-append (line_text m ++ (10 ∷ lines_text more)) [], length-append (line_text m) (10 ∷ lines_text more)))
+      | inl (m ∷ more, lines, rest) ↦ absurd (omega (arith, ap length rest, length-append (line_text m ++ (10 ∷ cert_lines_text more)) [], length-append (line_text m) (10 ∷ cert_lines_text more)))
       | inr ([], lines, rest) ↦ lines ∙ append-nil ms
-      | inr (m ∷ more, lines, rest) ↦ absurd (omega (arith, ap length rest, length-append (line_text m ++ (10 ∷ lines_text more)) [], length-append (line_text m) (10 ∷ lines_text more)))
+      | inr (m ∷ more, lines, rest) ↦ absurd (omega (arith, ap length rest, length-append (line_text m ++ (10 ∷ cert_lines_text more)) [], length-append (line_text m) (10 ∷ cert_lines_text more)))
     ]

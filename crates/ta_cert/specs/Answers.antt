@@ -6,20 +6,20 @@ use Rattle.ta_cert.specs.declared.fault.CertFault.{CertFault}
 use Rattle.ta_cert.specs.declared.fault.CertFault.TheVariants as fault
 
 -- the first fault of a text, as far as its lines go
-abbrev pub FirstFault : List ℕ → CertFault → Type 0
-FirstFault text (fault.Line n) = IsMalformed text n
-FirstFault text (fault.Trailing n) = IsTrailing text n
-FirstFault text (fault.Truncated n) = IsTruncated text n
-FirstFault text _ = ⊥
+abbrev pub FirstLineFault : List ℕ → CertFault → Type 0
+FirstLineFault text (fault.Line n) = IsMalformed text n
+FirstLineFault text (fault.Trailing n) = IsTrailing text n
+FirstLineFault text (fault.Truncated n) = IsTruncated text n
+FirstLineFault text _ = ⊥
 
 -- a text is the lines of a certificate
 abbrev pub HasLines : List ℕ → Type 0
 HasLines text = (ls : List Line) × IsComplete text ls
 
 -- a text has a first fault at a line
-abbrev pub HasFault : List ℕ → Type 0
-HasFault text = (e : CertFault) × FirstFault text e
+abbrev pub HasLineFault : List ℕ → Type 0
+HasLineFault text = (e : CertFault) × FirstLineFault text e
 
 -- a text is the lines of a certificate, or has a first fault at a line: the two don't both fail. It is said so since no test of this crate's tells whether a line has a meaning.
-abbrev pub TextsHaveAnswers : Type 0
-TextsHaveAnswers = (text : List ℕ) → ¬ HasLines text → ¬ HasFault text → ⊥
+abbrev pub CertTextsHaveAnswers : Type 0
+CertTextsHaveAnswers = (text : List ℕ) → ¬ HasLines text → ¬ HasLineFault text → ⊥

@@ -1,7 +1,7 @@
 -- The text of orders of guards and of proofs.
 use Rattle.std.specs.Prelude.{ℕ, ◌<◌, ◌^◌, List, [], ◌∷◌, ◌++◌, map}
 use Rattle.std.specs.List.{AllByRecursion}
-use Rattle.ta_cert.specs.Lines.{line_text, lines_text, node_text, IsNode}
+use Rattle.ta_cert.specs.Lines.{line_text, cert_lines_text, node_text, IsNode}
 use Rattle.ta_cert.specs.Tree.{Tree, all_preorder}
 use Rattle.ta_cert.specs.declared.line.Node.{Node}
 use Rattle.ta_cert.specs.declared.line.Node.TheVariants as node
@@ -35,7 +35,7 @@ cert_lines os ps = line.Header (version_of os) ∷ (order_lines os ++ proof_line
 
 -- the text of a certificate with these orders and proofs
 abbrev pub cert_text : List Order → List Proof → List ℕ
-cert_text os ps = lines_text (cert_lines os ps)
+cert_text os ps = cert_lines_text (cert_lines os ps)
 
 -- the text of an order and of its leaf
 abbrev pub order_text : Order → List ℕ

@@ -1,6 +1,5 @@
 pub mod Tree
 pub mod Lines
-pub mod Numbers
 pub mod Certificates
 pub mod Streams
 pub mod Steps

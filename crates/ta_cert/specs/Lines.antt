@@ -37,7 +37,7 @@ line_text (line.Tree n) = node_text n
 line_text line.End = codes "end"
 
 -- a row number is below 2^32, and a multiplier from 1 to 2^127 - 1
-pub record IsPair (t : ℕ × ℤ) : Type 0 where
+pub record IsMultiplierPair (t : ℕ × ℤ) : Type 0 where
   pub row : t.0 < 2 ^ 32
   pub low : pos 1 ≤ℤ t.1
   pub high : t.1 <ℤ pos (2 ^ 127)
@@ -45,7 +45,7 @@ pub record IsPair (t : ℕ × ℤ) : Type 0 where
 -- pairs whose row numbers rise strictly, from this one on
 abbrev pub ArePairs : ℕ → List (ℕ × ℤ) → Type 0
 ArePairs low [] = Unit {0}
-ArePairs low (t ∷ ts) = (low ≤ t.0) × IsPair t × ArePairs (t.0 + 1) ts
+ArePairs low (t ∷ ts) = (low ≤ t.0) × IsMultiplierPair t × ArePairs (t.0 + 1) ts
 
 -- an unknown is below 2^32, and a floor from 0 to 2^126 - 1
 pub record IsSplit (unknown : ℕ) (floor : ℤ) : Type 0 where
@@ -72,14 +72,14 @@ IsLine (line.Tree n) = IsNode n
 IsLine line.End = Unit {0}
 
 -- the bytes are the text of this line
-pub record Says (bytes : List ℕ) (l : Line) : Type 0 where
+pub record SaysLine (bytes : List ℕ) (l : Line) : Type 0 where
   pub form : IsLine l
   pub text : bytes ≡ line_text l
 
 -- what a reader of a line found: the line, or that there is none
 abbrev pub IsMeaning : List ℕ → Option Line → Type 0
-IsMeaning bytes None = (l : Line) → Says bytes l → ⊥
-IsMeaning bytes (Some l) = Says bytes l
+IsMeaning bytes None = (l : Line) → SaysLine bytes l → ⊥
+IsMeaning bytes (Some l) = SaysLine bytes l
 
 -- the bytes are no line whose text is fixed
 pub record IsNoFixed (bytes : List ℕ) : Type 0 where
@@ -89,9 +89,9 @@ pub record IsNoFixed (bytes : List ℕ) : Type 0 where
   pub second : bytes ≢ codes "threshold-certificate 2"
 
 -- lines, each with its line feed
-abbrev pub lines_text : List Line → List ℕ
-lines_text [] = []
-lines_text (l ∷ ls) = line_text l ++ (10 ∷ lines_text ls)
+abbrev pub cert_lines_text : List Line → List ℕ
+cert_lines_text [] = []
+cert_lines_text (l ∷ ls) = line_text l ++ (10 ∷ cert_lines_text ls)
 
 abbrev pub is_header : Line → Bool
 is_header (line.Header version) = true

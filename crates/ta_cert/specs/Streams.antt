@@ -1,7 +1,7 @@
 -- What a text says that comes in pieces, line by line, and its first fault.
-use Rattle.std.specs.Prelude.{ℕ, ◌+◌, ◌-◌, ◌^◌, ◌<◌, ◌≤◌, ◌≡◌, ◌≢◌, ◌⊎◌, min, Bool, true, false, List, [], ◌∷◌, ◌++◌, length, take, Option, Some, None, Result, Ok, Err}
-use Rattle.std.specs.List.{AllByRecursion}
-use Rattle.ta_cert.specs.Lines.{line_text, lines_text, IsLine, is_header, is_end, has_end}
+use Rattle.std.specs.Prelude.{ℕ, ◌+◌, ◌-◌, ◌^◌, ◌<◌, ◌≤◌, ◌≡◌, ◌⊎◌, min, Bool, true, false, List, [], ◌∷◌, ◌++◌, length, take, Option, Some, None, Result, Ok, Err}
+use Rattle.ta_base.specs.Bytes.{Avoids}
+use Rattle.ta_cert.specs.Lines.{line_text, cert_lines_text, IsLine, is_header, is_end, has_end}
 use Rattle.ta_cert.specs.declared.line.Line.{Line}
 use Rattle.ta_cert.specs.declared.fault.CertFault.{CertFault}
 use Rattle.ta_cert.specs.declared.fault.CertFault.TheVariants as fault
@@ -18,21 +18,21 @@ AreLater [] = Unit {0}
 AreLater (l ∷ ls) = IsLine l × (length (line_text l) ≤ line_limit) × (is_header l ≡ false) × (is_end l ≡ true → ls ≡ []) × AreLater ls
 
 -- the first line, of its form
-abbrev pub IsFirst : Line → Type 0
-IsFirst l = IsLine l × (is_header l ≡ true)
+abbrev pub IsFirstLine : Line → Type 0
+IsFirstLine l = IsLine l × (is_header l ≡ true)
 
 -- the header and lines behind it, or nothing
 abbrev pub AreLines : List Line → Type 0
 AreLines [] = Unit {0}
-AreLines (l ∷ ls) = IsFirst l × AreLater ls
+AreLines (l ∷ ls) = IsFirstLine l × AreLater ls
 
 -- no line feed
 abbrev pub IsUnbroken : List ℕ → Type 0
-IsUnbroken bytes = AllByRecursion (λ b. b ≢ 10) bytes
+IsUnbroken bytes = Avoids 10 bytes
 
 -- The text has no fault yet: it is these lines, each ended, and then the beginning of a line, which is empty after the end.
-pub record Reads (text : List ℕ) (ls : List Line) (rest : List ℕ) : Type 0 where
-  pub whole : text ≡ lines_text ls ++ rest
+pub record ReadsLines (text : List ℕ) (ls : List Line) (rest : List ℕ) : Type 0 where
+  pub whole : text ≡ cert_lines_text ls ++ rest
   pub legal : AreLines ls
   pub unbroken : IsUnbroken rest
   pub short : length rest ≤ line_limit
@@ -51,7 +51,7 @@ pub record IsMalformed (text : List ℕ) (number : ℕ) : Type 0 where
   pub ls : List Line
   pub bytes : List ℕ
   pub after : List ℕ
-  pub whole : text ≡ lines_text ls ++ (bytes ++ after)
+  pub whole : text ≡ cert_lines_text ls ++ (bytes ++ after)
   pub legal : AreLines ls
   pub going_on : has_end ls ≡ false
   pub unbroken : IsUnbroken bytes
@@ -63,7 +63,7 @@ pub record IsTrailing (text : List ℕ) (number : ℕ) : Type 0 where
   pub ls : List Line
   pub byte : ℕ
   pub after : List ℕ
-  pub whole : text ≡ lines_text ls ++ (byte ∷ after)
+  pub whole : text ≡ cert_lines_text ls ++ (byte ∷ after)
   pub legal : AreLines ls
   pub ended : has_end ls ≡ true
   pub place : number ≡ line_number (length ls)
@@ -72,21 +72,21 @@ pub record IsTrailing (text : List ℕ) (number : ℕ) : Type 0 where
 pub record IsTruncated (text : List ℕ) (number : ℕ) : Type 0 where
   pub ls : List Line
   pub rest : List ℕ
-  pub reads : Reads text ls rest
+  pub reads : ReadsLines text ls rest
   pub going_on : has_end ls ≡ false
   pub place : number ≡ line_number (length ls)
 
 -- the text is these lines up to the end, and nothing else
 pub record IsComplete (text : List ℕ) (ls : List Line) : Type 0 where
-  pub reads : Reads text ls []
+  pub reads : ReadsLines text ls []
   pub ended : has_end ls ≡ true
 
 -- a text that can't go on is refused so, and nothing is said of memory
-abbrev pub IsRefused : List ℕ → CertFault → Type 0
-IsRefused text (fault.Line n) = IsMalformed text n
-IsRefused text (fault.Trailing n) = IsTrailing text n
-IsRefused text fault.Memory = Unit {0}
-IsRefused text _ = ⊥
+abbrev pub IsRefusedText : List ℕ → CertFault → Type 0
+IsRefusedText text (fault.Line n) = IsMalformed text n
+IsRefusedText text (fault.Trailing n) = IsTrailing text n
+IsRefusedText text fault.Memory = Unit {0}
+IsRefusedText text _ = ⊥
 
 -- a text that can't go on behind these lines is refused so, and nothing is said of memory
 abbrev pub IsRefusedBehind : List Line → List ℕ → CertFault → Type 0
@@ -96,9 +96,9 @@ IsRefusedBehind ls text fault.Memory = Unit {0}
 IsRefusedBehind ls text _ = ⊥
 
 -- lines with their numbers, from the line behind n lines on
-abbrev pub numbered : ℕ → List Line → List (ℕ × Line)
-numbered n [] = []
-numbered n (l ∷ ls) = (line_number n, l) ∷ numbered (n + 1) ls
+abbrev pub numbered_lines : ℕ → List Line → List (ℕ × Line)
+numbered_lines n [] = []
+numbered_lines n (l ∷ ls) = (line_number n, l) ∷ numbered_lines (n + 1) ls
 
 -- whether there is a line
 abbrev pub has_line : List Line → Bool
@@ -107,7 +107,7 @@ has_line (l ∷ ls) = true
 
 -- the reader's fields are those of the text, whose ended lines are these
 pub record StandsAt (reader : Reader) (text : List ℕ) (ls : List Line) : Type 0 where
-  pub reads : Reads text ls reader.line
+  pub reads : ReadsLines text ls reader.line
   pub number : reader.number ≡ line_number (length ls)
   pub begun : reader.begun ≡ has_line ls
   pub ended : reader.ended ≡ has_end ls
@@ -118,22 +118,22 @@ abbrev pub StandsFor : Reader → List ℕ → Type 0
 StandsFor reader text = (ls : List Line) × StandsAt reader text ls
 
 -- the lines that a piece completes behind a text, with their numbers
-pub record Completes (text piece : List ℕ) (lines : List (ℕ × Line)) : Type 0 where
+pub record CompletesLines (text piece : List ℕ) (lines : List (ℕ × Line)) : Type 0 where
   pub before : List Line
   pub new : List Line
   pub old_rest : List ℕ
   pub rest : List ℕ
-  pub was : Reads text before old_rest
-  pub reads : Reads (text ++ piece) (before ++ new) rest
-  pub numbers : lines ≡ numbered (length before) new
+  pub was : ReadsLines text before old_rest
+  pub reads : ReadsLines (text ++ piece) (before ++ new) rest
+  pub numbers : lines ≡ numbered_lines (length before) new
 
 -- what a reader that stood for a text answers to the next piece, and what it stands for then
-abbrev pub Fed : List ℕ → List ℕ → Reader → Result (List (ℕ × Line)) CertFault → Type 0
-Fed text piece reader (Ok lines) = StandsFor reader (text ++ piece) × Completes text piece lines
-Fed text piece reader (Err e) = IsRefused (text ++ piece) e
+abbrev pub FeedAnswers : List ℕ → List ℕ → Reader → Result (List (ℕ × Line)) CertFault → Type 0
+FeedAnswers text piece reader (Ok lines) = StandsFor reader (text ++ piece) × CompletesLines text piece lines
+FeedAnswers text piece reader (Err e) = IsRefusedText (text ++ piece) e
 
 -- a piece ended a line behind these: its number, and how many bytes of the piece there are up to its line feed
-pub record Ends (text : List ℕ) (ls : List Line) (piece : List ℕ) (reader : Reader) (found : Ended) : Type 0 where
+pub record EndsLine (text : List ℕ) (ls : List Line) (piece : List ℕ) (reader : Reader) (found : Ended) : Type 0 where
   pub number : found.number ≡ line_number (length ls)
   pub some : 0 < found.taken
   pub within : found.taken ≤ length piece
@@ -141,13 +141,13 @@ pub record Ends (text : List ℕ) (ls : List Line) (piece : List ℕ) (reader : 
 
 -- what a reader that stood for a text of these lines answers to the bytes of a piece up to its first line feed, or to all of them
 -- where there is none, and what it stands for then
-abbrev pub FedLine : List ℕ → List Line → List ℕ → Reader → Result (Option Ended) CertFault → Type 0
-FedLine text ls piece reader (Ok (Some found)) = Ends text ls piece reader found
-FedLine text ls piece reader (Ok None) = StandsAt reader (text ++ piece) ls
-FedLine text ls piece reader (Err e) = IsRefusedBehind ls (text ++ piece) e
+abbrev pub FeedLineAnswers : List ℕ → List Line → List ℕ → Reader → Result (Option Ended) CertFault → Type 0
+FeedLineAnswers text ls piece reader (Ok (Some found)) = EndsLine text ls piece reader found
+FeedLineAnswers text ls piece reader (Ok None) = StandsAt reader (text ++ piece) ls
+FeedLineAnswers text ls piece reader (Err e) = IsRefusedBehind ls (text ++ piece) e
 
 -- what a reader that stood for a text answers at its end
-abbrev pub Finished : List ℕ → Result (Unit {0}) CertFault → Type 0
-Finished text (Ok _) = (ls : List Line) × IsComplete text ls
-Finished text (Err (fault.Truncated n)) = IsTruncated text n
-Finished text (Err _) = ⊥
+abbrev pub FinishAnswers : List ℕ → Result (Unit {0}) CertFault → Type 0
+FinishAnswers text (Ok _) = (ls : List Line) × IsComplete text ls
+FinishAnswers text (Err (fault.Truncated n)) = IsTruncated text n
+FinishAnswers text (Err _) = ⊥

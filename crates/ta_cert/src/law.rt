@@ -4,14 +4,14 @@
 ghost use Rattle.std.specs.Prelude.{◌≡◌, ◌<◌, ◌++◌, OnOk, MatchResult};
 ghost use Rattle.ta_cert.specs.Certificates.{AreOrders, AreWritable, cert_lines};
 ghost use Rattle.ta_cert.specs.Laws.{OneReading, OneReadingByPieces, OneCertificate, AreShort, WasRead};
-ghost use Rattle.ta_cert.specs.Streams.{numbered};
+ghost use Rattle.ta_cert.specs.Streams.{numbered_lines};
 
 use crate::fault::CertFault;
 use crate::line::{Line, Order, Proof};
-use crate::list::List;
 use crate::reader::Reader;
 use crate::write::write_cert;
 use std::alloc::Global;
+use ta_base::List;
 
 /// A text is that of at most one list of lines, and of at most one list of orders and of proofs; and
 /// however a whole text is cut into pieces, they give its lines.
@@ -30,7 +30,7 @@ pub fn read_again(
     size: usize,
 ) -> Result<List<(u64, Line)>, CertFault>
     requires { 0 < size }
-    ensures { AreOrders orders.now → AreWritable proofs.now → AreShort (cert_lines orders.now proofs.now) → MatchResult result (λ lines. lines ≡ numbered 0 (cert_lines orders.now proofs.now)) (λ e. e ≡ CertFault.Memory) }
+    ensures { AreOrders orders.now → AreWritable proofs.now → AreShort (cert_lines orders.now proofs.now) → MatchResult result (λ lines. lines ≡ numbered_lines 0 (cert_lines orders.now proofs.now)) (λ e. e ≡ CertFault.Memory) }
 {
     let text = write_cert(alloc, orders, proofs)?;
     read_text(alloc, text.as_str().as_bytes(), size)

@@ -5,18 +5,13 @@ mod answers;
 mod fault;
 mod law;
 mod line;
-mod list;
-mod number;
 mod parse;
 mod reader;
-mod text;
 mod write;
 
 pub use answers::texts_have_answers;
 pub use fault::CertFault;
 pub use law::{read_again, texts_determine};
 pub use line::{Line, Node, Order, Proof};
-pub use list::List;
 pub use reader::{Ended, Reader};
-pub use text::Text;
 pub use write::{write_cert, write_head, write_line};

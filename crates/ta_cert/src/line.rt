@@ -4,7 +4,7 @@
 ghost use Rattle.std.specs.Prelude.{◌≡◌};
 ghost use Rattle.ta_cert.specs.Lines.{is_header, is_end};
 
-use crate::list::List;
+use ta_base::List;
 
 /// A node of a tree of refutations. The nodes of a tree stand in preorder.
 #[derive(Drop)]

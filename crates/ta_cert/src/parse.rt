@@ -2,13 +2,15 @@
 #![tactic(auto)]
 
 ghost use Rattle.std.specs.Prelude.{◌≡◌, ◌++◌, codes, MatchOption, IfOk};
-ghost use Rattle.ta_cert.specs.Lines.{IsMeaning, Says, IsNoFixed};
-ghost use Rattle.ta_cert.specs.Inside.Numbers.{BeginsOtherwise, IsSplitText, NoSplitText, AreGuardsText, NoGuardsText, PairAt, NoPairAt, ArePairsText, NoPairsText};
+ghost use Rattle.ta_cert.specs.Lines.{IsMeaning, SaysLine, IsNoFixed};
+ghost use Rattle.ta_cert.specs.Inside.Numbers.{IsSplitText, NoSplitText, AreGuardsText, NoGuardsText, PairAt, NoPairAt, ArePairsText, NoPairsText};
+ghost use Rattle.ta_base.specs.Bytes.{BeginsOtherwise};
 
 use crate::line::{Line, Node};
-use crate::list::List;
-use crate::number::{read_number, whole_number};
 use std::alloc::{AllocError, Global};
+use ta_base::List;
+use ta_base::bytes::after;
+use ta_base::decimals::{read_decimal, whole_decimal};
 
 /// The numbers of patterns, unknowns and rows are below this.
 const NUMBERS: u128 = 1 << 32;
@@ -17,19 +19,12 @@ const FLOORS: u128 = 1 << 126;
 /// Multipliers are below this.
 const MULTIPLIERS: u128 = 1 << 127;
 
-/// The bytes after these, where they stand first.
-fn after<'a>(bytes: &'a [u8], front: &[u8]) -> Option<&'a [u8]>
-    ensures { MatchOption result (BeginsOtherwise front.now bytes.now) (λ rest. bytes.now ≡ front.now ++ rest.now) }
-{
-    bytes.strip_prefix(front)
-}
-
 /// The pair that stands first, and the bytes after it.
 fn read_pair(bytes: &[u8]) -> Option<((u32, i128), &[u8])>
     ensures { MatchOption result (NoPairAt bytes.now) (λ x. PairAt bytes.now x.0 x.1.now) }
 {
-    let (row, rest) = read_number(after(bytes, b" ")?, NUMBERS)?;
-    let (multiplier, rest) = read_number(after(rest, b":")?, MULTIPLIERS)?;
+    let (row, rest) = read_decimal(after(bytes, b" ")?, NUMBERS)?;
+    let (multiplier, rest) = read_decimal(after(rest, b":")?, MULTIPLIERS)?;
     if multiplier == 0 {
         return None;
     }
@@ -62,8 +57,8 @@ fn read_pairs(alloc: Global, bytes: &[u8]) -> Result<Option<Vec<(u32, i128)>>, A
 fn read_split(bytes: &[u8]) -> Option<(u32, i128)>
     ensures { MatchOption result (NoSplitText bytes.now) (λ x. IsSplitText bytes.now x.0 x.1) }
 {
-    let (unknown, rest) = read_number(bytes, NUMBERS)?;
-    let floor = whole_number(after(rest, b" ")?, FLOORS)?;
+    let (unknown, rest) = read_decimal(bytes, NUMBERS)?;
+    let floor = whole_decimal(after(rest, b" ")?, FLOORS)?;
     Some((unknown as u32, floor as i128))
 }
 
@@ -71,8 +66,8 @@ fn read_split(bytes: &[u8]) -> Option<(u32, i128)>
 fn read_guards(bytes: &[u8]) -> Option<(u32, u32)>
     ensures { MatchOption result (NoGuardsText bytes.now) (λ x. AreGuardsText bytes.now x.0 x.1) }
 {
-    let (first, rest) = read_number(bytes, NUMBERS)?;
-    let second = whole_number(after(rest, b" ")?, NUMBERS)?;
+    let (first, rest) = read_decimal(bytes, NUMBERS)?;
+    let second = whole_decimal(after(rest, b" ")?, NUMBERS)?;
     Some((first as u32, second as u32))
 }
 
@@ -88,7 +83,7 @@ fn order_line(bytes: &[u8]) -> Option<Line>
 fn pattern_line(number: &[u8]) -> Option<Line>
     ensures { IsMeaning (codes "pattern " ++ number.now) result }
 {
-    let number = whole_number(number, NUMBERS)?;
+    let number = whole_decimal(number, NUMBERS)?;
     Some(Line::Pattern(number as u32))
 }
 
@@ -112,7 +107,7 @@ fn leaf_line(alloc: Global, pairs: &[u8]) -> Result<Option<Line>, AllocError>
 
 /// The line of one node, of the end or of the header, where the bytes are its text.
 fn fixed_line(bytes: &[u8]) -> Option<Line>
-    ensures { MatchOption result (IsNoFixed bytes.now) (λ l. Says bytes.now l) }
+    ensures { MatchOption result (IsNoFixed bytes.now) (λ l. SaysLine bytes.now l) }
 {
     if bytes == b"e".as_slice() {
         return Some(Line::Tree(Node::Extend));

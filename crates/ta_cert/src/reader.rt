@@ -1,17 +1,18 @@
 //! A reader that takes the text of a certificate in pieces.
 #![tactic(auto)]
 
-ghost use Rattle.std.specs.Prelude.{◌≡◌, ◌↔◌, ◌++◌, [], ℕ, List, true, IsErrOf, is_err, MatchOption};
+ghost use Rattle.std.specs.Prelude.{◌≡◌, ◌↔◌, ◌++◌, [], ℕ, List, true, IsErrOf, is_err};
 ghost use Rattle.ta_cert.specs.Laws.{IsExact, IsExactEnd};
-ghost use Rattle.ta_cert.specs.Streams.{StandsAt, StandsFor, IsUnbroken, Fed, FedLine, Finished};
-ghost use Rattle.ta_cert.specs.Steps.{IsKept, IsEnded, IsLineTaken, IsTaken, NextLine};
+ghost use Rattle.ta_cert.specs.Streams.{StandsAt, StandsFor, IsUnbroken, FeedAnswers, FeedLineAnswers, FinishAnswers};
+ghost use Rattle.ta_cert.specs.Steps.{KeepsBytes, IsEnded, TakeLineAnswers, TakeAnswers};
 ghost use Rattle.ta_cert.specs.declared.line.Line.{Line as AnyLine};
 
 use crate::fault::CertFault;
 use crate::line::Line;
-use crate::list::List;
 use crate::parse::read_line;
 use std::alloc::Global;
+use ta_base::List;
+use ta_base::bytes::split_at_byte;
 
 /// How many bytes a line has at most, its line feed aside.
 const LINE_LIMIT: usize = 1_048_576;
@@ -37,14 +38,6 @@ pub struct Ended {
     pub taken: usize,
 }
 
-/// The bytes before the first line feed, and those after it.
-fn split_line(bytes: &[u8]) -> Option<(&[u8], &[u8])>
-    ensures { MatchOption result (IsUnbroken bytes.now) (λ x. NextLine bytes.now x.0.now x.1.now) }
-{
-    let at = bytes.iter().position(|byte| *byte == b'\n')?;
-    Some((&bytes[..at], &bytes[at + 1..]))
-}
-
 impl Reader {
     /// A reader before the first piece. It takes no memory.
     pub fn new(alloc: Global) -> Reader
@@ -63,7 +56,7 @@ impl Reader {
     /// The lines that the next piece completes, with their numbers from 1. A number above
     /// 2^64 - 1 is given as 2^64 - 1.
     pub fn feed(&mut self, piece: &[u8]) -> Result<List<(u64, Line)>, CertFault>
-        ensures answer { (text : List ℕ) → StandsFor self.old text → Fed text piece.now self.new result }
+        ensures answer { (text : List ℕ) → StandsFor self.old text → FeedAnswers text piece.now self.new result }
         ensures exact { (text : List ℕ) → StandsFor self.old text → IsExact (text ++ piece.now) result }
         ensures refused { IsErrOf result CertFault.Failed ↔ (self.old.failed ≡ true) }
         ensures stays { self.new.failed ≡ is_err result }
@@ -79,7 +72,7 @@ impl Reader {
     /// Takes the bytes of the next piece up to its first line feed, or all of them where there is
     /// none, and gives the line that they end.
     pub fn feed_line(&mut self, piece: &[u8]) -> Result<Option<Ended>, CertFault>
-        ensures answer { (text : List ℕ) (ls : List AnyLine) → StandsAt self.old text ls → FedLine text ls piece.now self.new result }
+        ensures answer { (text : List ℕ) (ls : List AnyLine) → StandsAt self.old text ls → FeedLineAnswers text ls piece.now self.new result }
         ensures refused { IsErrOf result CertFault.Failed ↔ (self.old.failed ≡ true) }
         ensures stays { self.new.failed ≡ is_err result }
     {
@@ -93,7 +86,7 @@ impl Reader {
 
     /// Whether the text ended where it had to.
     pub fn finish(self) -> Result<(), CertFault>
-        ensures answer { (text : List ℕ) → StandsFor self text → Finished text result }
+        ensures answer { (text : List ℕ) → StandsFor self text → FinishAnswers text result }
         ensures exact { (text : List ℕ) → StandsFor self text → IsExactEnd text result }
         ensures refused { IsErrOf result CertFault.Failed ↔ (self.failed ≡ true) }
     {
@@ -144,11 +137,11 @@ impl Reader {
 
     /// Takes the lines of a piece, and keeps what stands behind them.
     fn take(&mut self, piece: &[u8]) -> Result<List<(u64, Line)>, CertFault>
-        ensures { IsTaken self.old piece.now self.new result }
+        ensures { TakeAnswers self.old piece.now self.new result }
     {
         let mut lines = Vec::new(self.alloc);
         let mut rest = piece;
-        'lines: while let Some((front, behind)) = split_line(rest) {
+        'lines: while let Some((front, behind)) = split_at_byte(rest, b'\n') {
             let number = self.number;
             let line = self.end_line(front)?;
             lines.push((number, line))?;
@@ -160,9 +153,9 @@ impl Reader {
 
     /// Takes the bytes of a piece up to its first line feed, or keeps all of them.
     fn take_line(&mut self, piece: &[u8]) -> Result<Option<Ended>, CertFault>
-        ensures { IsLineTaken self.old piece.now self.new result }
+        ensures { TakeLineAnswers self.old piece.now self.new result }
     {
-        match split_line(piece) {
+        match split_at_byte(piece, b'\n') {
             None => {
                 self.keep(piece)?;
                 Ok(None)
@@ -205,7 +198,7 @@ impl Reader {
     /// Keeps bytes of the unfinished line.
     fn keep(&mut self, bytes: &[u8]) -> Result<(), CertFault>
         requires { IsUnbroken bytes.now }
-        ensures { IsKept self.old bytes.now self.new result }
+        ensures { KeepsBytes self.old bytes.now self.new result }
     {
         if bytes.is_empty() {
             return Ok(());
@@ -217,7 +210,7 @@ impl Reader {
         if bytes.len() > room {
             return Err(CertFault::Line(self.number));
         }
-        self.line.append(bytes)?;
+        self.line.extend(bytes)?;
         Ok(())
     }
 }

@@ -8,8 +8,8 @@ ghost use Rattle.ta_cert.specs.Streams.{IsComplete};
 ghost use Rattle.ta_cert.specs.Certificates.{AreOrders, AreWritable, cert_lines, cert_text, head_text, order_text, proof_text, version_of};
 
 use crate::line::{Line, Node, Order, Proof};
-use crate::text::Text;
 use std::alloc::{AllocError, Global};
+use ta_base::Text;
 
 /// The text of a certificate with these orders and proofs, in their order.
 pub fn write_cert(alloc: Global, orders: &[Order], proofs: &[Proof]) -> Result<Text, AllocError>

@@ -3,24 +3,24 @@ use Rattle.std.proofs.Common.{◌≡◌, inl, inr, ℕ, zero, suc, ◌≤◌, Li
 use Rattle.std.proofs.lemmas.Fmt.{decimal_digit}
 use Rattle.std.proofs.lemmas.Bool.{false≢true}
 use Rattle.std.proofs.lemmas.List.{reverse-reverse}
-use Rattle.ta_automaton.specs.declared.automaton.Automaton.{Automaton}
+use Rattle.std.specs.List.{AllByRecursion}
+use Rattle.ta_base.proofs.Each.{none_begun}
+use Rattle.ta_rest.proofs.Resting.{no_pairs_good}
 use Rattle.ta_automaton.specs.declared.file.File.{File}
 use Rattle.ta_automaton.specs.declared.pattern.Pattern.{Pattern}
-use Rattle.ta_automaton.specs.Lists.{Each, Distinct}
-use Rattle.ta_automaton.specs.Masks.{In}
+use Rattle.ta_base.specs.Lists.{Distinct}
 use Rattle.ta_automaton.specs.Runs.{InScope, LoopsPure}
 use Rattle.ta_cert.specs.declared.line.Line.{Line}
 use Rattle.ta_cert.specs.declared.line.Line.TheVariants as line
 use Rattle.ta_cert.specs.declared.line.Node.{Node}
 use Rattle.ta_cert.specs.declared.line.Order.{Order}
 use Rattle.ta_cert.specs.Tree.{Tree}
-use Rattle.ta_cert.specs.Lines.{IsVersion, line_text, lines_text}
+use Rattle.ta_cert.specs.Lines.{IsVersion, line_text, cert_lines_text}
 use Rattle.ta_cert.specs.Streams.{AreLater, IsComplete, line_limit}
 use Rattle.ta_cert.specs.Certificates.{AreOrders, cert_lines, order_lines, pair_of, proof_lines, proofs_of, version_of}
 use Rattle.ta_cert.specs.Laws.{AreShort}
 use Rattle.ta_cert.proofs.CertLines.{cert_complete}
 use Rattle.ta_implied.specs.Implied.{Good}
-use Rattle.ta_implied.proofs.Chains.{nothing_leads}
 use Rattle.ta_encode.specs.Refutes.{IsLeaf, ProofBy}
 use Rattle.ta_encode.specs.InPreorder.{Search}
 use Rattle.ta_encode.proofs.Preorders.{weaker_proof}
@@ -32,8 +32,8 @@ use Rattle.ta_claim.specs.declared.claim.Claim.{Claim}
 use Rattle.ta_claim.specs.declared.claim.Claim.TheVariants.{Safe, RestSafe}
 use Rattle.ta_rest.specs.Endings.{ComesLast}
 use Rattle.ta_check.specs.Subjects.{HasVersion, Subject, claiming}
-use Rattle.ta_check.specs.Certificate.{AllHold, AllSafe, AllUnsolved, Certificate, CertificateFor, CertificatesShow, ClaimsHold, MayClaimAll, MayHave, PatternUnsolved, ProvesClaim, ProvesPattern, ShowsPair, number_of}
-use Rattle.ta_check.specs.Lines.{Standing, Opens, at_first, LeadThrough, MayFollow}
+use Rattle.ta_check.specs.Certificate.{AllClaimsHold, AllSafe, AllUnsolved, Certificate, CertificateFor, CertificatesShow, ClaimsHold, MayClaimAll, MayHave, PatternUnsolved, ProvesClaim, ProvesPattern, ShowsPair, proof_number}
+use Rattle.ta_check.specs.Lines.{Standing, OpensCertificate, first_standing, LeadThrough, MayFollow}
 use Rattle.ta_check.proofs.Searches.{searched}
 use Rattle.ta_check.proofs.Behind.{lead_proofs, standing}
 use Rattle.ta_check.proofs.Heads.{OrdersBehind, heads, lead_orders}
@@ -58,13 +58,13 @@ proven subject pairs q one =
     }
 
 -- what may be claimed of each pattern may be of that of a number
-may_of : (claim : Claim) (ps : List Pattern) (k : ℕ) (p : Pattern) → Each (MayClaim claim) ps → slice_get ps k ≡ Some p → MayClaim claim p
+may_of : (claim : Claim) (ps : List Pattern) (k : ℕ) (p : Pattern) → AllByRecursion (MayClaim claim) ps → slice_get ps k ≡ Some p → MayClaim claim p
 may_of claim [] k p may named = absurd (cc)
 may_of claim (q ∷ ps) zero p may named = let same : q ≡ p = cc in subst (MayClaim claim) same may.0
 may_of claim (q ∷ ps) (suc k) p may named = may_of claim ps k p may.1 named
 
 -- what is proved holds
-each_holds : (subject : Subject) (pairs : List (ℕ × ℕ)) (proofs : List (ℕ × List Tree)) → MayClaimAll subject → LoopsPure subject.file.automaton → Good subject.file.automaton pairs → Each (ProvesClaim subject pairs) proofs → AllHold subject (map number_of proofs)
+each_holds : (subject : Subject) (pairs : List (ℕ × ℕ)) (proofs : List (ℕ × List Tree)) → MayClaimAll subject → LoopsPure subject.file.automaton → Good subject.file.automaton pairs → AllByRecursion (ProvesClaim subject pairs) proofs → AllClaimsHold subject (map proof_number proofs)
 each_holds subject pairs [] may loops good prove = tt
 each_holds subject pairs (q ∷ qs) may loops good prove =
     let one = proven subject pairs q prove.0 in (
@@ -78,21 +78,21 @@ each_holds subject pairs (q ∷ qs) may loops good prove =
 
 -- what is claimed of a certificate's patterns holds
 pub claims_hold : ClaimsHold
-claims_hold subject text numbers may loops c = subst (AllHold subject) (sym c.named) (each_holds subject (map pair_of c.orders) c.proofs may loops c.good c.prove)
+claims_hold subject text numbers may loops c = subst (AllClaimsHold subject) (sym c.named) (each_holds subject (map pair_of c.orders) c.proofs may loops c.good c.prove)
 
 -- that patterns are safe may be claimed of all
 pub may_be_safe : (file : File) → MayClaimAll (claiming Safe file)
 may_be_safe file = each file.patterns
   where
-    each : (ps : List Pattern) → Each (MayClaim Safe) ps
+    each : (ps : List Pattern) → AllByRecursion (MayClaim Safe) ps
     each [] = tt
     each (p ∷ ps) = (tt, each ps)
 
 -- that they are safe at rest, of those that have events
-pub may_rest : (file : File) → Each ComesLast file.patterns → MayClaimAll (claiming RestSafe file)
+pub may_rest : (file : File) → AllByRecursion ComesLast file.patterns → MayClaimAll (claiming RestSafe file)
 may_rest file last = each file.patterns last
   where
-    each : (ps : List Pattern) → Each ComesLast ps → Each (MayClaim RestSafe) ps
+    each : (ps : List Pattern) → AllByRecursion ComesLast ps → AllByRecursion (MayClaim RestSafe) ps
     each [] last = tt
     each (p ∷ ps) last = (last.0.some, each ps last.1)
 
@@ -101,7 +101,7 @@ certificate_safe : (file : File) (text numbers : List ℕ) → LoopsPure file.au
 certificate_safe file text numbers loops c = claims_hold (claiming Safe file) text numbers (may_be_safe file) loops c
 
 -- no word of what is proved that is legal under the pairs has a solution
-each_unsolved : (file : File) (pairs : List (ℕ × ℕ)) (proofs : List (ℕ × List Tree)) → Each (ProvesPattern file pairs) proofs → Each (PatternUnsolved file pairs) (map number_of proofs)
+each_unsolved : (file : File) (pairs : List (ℕ × ℕ)) (proofs : List (ℕ × List Tree)) → AllByRecursion (ProvesPattern file pairs) proofs → AllByRecursion (PatternUnsolved file pairs) (map proof_number proofs)
 each_unsolved file pairs [] prove = tt
 each_unsolved file pairs (q ∷ qs) prove =
     let one = proven (claiming Safe file) pairs q prove.0 in
@@ -127,17 +127,13 @@ certificates_show file text numbers loops c =
     let safe = certificate_safe file text numbers loops c in
     record {
       safe = safe;
-      unsolved = subst (λ (ks : List ℕ). Each (PatternUnsolved file pairs) ks) (sym c.named) (each_unsolved file pairs c.proofs c.prove);
+      unsolved = subst (λ (ks : List ℕ). AllByRecursion (PatternUnsolved file pairs) ks) (sym c.named) (each_unsolved file pairs c.proofs c.prove);
       none_solved = λ scope. safe_unsolved file numbers scope safe;
     }
 
 -- no legal word of a certificate's patterns has a solution
 pub certificate_unsolved : (file : File) (text numbers : List ℕ) → LoopsPure file.automaton → InScope file.automaton → Certificate file text numbers → AllUnsolved file numbers
 certificate_unsolved file text numbers loops scope c = safe_unsolved file numbers scope (certificate_safe file text numbers loops c)
-
--- before the first pair
-none_good : (a : Automaton) → Good a []
-none_good a = record { pairs_are = tt; implied = tt; distinct = tt; acyclic = λ more guard chain. nothing_leads more guard guard chain }
 
 -- later lines are short
 short_later : (ls : List Line) → AreLater ls → AreShort ls
@@ -157,24 +153,24 @@ may_have RestSafe version [] has second ordered = refl
 may_have RestSafe version (o ∷ os) has second ordered = absurd (let one : version ≡ 1 = has in let two = second (λ e. cc) in omega arith)
 
 -- the certificate that the lines behind the header are
-certificate_behind : (subject : Subject) (text : List ℕ) (version : ℕ) (ls : List Line) (s : Standing) → HasVersion subject.claim version → IsVersion version → length (line_text (line.Header version)) ≤ line_limit → AreLater ls → text ≡ lines_text (line.Header version ∷ ls) → OrdersBehind subject version [] ls s → CertificateFor subject text (reverse s.begun)
+certificate_behind : (subject : Subject) (text : List ℕ) (version : ℕ) (ls : List Line) (s : Standing) → HasVersion subject.claim version → IsVersion version → length (line_text (line.Header version)) ≤ line_limit → AreLater ls → text ≡ cert_lines_text (line.Header version ∷ ls) → OrdersBehind subject version [] ls s → CertificateFor subject text (reverse s.begun)
 certificate_behind subject text version ls s has is fits later written h =
     let b = h.behind in
     let none : b.nodes ≡ [] = b.none refl in
     let proofs : h.rest ≡ proof_lines (proofs_of b.proofs) = b.lines ∙ ap (λ (ns : List Node). map line.Tree ns ++ proof_lines (proofs_of b.proofs)) none in
     let lines : ls ≡ order_lines h.orders ++ proof_lines (proofs_of b.proofs) = h.lines ∙ ap (λ (xs : List Line). order_lines h.orders ++ xs) proofs in
-    let named : reverse s.begun ≡ map number_of b.proofs = ap reverse (b.begun ∙ append-nil (reverse (map number_of b.proofs))) ∙ reverse-reverse (map number_of b.proofs) in
+    let named : reverse s.begun ≡ map proof_number b.proofs = ap reverse (b.begun ∙ append-nil (reverse (map proof_number b.proofs))) ∙ reverse-reverse (map proof_number b.proofs) in
     let same = version_same version h.orders is h.some h.second in
     let all : (line.Header version ∷ ls) ≡ cert_lines h.orders (proofs_of b.proofs) = ap (λ (xs : List Line). line.Header version ∷ xs) lines ∙ ap (λ (v : ℕ). line.Header v ∷ (order_lines h.orders ++ proof_lines (proofs_of b.proofs))) same in
     record {
       orders = h.orders;
       proofs = b.proofs;
-      written = written ∙ ap lines_text all;
+      written = written ∙ ap cert_lines_text all;
       ordered = may_have subject.claim version h.orders has h.second h.ordered;
       legal = b.writable;
       short = subst AreShort all (fits, short_later ls later);
       shown = h.shown;
-      good = h.good (none_good subject.file.automaton);
+      good = h.good (no_pairs_good subject.file.automaton);
       prove = b.prove;
       named = named;
       distinct = subst (λ (ks : List ℕ). Distinct ks) (sym named) b.distinct;
@@ -186,7 +182,7 @@ version_short version (inl one) = subst (λ (v : ℕ). length (line_text (line.H
 version_short version (inr two) = subst (λ (v : ℕ). length (line_text (line.Header v)) ≤ line_limit) (sym two) (subst (λ (xs : List ℕ). length (codes "threshold-certificate " ++ xs) ≤ line_limit) (sym (decimal_digit 2 (lit< tt))) (lit≤ tt))
 
 -- a complete text whose lines may follow each other is a certificate of the patterns that began
-pub certificate_of : (subject : Subject) (text : List ℕ) (ls : List Line) (s : Standing) → IsComplete text ls → LeadThrough subject at_first ls s → CertificateFor subject text (reverse s.begun)
+pub certificate_of : (subject : Subject) (text : List ℕ) (ls : List Line) (s : Standing) → IsComplete text ls → LeadThrough subject first_standing ls s → CertificateFor subject text (reverse s.begun)
 certificate_of subject text [] s complete lead = absurd (false≢true complete.ended)
 certificate_of subject text (line.Order j i ∷ ls) s complete lead = absurd (false≢true complete.reads.legal.0.1)
 certificate_of subject text (line.Pattern k ∷ ls) s complete lead = absurd (false≢true complete.reads.legal.0.1)
@@ -196,20 +192,15 @@ certificate_of subject text (line.Header version ∷ ls) s complete lead =
     let form : IsVersion version = complete.reads.legal.0.0 in
     let later = complete.reads.legal.1 in
     let through : LeadThrough subject (standing version [] [] []) ls s = subst (λ (t : Standing). LeadThrough subject t ls s) lead.1.leads lead.2 in
-    certificate_behind subject text version ls s lead.1.has form (version_short version form) later (complete.reads.whole ∙ append-nil (lines_text (line.Header version ∷ ls))) (heads subject version [] ls s later complete.ended through)
-
--- before any proof all are new
-none_begun : (ks : List ℕ) → Each (λ (k : ℕ). In k [] → ⊥) ks
-none_begun [] = tt
-none_begun (k ∷ ks) = ((λ i. i), none_begun ks)
+    certificate_behind subject text version ls s lead.1.has form (version_short version form) later (complete.reads.whole ∙ append-nil (cert_lines_text (line.Header version ∷ ls))) (heads subject version [] ls s later complete.ended through)
 
 -- the lines behind the first one lead to the end
-lead_all : (subject : Subject) (orders : List Order) (proofs : List (ℕ × List Tree)) → Good subject.file.automaton (map pair_of orders) → Each (ShowsPair subject.file.automaton) orders → Each (ProvesClaim subject (map pair_of orders)) proofs → Distinct (map number_of proofs) → (after : Standing) × LeadThrough subject (standing (version_of orders) [] [] []) (order_lines orders ++ proof_lines (proofs_of proofs)) after
-lead_all subject [] proofs good shown prove distinct = lead_proofs subject 1 [] proofs [] (λ two. let e : 1 ≡ 2 = two in absurd (omega arith)) prove distinct (none_begun (map number_of proofs))
-lead_all subject (o ∷ os) proofs good shown prove distinct = lead_orders subject [] (o ∷ os) (proof_lines (proofs_of proofs)) good shown (lead_proofs subject 2 (map pair_of (o ∷ os)) proofs [] (λ two empty. cc) prove distinct (none_begun (map number_of proofs)))
+lead_all : (subject : Subject) (orders : List Order) (proofs : List (ℕ × List Tree)) → Good subject.file.automaton (map pair_of orders) → AllByRecursion (ShowsPair subject.file.automaton) orders → AllByRecursion (ProvesClaim subject (map pair_of orders)) proofs → Distinct (map proof_number proofs) → (after : Standing) × LeadThrough subject (standing (version_of orders) [] [] []) (order_lines orders ++ proof_lines (proofs_of proofs)) after
+lead_all subject [] proofs good shown prove distinct = lead_proofs subject 1 [] proofs [] (λ two. let e : 1 ≡ 2 = two in absurd (omega arith)) prove distinct (none_begun (map proof_number proofs))
+lead_all subject (o ∷ os) proofs good shown prove distinct = lead_orders subject [] (o ∷ os) (proof_lines (proofs_of proofs)) good shown (lead_proofs subject 2 (map pair_of (o ∷ os)) proofs [] (λ two empty. cc) prove distinct (none_begun (map proof_number proofs)))
 
 -- pairs that a certificate may have are such pairs, and so is their version
-have_orders : (claim : Claim) (orders : List Order) → MayHave claim orders → AreOrders orders
+pub have_orders : (claim : Claim) (orders : List Order) → MayHave claim orders → AreOrders orders
 have_orders Safe orders have = have
 have_orders RestSafe [] have = tt
 have_orders RestSafe (o ∷ os) have = absurd (cc)
@@ -225,5 +216,5 @@ lines_of subject text numbers c =
     let ls = cert_lines c.orders (proofs_of c.proofs) in
     let distinct = subst (λ (ks : List ℕ). Distinct ks) c.named c.distinct in
     let lead = lead_all subject c.orders c.proofs c.good c.shown c.prove distinct in
-    let opens : Opens subject at_first (version_of c.orders) (standing (version_of c.orders) [] [] []) = record { has = have_version subject.claim c.orders c.ordered; leads = refl } in
+    let opens : OpensCertificate subject first_standing (version_of c.orders) (standing (version_of c.orders) [] [] []) = record { has = have_version subject.claim c.orders c.ordered; leads = refl } in
     (ls, subst (λ (t : List ℕ). IsComplete t ls) (sym c.written) (cert_complete c.orders (proofs_of c.proofs) (have_orders subject.claim c.orders c.ordered) c.legal c.short), (lead.0, (standing (version_of c.orders) [] [] [], opens, lead.1)))

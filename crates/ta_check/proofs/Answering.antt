@@ -1,17 +1,17 @@
 -- what the judge's answer excludes and proves
-use Rattle.std.proofs.Common.{ℕ, ◌≡◌, ◌≢◌, ◌⊎◌, inl, inr, true, false, List, [], ◌++◌, Result, Ok, Err, IfOk, IfErr, IsErrOf, is_err, refl, sym, ap, ◌∙◌, subst}
+use Rattle.std.proofs.Common.{ℕ, ◌≡◌, ◌≢◌, ◌⊎◌, inl, inr, false, List, [], ◌++◌, Result, Ok, Err, IfOk, IfErr, IsErrOf, is_err, refl, sym, ap, ◌∙◌, subst}
 use Rattle.std.proofs.lemmas.Bool.{false≢true}
 use Rattle.ta_cert.specs.declared.fault.CertFault.{CertFault}
 use Rattle.ta_cert.specs.declared.fault.CertFault.TheVariants as fault
 use Rattle.ta_cert.specs.Laws.{IsErrOrMemory}
 use Rattle.ta_cert.specs.declared.reader.Reader.{Reader}
-use Rattle.ta_cert.specs.Streams.{Finished as ReaderFinished}
+use Rattle.ta_cert.specs.Streams.{FinishAnswers as ReaderFinished}
 use Rattle.ta_cert.proofs.Unique.{reads_malformed, reads_trailing}
 use Rattle.ta_check.specs.Subjects.{Subject}
 use Rattle.ta_check.specs.declared.accepted.Accepted.{Accepted}
 use Rattle.ta_check.specs.Certificate.{CertificateFor, MayClaimAll}
 use Rattle.ta_check.specs.declared.position.Position.{Position}
-use Rattle.ta_check.specs.Checkers.{Stand, StandsFor, IsSound, Fed, IsExactFeed, Finished, IsExactEnd, subject_of}
+use Rattle.ta_check.specs.Checkers.{StandBehind, CheckerStandsFor, IsSoundChecker, CheckerFeedAnswers, IsExactFeed, CheckerFinishAnswers, IsExactCheck, subject_of}
 use Rattle.ta_check.specs.declared.checker.Checker.{Checker}
 use Rattle.ta_check.specs.Inside.Pieces.{TakenTo}
 use Rattle.ta_check.specs.Faults.{LineAtFault, IsFirstFaultFor, IsLastingFor}
@@ -57,11 +57,11 @@ exact_answer subject text (Err other) a h f first = elim (memory_or_not other) [
 ]
 
 -- no line is at fault where a text is read so far
-no_line_fault : (subject : Subject) (reader : Reader) (position : Position) (text : List ℕ) (f : CertFault) → Stand subject reader position text → LineAtFault subject text f → ⊥
+no_line_fault : (subject : Subject) (reader : Reader) (position : Position) (text : List ℕ) (f : CertFault) → StandBehind subject reader position text → LineAtFault subject text f → ⊥
 no_line_fault subject reader position text f h line = line_or_text subject text f line (read_breaks subject text h.ls reader.line h.read.reads (h.at, h.leads))
 
 -- a text that is read so far has no lasting fault
-none_lasting : (subject : Subject) (reader : Reader) (position : Position) (text : List ℕ) (f : CertFault) → Stand subject reader position text → IsLastingFor subject text f → ⊥
+none_lasting : (subject : Subject) (reader : Reader) (position : Position) (text : List ℕ) (f : CertFault) → StandBehind subject reader position text → IsLastingFor subject text f → ⊥
 none_lasting subject reader position text (fault.Truncated n) h lasting = lasting
 none_lasting subject reader position text (fault.Line n) h lasting = elim lasting [ inl line ↦ no_line_fault subject reader position text (fault.Line n) h line | inr own ↦ reads_malformed text h.ls reader.line n h.read.reads own.0 ]
 none_lasting subject reader position text (fault.Trailing n) h lasting = elim lasting [ inl line ↦ no_line_fault subject reader position text (fault.Trailing n) h line | inr own ↦ reads_trailing text h.ls reader.line n h.read.reads own.0 ]
@@ -78,7 +78,7 @@ none_lasting subject reader position text fault.Failed h lasting = elim lasting 
 none_lasting subject reader position text fault.Memory h lasting = elim lasting [ inl line ↦ no_line_fault subject reader position text fault.Memory h line | inr own ↦ own ]
 
 -- a lasting fault is a first one
-first_of_lasting : (subject : Subject) (text : List ℕ) (f : CertFault) → IsLastingFor subject text f → IsFirstFaultFor subject text f
+pub first_of_lasting : (subject : Subject) (text : List ℕ) (f : CertFault) → IsLastingFor subject text f → IsFirstFaultFor subject text f
 first_of_lasting subject text (fault.Truncated n) h = absurd h
 first_of_lasting subject text _ h = h
 
@@ -103,7 +103,7 @@ never_failed subject reader position text (Err e) taken is =
     elim lasting [ inl line ↦ line.at_fault | inr own ↦ own ]
 
 -- the answer at the end is the one that is so of the text
-pub exact_end : (subject : Subject) (text : List ℕ) (answer : Result Accepted CertFault) → Finished subject text answer → IsExactEnd subject text answer
+pub exact_end : (subject : Subject) (text : List ℕ) (answer : Result Accepted CertFault) → CheckerFinishAnswers subject text answer → IsExactCheck subject text answer
 exact_end subject text (Ok accepted) is = record {
   certificate = λ numbers c. refl;
   early = λ n first. absurd (no_certificate subject text (fault.Truncated n) first accepted.patterns is);
@@ -115,55 +115,44 @@ exact_end subject text (Err (fault.Truncated k)) is = record {
 exact_end subject text (Err _) is = absurd is
 
 -- what a finished checker accepted is a certificate
-pub finished_accepts : (subject : Subject) (text : List ℕ) (answer : Result Accepted CertFault) → Finished subject text answer → Accepts subject text answer
+pub finished_accepts : (subject : Subject) (text : List ℕ) (answer : Result Accepted CertFault) → CheckerFinishAnswers subject text answer → Accepts subject text answer
 finished_accepts subject text (Ok accepted) f = f
 finished_accepts subject text (Err e) f = tt
 
--- a checker that was refused stands for no text
-pub stands_not : (s : Checker) (text : List ℕ) → s.failed ≡ true → StandsFor s text → ⊥
-stands_not s text failed h = false≢true (sym h.going_on ∙ failed)
-
 -- a checker that was not refused stands for some text
-pub stands_somewhere : (s : Checker) → s.failed ≡ false → IsSound s → (text : List ℕ) × StandsFor s text
+pub stands_somewhere : (s : Checker) → s.failed ≡ false → IsSoundChecker s → (text : List ℕ) × CheckerStandsFor s text
 stands_somewhere s going_on (inl failed) = absurd (false≢true (sym going_on ∙ failed))
 stands_somewhere s going_on (inr stands) = stands
 
 -- what a checker answers to a piece, by its fields afterwards
-pub fed : (new : Checker) (text piece : List ℕ) (answer : Result (Unit {0}) CertFault) → MayClaimAll (subject_of new) → new.failed ≡ is_err answer → TakenTo (subject_of new) (text ++ piece) new.reader new.position answer → Fed text piece new answer
+pub fed : (new : Checker) (text piece : List ℕ) (answer : Result (Unit {0}) CertFault) → MayClaimAll (subject_of new) → new.failed ≡ is_err answer → TakenTo (subject_of new) (text ++ piece) new.reader new.position answer → CheckerFeedAnswers text piece new answer
 fed new text piece (Ok u) may failed taken = record { may = may; going_on = failed; stand = taken }
 fed new text piece (Err fault.Memory) may failed taken = tt
 fed new text piece (Err _) may failed taken = taken
 
 -- a checker is sound after each piece
-pub still_sound : (new : Checker) (text : List ℕ) (answer : Result (Unit {0}) CertFault) → MayClaimAll (subject_of new) → new.failed ≡ is_err answer → TakenTo (subject_of new) text new.reader new.position answer → IsSound new
+pub still_sound : (new : Checker) (text : List ℕ) (answer : Result (Unit {0}) CertFault) → MayClaimAll (subject_of new) → new.failed ≡ is_err answer → TakenTo (subject_of new) text new.reader new.position answer → IsSoundChecker new
 still_sound new text (Ok u) may failed taken = inr (text, record { may = may; going_on = failed; stand = taken })
 still_sound new text (Err e) may failed taken = inl failed
 
 -- what a reader answers at the end is what the checker does
-pub end_refused : (subject : Subject) (reader : Reader) (position : Position) (text : List ℕ) (e : CertFault) → Stand subject reader position text → ReaderFinished text (Err e) → Finished subject text (Err e)
+pub end_refused : (subject : Subject) (reader : Reader) (position : Position) (text : List ℕ) (e : CertFault) → StandBehind subject reader position text → ReaderFinished text (Err e) → CheckerFinishAnswers subject text (Err e)
 end_refused subject reader position text (fault.Truncated n) h f = end_fails subject reader position text n h f
 end_refused subject reader position text _ h f = absurd f
 
-pub end_failed : (subject : Subject) (text : List ℕ) (answer : Result Accepted CertFault) → Finished subject text answer → IsErrOf answer fault.Failed → ⊥
-end_failed subject text (Ok accepted) f is = cc
-end_failed subject text (Err e) f is =
-    let same : e ≡ fault.Failed = cc in
-    let none : Finished subject text (Err fault.Failed) = subst (λ g. Finished subject text (Err g)) same f in
-    none
-
 -- what a finished checker refused is a first fault
-pub finished_faults : (subject : Subject) (text : List ℕ) (answer : Result Accepted CertFault) → Finished subject text answer → Faults subject text answer
+pub finished_faults : (subject : Subject) (text : List ℕ) (answer : Result Accepted CertFault) → CheckerFinishAnswers subject text answer → Faults subject text answer
 finished_faults subject text (Ok accepted) f = tt
 finished_faults subject text (Err (fault.Truncated n)) f = λ other. f
 finished_faults subject text (Err _) f = absurd f
 
 -- what a checker refused of the whole text is its first fault
-pub fed_faults : (new : Checker) (subject : Subject) (text : List ℕ) (e : CertFault) → subject_of new ≡ subject → Fed [] text new (Err e) → e ≢ fault.Memory → IsFirstFaultFor subject text e
+pub fed_faults : (new : Checker) (subject : Subject) (text : List ℕ) (e : CertFault) → subject_of new ≡ subject → CheckerFeedAnswers [] text new (Err e) → e ≢ fault.Memory → IsFirstFaultFor subject text e
 fed_faults new subject text e same answer other = elim (told e answer) [
   | inl memory ↦ absurd (other memory)
   | inr lasting ↦ subst (λ f. IsFirstFaultFor f text e) same (first_of_lasting (subject_of new) text e lasting)
 ]
   where
-    told : (e : CertFault) → Fed [] text new (Err e) → (e ≡ fault.Memory) ⊎ IsLastingFor (subject_of new) text e
+    told : (e : CertFault) → CheckerFeedAnswers [] text new (Err e) → (e ≡ fault.Memory) ⊎ IsLastingFor (subject_of new) text e
     told fault.Memory h = inl refl
     told _ h = inr h

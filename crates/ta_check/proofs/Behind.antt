@@ -1,12 +1,14 @@
 -- lines behind the pairs of a certificate: its proofs
-use Rattle.std.proofs.Common.{◌≡◌, inl, inr, ℕ, ◌<◌, ◌^◌, true, List, [], ◌∷◌, ◌++◌, map, length, reverse, None, Some, slice_get, arith, sym, ap, ◌∙◌, refl, subst, append_assoc}
+use Rattle.std.proofs.Common.{◌≡◌, inl, inr, ℕ, ◌<◌, ◌^◌, true, List, [], ◌∷◌, ◌++◌, map, reverse, None, Some, sym, ap, ◌∙◌, refl, subst}
 use Rattle.std.specs.List.{AllByRecursion}
 use Rattle.std.proofs.lemmas.Bool.{false≢true}
-use Rattle.std.proofs.lemmas.List.{reverse-append}
-use Rattle.std.proofs.lemmas.Option.{slice_get_cases, slice_get_within}
+use Rattle.std.proofs.lemmas.Option.{slice_get_within}
+use Rattle.ta_base.proofs.Each.{older_new, others, still_new}
+use Rattle.ta_base.proofs.Lists.{reverse_first, some_at}
+use Rattle.ta_base.proofs.Options.{not_waiting}
 use Rattle.ta_automaton.specs.declared.pattern.Pattern.{Pattern}
-use Rattle.ta_automaton.specs.Lists.{Each, Distinct}
-use Rattle.ta_automaton.specs.Masks.{In}
+use Rattle.ta_base.specs.Lists.{Distinct}
+use Rattle.ta_base.specs.Masks.{In}
 use Rattle.ta_cert.specs.declared.line.Line.{Line}
 use Rattle.ta_cert.specs.declared.line.Line.TheVariants as line
 use Rattle.ta_cert.specs.declared.line.Node.{Node}
@@ -19,9 +21,8 @@ use Rattle.ta_encode.proofs.Preorders.{in_order}
 use Rattle.ta_cursor.specs.Range.{IsJudged}
 use Rattle.ta_claim.specs.Claims.{search_for}
 use Rattle.ta_check.specs.Subjects.{Subject, search_at}
-use Rattle.ta_check.specs.Certificate.{ProvesClaim, number_of}
-use Rattle.ta_check.specs.Lines.{Standing, AtWord, IsFree, Begins, Stands, Ends, LeadThrough}
-use Rattle.ta_check.proofs.Following.{not_waiting}
+use Rattle.ta_check.specs.Certificate.{ProvesClaim, proof_number}
+use Rattle.ta_check.specs.Lines.{Standing, AtWord, NothingIsLeft, BeginsProof, Stands, EndsCertificate, LeadThrough}
 use Rattle.ta_check.proofs.Searches.{same_roots, searched, search_named}
 
 -- where a certificate stands where no pair waits
@@ -37,17 +38,10 @@ pub record Behind (subject : Subject) (s : Standing) (ls : List Line) (after : S
   pub none : s.pending ≡ [] → nodes ≡ []
   pub forms : AllByRecursion IsNode nodes
   pub writable : AreWritable (proofs_of proofs)
-  pub prove : Each (ProvesClaim subject s.pairs) proofs
-  pub begun : after.begun ≡ reverse (map number_of proofs) ++ s.begun
-  pub new : Each (λ k. In k s.begun → ⊥) (map number_of proofs)
-  pub distinct : Distinct (map number_of proofs)
-
--- a list has an item at each of its numbers
-item_at : (ps : List Pattern) (k : ℕ) → k < length ps → (p : Pattern) × (slice_get ps k ≡ Some p)
-item_at ps k h = elim ((slice_get_cases ps k).1) [
-  | inl found ↦ (found.0, found.2)
-  | inr past ↦ absurd (let beyond = past.0 in omega arith)
-]
+  pub prove : AllByRecursion (ProvesClaim subject s.pairs) proofs
+  pub begun : after.begun ≡ reverse (map proof_number proofs) ++ s.begun
+  pub new : AllByRecursion (λ k. In k s.begun → ⊥) (map proof_number proofs)
+  pub distinct : Distinct (map proof_number proofs)
 
 -- nothing is left
 pub behind_end : (subject : Subject) (s after : Standing) → s.pending ≡ [] → after ≡ s → Behind subject s (line.End ∷ []) after
@@ -95,25 +89,11 @@ behind_node subject s node between ls after form stands b =
       distinct = rest.distinct;
     }
 
--- a number that began is none of those that come
-others : (number : ℕ) (begun ks : List ℕ) → Each (λ k. In k (number ∷ begun) → ⊥) ks → Each (λ k. number ≡ k → ⊥) ks
-others number begun [] h = tt
-others number begun (k ∷ ks) h = ((λ e. h.0 (inl (sym e))), others number begun ks h.1)
-
--- what is new behind one more is new behind the older
-older_new : (number : ℕ) (begun ks : List ℕ) → Each (λ k. In k (number ∷ begun) → ⊥) ks → Each (λ k. In k begun → ⊥) ks
-older_new number begun [] h = tt
-older_new number begun (k ∷ ks) h = ((λ i. h.0 (inr i)), older_new number begun ks h.1)
-
--- the newest stands first
-reverse_first : (k : ℕ) (ks begun : List ℕ) → reverse ks ++ (k ∷ begun) ≡ reverse (k ∷ ks) ++ begun
-reverse_first k ks begun = sym (ap (λ (xs : List ℕ). xs ++ begun) (reverse-append (k ∷ []) ks) ∙ append_assoc (reverse ks) (k ∷ []) begun)
-
 -- one more proof
-pub behind_pattern : (subject : Subject) (s : Standing) (number : ℕ) (between : Standing) (ls : List Line) (after : Standing) → number < 2 ^ 32 → Begins subject s number between → Behind subject between ls after → Behind subject s (line.Pattern number ∷ ls) after
+pub behind_pattern : (subject : Subject) (s : Standing) (number : ℕ) (between : Standing) (ls : List Line) (after : Standing) → number < 2 ^ 32 → BeginsProof subject s number between → Behind subject between ls after → Behind subject s (line.Pattern number ∷ ls) after
 behind_pattern subject s number between ls after form begins b =
     let rest : Behind subject (record s { begun = number ∷ s.begun; pending = all_starts subject.file.automaton }) ls after = subst (λ (t : Standing). Behind subject t ls after) begins.leads b in
-    let found = item_at subject.file.patterns number begins.exists in
+    let found = some_at subject.file.patterns number begins.exists in
     let search = search_for subject.claim subject.file.automaton found.0 s.pairs in
     let named = search_named subject s.pairs number found.0 found.1 in
     let starts = same_roots subject.claim subject.file.automaton found.0 s.pairs in
@@ -127,13 +107,13 @@ behind_pattern subject s number between ls after form begins b =
       forms = tt;
       writable = (record { pattern = form; nodes = subst (AllByRecursion IsNode) (sym trees.2) rest.forms }, rest.writable);
       prove = (record { search = search; searched = named; proves = trees.1 }, rest.prove);
-      begun = rest.begun ∙ reverse_first number (map number_of rest.proofs) s.begun;
-      new = (begins.new, older_new number s.begun (map number_of rest.proofs) rest.new);
-      distinct = (others number s.begun (map number_of rest.proofs) rest.new, rest.distinct);
+      begun = rest.begun ∙ reverse_first number (map proof_number rest.proofs) s.begun;
+      new = (begins.new, older_new number s.begun (map proof_number rest.proofs) rest.new);
+      distinct = (others number s.begun (map proof_number rest.proofs) rest.new, rest.distinct);
     }
 
 -- the end behind a standing
-pub behind_last : (subject : Subject) (s next : Standing) (ls : List Line) (after : Standing) → AreLater (line.End ∷ ls) → Ends s next → LeadThrough subject next ls after → Behind subject s (line.End ∷ ls) after
+pub behind_last : (subject : Subject) (s next : Standing) (ls : List Line) (after : Standing) → AreLater (line.End ∷ ls) → EndsCertificate s next → LeadThrough subject next ls after → Behind subject s (line.End ∷ ls) after
 behind_last subject s next ls after later ends lead =
     let last = later.3 refl in
     let rest : LeadThrough subject next [] after = subst (λ (xs : List Line). LeadThrough subject next xs after) last lead in
@@ -163,16 +143,11 @@ lead_nodes subject version pairs p number older (w ∷ ws) (n ∷ ns) ls named r
     let stands : Stands subject (standing version pairs (number ∷ older) (w ∷ ws)) n (standing version pairs (number ∷ older) next) = record { search = p; word = w; words = ws; at = first; may = refuted.0; leads = refl } in
     (rest.0, (standing version pairs (number ∷ older) next, inl stands, rest.1))
 
--- numbers that differ from one that began and from the older are new
-still_new : (number : ℕ) (begun ks : List ℕ) → Each (λ k. number ≡ k → ⊥) ks → Each (λ k. In k begun → ⊥) ks → Each (λ k. In k (number ∷ begun) → ⊥) ks
-still_new number begun [] apart new = tt
-still_new number begun (k ∷ ks) apart new = ((λ i. elim i [ inl e ↦ apart.0 (sym e) | inr j ↦ new.0 j ]), still_new number begun ks apart.1 new.1)
-
 -- the lines of proofs lead to the end
-pub lead_proofs : (subject : Subject) (version : ℕ) (pairs : List (ℕ × ℕ)) (proofs : List (ℕ × List Tree)) (begun : List ℕ) → (version ≡ 2 → pairs ≡ [] → ⊥) → Each (ProvesClaim subject pairs) proofs → Distinct (map number_of proofs) → Each (λ k. In k begun → ⊥) (map number_of proofs) → (after : Standing) × LeadThrough subject (standing version pairs begun []) (proof_lines (proofs_of proofs)) after
+pub lead_proofs : (subject : Subject) (version : ℕ) (pairs : List (ℕ × ℕ)) (proofs : List (ℕ × List Tree)) (begun : List ℕ) → (version ≡ 2 → pairs ≡ [] → ⊥) → AllByRecursion (ProvesClaim subject pairs) proofs → Distinct (map proof_number proofs) → AllByRecursion (λ k. In k begun → ⊥) (map proof_number proofs) → (after : Standing) × LeadThrough subject (standing version pairs begun []) (proof_lines (proofs_of proofs)) after
 lead_proofs subject version pairs [] begun some prove distinct new =
-    let free : IsFree (standing version pairs begun []) = record { none = refl; some = some; done = refl } in
-    let ends : Ends (standing version pairs begun []) (standing version pairs begun []) = record { free = free; leads = refl } in
+    let free : NothingIsLeft (standing version pairs begun []) = record { none = refl; some = some; done = refl } in
+    let ends : EndsCertificate (standing version pairs begun []) (standing version pairs begun []) = record { free = free; leads = refl } in
     (standing version pairs begun [], (standing version pairs begun [], ends, refl))
 lead_proofs subject version pairs (q ∷ qs) begun some prove distinct new =
     let one = prove.0 in
@@ -180,8 +155,8 @@ lead_proofs subject version pairs (q ∷ qs) begun some prove distinct new =
     let starts = all_starts subject.file.automaton in
     let refuted = (in_order IsJudged one.search (all_preorder q.1)).1 (q.1, one.proves, refl) in
     let same : one.search.roots ≡ starts = sym (ap (λ (p : Search). p.roots) found.is) ∙ same_roots subject.claim subject.file.automaton found.pattern pairs in
-    let rest = lead_proofs subject version pairs qs (q.0 ∷ begun) some prove.1 distinct.1 (still_new q.0 begun (map number_of qs) distinct.0 new.1) in
+    let rest = lead_proofs subject version pairs qs (q.0 ∷ begun) some prove.1 distinct.1 (still_new q.0 begun (map proof_number qs) distinct.0 new.1) in
     let through = lead_nodes subject version pairs one.search q.0 begun starts (all_preorder q.1) (proof_lines (proofs_of qs)) one.searched (subst (λ (ws : List Pending). RefutedInOrder one.search (IsJudged one.search) ws (all_preorder q.1)) same refuted) rest in
-    let free : IsFree (standing version pairs begun []) = record { none = refl; some = some; done = refl } in
-    let begins : Begins subject (standing version pairs begun []) q.0 (standing version pairs (q.0 ∷ begun) starts) = record { free = free; exists = slice_get_within subject.file.patterns q.0 found.pattern found.named; new = new.0; leads = refl } in
+    let free : NothingIsLeft (standing version pairs begun []) = record { none = refl; some = some; done = refl } in
+    let begins : BeginsProof subject (standing version pairs begun []) q.0 (standing version pairs (q.0 ∷ begun) starts) = record { free = free; exists = slice_get_within subject.file.patterns q.0 found.pattern found.named; new = new.0; leads = refl } in
     (through.0, (standing version pairs (q.0 ∷ begun) starts, begins, through.1))

@@ -1,6 +1,7 @@
 -- Lines lead to one standing, and those that lead on are not at fault
-use Rattle.std.proofs.Common.{◌≡◌, ◌⊎◌, inl, inr, ℕ, ◌<◌, ℤ, List, [], ◌∷◌, ◌++◌, length, false, Option, None, Some, refl, sym, ap, subst, ◌∙◌, arith}
+use Rattle.std.proofs.Common.{◌≡◌, ◌⊎◌, inl, inr, ℕ, ◌<◌, ℤ, List, [], ◌∷◌, ◌++◌, length, false, None, Some, refl, sym, ap, subst, ◌∙◌, arith}
 use Rattle.std.proofs.lemmas.Bool.{false≢true}
+use Rattle.ta_base.proofs.Options.{not_waiting}
 use Rattle.ta_cert.specs.declared.line.Line.{Line}
 use Rattle.ta_cert.specs.declared.line.Line.TheVariants as line
 use Rattle.ta_cert.specs.declared.line.Node.{Node}
@@ -14,14 +15,10 @@ use Rattle.ta_farkas.specs.declared.LeafFault.{LeafFault}
 use Rattle.ta_farkas.proofs.Judging.{no_fault}
 use Rattle.ta_cursor.specs.Range.{IsJudged}
 use Rattle.ta_check.specs.Subjects.{Subject, search_at}
-use Rattle.ta_check.specs.Lines.{Standing, AtWord, Shows, Stands, Leads, LeadThrough}
+use Rattle.ta_check.specs.Lines.{Standing, AtWord, ShowsWaiting, Stands, Leads, LeadThrough}
 use Rattle.ta_check.specs.Faults.{AtSomeWord, IsMisplaced, IsNoLeaf, FirstLeafFault, LeafFails, PairFails, IsAtFault}
 use Rattle.ta_cursor.proofs.Ranges.{check_stays}
 use Rattle.ta_check.proofs.LeafFaults.{shows_or_fails}
-
--- no pair waits where none does
-pub not_waiting : (o : Option (ℕ × ℕ)) (pair : ℕ × ℕ) → o ≡ None → o ≡ Some pair → ⊥
-not_waiting o pair none some = let e : None ≡ Some pair = sym none ∙ some in cc
 
 -- one word is the first that is left
 pub record SameWord (p q : Search) (w v : Pending) (ws vs : List Pending) : Type 0 where
@@ -53,7 +50,7 @@ pub waits_once : (s : Standing) (pair other : ℕ × ℕ) → s.waiting ≡ Some
 waits_once s pair other a b = let e : Some pair ≡ Some other = sym a ∙ b in cc
 
 -- a leaf of a pair leads to one standing
-shows_once : (subject : Subject) (s : Standing) (n : Node) (x y : Standing) → Shows subject s n x → Shows subject s n y → x ≡ y
+shows_once : (subject : Subject) (s : Standing) (n : Node) (x y : Standing) → ShowsWaiting subject s n x → ShowsWaiting subject s n y → x ≡ y
 shows_once subject s n x y a b =
     let more : ℕ × ℕ → Standing = λ pair. record s { pairs = s.pairs ++ pair ∷ []; waiting = None } in
     a.leads ∙ ap more (waits_once s a.pair b.pair a.waits b.waits) ∙ sym b.leads
@@ -90,7 +87,7 @@ may_stand subject s n after p w ws at stands =
     subst (λ v. MayStand p (IsJudged p) v n) same.word (subst (λ q. MayStand q (IsJudged q) stands.word n) same.search stands.may)
 
 -- so does a node that leads on there
-may_lead : (subject : Subject) (s : Standing) (n : Node) (after : Standing) (p : Search) (w : Pending) (ws : List Pending) → AtWord subject s p w ws → Stands subject s n after ⊎ Shows subject s n after → MayStand p (IsJudged p) w n
+may_lead : (subject : Subject) (s : Standing) (n : Node) (after : Standing) (p : Search) (w : Pending) (ws : List Pending) → AtWord subject s p w ws → Stands subject s n after ⊎ ShowsWaiting subject s n after → MayStand p (IsJudged p) w n
 may_lead subject s n after p w ws at (inl stands) = may_stand subject s n after p w ws at stands
 may_lead subject s n after p w ws at (inr shows) = absurd (not_waiting s.waiting shows.pair at.none shows.waits)
 
@@ -105,11 +102,11 @@ in_place subject s (line.Tree n) after (inr (waits, none)) (inl stands) = not_wa
 in_place subject s (line.Tree n) after (inr (waits, none)) (inr shows) = let leaf : IsNoLeaf (node.Leaf shows.multipliers) = subst IsNoLeaf shows.is none in leaf
 in_place subject s line.End after m leads = m leads.free
 
-leaf_of_leaf : (ts us : List (ℕ × ℤ)) → node.Leaf ts ≡ node.Leaf us → ts ≡ us
+pub leaf_of_leaf : (ts us : List (ℕ × ℤ)) → node.Leaf ts ≡ node.Leaf us → ts ≡ us
 leaf_of_leaf ts us e = cc
 
 -- a leaf that leads on has no fault
-leaf_leads : (subject : Subject) (s : Standing) (ts : List (ℕ × ℤ)) (f : LeafFault) (after : Standing) → AtSomeWord subject s (λ search w. FirstLeafFault search w ts f) ⊎ PairFails subject s ts f → Stands subject s (node.Leaf ts) after ⊎ Shows subject s (node.Leaf ts) after → ⊥
+leaf_leads : (subject : Subject) (s : Standing) (ts : List (ℕ × ℤ)) (f : LeafFault) (after : Standing) → AtSomeWord subject s (λ search w. FirstLeafFault search w ts f) ⊎ PairFails subject s ts f → Stands subject s (node.Leaf ts) after ⊎ ShowsWaiting subject s (node.Leaf ts) after → ⊥
 leaf_leads subject s ts f after (inl at) leads =
     let wrong : FirstLeafFault at.search at.word ts f = at.holds in
     let judged : IsJudged at.search at.word ts = may_lead subject s (node.Leaf ts) after at.search at.word at.words at.at leads in

@@ -1,9 +1,10 @@
 -- lines behind the first line of a certificate: its pairs with their leaves, and then its proofs
 use Rattle.std.proofs.Common.{◌≡◌, inl, inr, ℕ, suc, ℤ, true, List, [], ◌∷◌, ◌++◌, map, None, Some, sym, ap, ◌∙◌, refl, subst, append_assoc, append-nil}
 use Rattle.std.proofs.lemmas.Bool.{false≢true}
-use Rattle.ta_automaton.specs.Lists.{Each, Distinct}
-use Rattle.ta_automaton.specs.Masks.{In}
-use Rattle.ta_automaton.proofs.MaskTests.{In-left, In-right}
+use Rattle.std.specs.List.{AllByRecursion}
+use Rattle.ta_base.proofs.Each.{apart_before, each_at_head}
+use Rattle.ta_base.proofs.Members.{In-left, In-right}
+use Rattle.ta_base.proofs.Options.{not_waiting}
 use Rattle.ta_cert.specs.declared.line.Line.{Line}
 use Rattle.ta_cert.specs.declared.line.Line.TheVariants as line
 use Rattle.ta_cert.specs.declared.line.Node.{Node}
@@ -19,8 +20,8 @@ use Rattle.ta_implied.proofs.Chains.{leads_along}
 use Rattle.ta_implied.proofs.Joining.{good_behind}
 use Rattle.ta_check.specs.Subjects.{Subject}
 use Rattle.ta_check.specs.Certificate.{ShowsPair}
-use Rattle.ta_check.specs.Lines.{Standing, IsFree, Shows, TakesOrder, Waits, LeadThrough}
-use Rattle.ta_check.proofs.Following.{not_waiting, waits_once}
+use Rattle.ta_check.specs.Lines.{Standing, NothingIsLeft, ShowsWaiting, TakesOrder, Waits, LeadThrough}
+use Rattle.ta_check.proofs.Following.{waits_once}
 use Rattle.ta_check.proofs.Behind.{Behind, behind, behind_last, behind_pattern, standing}
 
 -- lines behind the first line and some pairs: more pairs with their leaves, and then proofs
@@ -29,14 +30,14 @@ pub record OrdersBehind (subject : Subject) (version : ℕ) (pairs : List (ℕ �
   pub rest : List Line
   pub lines : ls ≡ order_lines orders ++ rest
   pub ordered : AreOrders orders
-  pub shown : Each (ShowsPair subject.file.automaton) orders
+  pub shown : AllByRecursion (ShowsPair subject.file.automaton) orders
   pub good : Good subject.file.automaton pairs → Good subject.file.automaton (pairs ++ map pair_of orders)
   pub some : version ≡ 2 → pairs ++ map pair_of orders ≡ [] → ⊥
   pub second : (orders ≡ [] → ⊥) → version ≡ 2
   pub behind : Behind subject (standing version (pairs ++ map pair_of orders) [] []) rest after
 
 -- no more pairs
-none_more : (subject : Subject) (version : ℕ) (pairs : List (ℕ × ℕ)) (ls : List Line) (after : Standing) → IsFree (standing version pairs [] []) → Behind subject (standing version pairs [] []) ls after → OrdersBehind subject version pairs ls after
+none_more : (subject : Subject) (version : ℕ) (pairs : List (ℕ × ℕ)) (ls : List Line) (after : Standing) → NothingIsLeft (standing version pairs [] []) → Behind subject (standing version pairs [] []) ls after → OrdersBehind subject version pairs ls after
 none_more subject version pairs ls after free b = record {
   orders = [];
   rest = ls;
@@ -68,7 +69,7 @@ one_order subject version pairs before later n ls after next ts form leaf waits 
     }
 
 -- where the leaf of a pair leads
-shown_at : (subject : Subject) (version : ℕ) (pairs : List (ℕ × ℕ)) (pair : ℕ × ℕ) (n : Node) (next last : Standing) → next ≡ record (standing version pairs [] []) { waiting = Some pair } → (shows : Shows subject next n last) → (shows.pair ≡ pair) × (last ≡ standing version (pairs ++ pair ∷ []) [] [])
+shown_at : (subject : Subject) (version : ℕ) (pairs : List (ℕ × ℕ)) (pair : ℕ × ℕ) (n : Node) (next last : Standing) → next ≡ record (standing version pairs [] []) { waiting = Some pair } → (shows : ShowsWaiting subject next n last) → (shows.pair ≡ pair) × (last ≡ standing version (pairs ++ pair ∷ []) [] [])
 shown_at subject version pairs pair n next last is shows =
     let waits : next.waiting ≡ Some pair = ap (λ (t : Standing). t.waiting) is in
     let same = waits_once next shows.pair pair shows.waits waits in
@@ -95,30 +96,15 @@ heads subject version pairs (line.Order j i ∷ line.Tree n ∷ ls) after later 
     one_order subject version pairs j i n ls after next shows.multipliers later.0 later.4.0 waits shows.is (subst (λ (q : ℕ × ℕ). IsShown subject.file.automaton q shows.multipliers) at.0 shows.shown)
     (heads subject version (pairs ++ (j, i) ∷ []) ls after later.4.4 ended (subst (λ (t : Standing). LeadThrough subject t ls after) at.1 lead))
 
--- of a good list of pairs each may join those before it
-apart_before : (xs rest : List (ℕ × ℕ)) (pair : ℕ × ℕ) → Distinct (xs ++ pair ∷ rest) → In pair xs → ⊥
-apart_before [] rest pair distinct there = there
-apart_before (x ∷ xs) rest pair distinct (inl is) = not_among x (xs ++ pair ∷ rest) pair distinct.0 (In-right pair xs (pair ∷ rest) (inl refl)) (sym is)
-  where
-    not_among : (y : ℕ × ℕ) (zs : List (ℕ × ℕ)) (q : ℕ × ℕ) → Each (λ z. y ≡ z → ⊥) zs → In q zs → (y ≡ q → ⊥)
-    not_among y [] q apart there = absurd there
-    not_among y (z ∷ zs) q apart (inl same) = λ e. apart.0 (e ∙ same)
-    not_among y (z ∷ zs) q apart (inr more) = not_among y zs q apart.1 more
-apart_before (x ∷ xs) rest pair distinct (inr there) = apart_before xs rest pair distinct.1 there
-
-each_at : (P : ℕ × ℕ → Type 0) (xs rest : List (ℕ × ℕ)) (pair : ℕ × ℕ) → Each P (xs ++ pair ∷ rest) → P pair
-each_at P [] rest pair all = all.0
-each_at P (x ∷ xs) rest pair all = each_at P xs rest pair all.1
-
 joins : (a : Automaton) (xs rest : List (ℕ × ℕ)) (pair : ℕ × ℕ) → Good a (xs ++ pair ∷ rest) → MayJoin a xs pair
 joins a xs rest pair good = record {
-  is = each_at (IsPair a) xs rest pair good.pairs_are;
+  is = each_at_head (IsPair a) xs rest pair good.pairs_are;
   fresh = apart_before xs rest pair good.distinct;
   closes_none = λ more chain. good.acyclic (suc more) pair.0 (pair.1, In-right pair xs (pair ∷ rest) (inl refl), leads_along xs (xs ++ pair ∷ rest) (λ q there. In-left q xs (pair ∷ rest) there) more pair.1 pair.0 chain);
 }
 
 -- the lines of orders lead through them
-pub lead_orders : (subject : Subject) (pairs : List (ℕ × ℕ)) (orders : List Order) (ls : List Line) → Good subject.file.automaton (pairs ++ map pair_of orders) → Each (ShowsPair subject.file.automaton) orders → ((after : Standing) × LeadThrough subject (standing 2 (pairs ++ map pair_of orders) [] []) ls after) → (after : Standing) × LeadThrough subject (standing 2 pairs [] []) (order_lines orders ++ ls) after
+pub lead_orders : (subject : Subject) (pairs : List (ℕ × ℕ)) (orders : List Order) (ls : List Line) → Good subject.file.automaton (pairs ++ map pair_of orders) → AllByRecursion (ShowsPair subject.file.automaton) orders → ((after : Standing) × LeadThrough subject (standing 2 (pairs ++ map pair_of orders) [] []) ls after) → (after : Standing) × LeadThrough subject (standing 2 pairs [] []) (order_lines orders ++ ls) after
 lead_orders subject pairs [] ls good shown lead = (lead.0, subst (λ (xs : List (ℕ × ℕ)). LeadThrough subject (standing 2 xs [] []) ls lead.0) (append-nil pairs) lead.1)
 lead_orders subject pairs (o ∷ os) ls good shown lead =
     let pair : ℕ × ℕ = pair_of o in
@@ -128,5 +114,5 @@ lead_orders subject pairs (o ∷ os) ls good shown lead =
     let takes : TakesOrder at = record { version = refl; none = refl; early = refl } in
     let next : Standing = record at { waiting = Some pair } in
     let waits : Waits subject at pair next = record { takes = takes; may = joins subject.file.automaton pairs (map pair_of os) pair good; leads = refl } in
-    let shows : Shows subject next (node.Leaf o.multipliers) (standing 2 (pairs ++ pair ∷ []) [] []) = record { pair = pair; waits = refl; multipliers = o.multipliers; is = refl; shown = shown.0; leads = refl } in
+    let shows : ShowsWaiting subject next (node.Leaf o.multipliers) (standing 2 (pairs ++ pair ∷ []) [] []) = record { pair = pair; waits = refl; multipliers = o.multipliers; is = refl; shown = shown.0; leads = refl } in
     (rest.0, (next, waits, (standing 2 (pairs ++ pair ∷ []) [] [], inr shows, rest.1)))

@@ -1,30 +1,23 @@
 -- a position before the proofs: the first line, the pairs and their leaves
-use Rattle.std.proofs.Common.{◌≡◌, ◌≢◌, inl, inr, ℕ, ℤ, List, [], ◌∷◌, ◌++◌, reverse, None, Some, Ok, Err, sym, ap, ◌∙◌, subst, refl}
-use Rattle.std.proofs.lemmas.List.{reverse-reverse}
+use Rattle.std.proofs.Common.{◌≡◌, ◌≢◌, inl, inr, ℕ, ℤ, List, [], ◌∷◌, ◌++◌, None, Some, Ok, Err, sym, ◌∙◌, subst, refl}
+use Rattle.ta_base.proofs.Members.{In-left, In-right, in_append}
 use Rattle.ta_automaton.specs.declared.automaton.Automaton.{Automaton}
-use Rattle.ta_automaton.specs.Masks.{In}
-use Rattle.ta_automaton.proofs.MaskTests.{In-left, In-right}
+use Rattle.ta_base.specs.Masks.{In}
 use Rattle.ta_cert.specs.declared.line.Line.TheVariants as line
-use Rattle.ta_cert.specs.declared.line.Node.{Node}
 use Rattle.ta_cert.specs.declared.line.Node.TheVariants as node
 use Rattle.ta_cert.specs.declared.fault.CertFault.TheVariants as fault
-use Rattle.ta_implied.specs.Orders.{Joined, MayJoin, placed}
-use Rattle.ta_implied.specs.Refused.{FailsToShow}
-use Rattle.ta_implied.proofs.Members.{in_append}
+use Rattle.ta_implied.specs.Orders.{JoinsPair, MayJoin, with_pair}
 use Rattle.ta_implied.proofs.Placing.{in_placed, placed_in}
 use Rattle.ta_implied.proofs.Chains.{leads_along}
-use Rattle.ta_farkas.specs.declared.LeafFault.{LeafFault}
 use Rattle.ta_cursor.proofs.TreesLeft.{here_is}
 use Rattle.ta_claim.specs.Claims.{search_for}
 use Rattle.ta_check.specs.Subjects.{HasVersion, Subject}
 use Rattle.ta_check.specs.declared.position.Position.{Position}
-use Rattle.ta_check.specs.Lines.{Standing, IsFree, Shows, TakesOrder, Waits}
-use Rattle.ta_check.specs.Faults.{IsNoLeaf}
-use Rattle.ta_check.specs.Positions.{Between, IsAt, SamePairs, Taken, fault_at}
-use Rattle.ta_check.proofs.JudgingNodes.{fault_told}
+use Rattle.ta_check.specs.Lines.{Standing, NothingIsLeft, ShowsWaiting, TakesOrder, Waits}
+use Rattle.ta_check.specs.Positions.{Between, IsPositionAt, SamePairs, LineAnswers}
 
 -- the first line
-pub header_taken : (subject : Subject) (s : Position) (at : Standing) (number version : ℕ) → HasVersion subject.claim version → IsAt subject s at → Taken subject at number (line.Header version) (record s { version = version }) (Ok tt)
+pub header_taken : (subject : Subject) (s : Position) (at : Standing) (number version : ℕ) → HasVersion subject.claim version → IsPositionAt subject s at → LineAnswers subject at number (line.Header version) (record s { version = version }) (Ok tt)
 header_taken subject s at number version has is = (
   record at { version = version },
   record { has = has; leads = refl },
@@ -42,7 +35,7 @@ header_taken subject s at number version has is = (
 )
 
 -- before any proof no proof is being read
-before_proofs : (subject : Subject) (s : Position) (at : Standing) → at.begun ≡ [] → IsAt subject s at → Between s at.pending
+before_proofs : (subject : Subject) (s : Position) (at : Standing) → at.begun ≡ [] → IsPositionAt subject s at → Between s at.pending
 before_proofs subject s at none is = elim is.place [
   | inl between ↦ between
   | inr inside ↦ absurd (let some : [] ≡ (inside.number ∷ inside.older) = sym none ∙ inside.begun in cc)
@@ -56,7 +49,7 @@ back : (xs ys : List (ℕ × ℕ)) → SamePairs xs ys → SamePairs ys xs
 back xs ys same = λ pair. ((same pair).1, (same pair).0)
 
 -- what is free by a position's fields
-pub free_from : (subject : Subject) (s : Position) (at : Standing) → IsAt subject s at → s.waiting ≡ None → s.current ≡ None → (s.version ≡ 2 → s.orders ≢ []) → IsFree at
+pub free_from : (subject : Subject) (s : Position) (at : Standing) → IsPositionAt subject s at → s.waiting ≡ None → s.current ≡ None → (s.version ≡ 2 → s.orders ≢ []) → NothingIsLeft at
 free_from subject s at is none nowhere some = record {
   none = is.waiting ∙ none;
   some = λ two empty. some (sym is.version ∙ two) (none_same at.pairs s.orders empty is.pairs);
@@ -71,7 +64,7 @@ pub record FreeFields (s : Position) : Type 0 where
   pub nowhere : s.current ≡ None
   pub some : s.version ≡ 2 → s.orders ≢ []
 
-pub free_back : (subject : Subject) (s : Position) (at : Standing) → IsAt subject s at → IsFree at → FreeFields s
+pub free_back : (subject : Subject) (s : Position) (at : Standing) → IsPositionAt subject s at → NothingIsLeft at → FreeFields s
 free_back subject s at is free = record {
   none = sym is.waiting ∙ free.none;
   nowhere = elim is.place [
@@ -79,26 +72,6 @@ free_back subject s at is free = record {
     | inr inside ↦ absurd (let left = here_is (search_for subject.claim subject.file.automaton inside.pattern s.orders) s.place at.pending inside.within in let gone = sym free.done ∙ left in cc)
   ];
   some = λ two empty. free.some (is.version ∙ two) (none_same s.orders at.pairs empty (back at.pairs s.orders is.pairs));
-}
-
--- whether a pair may come, by a position's fields
-pub takes_from : (subject : Subject) (s : Position) (at : Standing) → IsAt subject s at → s.version ≡ 2 → s.waiting ≡ None → s.proved.items ≡ [] → TakesOrder at
-takes_from subject s at is two none early = record {
-  version = is.version ∙ two;
-  none = is.waiting ∙ none;
-  early = is.begun ∙ ap reverse early;
-}
-
-pub record TakingFields (s : Position) : Type 0 where
-  pub version : s.version ≡ 2
-  pub none : s.waiting ≡ None
-  pub early : s.proved.items ≡ []
-
-pub takes_back : (subject : Subject) (s : Position) (at : Standing) → IsAt subject s at → TakesOrder at → TakingFields s
-takes_back subject s at is takes = record {
-  version = sym is.version ∙ takes.version;
-  none = sym is.waiting ∙ takes.none;
-  early = sym (reverse-reverse s.proved.items) ∙ ap reverse (sym is.begun ∙ takes.early);
 }
 
 -- only which pairs there are counts
@@ -110,7 +83,7 @@ join_same a xs ys pair same may = record {
 }
 
 -- a pair that may come waits for its leaf
-pub order_taken : (subject : Subject) (s : Position) (at : Standing) (number before later : ℕ) → IsAt subject s at → TakesOrder at → MayJoin subject.file.automaton s.orders (before, later) → Taken subject at number (line.Order before later) (record s { waiting = Some (before, later) }) (Ok tt)
+pub order_taken : (subject : Subject) (s : Position) (at : Standing) (number before later : ℕ) → IsPositionAt subject s at → TakesOrder at → MayJoin subject.file.automaton s.orders (before, later) → LineAnswers subject at number (line.Order before later) (record s { waiting = Some (before, later) }) (Ok tt)
 order_taken subject s at number before later is takes may =
     let join = join_same subject.file.automaton s.orders at.pairs (before, later) (back at.pairs s.orders is.pairs) may in
     let between = before_proofs subject s at takes.early is in
@@ -127,7 +100,7 @@ order_taken subject s at number before later is takes may =
       },
     )
 
-pub order_bad : (subject : Subject) (s : Position) (at : Standing) (number before later : ℕ) (new : Position) → IsAt subject s at → TakesOrder at → (MayJoin subject.file.automaton s.orders (before, later) → ⊥) → Taken subject at number (line.Order before later) new (Err (fault.Pair number))
+pub order_bad : (subject : Subject) (s : Position) (at : Standing) (number before later : ℕ) (new : Position) → IsPositionAt subject s at → TakesOrder at → (MayJoin subject.file.automaton s.orders (before, later) → ⊥) → LineAnswers subject at number (line.Order before later) new (Err (fault.Pair number))
 order_bad subject s at number before later new is takes bad = (
   refl,
   record {
@@ -140,7 +113,7 @@ order_bad subject s at number before later new is takes bad = (
 )
 
 -- a pair behind others
-same_placed : (xs ys new : List (ℕ × ℕ)) (pair : ℕ × ℕ) → SamePairs xs ys → new ≡ placed pair ys → SamePairs (xs ++ pair ∷ []) new
+same_placed : (xs ys new : List (ℕ × ℕ)) (pair : ℕ × ℕ) → SamePairs xs ys → new ≡ with_pair pair ys → SamePairs (xs ++ pair ∷ []) new
 same_placed xs ys new pair same whole = λ q. (
   λ there. subst (In q) (sym whole) (placed_in pair ys q (elim (in_append q xs (pair ∷ []) there) [
     | inl old ↦ inr ((same q).0 old)
@@ -153,12 +126,12 @@ same_placed xs ys new pair same whole = λ q. (
 )
 
 -- the leaf that shows a pair
-pub shown_taken : (subject : Subject) (s : Position) (at : Standing) (number before later : ℕ) (ts : List (ℕ × ℤ)) (new : List (ℕ × ℕ)) → s.waiting ≡ Some (before, later) → IsAt subject s at → Joined subject.file.automaton (before, later) ts s.orders new → Taken subject at number (line.Tree (node.Leaf ts)) (record s { orders = new; waiting = None }) (Ok tt)
+pub shown_taken : (subject : Subject) (s : Position) (at : Standing) (number before later : ℕ) (ts : List (ℕ × ℤ)) (new : List (ℕ × ℕ)) → s.waiting ≡ Some (before, later) → IsPositionAt subject s at → JoinsPair subject.file.automaton (before, later) ts s.orders new → LineAnswers subject at number (line.Tree (node.Leaf ts)) (record s { orders = new; waiting = None }) (Ok tt)
 shown_taken subject s at number before later ts new waits is joined =
     let pair : ℕ × ℕ = (before, later) in
     let may = is.may pair (is.waiting ∙ waits) in
     let between = before_proofs subject s at may.early is in
-    let shows : Shows subject at (node.Leaf ts) (record at { pairs = at.pairs ++ pair ∷ []; waiting = None }) = record {
+    let shows : ShowsWaiting subject at (node.Leaf ts) (record at { pairs = at.pairs ++ pair ∷ []; waiting = None }) = record {
       pair = pair;
       waits = is.waiting ∙ waits;
       multipliers = ts;
@@ -179,17 +152,5 @@ shown_taken subject s at number before later ts new waits is joined =
     )
 
 -- a pair that waits may join
-pub waits_join : (subject : Subject) (s : Position) (at : Standing) (before later : ℕ) → s.waiting ≡ Some (before, later) → IsAt subject s at → MayJoin subject.file.automaton s.orders (before, later)
+pub waits_join : (subject : Subject) (s : Position) (at : Standing) (before later : ℕ) → s.waiting ≡ Some (before, later) → IsPositionAt subject s at → MayJoin subject.file.automaton s.orders (before, later)
 waits_join subject s at before later waits is = join_same subject.file.automaton at.pairs s.orders (before, later) is.pairs (is.may (before, later) (is.waiting ∙ waits)).join
-
--- a leaf that doesn't show it
-pub shown_fails : (subject : Subject) (s : Position) (at : Standing) (number before later : ℕ) (ts : List (ℕ × ℤ)) (new : Position) (f : LeafFault) → s.waiting ≡ Some (before, later) → IsAt subject s at → FailsToShow subject.file.automaton (before, later) ts f → Taken subject at number (line.Tree (node.Leaf ts)) new (Err (fault_at number f))
-shown_fails subject s at number before later ts new f waits is fails = fault_told subject at number (line.Tree (node.Leaf ts)) new f (record {
-  multipliers = ts;
-  is = refl;
-  at = inr (record { pair = (before, later); waits = is.waiting ∙ waits; fails = fails });
-})
-
--- another node than a leaf, where a pair waits
-pub no_leaf : (subject : Subject) (s : Position) (at : Standing) (number before later : ℕ) (n : Node) (new : Position) → s.waiting ≡ Some (before, later) → IsAt subject s at → IsNoLeaf n → Taken subject at number (line.Tree n) new (Err (fault.Line number))
-no_leaf subject s at number before later n new waits is none = (refl, inr (record { pair = (before, later); waits = is.waiting ∙ waits }, none))

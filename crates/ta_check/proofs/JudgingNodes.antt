@@ -1,6 +1,7 @@
 -- a position that takes a node
-use Rattle.std.proofs.Common.{◌≡◌, ◌≢◌, ◌⊎◌, ◌<◌, length, slice_get, inl, inr, ℕ, ℤ, Bool, true, false, List, [], ◌∷◌, ◌++◌, reverse, Option, None, Some, Result, Ok, Err, sym, ap, ◌∙◌, subst, refl}
+use Rattle.std.proofs.Common.{◌≡◌, ◌⊎◌, ◌<◌, length, slice_get, inl, inr, ℕ, ℤ, Bool, true, false, List, [], ◌∷◌, ◌++◌, reverse, Option, None, Some, Result, Ok, Err, sym, ap, ◌∙◌, subst, refl}
 use Rattle.std.proofs.lemmas.Option.{slice_get_within}
+use Rattle.ta_base.proofs.Options.{not_waiting}
 use Rattle.ta_automaton.specs.declared.pattern.Pattern.{Pattern}
 use Rattle.ta_cert.specs.declared.line.Line.{Line}
 use Rattle.ta_cert.specs.declared.line.Line.TheVariants as line
@@ -23,9 +24,8 @@ use Rattle.ta_check.specs.declared.position.Position.{Position}
 use Rattle.ta_cursor.specs.Range.{IsJudged}
 use Rattle.ta_check.specs.Lines.{Standing, AtWord, Stands}
 use Rattle.ta_check.specs.Faults.{AtSomeWord, FirstLeafFault, LeafFails}
-use Rattle.ta_check.proofs.Following.{not_waiting}
 use Rattle.ta_check.proofs.Searches.{search_same}
-use Rattle.ta_check.specs.Positions.{Between, InNewest, IsAt, IsSomewhere, LeafTaken, SamePairs, Taken, fault_at}
+use Rattle.ta_check.specs.Positions.{Between, InNewest, IsPositionAt, IsSomewhere, LeafTaken, SamePairs, LineAnswers, fault_at}
 
 -- what a position keeps of the first line and the pairs, where no pair waits
 pub record Head (s : Position) (at : Standing) : Type 0 where
@@ -48,7 +48,7 @@ head_kept old new at same head = record {
   none = head.none;
 }
 
-pub head_of : (subject : Subject) (s : Position) (at : Standing) → s.waiting ≡ None → IsAt subject s at → Head s at
+pub head_of : (subject : Subject) (s : Position) (at : Standing) → s.waiting ≡ None → IsPositionAt subject s at → Head s at
 head_of subject s at none is = record { version = is.version; pairs = is.pairs; waiting = is.waiting; none = is.waiting ∙ none }
 
 -- before a node of the newest proof, which is that of this pattern of a number
@@ -73,7 +73,7 @@ same_number subject s at number head current inside =
     }
 
 -- a position that has a current pattern is in its proof
-pub some_newest : (subject : Subject) (s : Position) (at : Standing) (number : ℕ) → s.waiting ≡ None → s.current ≡ Some number → IsAt subject s at → (p : Pattern) × Newest subject s at number p
+pub some_newest : (subject : Subject) (s : Position) (at : Standing) (number : ℕ) → s.waiting ≡ None → s.current ≡ Some number → IsPositionAt subject s at → (p : Pattern) × Newest subject s at number p
 some_newest subject s at number none current is = elim is.place [
   | inl between ↦ absurd (let nowhere : None ≡ Some number = sym between.current ∙ current in cc)
   | inr inside ↦ (inside.pattern, same_number subject s at number (head_of subject s at none is) current inside)
@@ -125,9 +125,6 @@ later subject s at number p n = later_words (search_for subject.claim subject.fi
 pub first_within : (subject : Subject) (s : Position) (at : Standing) (number : ℕ) (p : Pattern) (n : Newest subject s at number p) → AllWithin (search_for subject.claim subject.file.automaton p s.orders) s.place (here_at s.place ∷ later subject s at number p n)
 first_within subject s at number p n = here_first (search_for subject.claim subject.file.automaton p s.orders) s.place at.pending n.within
 
-pub word_of : (subject : Subject) (s : Position) (at : Standing) (number : ℕ) (p : Pattern) → Newest subject s at number p → IsWord (search_for subject.claim subject.file.automaton p s.orders) (here_at s.place)
-word_of subject s at number p n = n.within.within.word
-
 pub at_word : (subject : Subject) (s : Position) (at : Standing) (number : ℕ) (p : Pattern) (n : Newest subject s at number p) → AtWord subject at (search_for subject.claim subject.file.automaton p s.orders) (here_at s.place) (later subject s at number p n)
 at_word subject s at number p n = record {
   none = n.head.none;
@@ -154,7 +151,7 @@ CurrentWhere true number current = current ≡ Some number
 CurrentWhere false number current = current ≡ None
 
 -- a position whose place went on is at what is left
-went_at : (subject : Subject) (s : Position) (at : Standing) (number : ℕ) (p : Pattern) (words : List Pending) (older : List ℕ) (more : Bool) → Head s at → slice_get subject.file.patterns number ≡ Some p → at.begun ≡ number ∷ older → at.begun ≡ reverse s.proved.items → CurrentWhere more number s.current → IsEncoding subject.file.automaton p s.encoding → AllGoOn (search_for subject.claim subject.file.automaton p s.orders) s.place words (Ok more) → IsAt subject s (record at { pending = words })
+went_at : (subject : Subject) (s : Position) (at : Standing) (number : ℕ) (p : Pattern) (words : List Pending) (older : List ℕ) (more : Bool) → Head s at → slice_get subject.file.patterns number ≡ Some p → at.begun ≡ number ∷ older → at.begun ≡ reverse s.proved.items → CurrentWhere more number s.current → IsEncoding subject.file.automaton p s.encoding → AllGoOn (search_for subject.claim subject.file.automaton p s.orders) s.place words (Ok more) → IsPositionAt subject s (record at { pending = words })
 went_at subject s at number p words older more head named newest proved current kept went = record {
   version = head.version;
   pairs = head.pairs;
@@ -180,21 +177,16 @@ went_at subject s at number p words older more head named newest proved current 
       kept = kept;
     })
 
--- a place before a node went on to it
-pub goes_within : (s : Search) (t : Place) (words : List Pending) → words ≢ [] → AllWithin s t words → AllGoOn s t words (Ok true)
-goes_within s t [] some within = absurd (some refl)
-goes_within s t (w ∷ ws) some within = (refl, within)
-
 -- a node that may stand at the word is taken, if the place goes on to its parts
 pub node_taken : (subject : Subject) (old new : Position) (at : Standing) (k number : ℕ) (p : Pattern) (n : Node) (more : Bool) (first : Newest subject old at k p)
-    → IsAt subject old at
+    → IsPositionAt subject old at
     → SameHead old new
     → MayStand (search_for subject.claim subject.file.automaton p old.orders) (IsJudged (search_for subject.claim subject.file.automaton p old.orders)) (here_at old.place) n
     → new.proved.items ≡ old.proved.items
     → CurrentWhere more k new.current
     → IsEncoding subject.file.automaton p new.encoding
     → AllGoOn (search_for subject.claim subject.file.automaton p old.orders) new.place (parts (search_for subject.claim subject.file.automaton p old.orders) (here_at old.place) n ++ later subject old at k p first) (Ok more)
-    → Taken subject at number (line.Tree n) new (Ok tt)
+    → LineAnswers subject at number (line.Tree n) new (Ok tt)
 node_taken subject old new at k number p n more first is same may proved current kept went =
     let search = search_for subject.claim subject.file.automaton p old.orders in
     let words = parts search (here_at old.place) n ++ later subject old at k p first in
@@ -210,7 +202,7 @@ node_taken subject old new at k number p n more first is same may proved current
     (record at { pending = words }, inl stands, went_at subject new at k p words first.older more (head_kept old new at same first.head) first.named first.begun (is.begun ∙ ap reverse (sym proved)) current kept gone)
 
 -- a leaf's fault is told in its line
-pub fault_told : (subject : Subject) (at : Standing) (number : ℕ) (l : Line) (new : Position) (f : LeafFault) → LeafFails subject at l f → Taken subject at number l new (Err (fault_at number f))
+pub fault_told : (subject : Subject) (at : Standing) (number : ℕ) (l : Line) (new : Position) (f : LeafFault) → LeafFails subject at l f → LineAnswers subject at number l new (Err (fault_at number f))
 fault_told subject at number l new (leaf.RowNumber row) fails = (refl, fails)
 fault_told subject at number l new (leaf.Overflow column) fails = (refl, fails)
 fault_told subject at number l new (leaf.Positive unknown) fails = (refl, fails)
@@ -222,12 +214,12 @@ leaf_told tree search there cursor number ts answer same place told =
     subst (λ (d : Cursor). LeafTaken search (here d) number ts answer) place (subst (λ (q : Search). LeafTaken q (here there) number ts answer) same told)
 
 -- what the judge of a leaf refuses is refused
-pub leaf_refused : (subject : Subject) (s new : Position) (at : Standing) (k number : ℕ) (p : Pattern) (ts : List (ℕ × ℤ)) (f : CertFault) (n : Newest subject s at k p) → LeafTaken (search_for subject.claim subject.file.automaton p s.orders) (here_at s.place) number ts (Err f) → Taken subject at number (line.Tree (node.Leaf ts)) new (Err f)
-leaf_refused subject s new at k number p ts f n (inl memory) = subst (λ g. Taken subject at number (line.Tree (node.Leaf ts)) new (Err g)) (sym memory) tt
+pub leaf_refused : (subject : Subject) (s new : Position) (at : Standing) (k number : ℕ) (p : Pattern) (ts : List (ℕ × ℤ)) (f : CertFault) (n : Newest subject s at k p) → LeafTaken (search_for subject.claim subject.file.automaton p s.orders) (here_at s.place) number ts (Err f) → LineAnswers subject at number (line.Tree (node.Leaf ts)) new (Err f)
+leaf_refused subject s new at k number p ts f n (inl memory) = subst (λ g. LineAnswers subject at number (line.Tree (node.Leaf ts)) new (Err g)) (sym memory) tt
 leaf_refused subject s new at k number p ts f n (inr told) =
     let fails : LeafFails subject at (line.Tree (node.Leaf ts)) told.fault = record {
       multipliers = ts;
       is = refl;
       at = inl (at_some_word subject s at k p (λ search w. FirstLeafFault search w ts told.fault) n told.first);
     } in
-    subst (λ g. Taken subject at number (line.Tree (node.Leaf ts)) new (Err g)) (sym told.is) (fault_told subject at number (line.Tree (node.Leaf ts)) new told.fault fails)
+    subst (λ g. LineAnswers subject at number (line.Tree (node.Leaf ts)) new (Err g)) (sym told.is) (fault_told subject at number (line.Tree (node.Leaf ts)) new told.fault fails)

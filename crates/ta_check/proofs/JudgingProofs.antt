@@ -2,7 +2,8 @@
 use Rattle.std.proofs.Common.{◌≡◌, inl, inr, ℕ, ◌<◌, List, [], ◌∷◌, ◌++◌, length, reverse, Some, slice_get, sym, ap, ◌∙◌, subst, refl, arith}
 use Rattle.std.proofs.lemmas.List.{reverse-append}
 use Rattle.std.proofs.lemmas.Option.{slice_get_cases}
-use Rattle.ta_automaton.specs.Masks.{In}
+use Rattle.ta_base.specs.Masks.{In}
+use Rattle.ta_base.proofs.Options.{not_waiting}
 use Rattle.ta_automaton.specs.declared.pattern.Pattern.{Pattern}
 use Rattle.ta_automaton.specs.declared.automaton.Automaton.{Automaton}
 use Rattle.ta_claim.specs.declared.claim.Claim.{Claim}
@@ -14,9 +15,8 @@ use Rattle.ta_cursor.specs.InTrees.{AllWithin}
 use Rattle.ta_claim.specs.Claims.{search_for}
 use Rattle.ta_check.specs.Subjects.{Subject}
 use Rattle.ta_check.specs.declared.position.Position.{Position}
-use Rattle.ta_check.specs.Lines.{Standing, Begins, IsFree}
-use Rattle.ta_check.specs.Positions.{IsAt}
-use Rattle.ta_check.proofs.Following.{not_waiting}
+use Rattle.ta_check.specs.Lines.{Standing, BeginsProof, NothingIsLeft}
+use Rattle.ta_check.specs.Positions.{IsPositionAt}
 use Rattle.ta_check.proofs.JudgingHeads.{free_back}
 use Rattle.ta_check.proofs.JudgingNodes.{Head, SameHead, head_kept, head_of}
 
@@ -37,7 +37,7 @@ first_of claim a p pairs tree place same within =
 pattern_exists : (subject : Subject) (k : ℕ) → k < length subject.file.patterns → (p : Pattern) × (slice_get subject.file.patterns k ≡ Some p)
 pattern_exists subject k within = elim ((slice_get_cases subject.file.patterns k).1) [ inl found ↦ (found.0, found.2) | inr past ↦ absurd (let beyond = past.0 in omega arith) ]
 
-began_at : (subject : Subject) (old new : Position) (at : Standing) (k : ℕ) → k < length subject.file.patterns → at.begun ≡ reverse old.proved.items → Head old at → Began subject old k new → IsAt subject new (record at { begun = k ∷ at.begun; pending = all_starts subject.file.automaton })
+began_at : (subject : Subject) (old new : Position) (at : Standing) (k : ℕ) → k < length subject.file.patterns → at.begun ≡ reverse old.proved.items → Head old at → Began subject old k new → IsPositionAt subject new (record at { begun = k ∷ at.begun; pending = all_starts subject.file.automaton })
 began_at subject old new at k exists begun first began =
     let found = pattern_exists subject k exists in
     let head = head_kept old new at began.same first in
@@ -60,10 +60,10 @@ began_at subject old new at k exists begun first began =
     }
 
 -- a proof that may begin begins
-pub begins : (subject : Subject) (old new : Position) (at : Standing) (k : ℕ) → k < length subject.file.patterns → (In k (reverse old.proved.items) → ⊥) → IsAt subject old at → IsFree at → Began subject old k new → (after : Standing) × Begins subject at k after × IsAt subject new after
+pub begins : (subject : Subject) (old new : Position) (at : Standing) (k : ℕ) → k < length subject.file.patterns → (In k (reverse old.proved.items) → ⊥) → IsPositionAt subject old at → NothingIsLeft at → Began subject old k new → (after : Standing) × BeginsProof subject at k after × IsPositionAt subject new after
 begins subject old new at k exists fresh is free began =
     let after = record at { begun = k ∷ at.begun; pending = all_starts subject.file.automaton } in
-    let starts : Begins subject at k after = record {
+    let starts : BeginsProof subject at k after = record {
       free = free;
       exists = exists;
       new = λ before. fresh (subst (In k) is.begun before);
@@ -72,14 +72,14 @@ begins subject old new at k exists fresh is free began =
     (after, starts, began_at subject old new at k exists is.begun (head_of subject old at (sym is.waiting ∙ free.none) is) began)
 
 -- one that has nothing to refute has ended
-pub begins_none : (subject : Subject) (old new : Position) (at : Standing) (k : ℕ) (tree : Search) → k < length subject.file.patterns → (In k (reverse old.proved.items) → ⊥) → IsAt subject old at → IsFree at → SameHead old new → new.current ≡ old.current → new.proved.items ≡ old.proved.items ++ k ∷ []
+pub begins_none : (subject : Subject) (old new : Position) (at : Standing) (k : ℕ) (tree : Search) → k < length subject.file.patterns → (In k (reverse old.proved.items) → ⊥) → IsPositionAt subject old at → NothingIsLeft at → SameHead old new → new.current ≡ old.current → new.proved.items ≡ old.proved.items ++ k ∷ []
     → ((p : Pattern) → slice_get subject.file.patterns k ≡ Some p → tree ≡ search_for subject.claim subject.file.automaton p old.orders) → tree.roots ≡ []
-    → (after : Standing) × Begins subject at k after × IsAt subject new after
+    → (after : Standing) × BeginsProof subject at k after × IsPositionAt subject new after
 begins_none subject old new at k tree exists fresh is free same current proved search none =
     let found = pattern_exists subject k exists in
     let after = record at { begun = k ∷ at.begun; pending = all_starts subject.file.automaton } in
     let head = head_kept old new at same (head_of subject old at (sym is.waiting ∙ free.none) is) in
-    let starts : Begins subject at k after = record { free = free; exists = exists; new = λ before. fresh (subst (In k) is.begun before); leads = refl } in
+    let starts : BeginsProof subject at k after = record { free = free; exists = exists; new = λ before. fresh (subst (In k) is.begun before); leads = refl } in
     let empty = sym (same_roots subject.claim subject.file.automaton found.0 old.orders) ∙ sym (ap (λ (q : Search). q.roots) (search found.0 found.1)) ∙ none in (
       after,
       starts,

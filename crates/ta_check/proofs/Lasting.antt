@@ -3,7 +3,7 @@ use Rattle.std.proofs.Common.{◌∙◌, ℕ, List, [], ◌∷◌, ◌++◌, inl
 use Rattle.ta_cert.specs.declared.fault.CertFault.{CertFault}
 use Rattle.ta_cert.specs.declared.fault.CertFault.TheVariants as fault
 use Rattle.ta_cert.specs.declared.line.Line.{Line}
-use Rattle.ta_cert.specs.Lines.{lines_text}
+use Rattle.ta_cert.specs.Lines.{cert_lines_text}
 use Rattle.ta_cert.specs.Streams.{AreNoLine, IsMalformed, IsTrailing}
 use Rattle.ta_check.specs.Subjects.{Subject}
 use Rattle.ta_check.specs.Certificate.{CertificateFor}
@@ -19,7 +19,7 @@ malformed_more text more n m = record {
   ls = m.ls;
   bytes = m.bytes;
   after = m.after ++ more;
-  whole = ap (λ xs. xs ++ more) m.whole ∙ append_assoc (lines_text m.ls) (m.bytes ++ m.after) more ∙ ap (λ xs. lines_text m.ls ++ xs) (append_assoc m.bytes m.after more);
+  whole = ap (λ xs. xs ++ more) m.whole ∙ append_assoc (cert_lines_text m.ls) (m.bytes ++ m.after) more ∙ ap (λ xs. cert_lines_text m.ls ++ xs) (append_assoc m.bytes m.after more);
   legal = m.legal;
   going_on = m.going_on;
   unbroken = m.unbroken;
@@ -32,7 +32,7 @@ trailing_more text more n t = record {
   ls = t.ls;
   byte = t.byte;
   after = t.after ++ more;
-  whole = ap (λ xs. xs ++ more) t.whole ∙ append_assoc (lines_text t.ls) (t.byte ∷ t.after) more;
+  whole = ap (λ xs. xs ++ more) t.whole ∙ append_assoc (cert_lines_text t.ls) (t.byte ∷ t.after) more;
   legal = t.legal;
   ended = t.ended;
   place = t.place;
@@ -43,7 +43,7 @@ line_more subject text more f e = record {
   ls = e.ls;
   line = e.line;
   after = e.after ++ more;
-  whole = ap (λ xs. xs ++ more) e.whole ∙ append_assoc (lines_text (e.ls ++ e.line ∷ [])) e.after more;
+  whole = ap (λ xs. xs ++ more) e.whole ∙ append_assoc (cert_lines_text (e.ls ++ e.line ∷ [])) e.after more;
   legal = e.legal;
   standing = e.standing;
   leads = e.leads;

@@ -9,11 +9,11 @@ use Rattle.ta_implied.specs.Refused.{FailsToShow}
 use Rattle.ta_implied.specs.Orders.{IsShown}
 use Rattle.ta_farkas.proofs.Judging.{no_fault}
 use Rattle.ta_check.proofs.PairSystems.{SameColumns, imply_columns}
-use Rattle.ta_encode.specs.Search.{Pending, Search, rows_of}
+use Rattle.ta_encode.specs.Search.{Pending, Search, bounded_rows}
 use Rattle.ta_encode.specs.Code.{SystemAt}
 use Rattle.ta_encode.proofs.CodeRows.{coefficient_same, constant_same, rows_count, weighted_same}
 use Rattle.ta_farkas.specs.Columns.{part_in, entry, column_sum, ColumnStays}
-use Rattle.ta_farkas.specs.Faults.{row_at, FirstMissing, FineBefore, IsFirstFault}
+use Rattle.ta_farkas.specs.Faults.{row_at, FirstMissing, FineBefore, IsFirstFaultOfLeaf}
 use Rattle.ta_farkas.specs.declared.LeafFault.{LeafFault}
 use Rattle.ta_farkas.specs.declared.LeafFault.TheVariants.{RowNumber, Overflow, Positive, NotNegative}
 use Rattle.ta_check.specs.Faults.{FirstLeafFault}
@@ -22,7 +22,7 @@ use Rattle.ta_cursor.proofs.Ranges.{stays_same}
 -- systems of one word are the same column by column
 same_columns : (search : Search) (w : Pending) (s z : System) → SystemAt search w s → SystemAt search w z → SameColumns s z
 same_columns search w s z is other =
-    let ls = rows_of search w in
+    let ls = bounded_rows search w in
     let unknowns : s.unknowns ≡ z.unknowns = is.unknowns ∙ sym other.unknowns in
     record {
       unknowns = unknowns;
@@ -55,7 +55,7 @@ same_fine s z ts column same fine = record {
 }
 
 -- the same first fault
-same_fault : (s z : System) (ts : List (ℕ × ℤ)) (f : LeafFault) → SameColumns s z → IsFirstFault s ts f → IsFirstFault z ts f
+same_fault : (s z : System) (ts : List (ℕ × ℤ)) (f : LeafFault) → SameColumns s z → IsFirstFaultOfLeaf s ts f → IsFirstFaultOfLeaf z ts f
 same_fault s z ts (RowNumber row) same first = record {
   at = first.at;
   below = first.below;
@@ -129,7 +129,7 @@ leaves_before s ts c low leaves fine stays =
     ]
 
 -- multipliers have one first fault over a system
-fault_once : (s : System) (ts : List (ℕ × ℤ)) (f g : LeafFault) → IsFirstFault s ts f → IsFirstFault s ts g → f ≡ g
+fault_once : (s : System) (ts : List (ℕ × ℤ)) (f g : LeafFault) → IsFirstFaultOfLeaf s ts f → IsFirstFaultOfLeaf s ts g → f ≡ g
 unfolding Bad
 fault_once s ts (RowNumber row) (RowNumber other) a b = ap RowNumber (missing_once s ts row other a b)
 fault_once s ts (RowNumber row) (Overflow d) a b = absurd (missing_first s ts row d a b.1)

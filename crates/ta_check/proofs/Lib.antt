@@ -4,7 +4,7 @@ mod Following
 pub mod Searches
 mod Behind
 mod Heads
-mod Accepting
+pub mod Accepting
 mod Stopping
 mod PairSystems
 mod LeafFaults
@@ -12,12 +12,10 @@ mod Reasons
 mod Refusing
 pub mod OneFault
 mod Pieces
-mod Answering
+pub mod Answering
 mod Leaves
 mod Picking
-mod JudgingMembers
 mod JudgingNodes
 mod JudgingProofs
-mod JudgingFields
 mod JudgingHeads
 pub mod OwnPatterns

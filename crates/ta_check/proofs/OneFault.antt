@@ -6,7 +6,7 @@ use Rattle.ta_cert.specs.Lines.{line_text}
 use Rattle.ta_cert.specs.Streams.{line_number}
 use Rattle.ta_cert.proofs.Unique.{reads_unique, reads_malformed, reads_trailing, malformed_trailing, malformed_place, trailing_place}
 use Rattle.ta_check.specs.Subjects.{Subject}
-use Rattle.ta_check.specs.Lines.{at_first, LeadThrough}
+use Rattle.ta_check.specs.Lines.{first_standing, LeadThrough}
 use Rattle.ta_check.specs.Faults.{IsAtFault, LineAtFault, TextAtFault, IsFirstFaultFor}
 use Rattle.ta_check.proofs.Following.{leads_through_once}
 use Rattle.ta_check.proofs.Stopping.{stops_once, line_stops, line_at_front, text_breaks, line_or_text}
@@ -17,12 +17,12 @@ lines_once : (subject : Subject) (text : List ℕ) (f g : CertFault) → LineAtF
 lines_once subject text f g d e =
     let same = stops_once subject text d.ls e.ls (line_text d.line ++ (10 ∷ d.after)) (line_text e.line ++ (10 ∷ e.after)) (line_stops subject text f d) (line_stops subject text g e) in
     let line : d.line ≡ e.line = line_at_front d.ls e.ls d.line e.line d.after e.after d.legal e.legal same.1 in
-    let standing : d.standing ≡ e.standing = leads_through_once subject at_first e.ls d.standing e.standing (subst (λ ls. LeadThrough subject at_first ls d.standing) same.0 d.leads) e.leads in
+    let standing : d.standing ≡ e.standing = leads_through_once subject first_standing e.ls d.standing e.standing (subst (λ ls. LeadThrough subject first_standing ls d.standing) same.0 d.leads) e.leads in
     let number : line_number (length d.ls) ≡ line_number (length e.ls) = ap (λ ls. line_number (length ls)) same.0 in
     let there : IsAtFault subject e.standing (line_number (length d.ls)) d.line f = subst (λ s. IsAtFault subject s (line_number (length d.ls)) d.line f) standing d.at_fault in
     let numbered : IsAtFault subject e.standing (line_number (length e.ls)) d.line f = subst (λ n. IsAtFault subject e.standing n d.line f) number there in
     let moved : IsAtFault subject e.standing (line_number (length e.ls)) e.line f = subst (λ l. IsAtFault subject e.standing (line_number (length e.ls)) l f) line numbered in
-    at_fault_once subject e.standing (line_number (length e.ls)) e.line f g (known_through subject at_first e.ls e.standing (λ k none. absurd none) e.leads) moved e.at_fault
+    at_fault_once subject e.standing (line_number (length e.ls)) e.line f g (known_through subject first_standing e.ls e.standing (λ k none. absurd none) e.leads) moved e.at_fault
 
 -- a text has one fault of its own
 texts_once : (subject : Subject) (text : List ℕ) (f g : CertFault) → TextAtFault subject text f → TextAtFault subject text g → f ≡ g

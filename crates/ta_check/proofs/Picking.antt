@@ -7,11 +7,11 @@ use Rattle.ta_linear.specs.declared.row.Row.{Row}
 use Rattle.ta_linear.specs.declared.row.System.{System}
 use Rattle.ta_cert.specs.Lines.{ArePairs}
 use Rattle.ta_encode.specs.System.{LinearRow, bound_row}
-use Rattle.ta_encode.specs.Code.{RowOf, RowsOf, SystemAt}
-use Rattle.ta_encode.specs.Named.{row_numbered, rows_named, number_at, AreThere, FirstAbsent, Names}
+use Rattle.ta_encode.specs.Code.{IsRowOf, AreRowsOf, SystemAt}
+use Rattle.ta_encode.specs.Named.{row_numbered, rows_named, row_number_at, AreThere, FirstAbsent, NamesRows}
 use Rattle.ta_encode.specs.declared.meaning.Bound.{Bound}
 use Rattle.ta_encode.specs.declared.named.Named.TheVariants.{Rows, Absent}
-use Rattle.ta_encode.specs.Search.{Pending, Search, rows_of}
+use Rattle.ta_encode.specs.Search.{Pending, Search, bounded_rows}
 use Rattle.ta_encode.specs.Lines.{BoundsWithin}
 use Rattle.ta_encode.proofs.CodeRows.{rows_count}
 use Rattle.ta_encode.proofs.Whole.{whole_system}
@@ -19,7 +19,7 @@ use Rattle.ta_cursor.specs.declared.cursor.Cursor.{Cursor}
 use Rattle.ta_cursor.specs.Cursors.{IsWord, here}
 use Rattle.ta_cursor.specs.Range.{IsJudged}
 use Rattle.ta_farkas.specs.Columns.{part_in, column_sum, ColumnStays, CheckStays}
-use Rattle.ta_farkas.specs.Faults.{row_at, FirstMissing, FineBefore, IsFirstFault}
+use Rattle.ta_farkas.specs.Faults.{row_at, FirstMissing, FineBefore, IsFirstFaultOfLeaf}
 use Rattle.ta_farkas.specs.declared.LeafFault.{LeafFault}
 use Rattle.ta_farkas.specs.declared.LeafFault.TheVariants.{RowNumber, Overflow, Positive, NotNegative}
 use Rattle.ta_check.specs.Faults.{FirstLeafFault}
@@ -61,7 +61,7 @@ alike_back f rs qs (t ∷ ts) [] h = absurd h
 
 -- a function that takes the same of two rows of the code that are one row of the word
 Respects : (Option Row → ℤ) → Type 0
-Respects f = (l : LinearRow) (r q : Row) → RowOf l r → RowOf l q → f (Some r) ≡ f (Some q)
+Respects f = (l : LinearRow) (r q : Row) → IsRowOf l r → IsRowOf l q → f (Some r) ≡ f (Some q)
 
 coefficients_respect : (x : ℕ) → Respects (coefficient_in x)
 unfolding Respects
@@ -78,7 +78,7 @@ parts_respect n column l r q is also =
     ∙ ap (λ z. cond (nat_lt column n) (coefficient_in column (Some q)) z) (constants_respect l r q is also)
 
 -- the row of a number
-at_number : (ls : List LinearRow) (rs : List Row) (n : ℕ) → RowsOf ls rs → n < length ls → (r : Row) × (slice_get rs n ≡ Some r) × RowOf (row_numbered ls n) r
+at_number : (ls : List LinearRow) (rs : List Row) (n : ℕ) → AreRowsOf ls rs → n < length ls → (r : Row) × (slice_get rs n ≡ Some r) × IsRowOf (row_numbered ls n) r
 at_number [] rs n is below = absurd (omega arith)
 at_number (l ∷ ls) (r ∷ rs) zero is below = (r, refl, is.0)
 at_number (l ∷ ls) (r ∷ rs) (suc n) is below = at_number ls rs n is.1 (omega arith)
@@ -89,7 +89,7 @@ there_behind : (count : ℕ) (t : ℕ × ℤ) (ts : List (ℕ × ℤ)) → AreTh
 there_behind count t ts there = λ i below. there (suc i) (omega arith)
 
 -- rows that are picked in the order of a list, the first of them at place k, are the rows that it names
-picked_alike : (f : Option Row → ℤ) → Respects f → (ls : List LinearRow) (rs qs : List Row) (ts : List (ℕ × ℤ)) (k : ℕ) (zs : List Row) → RowsOf ls rs → RowsOf (rows_named ls ts) zs → ((i : ℕ) → slice_get qs (i + k) ≡ slice_get zs i) → AreThere (length ls) ts → Alike f rs qs ts (renumbered k ts)
+picked_alike : (f : Option Row → ℤ) → Respects f → (ls : List LinearRow) (rs qs : List Row) (ts : List (ℕ × ℤ)) (k : ℕ) (zs : List Row) → AreRowsOf ls rs → AreRowsOf (rows_named ls ts) zs → ((i : ℕ) → slice_get qs (i + k) ≡ slice_get zs i) → AreThere (length ls) ts → Alike f rs qs ts (renumbered k ts)
 unfolding Alike Respects
 picked_alike f respects ls rs qs [] k zs is picked place there = tt
 picked_alike f respects ls rs qs (t ∷ ts) k (z ∷ zs) is picked place there =
@@ -126,13 +126,13 @@ record Picked (s z : System) (ts : List (ℕ × ℤ)) : Type 0 where
   there : AreThere (length s.rows) ts
   alike : (f : Option Row → ℤ) → Respects f → Alike f s.rows z.rows ts (renumbered 0 ts)
 
-named_count : (ls : List LinearRow) (ts : List (ℕ × ℤ)) (zs : List Row) → RowsOf (rows_named ls ts) zs → length zs ≡ length ts
+named_count : (ls : List LinearRow) (ts : List (ℕ × ℤ)) (zs : List Row) → AreRowsOf (rows_named ls ts) zs → length zs ≡ length ts
 named_count ls [] [] is = refl
 named_count ls (t ∷ ts) (z ∷ zs) is = ap suc (named_count ls ts zs is.1)
 named_count ls [] (z ∷ zs) is = absurd is
 named_count ls (t ∷ ts) [] is = absurd is
 
-picked : (ls : List LinearRow) (s z : System) (ts : List (ℕ × ℤ)) → RowsOf ls s.rows → z.unknowns ≡ s.unknowns → RowsOf (rows_named ls ts) z.rows → AreThere (length ls) ts → Picked s z ts
+picked : (ls : List LinearRow) (s z : System) (ts : List (ℕ × ℤ)) → AreRowsOf ls s.rows → z.unknowns ≡ s.unknowns → AreRowsOf (rows_named ls ts) z.rows → AreThere (length ls) ts → Picked s z ts
 picked ls s z ts is unknowns named there = record {
   unknowns = unknowns;
   count = named_count ls ts z.rows named;
@@ -177,7 +177,7 @@ none_missing s z ts row p m =
     omega arith
 
 -- the first fault over the picked rows is that over all
-picked_fault : (s z : System) (ts : List (ℕ × ℤ)) (f : LeafFault) → Picked s z ts → IsFirstFault z (renumbered 0 ts) f → IsFirstFault s ts f
+picked_fault : (s z : System) (ts : List (ℕ × ℤ)) (f : LeafFault) → Picked s z ts → IsFirstFaultOfLeaf z (renumbered 0 ts) f → IsFirstFaultOfLeaf s ts f
 picked_fault s z ts (RowNumber row) p first = absurd (none_missing s z ts row p first)
 picked_fault s z ts (Overflow column) p first = (subst (λ n. column ≤ n) p.unknowns first.0, picked_fine s z ts column p first.1, λ stays. first.2 (picked_leaves s z ts column p stays))
 picked_fault s z ts (Positive unknown) p first = (subst (λ n. unknown < n) p.unknowns first.0, picked_fine s z ts unknown p first.1, picked_stays s z ts unknown p first.2, subst (λ x. pos 0 <ℤ x) (picked_sum s z ts unknown p) first.3)
@@ -208,11 +208,11 @@ pub record NamedRows (search : Search) (w : Pending) (ts : List (ℕ × ℤ)) (z
   pub system : System
   pub is : SystemAt search w system
   pub unknowns : z.unknowns ≡ system.unknowns
-  pub named : RowsOf (rows_named (rows_of search w) ts) z.rows
-  pub there : AreThere (length (rows_of search w)) ts
+  pub named : AreRowsOf (rows_named (bounded_rows search w) ts) z.rows
+  pub there : AreThere (length (bounded_rows search w)) ts
 
 picked_named : (search : Search) (w : Pending) (ts : List (ℕ × ℤ)) (z : System) (n : NamedRows search w ts z) → Picked n.system z ts
-picked_named search w ts z n = picked (rows_of search w) n.system z ts n.is.rows n.unknowns n.named n.there
+picked_named search w ts z n = picked (bounded_rows search w) n.system z ts n.is.rows n.unknowns n.named n.there
 
 -- a leaf that is judged over the rows that it names is judged over all
 pub judged_picked : (search : Search) (w : Pending) (ts : List (ℕ × ℤ)) (z : System) → NamedRows search w ts z → ArePairs 0 ts → LeafOf z (renumbered 0 ts) → CheckStays z (renumbered 0 ts) → IsJudged search w ts
@@ -220,13 +220,13 @@ judged_picked search w ts z n are leaf stays =
     let q = picked_named search w ts z n in
     judged search w n.system ts n.is (picked_leaf n.system z ts are q leaf) (picked_check n.system z ts q stays)
 
-pub fault_picked : (search : Search) (w : Pending) (ts : List (ℕ × ℤ)) (z : System) (f : LeafFault) → NamedRows search w ts z → IsFirstFault z (renumbered 0 ts) f → FirstLeafFault search w ts f
+pub fault_picked : (search : Search) (w : Pending) (ts : List (ℕ × ℤ)) (z : System) (f : LeafFault) → NamedRows search w ts z → IsFirstFaultOfLeaf z (renumbered 0 ts) f → FirstLeafFault search w ts f
 fault_picked search w ts z f n first = record { system = n.system; is = n.is; first = picked_fault n.system z ts f (picked_named search w ts z n) first }
 
 -- the first number that no row has
-pub fault_absent : (search : Search) (w : Pending) (s : System) (ts : List (ℕ × ℤ)) (row : ℕ) → SystemAt search w s → FirstAbsent (length (rows_of search w)) ts row → FirstLeafFault search w ts (RowNumber row)
+pub fault_absent : (search : Search) (w : Pending) (s : System) (ts : List (ℕ × ℤ)) (row : ℕ) → SystemAt search w s → FirstAbsent (length (bounded_rows search w)) ts row → FirstLeafFault search w ts (RowNumber row)
 fault_absent search w s ts row is first =
-    let count = rows_count (rows_of search w) s.rows is.rows in
+    let count = rows_count (bounded_rows search w) s.rows is.rows in
     record {
       system = s;
       is = is;
@@ -235,7 +235,7 @@ fault_absent search w s ts row is first =
         below = first.below;
         is = first.is;
         missing = subst (λ n. n ≤ row) (sym count) first.absent;
-        first = λ j before. subst (λ n. number_at ts j < n) (sym count) (first.first j before);
+        first = λ j before. subst (λ n. row_number_at ts j < n) (sym count) (first.first j before);
       };
     }
 
@@ -245,14 +245,14 @@ whole_here search c z word small is = whole_system search c.start_mask (reverse 
 
 -- the rows that were named are those of the cursor's word
 pub named_here : (search : Search) (c : Cursor) (z rows : System) (bounds : List Bound) (ts : List (ℕ × ℤ)) → IsWord search (here c) → z.unknowns ≤ 1000000 → WithoutBounds search (here c) z → bounds ≡ c.bounds.items
-    → Names (search.rows c.start_mask (reverse c.word) ++ map bound_row bounds) z.unknowns ts (Rows rows) → NamedRows search (here c) ts rows
+    → NamesRows (search.rows c.start_mask (reverse c.word) ++ map bound_row bounds) z.unknowns ts (Rows rows) → NamedRows search (here c) ts rows
 named_here search c z rows bounds ts word small is same names =
     let whole = whole_here search c z word small is in
-    let told = subst (λ (bs : List Bound). Names (search.rows c.start_mask (reverse c.word) ++ map bound_row bs) z.unknowns ts (Rows rows)) same names in
+    let told = subst (λ (bs : List Bound). NamesRows (search.rows c.start_mask (reverse c.word) ++ map bound_row bs) z.unknowns ts (Rows rows)) same names in
     record { system = whole.0; is = whole.1; unknowns = told.0 ∙ is.unknowns ∙ sym whole.1.unknowns; named = told.1; there = told.2 }
 
 pub absent_here : (search : Search) (c : Cursor) (z : System) (bounds : List Bound) (ts : List (ℕ × ℤ)) (row : ℕ) → IsWord search (here c) → z.unknowns ≤ 1000000 → WithoutBounds search (here c) z → bounds ≡ c.bounds.items
-    → Names (search.rows c.start_mask (reverse c.word) ++ map bound_row bounds) z.unknowns ts (Absent row) → FirstLeafFault search (here c) ts (RowNumber row)
+    → NamesRows (search.rows c.start_mask (reverse c.word) ++ map bound_row bounds) z.unknowns ts (Absent row) → FirstLeafFault search (here c) ts (RowNumber row)
 absent_here search c z bounds ts row word small is same names =
     let whole = whole_here search c z word small is in
     fault_absent search (here c) whole.0 ts row whole.1 (subst (λ (bs : List Bound). FirstAbsent (length (search.rows c.start_mask (reverse c.word) ++ map bound_row bs)) ts row) same names)

@@ -1,8 +1,8 @@
 -- a certificate that is judged piece by piece
-use Rattle.std.proofs.Common.{ℕ, ◌<◌, ◌≤◌, ◌≡◌, ◌⊎◌, List, [], ◌∷◌, ◌++◌, length, take, drop, reverse, Option, Some, None, Result, Ok, Err, refl, sym, ap, subst, ◌∙◌, inl, inr, append_assoc, append-nil, take-append-drop, arith}
+use Rattle.std.proofs.Common.{ℕ, ◌<◌, ◌≤◌, ◌≡◌, ◌⊎◌, List, [], ◌∷◌, ◌++◌, length, take, drop, reverse, Option, Some, Result, Ok, Err, refl, sym, ap, subst, ◌∙◌, inl, inr, append_assoc, take-append-drop, arith}
 use Rattle.std.proofs.lemmas.List.{reverse-reverse}
-use Rattle.ta_cert.specs.Lines.{IsLine, lines_text}
-use Rattle.ta_cert.specs.Streams.{IsComplete, Reads, StandsAt, StandsFor as ReaderStandsFor, IsRefusedBehind, FedLine, Finished as ReaderFinished}
+use Rattle.ta_cert.specs.Lines.{IsLine, cert_lines_text}
+use Rattle.ta_cert.specs.Streams.{IsComplete, ReadsLines, StandsAt, StandsFor as ReaderStandsFor, IsRefusedBehind, FeedLineAnswers, FinishAnswers as ReaderFinished}
 use Rattle.ta_cert.specs.declared.line.Line.{Line}
 use Rattle.ta_cert.specs.declared.fault.CertFault.{CertFault}
 use Rattle.ta_cert.specs.declared.fault.CertFault.TheVariants as fault
@@ -13,21 +13,21 @@ use Rattle.ta_cert.proofs.Unique.{reads_unique}
 use Rattle.ta_check.specs.Subjects.{Subject}
 use Rattle.ta_check.specs.declared.position.Position.{Position}
 use Rattle.ta_check.specs.Certificate.{CertificateFor}
-use Rattle.ta_check.specs.Checkers.{Stand}
+use Rattle.ta_check.specs.Checkers.{StandBehind}
 use Rattle.ta_check.specs.Faults.{IsAtFault, LineAtFault, IsFirstFaultFor, IsLastingFor}
 use Rattle.ta_check.specs.Inside.Pieces.{NextTaken, StandSomewhere, TakenTo}
-use Rattle.ta_check.specs.Lines.{Standing, at_first, Leads, LeadThrough, MayFollow}
-use Rattle.ta_check.specs.Positions.{IsAt, Taken}
+use Rattle.ta_check.specs.Lines.{Standing, first_standing, Leads, LeadThrough, MayFollow}
+use Rattle.ta_check.specs.Positions.{IsPositionAt, LineAnswers}
 use Rattle.ta_check.proofs.Accepting.{certificate_of}
 
 -- before the first piece
-pub stands_first : (subject : Subject) (reader : Reader) (position : Position) → ReaderStandsFor reader [] → IsAt subject position at_first → Stand subject reader position []
+pub stands_first : (subject : Subject) (reader : Reader) (position : Position) → ReaderStandsFor reader [] → IsPositionAt subject position first_standing → StandBehind subject reader position []
 stands_first subject reader position (ls, at) place =
-    let empty : Reads [] [] [] = record { whole = refl; legal = tt; unbroken = tt; short = omega arith; ended = λ end. refl } in
+    let empty : ReadsLines [] [] [] = record { whole = refl; legal = tt; unbroken = tt; short = omega arith; ended = λ end. refl } in
     let none = (reads_unique [] ls [] reader.line [] at.reads empty).0 in
     record {
       ls = [];
-      at = at_first;
+      at = first_standing;
       read = subst (StandsAt reader []) none at;
       leads = refl;
       place = place;
@@ -64,22 +64,18 @@ next_taken subject text bytes reader position fault.Failed h = elim h [ inl memo
 
 -- what a reader answers to the bytes of a piece up to its first line feed, wherever it stands
 abbrev pub Feeds : Reader → List ℕ → Reader → Result (Option Ended) CertFault → Type 0
-Feeds reader piece new answer = (text : List ℕ) (ls : List Line) → StandsAt reader text ls → FedLine text ls piece new answer
+Feeds reader piece new answer = (text : List ℕ) (ls : List Line) → StandsAt reader text ls → FeedLineAnswers text ls piece new answer
 
 -- the reader refuses
-pub next_refused : (subject : Subject) (reader new : Reader) (position : Position) (bytes : List ℕ) (e : CertFault) → Feeds reader bytes new (Err e) → (text : List ℕ) → Stand subject reader position text → NextTaken subject text bytes new position (Err e)
+pub next_refused : (subject : Subject) (reader new : Reader) (position : Position) (bytes : List ℕ) (e : CertFault) → Feeds reader bytes new (Err e) → (text : List ℕ) → StandBehind subject reader position text → NextTaken subject text bytes new position (Err e)
 next_refused subject reader new position bytes e feeds text h = next_taken subject text bytes new position e (lasting_text subject h.ls (text ++ bytes) e (h.at, h.leads) (feeds text h.ls h.read))
-
--- the bytes end no line
-pub next_none : (subject : Subject) (reader new : Reader) (position : Position) (bytes : List ℕ) → Feeds reader bytes new (Ok None) → (text : List ℕ) → Stand subject reader position text → Stand subject new position (text ++ bytes)
-next_none subject reader new position bytes feeds text h = record { ls = h.ls; at = h.at; read = feeds text h.ls h.read; leads = h.leads; place = h.place }
 
 -- a line that ended has its form
 pub line_is : (subject : Subject) (reader new : Reader) (position : Position) (bytes : List ℕ) (found : Ended) → StandSomewhere subject reader position → Feeds reader bytes new (Ok (Some found)) → IsLine found.line
 line_is subject reader new position bytes found (text, h) feeds = (legal_last h.ls found.line (feeds text h.ls h.read).stands.reads.legal).0
 
 -- a line that may follow
-pub next_some : (subject : Subject) (reader new : Reader) (position after : Position) (bytes : List ℕ) (found : Ended) → Feeds reader bytes new (Ok (Some found)) → ((at : Standing) → IsAt subject position at → Taken subject at found.number found.line after (Ok tt)) → (text : List ℕ) → Stand subject reader position text → NextTaken subject text bytes new after (Ok (Some found.taken))
+pub next_some : (subject : Subject) (reader new : Reader) (position after : Position) (bytes : List ℕ) (found : Ended) → Feeds reader bytes new (Ok (Some found)) → ((at : Standing) → IsPositionAt subject position at → LineAnswers subject at found.number found.line after (Ok tt)) → (text : List ℕ) → StandBehind subject reader position text → NextTaken subject text bytes new after (Ok (Some found.taken))
 next_some subject reader new position after bytes found feeds takes text h =
     let ends = feeds text h.ls h.read in
     let gone = takes h.at h.place in (
@@ -89,13 +85,13 @@ next_some subject reader new position after bytes found feeds takes text h =
         ls = h.ls ++ found.line ∷ [];
         at = gone.0;
         read = ends.stands;
-        leads = leads_push subject at_first h.at gone.0 h.ls found.line h.leads gone.1;
+        leads = leads_push subject first_standing h.at gone.0 h.ls found.line h.leads gone.1;
         place = gone.2;
       },
     )
 
 -- why a line can't follow
-taken_fault : (subject : Subject) (at : Standing) (number : ℕ) (l : Line) (moved : Position) (e : CertFault) → Taken subject at number l moved (Err e) → (e ≡ fault.Memory) ⊎ IsAtFault subject at number l e
+taken_fault : (subject : Subject) (at : Standing) (number : ℕ) (l : Line) (moved : Position) (e : CertFault) → LineAnswers subject at number l moved (Err e) → (e ≡ fault.Memory) ⊎ IsAtFault subject at number l e
 taken_fault subject at number l moved fault.Memory taken = inl refl
 taken_fault subject at number l moved _ taken = inr taken
 
@@ -104,13 +100,13 @@ lasting_line : (subject : Subject) (text : List ℕ) (e : CertFault) → LineAtF
 lasting_line subject text (fault.Truncated n) h = h.at_fault
 lasting_line subject text _ h = inl h
 
-pub next_fails : (subject : Subject) (reader new : Reader) (position after : Position) (bytes : List ℕ) (found : Ended) (e : CertFault) → Feeds reader bytes new (Ok (Some found)) → ((at : Standing) → IsAt subject position at → Taken subject at found.number found.line after (Err e)) → (text : List ℕ) → Stand subject reader position text → NextTaken subject text bytes new after (Err e)
+pub next_fails : (subject : Subject) (reader new : Reader) (position after : Position) (bytes : List ℕ) (found : Ended) (e : CertFault) → Feeds reader bytes new (Ok (Some found)) → ((at : Standing) → IsPositionAt subject position at → LineAnswers subject at found.number found.line after (Err e)) → (text : List ℕ) → StandBehind subject reader position text → NextTaken subject text bytes new after (Err e)
 next_fails subject reader new position after bytes found e feeds takes text h =
     let ends = feeds text h.ls h.read in
     let front = take found.taken bytes in
     let behind = drop found.taken bytes in
     let all : text ++ bytes ≡ (text ++ front) ++ behind = ap (λ xs. text ++ xs) (sym (take-append-drop found.taken bytes)) ∙ sym (append_assoc text front behind) in
-    let lines = lines_text (h.ls ++ found.line ∷ []) in
+    let lines = cert_lines_text (h.ls ++ found.line ∷ []) in
     let whole : text ++ bytes ≡ lines ++ (new.line ++ behind) = all ∙ ap (λ xs. xs ++ behind) ends.stands.reads.whole ∙ append_assoc lines new.line behind in
     next_taken subject text bytes new after e (elim (taken_fault subject h.at found.number found.line after e (takes h.at h.place)) [
       | inl memory ↦ inl memory
@@ -130,10 +126,7 @@ next_fails subject reader new position after bytes found e feeds takes text h =
 pub record FrontTaken (subject : Subject) (reader : Reader) (position : Position) (piece rest : List ℕ) (new : Reader) (moved : Position) : Type 0 where
   pub front : List ℕ
   pub split : piece ≡ front ++ rest
-  pub stands : (text : List ℕ) → Stand subject reader position text → Stand subject new moved (text ++ front)
-
-pub begins_taking : (subject : Subject) (reader : Reader) (position : Position) (piece : List ℕ) → FrontTaken subject reader position piece piece reader position
-begins_taking subject reader position piece = record { front = []; split = refl; stands = λ text h. subst (Stand subject reader position) (sym (append-nil text)) h }
+  pub stands : (text : List ℕ) → StandBehind subject reader position text → StandBehind subject new moved (text ++ front)
 
 -- the text with the piece
 whole_is : (subject : Subject) (reader : Reader) (position : Position) (piece rest : List ℕ) (new : Reader) (moved : Position) (so : FrontTaken subject reader position piece rest new moved) (text : List ℕ) → (text ++ so.front) ++ rest ≡ text ++ piece
@@ -144,13 +137,13 @@ somewhere subject reader new position moved piece rest so (text, h) = (text ++ s
 
 -- what is answered to the bytes that are left, wherever one stands
 abbrev pub Goes : Subject → Reader → Position → List ℕ → Reader → Position → Result (Option ℕ) CertFault → Type 0
-Goes subject reader position bytes new moved answer = (text : List ℕ) → Stand subject reader position text → NextTaken subject text bytes new moved answer
+Goes subject reader position bytes new moved answer = (text : List ℕ) → StandBehind subject reader position text → NextTaken subject text bytes new moved answer
 
 pub goes_on : (subject : Subject) (reader new last : Reader) (position moved after : Position) (piece rest behind : List ℕ) (taken : ℕ) → FrontTaken subject reader position piece rest new moved → Goes subject new moved rest last after (Ok (Some taken)) → behind ≡ drop taken rest → FrontTaken subject reader position piece behind last after
 goes_on subject reader new last position moved after piece rest behind taken so goes same = record {
   front = so.front ++ take taken rest;
   split = so.split ∙ ap (λ xs. so.front ++ xs) (sym (take-append-drop taken rest) ∙ ap (λ xs. take taken rest ++ xs) (sym same)) ∙ sym (append_assoc so.front (take taken rest) behind);
-  stands = λ text h. subst (Stand subject last after) (append_assoc text so.front (take taken rest)) (goes (text ++ so.front) (so.stands text h)).2;
+  stands = λ text h. subst (StandBehind subject last after) (append_assoc text so.front (take taken rest)) (goes (text ++ so.front) (so.stands text h)).2;
 }
 
 pub goes_within : (subject : Subject) (reader new last : Reader) (position moved after : Position) (piece rest : List ℕ) (taken : ℕ) → FrontTaken subject reader position piece rest new moved → StandSomewhere subject reader position → Goes subject new moved rest last after (Ok (Some taken)) → (0 < taken) × (taken ≤ length rest)
@@ -158,24 +151,21 @@ goes_within subject reader new last position moved after piece rest taken so (te
     let gone = goes (text ++ so.front) (so.stands text h) in
     (gone.0, gone.1)
 
-pub goes_out : (subject : Subject) (reader new last : Reader) (position moved after : Position) (piece rest : List ℕ) → FrontTaken subject reader position piece rest new moved → Goes subject new moved rest last after (Ok None) → (text : List ℕ) → Stand subject reader position text → Stand subject last after (text ++ piece)
-goes_out subject reader new last position moved after piece rest so goes text h = subst (Stand subject last after) (whole_is subject reader position piece rest new moved so text) (goes (text ++ so.front) (so.stands text h))
-
 -- a fault of the bytes that are left
 told_of : (subject : Subject) (text bytes : List ℕ) (reader : Reader) (position : Position) (e : CertFault) → NextTaken subject text bytes reader position (Err e) → TakenTo subject (text ++ bytes) reader position (Err e)
 told_of subject text bytes reader position fault.Memory h = tt
 told_of subject text bytes reader position _ h = h
 
-pub goes_wrong : (subject : Subject) (reader new last : Reader) (position moved after : Position) (piece rest : List ℕ) (e : CertFault) → FrontTaken subject reader position piece rest new moved → Goes subject new moved rest last after (Err e) → (text : List ℕ) → Stand subject reader position text → TakenTo subject (text ++ piece) last after (Err e)
+pub goes_wrong : (subject : Subject) (reader new last : Reader) (position moved after : Position) (piece rest : List ℕ) (e : CertFault) → FrontTaken subject reader position piece rest new moved → Goes subject new moved rest last after (Err e) → (text : List ℕ) → StandBehind subject reader position text → TakenTo subject (text ++ piece) last after (Err e)
 goes_wrong subject reader new last position moved after piece rest e so goes text h =
     subst (λ t. TakenTo subject t last after (Err e)) (whole_is subject reader position piece rest new moved so text) (told_of subject (text ++ so.front) rest last after e (goes (text ++ so.front) (so.stands text h)))
 
 -- an early end
-pub end_fails : (subject : Subject) (reader : Reader) (position : Position) (text : List ℕ) (n : ℕ) → Stand subject reader position text → ReaderFinished text (Err (fault.Truncated n)) → IsFirstFaultFor subject text (fault.Truncated n)
+pub end_fails : (subject : Subject) (reader : Reader) (position : Position) (text : List ℕ) (n : ℕ) → StandBehind subject reader position text → ReaderFinished text (Err (fault.Truncated n)) → IsFirstFaultFor subject text (fault.Truncated n)
 end_fails subject reader position text n h t = inr (t, subst (MayFollow subject) (reads_unique text h.ls t.ls reader.line t.rest h.read.reads t.reads).0 (h.at, h.leads))
 
 -- a complete end
-pub end_accepts : (subject : Subject) (reader : Reader) (position : Position) (text : List ℕ) → Stand subject reader position text → ReaderFinished text (Ok tt) → CertificateFor subject text position.proved.items
+pub end_accepts : (subject : Subject) (reader : Reader) (position : Position) (text : List ℕ) → StandBehind subject reader position text → ReaderFinished text (Ok tt) → CertificateFor subject text position.proved.items
 end_accepts subject reader position text h end =
     let same = (reads_unique text end.0 h.ls [] reader.line end.1.reads h.read.reads).0 in
     let complete : IsComplete text h.ls = subst (IsComplete text) same end.1 in

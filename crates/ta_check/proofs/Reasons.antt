@@ -1,6 +1,8 @@
 -- A line that can't follow has one fault
 use Rattle.std.proofs.Common.{◌≡◌, ℕ, ℤ, ◌<◌, ◌≤◌, ◌⊎◌, List, [], ◌∷◌, length, Some, inl, inr, refl, sym, ap, subst, ◌∙◌, arith}
-use Rattle.ta_automaton.specs.Masks.{In}
+use Rattle.ta_base.specs.Masks.{In}
+use Rattle.ta_base.proofs.Members.{known_first}
+use Rattle.ta_base.proofs.Options.{not_waiting}
 use Rattle.ta_cert.specs.declared.line.Line.{Line}
 use Rattle.ta_cert.specs.declared.line.Line.TheVariants as line
 use Rattle.ta_cert.specs.declared.line.Node.{Node}
@@ -12,19 +14,15 @@ use Rattle.ta_encode.specs.InPreorder.{Pending, Search}
 use Rattle.ta_farkas.specs.declared.LeafFault.{LeafFault}
 use Rattle.ta_farkas.specs.declared.LeafFault.TheVariants as leaf
 use Rattle.ta_check.specs.Subjects.{Subject}
-use Rattle.ta_check.specs.Lines.{Standing, IsFree, TakesOrder, Leads, LeadThrough}
+use Rattle.ta_check.specs.Lines.{Standing, NothingIsLeft, TakesOrder, Leads, LeadThrough}
 use Rattle.ta_check.specs.Faults.{IsMisplaced, IsNoLeaf, AtSomeWord, FirstLeafFault, LeafFails, IsAtFault}
 use Rattle.ta_check.specs.Positions.{fault_at}
-use Rattle.ta_check.proofs.Following.{not_waiting, word_once}
+use Rattle.ta_check.proofs.Following.{word_once, leaf_of_leaf}
 use Rattle.ta_check.proofs.LeafFaults.{leaf_fault_once, pair_fault_once}
 
 -- the file has the patterns whose proofs began
 abbrev pub KnowsBegun : Subject → Standing → Type 0
 KnowsBegun subject s = (k : ℕ) → In k s.begun → k < length subject.file.patterns
-
-known_first : (n k limit : ℕ) (ks : List ℕ) → n < limit → ((j : ℕ) → In j ks → j < limit) → In k (n ∷ ks) → k < limit
-known_first n k limit ks below known (inl same) = omega arith
-known_first n k limit ks below known (inr old) = known k old
 
 -- one line further it still does
 known_next : (subject : Subject) (s : Standing) (l : Line) (after : Standing) → KnowsBegun subject s → Leads subject s l after → KnowsBegun subject after
@@ -64,7 +62,7 @@ PatternFault subject s number k f = ((f ≡ fault.UnknownPattern number) × (len
 Reason : Subject → Standing → ℕ → Line → CertFault → Type 0
 Reason subject s number (line.Header version) f = f ≡ fault.Line number
 Reason subject s number (line.Order before later) f = ((f ≡ fault.Line number) × (¬ TakesOrder s)) ⊎ ((f ≡ fault.Pair number) × TakesOrder s)
-Reason subject s number (line.Pattern k) f = ((f ≡ fault.Line number) × (¬ IsFree s)) ⊎ (IsFree s × PatternFault subject s number k f)
+Reason subject s number (line.Pattern k) f = ((f ≡ fault.Line number) × (¬ NothingIsLeft s)) ⊎ (NothingIsLeft s × PatternFault subject s number k f)
 Reason subject s number (line.Tree n) f = ((f ≡ fault.Line number) × IsMisplaced subject.claim s (line.Tree n)) ⊎ (AtSomeWord subject s (AtWordFault number n f) ⊎ WaitFault subject s number n f)
 Reason subject s number line.End f = f ≡ fault.Line number
 
@@ -120,14 +118,11 @@ word_fault_once subject s number n f g a b =
     let same = word_once subject s a.search b.search a.word b.word a.words b.words a.at b.at in
     node_once number n f g b.search b.word (subst (AtWordFault number n f b.search) same.word (subst (λ p. AtWordFault number n f p a.word) same.search a.holds)) b.holds
 
-leaf_is : (ts us : List (ℕ × ℤ)) → node.Leaf ts ≡ node.Leaf us → ts ≡ us
-leaf_is ts us e = cc
-
 -- and as the leaf of a pair
 wait_fault_once : (subject : Subject) (s : Standing) (number : ℕ) (n : Node) (f g : CertFault) → WaitFault subject s number n f → WaitFault subject s number n g → f ≡ g
 wait_fault_once subject s number n f g a b =
     let pair : a.pair ≡ b.pair = (let e : Some a.pair ≡ Some b.pair = sym a.waits ∙ b.waits in cc) in
-    let ts : a.multipliers ≡ b.multipliers = leaf_is a.multipliers b.multipliers (sym a.is ∙ b.is) in
+    let ts : a.multipliers ≡ b.multipliers = leaf_of_leaf a.multipliers b.multipliers (sym a.is ∙ b.is) in
     let fails = subst (λ q. FailsToShow subject.file.automaton q b.multipliers a.why) pair (subst (λ us. FailsToShow subject.file.automaton a.pair us a.why) ts a.fails) in
     a.told ∙ ap (fault_at number) (pair_fault_once subject.file.automaton b.pair b.multipliers a.why b.why fails b.fails) ∙ sym b.told
 

@@ -1,23 +1,24 @@
 -- A text stops behind one list of lines: no line that may follow them comes next
 use Rattle.std.proofs.Common.{◌≡◌, ℕ, List, [], ◌∷◌, ◌++◌, inl, inr, refl, sym, ap, subst, ◌∙◌, append_assoc, append-nil}
+use Rattle.ta_base.proofs.Lists.{first_byte}
 use Rattle.ta_cert.specs.declared.line.Line.{Line}
 use Rattle.ta_cert.specs.declared.fault.CertFault.{CertFault}
 use Rattle.ta_cert.specs.declared.fault.CertFault.TheVariants as fault
-use Rattle.ta_cert.specs.Lines.{line_text, lines_text}
-use Rattle.ta_cert.specs.Streams.{AreLater, AreLines, Reads}
+use Rattle.ta_cert.specs.Lines.{line_text, cert_lines_text}
+use Rattle.ta_cert.specs.Streams.{AreLater, AreLines, ReadsLines}
 use Rattle.ta_cert.proofs.Standing.{lines_text-append, legal_last}
-use Rattle.ta_cert.proofs.Unique.{line_unique, line_unbroken, first_feed, legal_forms, legal_prefix, GoesOn, compare, Stuck, reads_stuck, malformed_stuck, trailing_stuck}
+use Rattle.ta_cert.proofs.Unique.{line_unique, line_unbroken, legal_forms, legal_prefix, GoesOn, compare, Stuck, reads_stuck, malformed_stuck, trailing_stuck}
 use Rattle.ta_check.specs.Subjects.{Subject}
-use Rattle.ta_check.specs.Lines.{Standing, at_first, Leads, LeadThrough, MayFollow}
+use Rattle.ta_check.specs.Lines.{Standing, first_standing, Leads, LeadThrough, MayFollow}
 use Rattle.ta_check.specs.Faults.{LineAtFault, TextAtFault}
 use Rattle.ta_check.proofs.Following.{leads_through_once, through_parts, not_both}
 
 -- lines each of which may follow, and bytes that begin with no further one
 pub record Stops (subject : Subject) (text : List ℕ) (ls : List Line) (x : List ℕ) : Type 0 where
-  pub whole : text ≡ lines_text ls ++ x
+  pub whole : text ≡ cert_lines_text ls ++ x
   pub legal : AreLines ls
   pub after : Standing
-  pub leads : LeadThrough subject at_first ls after
+  pub leads : LeadThrough subject first_standing ls after
   pub stops : (l : Line) (more : List ℕ) (next : Standing) → AreLines (ls ++ l ∷ []) → x ≡ line_text l ++ (10 ∷ more) → Leads subject after l next → ⊥
 
 -- where one stops, the other doesn't go on
@@ -25,10 +26,10 @@ stops_ends : (subject : Subject) (text : List ℕ) (ls ms : List Line) (x y : Li
 unfolding GoesOn
 stops_ends subject text ls ms x y a b ([], lines, rest) = (sym (lines ∙ append-nil ls), rest)
 stops_ends subject text ls ms x y a b (m ∷ more, lines, rest) =
-    let parts = through_parts subject at_first ls (m ∷ more) b.after (subst (λ k. LeadThrough subject at_first k b.after) lines b.leads) in
+    let parts = through_parts subject first_standing ls (m ∷ more) b.after (subst (λ k. LeadThrough subject first_standing k b.after) lines b.leads) in
     let on = parts.2 in
-    let same = leads_through_once subject at_first ls parts.0 a.after parts.1 a.leads in
-    absurd (a.stops m (lines_text more ++ y) on.0 (legal_prefix ls more m (subst AreLines lines b.legal)) (rest ∙ append_assoc (line_text m) (10 ∷ lines_text more) y) (subst (λ t. Leads subject t m on.0) same on.1))
+    let same = leads_through_once subject first_standing ls parts.0 a.after parts.1 a.leads in
+    absurd (a.stops m (cert_lines_text more ++ y) on.0 (legal_prefix ls more m (subst AreLines lines b.legal)) (rest ∙ append_assoc (line_text m) (10 ∷ cert_lines_text more) y) (subst (λ t. Leads subject t m on.0) same on.1))
 
 -- a text stops once
 pub stops_once : (subject : Subject) (text : List ℕ) (ls ms : List Line) (x y : List ℕ) → Stops subject text ls x → Stops subject text ms y → (ls ≡ ms) × (x ≡ y)
@@ -56,12 +57,12 @@ pub line_at_front : (ls ms : List Line) (l m : Line) (p q : List ℕ) → AreLin
 line_at_front ls ms l m p q legal right e =
     let form = (legal_last ls l legal).0 in
     let other = (legal_last ms m right).0 in
-    line_unique l m form other (first_feed (line_text l) (line_text m) p q (line_unbroken l form) (line_unbroken m other) e).0
+    line_unique l m form other (first_byte 10 (line_text l) (line_text m) p q (line_unbroken l form) (line_unbroken m other) e).0
 
 -- a text stops before the first line at fault
 pub line_stops : (subject : Subject) (text : List ℕ) (f : CertFault) (e : LineAtFault subject text f) → Stops subject text e.ls (line_text e.line ++ (10 ∷ e.after))
 line_stops subject text f e = record {
-  whole = e.whole ∙ ap (λ t. t ++ e.after) (lines_text-append e.ls (e.line ∷ [])) ∙ append_assoc (lines_text e.ls) (line_text e.line ++ (10 ∷ [])) e.after ∙ ap (λ t. lines_text e.ls ++ t) (append_assoc (line_text e.line) (10 ∷ []) e.after);
+  whole = e.whole ∙ ap (λ t. t ++ e.after) (lines_text-append e.ls (e.line ∷ [])) ∙ append_assoc (cert_lines_text e.ls) (line_text e.line ++ (10 ∷ [])) e.after ∙ ap (λ t. cert_lines_text e.ls ++ t) (append_assoc (line_text e.line) (10 ∷ []) e.after);
   legal = legal_front e.ls (e.line ∷ []) e.legal;
   after = e.standing;
   leads = e.leads;
@@ -72,7 +73,7 @@ line_stops subject text f e = record {
 pub record Breaks (subject : Subject) (text : List ℕ) : Type 0 where
   pub ls : List Line
   pub bytes : List ℕ
-  pub whole : text ≡ lines_text ls ++ bytes
+  pub whole : text ≡ cert_lines_text ls ++ bytes
   pub legal : AreLines ls
   pub follow : MayFollow subject ls
   pub stuck : Stuck ls bytes
@@ -89,7 +90,7 @@ break_stops subject text b = record {
 }
 
 -- a text that is read breaks at its end
-pub read_breaks : (subject : Subject) (text : List ℕ) (ls : List Line) (rest : List ℕ) → Reads text ls rest → MayFollow subject ls → Breaks subject text
+pub read_breaks : (subject : Subject) (text : List ℕ) (ls : List Line) (rest : List ℕ) → ReadsLines text ls rest → MayFollow subject ls → Breaks subject text
 read_breaks subject text ls rest reads follow = record { ls = ls; bytes = rest; whole = reads.whole; legal = reads.legal; follow = follow; stuck = reads_stuck text rest ls reads }
 
 -- so does a text with a fault of its own

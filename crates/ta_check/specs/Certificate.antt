@@ -1,9 +1,10 @@
 -- Certificates of a file (Farkas' lemma and integer branching over the words of this project's profile)
 use Rattle.std.specs.Prelude.{ℕ, ◌≡◌, ◌<◌, ◌^◌, List, [], length, map, slice_get, Some}
+use Rattle.std.specs.List.{AllByRecursion}
 use Rattle.ta_automaton.specs.declared.automaton.Automaton.{Automaton}
 use Rattle.ta_automaton.specs.declared.file.File.{File}
 use Rattle.ta_automaton.specs.declared.pattern.Pattern.{Pattern}
-use Rattle.ta_automaton.specs.Lists.{Each, Distinct}
+use Rattle.ta_base.specs.Lists.{Distinct}
 use Rattle.ta_automaton.specs.Runs.{InScope, LoopsPure}
 use Rattle.ta_cert.specs.Tree.{Tree}
 use Rattle.ta_cert.specs.Laws.{AreShort}
@@ -31,8 +32,8 @@ pub record ProvesClaim (subject : Subject) (pairs : List (ℕ × ℕ)) (numbered
   pub searched : search_at subject pairs numbered.0 ≡ Some search
   pub proves : ProofBy search (IsJudged search) numbered.1
 
-abbrev pub number_of : (ℕ × List Tree) → ℕ
-number_of numbered = numbered.0
+abbrev pub proof_number : (ℕ × List Tree) → ℕ
+proof_number numbered = numbered.0
 
 -- pairs that a certificate may have: for rest there are none
 abbrev pub MayHave : Claim → List Order → Type 0
@@ -48,15 +49,15 @@ pub record CertificateFor (subject : Subject) (text : List ℕ) (numbers : List 
   pub ordered : MayHave subject.claim orders
   pub legal : AreWritable (proofs_of proofs)
   pub short : AreShort (cert_lines orders (proofs_of proofs))
-  pub shown : Each (ShowsPair subject.file.automaton) orders
+  pub shown : AllByRecursion (ShowsPair subject.file.automaton) orders
   pub good : Good subject.file.automaton (map pair_of orders)
-  pub prove : Each (ProvesClaim subject (map pair_of orders)) proofs
-  pub named : numbers ≡ map number_of proofs
+  pub prove : AllByRecursion (ProvesClaim subject (map pair_of orders)) proofs
+  pub named : numbers ≡ map proof_number proofs
   pub distinct : Distinct numbers
 
 -- what is claimed holds of all these patterns
-abbrev pub AllHold : Subject → List ℕ → Type 0
-AllHold subject numbers = Each (ClaimHolds subject) numbers
+abbrev pub AllClaimsHold : Subject → List ℕ → Type 0
+AllClaimsHold subject numbers = AllByRecursion (ClaimHolds subject) numbers
 
 -- trees that prove that the file's pattern of a number is safe
 abbrev pub ProvesPattern : File → List (ℕ × ℕ) → (ℕ × List Tree) → Type 0
@@ -72,7 +73,7 @@ PatternSafe file number = ClaimHolds (claiming Safe file) number
 
 -- so are all of these
 abbrev pub AllSafe : File → List ℕ → Type 0
-AllSafe file numbers = AllHold (claiming Safe file) numbers
+AllSafe file numbers = AllClaimsHold (claiming Safe file) numbers
 
 -- a certificate, without pairs, that no run comes to rest where the last event of such a pattern happens
 abbrev pub RestCertificate : File → List ℕ → List ℕ → Type 0
@@ -80,7 +81,7 @@ RestCertificate file text numbers = CertificateFor (claiming RestSafe file) text
 
 -- no run comes to rest where the last event of one of these patterns happens, for any admissible parameters
 abbrev pub AllRestSafe : File → List ℕ → Type 0
-AllRestSafe file numbers = AllHold (claiming RestSafe file) numbers
+AllRestSafe file numbers = AllClaimsHold (claiming RestSafe file) numbers
 
 -- of the file's pattern of a number, under no set of fall guards that are false at the start, a complete word that is legal under pairs has a
 -- natural solution of its system
@@ -91,22 +92,22 @@ pub record PatternUnsolved (file : File) (pairs : List (ℕ × ℕ)) (number : �
 
 -- so are all of these, under no pairs, that is, for all legal words
 abbrev pub AllUnsolved : File → List ℕ → Type 0
-AllUnsolved file numbers = Each (PatternUnsolved file []) numbers
+AllUnsolved file numbers = AllByRecursion (PatternUnsolved file []) numbers
 
 -- a certificate of a file shows that its patterns are safe and that their words that are legal under its pairs have no solution; where no rule
 -- with an update is on a cycle, none of their words has
-pub record Shown (file : File) (pairs : List (ℕ × ℕ)) (numbers : List ℕ) : Type 0 where
+pub record CertificateShows (file : File) (pairs : List (ℕ × ℕ)) (numbers : List ℕ) : Type 0 where
   pub safe : AllSafe file numbers
-  pub unsolved : Each (PatternUnsolved file pairs) numbers
+  pub unsolved : AllByRecursion (PatternUnsolved file pairs) numbers
   pub none_solved : InScope file.automaton → AllUnsolved file numbers
 
 abbrev pub CertificatesShow : Type 0
-CertificatesShow = (file : File) (text numbers : List ℕ) → LoopsPure file.automaton → (c : Certificate file text numbers) → Shown file (map pair_of c.orders) numbers
+CertificatesShow = (file : File) (text numbers : List ℕ) → LoopsPure file.automaton → (c : Certificate file text numbers) → CertificateShows file (map pair_of c.orders) numbers
 
 -- what is claimed may be claimed of each pattern of the file
 abbrev pub MayClaimAll : Subject → Type 0
-MayClaimAll subject = Each (MayClaim subject.claim) subject.file.patterns
+MayClaimAll subject = AllByRecursion (MayClaim subject.claim) subject.file.patterns
 
 -- then it holds of a certificate's patterns
 abbrev pub ClaimsHold : Type 0
-ClaimsHold = (subject : Subject) (text numbers : List ℕ) → MayClaimAll subject → LoopsPure subject.file.automaton → CertificateFor subject text numbers → AllHold subject numbers
+ClaimsHold = (subject : Subject) (text numbers : List ℕ) → MayClaimAll subject → LoopsPure subject.file.automaton → CertificateFor subject text numbers → AllClaimsHold subject numbers

@@ -12,49 +12,49 @@ use Rattle.ta_check.specs.declared.position.Position.{Position}
 use Rattle.ta_check.specs.Subjects.{Subject, claiming}
 use Rattle.ta_check.specs.Certificate.{CertificateFor, MayClaimAll}
 use Rattle.ta_check.specs.Faults.{IsFirstFaultFor, IsLastingFor}
-use Rattle.ta_check.specs.Lines.{Standing, LeadThrough, at_first}
-use Rattle.ta_check.specs.Positions.{IsAt}
+use Rattle.ta_check.specs.Lines.{Standing, LeadThrough, first_standing}
+use Rattle.ta_check.specs.Positions.{IsPositionAt}
 
 -- a reader and a position are those behind a text: its whole lines may follow each other, the position is where they lead, and
 -- the reader keeps the line that is unfinished
-pub record Stand (subject : Subject) (reader : Reader) (position : Position) (text : List ℕ) : Type 0 where
+pub record StandBehind (subject : Subject) (reader : Reader) (position : Position) (text : List ℕ) : Type 0 where
   pub ls : List Line
   pub at : Standing
   pub read : StandsAt reader text ls
-  pub leads : LeadThrough subject at_first ls at
-  pub place : IsAt subject position at
+  pub leads : LeadThrough subject first_standing ls at
+  pub place : IsPositionAt subject position at
 
 -- what a checker judges
 abbrev pub subject_of : Checker → Subject
 subject_of s = claiming s.claim s.scoped.now.file
 
 -- the checker stands for the text: what is claimed may be claimed, no piece was refused, and its fields are those of the text
-pub record StandsFor (s : Checker) (text : List ℕ) : Type 0 where
+pub record CheckerStandsFor (s : Checker) (text : List ℕ) : Type 0 where
   pub may : MayClaimAll (subject_of s)
   pub going_on : s.failed ≡ false
-  pub stand : Stand (subject_of s) s.reader s.position text
+  pub stand : StandBehind (subject_of s) s.reader s.position text
 
 -- the checker stands for some text, or a piece was refused; so does each that is made and fed
-abbrev pub IsSound : Checker → Type 0
-IsSound s = (s.failed ≡ true) ⊎ ((text : List ℕ) × StandsFor s text)
+abbrev pub IsSoundChecker : Checker → Type 0
+IsSoundChecker s = (s.failed ≡ true) ⊎ ((text : List ℕ) × CheckerStandsFor s text)
 
 -- what a checker that stood for a text answers to the next piece, and what it stands for then; want of memory is free
-abbrev pub Fed : List ℕ → List ℕ → Checker → Result (Unit {0}) CertFault → Type 0
-Fed text piece new (Ok _) = StandsFor new (text ++ piece)
-Fed text piece new (Err fault.Memory) = Unit {0}
-Fed text piece new (Err f) = IsLastingFor (subject_of new) (text ++ piece) f
+abbrev pub CheckerFeedAnswers : List ℕ → List ℕ → Checker → Result (Unit {0}) CertFault → Type 0
+CheckerFeedAnswers text piece new (Ok _) = CheckerStandsFor new (text ++ piece)
+CheckerFeedAnswers text piece new (Err fault.Memory) = Unit {0}
+CheckerFeedAnswers text piece new (Err f) = IsLastingFor (subject_of new) (text ++ piece) f
 
 -- whatever the text is with the next piece, the answer says so, unless memory ran out
 abbrev pub IsExactFeed : Subject → List ℕ → Result (Unit {0}) CertFault → Type 0
 IsExactFeed subject text answer = (f : CertFault) → IsLastingFor subject text f → IsErrOrMemory answer f
 
 -- what a checker that stood for a text answers at its end
-abbrev pub Finished : Subject → List ℕ → Result Accepted CertFault → Type 0
-Finished subject text (Ok accepted) = CertificateFor subject text accepted.patterns
-Finished subject text (Err (fault.Truncated n)) = IsFirstFaultFor subject text (fault.Truncated n)
-Finished subject text (Err _) = ⊥
+abbrev pub CheckerFinishAnswers : Subject → List ℕ → Result Accepted CertFault → Type 0
+CheckerFinishAnswers subject text (Ok accepted) = CertificateFor subject text accepted.patterns
+CheckerFinishAnswers subject text (Err (fault.Truncated n)) = IsFirstFaultFor subject text (fault.Truncated n)
+CheckerFinishAnswers subject text (Err _) = ⊥
 
 -- whatever the text is at its end, the answer says so
-pub record IsExactEnd (subject : Subject) (text : List ℕ) (answer : Result Accepted CertFault) : Type 0 where
+pub record IsExactCheck (subject : Subject) (text : List ℕ) (answer : Result Accepted CertFault) : Type 0 where
   pub certificate : (numbers : List ℕ) → CertificateFor subject text numbers → IsOk answer
   pub early : (n : ℕ) → IsFirstFaultFor subject text (fault.Truncated n) → IsErrOf answer (fault.Truncated n)

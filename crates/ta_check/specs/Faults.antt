@@ -2,26 +2,26 @@
 use Rattle.std.specs.Prelude.{ℕ, ◌≡◌, ◌≤◌, ◌⊎◌, true, List, [], ◌∷◌, ◌++◌, length, ℤ, Some, None}
 use Rattle.ta_linear.specs.declared.row.System.{System}
 use Rattle.ta_automaton.specs.declared.file.File.{File}
-use Rattle.ta_automaton.specs.Masks.{In}
+use Rattle.ta_base.specs.Masks.{In}
 use Rattle.ta_cert.specs.declared.line.Line.{Line}
 use Rattle.ta_cert.specs.declared.line.Line.TheVariants as line
 use Rattle.ta_cert.specs.declared.line.Node.{Node}
 use Rattle.ta_cert.specs.declared.line.Node.TheVariants as node
 use Rattle.ta_cert.specs.declared.fault.CertFault.{CertFault}
 use Rattle.ta_cert.specs.declared.fault.CertFault.TheVariants as fault
-use Rattle.ta_cert.specs.Lines.{lines_text}
+use Rattle.ta_cert.specs.Lines.{cert_lines_text}
 use Rattle.ta_cert.specs.Streams.{AreLines, IsMalformed, IsTrailing, IsTruncated, line_number}
 use Rattle.ta_implied.specs.Orders.{MayJoin}
 use Rattle.ta_implied.specs.Refused.{FailsToShow}
 use Rattle.ta_encode.specs.Code.{SystemAt}
 use Rattle.ta_encode.specs.InPreorder.{Pending, Search}
-use Rattle.ta_farkas.specs.Faults.{IsFirstFault as IsFirstLeafFault}
+use Rattle.ta_farkas.specs.Faults.{IsFirstFaultOfLeaf as IsFirstLeafFault}
 use Rattle.ta_farkas.specs.declared.LeafFault.{LeafFault}
 use Rattle.ta_farkas.specs.declared.LeafFault.TheVariants as leaf
 use Rattle.ta_claim.specs.declared.claim.Claim.{Claim}
 use Rattle.ta_claim.specs.declared.claim.Claim.TheVariants.{Safe}
 use Rattle.ta_check.specs.Subjects.{HasVersion, Subject, claiming}
-use Rattle.ta_check.specs.Lines.{Standing, AtWord, IsFree, TakesOrder, at_first, LeadThrough, MayFollow}
+use Rattle.ta_check.specs.Lines.{Standing, AtWord, NothingIsLeft, TakesOrder, first_standing, LeadThrough, MayFollow}
 
 -- a node that is no leaf
 abbrev pub IsNoLeaf : Node → Type 0
@@ -44,9 +44,9 @@ pub record IsIdle (s : Standing) : Type 0 where
 abbrev pub IsMisplaced : Claim → Standing → Line → Type 0
 IsMisplaced claim s (line.Header version) = ¬ HasVersion claim version
 IsMisplaced claim s (line.Order before later) = ¬ TakesOrder s
-IsMisplaced claim s (line.Pattern number) = ¬ IsFree s
+IsMisplaced claim s (line.Pattern number) = ¬ NothingIsLeft s
 IsMisplaced claim s (line.Tree node) = IsIdle s ⊎ (IsWaiting s × IsNoLeaf node)
-IsMisplaced claim s line.End = ¬ IsFree s
+IsMisplaced claim s line.End = ¬ NothingIsLeft s
 
 -- a pair's line where one may come, and the pair may not join those before it
 pub record IsBadOrder (subject : Subject) (s : Standing) (l : Line) : Type 0 where
@@ -59,7 +59,7 @@ pub record IsBadOrder (subject : Subject) (s : Standing) (l : Line) : Type 0 whe
 -- a pattern's line where one may follow
 pub record IsPatternLine (s : Standing) (l : Line) (number : ℕ) : Type 0 where
   pub is : l ≡ line.Pattern number
-  pub free : IsFree s
+  pub free : NothingIsLeft s
 
 -- at the first word that is left
 pub record AtSomeWord (subject : Subject) (s : Standing) (fact : Search → Pending → Type 0) : Type 0 where
@@ -114,10 +114,10 @@ pub record LineAtFault (subject : Subject) (text : List ℕ) (f : CertFault) : T
   pub ls : List Line
   pub line : Line
   pub after : List ℕ
-  pub whole : text ≡ lines_text (ls ++ line ∷ []) ++ after
+  pub whole : text ≡ cert_lines_text (ls ++ line ∷ []) ++ after
   pub legal : AreLines (ls ++ line ∷ [])
   pub standing : Standing
-  pub leads : LeadThrough subject at_first ls standing
+  pub leads : LeadThrough subject first_standing ls standing
   pub at_fault : IsAtFault subject standing (line_number (length ls)) line f
 
 -- a fault of the text behind lines each of which may follow those before it: a line of no form or too long, a byte behind

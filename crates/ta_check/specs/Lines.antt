@@ -1,6 +1,6 @@
 -- Which lines may follow each other in a certificate
 use Rattle.std.specs.Prelude.{ℕ, ℤ, ◌≡◌, ◌≢◌, ◌<◌, ◌⊎◌, List, [], ◌∷◌, ◌++◌, length, Option, Some, None}
-use Rattle.ta_automaton.specs.Masks.{In}
+use Rattle.ta_base.specs.Masks.{In}
 use Rattle.ta_cert.specs.declared.line.Line.{Line}
 use Rattle.ta_cert.specs.declared.line.Line.TheVariants as line
 use Rattle.ta_cert.specs.declared.line.Node.{Node}
@@ -21,8 +21,8 @@ pub record Standing : Type 0 where
   pub pending : List Pending
 
 -- before the first line
-abbrev pub at_first : Standing
-at_first = record { version = 0; pairs = []; waiting = None; begun = []; pending = [] }
+abbrev pub first_standing : Standing
+first_standing = record { version = 0; pairs = []; waiting = None; begun = []; pending = [] }
 
 -- the first word that is to be refuted, in the search of the newest pattern
 pub record AtWord (subject : Subject) (s : Standing) (search : Search) (word : Pending) (words : List Pending) : Type 0 where
@@ -40,13 +40,13 @@ pub record TakesOrder (s : Standing) : Type 0 where
   pub early : s.begun ≡ []
 
 -- a proof or the end may come: no pair waits, no word is left, and version 2 has a pair
-pub record IsFree (s : Standing) : Type 0 where
+pub record NothingIsLeft (s : Standing) : Type 0 where
   pub none : s.waiting ≡ None
   pub some : s.version ≡ 2 → s.pairs ≢ []
   pub done : s.pending ≡ []
 
 -- the first line comes, of a version that a certificate of the claim may have
-pub record Opens (subject : Subject) (s : Standing) (version : ℕ) (after : Standing) : Type 0 where
+pub record OpensCertificate (subject : Subject) (s : Standing) (version : ℕ) (after : Standing) : Type 0 where
   pub has : HasVersion subject.claim version
   pub leads : after ≡ record s { version = version }
 
@@ -57,7 +57,7 @@ pub record Waits (subject : Subject) (s : Standing) (pair : ℕ × ℕ) (after :
   pub leads : after ≡ record s { waiting = Some pair }
 
 -- the leaf comes that shows the pair that waits
-pub record Shows (subject : Subject) (s : Standing) (n : Node) (after : Standing) : Type 0 where
+pub record ShowsWaiting (subject : Subject) (s : Standing) (n : Node) (after : Standing) : Type 0 where
   pub pair : ℕ × ℕ
   pub waits : s.waiting ≡ Some pair
   pub multipliers : List (ℕ × ℤ)
@@ -66,8 +66,8 @@ pub record Shows (subject : Subject) (s : Standing) (n : Node) (after : Standing
   pub leads : after ≡ record s { pairs = s.pairs ++ pair ∷ []; waiting = None }
 
 -- the proof of a pattern begins: the file has it, and it had no proof yet
-pub record Begins (subject : Subject) (s : Standing) (number : ℕ) (after : Standing) : Type 0 where
-  pub free : IsFree s
+pub record BeginsProof (subject : Subject) (s : Standing) (number : ℕ) (after : Standing) : Type 0 where
+  pub free : NothingIsLeft s
   pub exists : number < length subject.file.patterns
   pub new : In number s.begun → ⊥
   pub leads : after ≡ record s { begun = number ∷ s.begun; pending = all_starts subject.file.automaton }
@@ -82,17 +82,17 @@ pub record Stands (subject : Subject) (s : Standing) (node : Node) (after : Stan
   pub leads : after ≡ record s { pending = parts search word node ++ words }
 
 -- the certificate ends
-pub record Ends (s after : Standing) : Type 0 where
-  pub free : IsFree s
+pub record EndsCertificate (s after : Standing) : Type 0 where
+  pub free : NothingIsLeft s
   pub leads : after ≡ s
 
 -- a line may follow, and leads there; that the first line alone is the header is a matter of the text
 abbrev pub Leads : Subject → Standing → Line → Standing → Type 0
-Leads subject s (line.Header version) after = Opens subject s version after
+Leads subject s (line.Header version) after = OpensCertificate subject s version after
 Leads subject s (line.Order before later) after = Waits subject s (before, later) after
-Leads subject s (line.Pattern number) after = Begins subject s number after
-Leads subject s (line.Tree node) after = Stands subject s node after ⊎ Shows subject s node after
-Leads subject s line.End after = Ends s after
+Leads subject s (line.Pattern number) after = BeginsProof subject s number after
+Leads subject s (line.Tree node) after = Stands subject s node after ⊎ ShowsWaiting subject s node after
+Leads subject s line.End after = EndsCertificate s after
 
 -- lines may follow each other from there, and lead there
 abbrev pub LeadThrough : Subject → Standing → List Line → Standing → Type 0
@@ -101,4 +101,4 @@ LeadThrough subject s (l ∷ ls) after = (between : Standing) × Leads subject s
 
 -- the lines may follow each other from the first on
 abbrev pub MayFollow : Subject → List Line → Type 0
-MayFollow subject ls = (after : Standing) × LeadThrough subject at_first ls after
+MayFollow subject ls = (after : Standing) × LeadThrough subject first_standing ls after

@@ -1,7 +1,7 @@
 -- What the fields of a position stand for
 use Rattle.std.specs.Prelude.{ℕ, ◌≡◌, ◌⊎◌, ◌↔◌, List, [], ◌∷◌, reverse, slice_get, ℤ, Some, None, Result, Ok, Err}
 use Rattle.ta_automaton.specs.declared.pattern.Pattern.{Pattern}
-use Rattle.ta_automaton.specs.Masks.{In}
+use Rattle.ta_base.specs.Masks.{In}
 use Rattle.ta_cert.specs.declared.line.Line.{Line}
 use Rattle.ta_cert.specs.declared.fault.CertFault.{CertFault}
 use Rattle.ta_cert.specs.declared.fault.CertFault.TheVariants as fault
@@ -44,7 +44,7 @@ pub record MayWait (subject : Subject) (at : Standing) (pair : ℕ × ℕ) : Typ
   pub early : at.begun ≡ []
 
 -- the position's fields are those of a standing
-pub record IsAt (subject : Subject) (s : Position) (at : Standing) : Type 0 where
+pub record IsPositionAt (subject : Subject) (s : Position) (at : Standing) : Type 0 where
   pub version : at.version ≡ s.version
   pub pairs : SamePairs at.pairs s.orders
   pub waiting : at.waiting ≡ s.waiting
@@ -54,13 +54,13 @@ pub record IsAt (subject : Subject) (s : Position) (at : Standing) : Type 0 wher
 
 -- those of some standing
 abbrev pub IsSomewhere : Subject → Position → Type 0
-IsSomewhere subject s = (at : Standing) × IsAt subject s at
+IsSomewhere subject s = (at : Standing) × IsPositionAt subject s at
 
 -- what a position at a standing answers to the line of a number, and where it is then; want of memory is free
-abbrev pub Taken : Subject → Standing → ℕ → Line → Position → Result (Unit {0}) CertFault → Type 0
-Taken subject at number l new (Ok _) = (after : Standing) × Leads subject at l after × IsAt subject new after
-Taken subject at number l new (Err fault.Memory) = Unit {0}
-Taken subject at number l new (Err f) = IsAtFault subject at number l f
+abbrev pub LineAnswers : Subject → Standing → ℕ → Line → Position → Result (Unit {0}) CertFault → Type 0
+LineAnswers subject at number l new (Ok _) = (after : Standing) × Leads subject at l after × IsPositionAt subject new after
+LineAnswers subject at number l new (Err fault.Memory) = Unit {0}
+LineAnswers subject at number l new (Err f) = IsAtFault subject at number l f
 
 -- a leaf's fault in a line of a number
 abbrev pub fault_at : ℕ → LeafFault → CertFault

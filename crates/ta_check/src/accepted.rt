@@ -1,7 +1,7 @@
 //! What a certificate proves.
 #![tactic(auto)]
 
-use ta_automaton::List;
+use ta_base::List;
 
 /// The numbers of the patterns that a certificate proves, in its order.
 #[derive(Drop)]

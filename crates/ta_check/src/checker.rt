@@ -2,15 +2,16 @@
 #![tactic(auto)]
 
 ghost use Rattle.std.specs.Prelude.{ℕ, ◌≡◌, ◌↔◌, ◌++◌, [], true, List as Bytes, IfOk, IsErrOf, is_err};
-ghost use Rattle.ta_check.specs.Certificate.{AllHold, AllUnsolved};
-ghost use Rattle.ta_check.specs.Checkers.{Fed, Finished, IsExactEnd, IsExactFeed, IsSound, Stand, StandsFor, subject_of};
+ghost use Rattle.ta_check.specs.Certificate.{AllClaimsHold, AllUnsolved};
+ghost use Rattle.ta_check.specs.Checkers.{CheckerFeedAnswers, CheckerFinishAnswers, IsExactCheck, IsExactFeed, IsSoundChecker, StandBehind, CheckerStandsFor, subject_of};
 ghost use Rattle.ta_check.specs.Subjects.{claiming};
 ghost use Rattle.ta_check.specs.Inside.Pieces.{NextTaken, StandSomewhere, TakenTo};
 
 use crate::accepted::Accepted;
 use crate::position::Position;
 use std::alloc::Global;
-use ta_automaton::{File, List};
+use ta_automaton::File;
+use ta_base::List;
 use ta_cert::{CertFault, Ended, Reader};
 use ta_claim::Claim;
 use ta_rest::RestFile;
@@ -41,7 +42,7 @@ fn take_next(
     bytes: &[u8],
 ) -> Result<Option<usize>, CertFault>
     requires { StandSomewhere (claiming claim file.now) reader.old position.old }
-    ensures { (text : Bytes ℕ) → Stand (claiming claim file.now) reader.old position.old text → NextTaken (claiming claim file.now) text bytes.now reader.new position.new result }
+    ensures { (text : Bytes ℕ) → StandBehind (claiming claim file.now) reader.old position.old text → NextTaken (claiming claim file.now) text bytes.now reader.new position.new result }
 {
     match reader.feed_line(bytes)? {
         None => Ok(None),
@@ -68,7 +69,7 @@ fn take_lines(
     piece: &[u8],
 ) -> Result<(), CertFault>
     requires { StandSomewhere (claiming claim file.now) reader.old position.old }
-    ensures { (text : Bytes ℕ) → Stand (claiming claim file.now) reader.old position.old text → TakenTo (claiming claim file.now) (text ++ piece.now) reader.new position.new result }
+    ensures { (text : Bytes ℕ) → StandBehind (claiming claim file.now) reader.old position.old text → TakenTo (claiming claim file.now) (text ++ piece.now) reader.new position.new result }
 {
     let mut rest = piece;
     'lines: while let Some(taken) = take_next(alloc, claim, file, reader, position, rest)? {
@@ -82,7 +83,7 @@ impl<'a> Checker<'a> {
     /// A judge of a certificate that patterns of a file are safe, before the first piece. It takes no
     /// memory.
     pub fn new(alloc: Global, scoped: &'a ScopedFile) -> Checker<'a>
-        ensures stands { StandsFor result [] }
+        ensures stands { CheckerStandsFor result [] }
         ensures subject { subject_of result ≡ claiming Claim.Safe scoped.now.file }
     {
         Checker {
@@ -98,7 +99,7 @@ impl<'a> Checker<'a> {
     /// A judge of a certificate that no run comes to rest where the last event of a pattern happens.
     /// It takes no memory.
     pub fn resting(alloc: Global, rest: &'a RestFile) -> Checker<'a>
-        ensures stands { StandsFor result [] }
+        ensures stands { CheckerStandsFor result [] }
         ensures subject { subject_of result ≡ claiming Claim.RestSafe rest.now.ending.file }
     {
         Checker {
@@ -115,13 +116,13 @@ impl<'a> Checker<'a> {
     /// ends it, makes it too long or stands behind the last line. Once a piece was refused, each
     /// later call is.
     pub fn feed(&mut self, piece: &[u8]) -> Result<(), CertFault>
-        requires { IsSound self.old }
-        ensures answer { (text : Bytes ℕ) → StandsFor self.old text → Fed text piece.now self.new result }
-        ensures exact { (text : Bytes ℕ) → StandsFor self.old text → IsExactFeed (subject_of self.old) (text ++ piece.now) result }
+        requires { IsSoundChecker self.old }
+        ensures answer { (text : Bytes ℕ) → CheckerStandsFor self.old text → CheckerFeedAnswers text piece.now self.new result }
+        ensures exact { (text : Bytes ℕ) → CheckerStandsFor self.old text → IsExactFeed (subject_of self.old) (text ++ piece.now) result }
         ensures refused { IsErrOf result CertFault.Failed ↔ (self.old.failed ≡ true) }
         ensures stays { self.new.failed ≡ is_err result }
         ensures subject { subject_of self.new ≡ subject_of self.old }
-        ensures sound { IsSound self.new }
+        ensures sound { IsSoundChecker self.new }
     {
         if self.failed {
             return Err(CertFault::Failed);
@@ -140,11 +141,11 @@ impl<'a> Checker<'a> {
 
     /// What the certificate proves, where its text ended where it had to.
     pub fn finish(self) -> Result<Accepted, CertFault>
-        requires { IsSound self }
-        ensures answer { (text : Bytes ℕ) → StandsFor self.entry text → Finished (subject_of self.entry) text result }
-        ensures exact { (text : Bytes ℕ) → StandsFor self.entry text → IsExactEnd (subject_of self.entry) text result }
+        requires { IsSoundChecker self }
+        ensures answer { (text : Bytes ℕ) → CheckerStandsFor self.entry text → CheckerFinishAnswers (subject_of self.entry) text result }
+        ensures exact { (text : Bytes ℕ) → CheckerStandsFor self.entry text → IsExactCheck (subject_of self.entry) text result }
         ensures refused { IsErrOf result CertFault.Failed ↔ (self.entry.failed ≡ true) }
-        ensures holds { IfOk result (λ accepted. AllHold (subject_of self.entry) accepted.patterns) }
+        ensures holds { IfOk result (λ accepted. AllClaimsHold (subject_of self.entry) accepted.patterns) }
         ensures unsolved { self.entry.claim ≡ Claim.Safe → IfOk result (λ accepted. AllUnsolved self.entry.scoped.now.file accepted.patterns) }
     {
         if self.failed {

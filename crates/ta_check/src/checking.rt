@@ -8,8 +8,8 @@ ghost use Rattle.ta_cert.specs.declared.fault.CertFault.{CertFault as AnyFault};
 ghost use Rattle.ta_cert.specs.declared.fault.CertFault.TheVariants.{Memory};
 ghost use Rattle.ta_claim.specs.declared.claim.Claim.TheVariants.{RestSafe, Safe};
 ghost use Rattle.ta_rest.specs.Faults.{EndingsOf};
-ghost use Rattle.ta_check.specs.Certificate.{AllHold, AllRestSafe, AllSafe, AllUnsolved, Certificate, CertificateFor, RestCertificate};
-ghost use Rattle.ta_check.specs.Checkers.{StandsFor, subject_of};
+ghost use Rattle.ta_check.specs.Certificate.{AllClaimsHold, AllRestSafe, AllSafe, AllUnsolved, Certificate, CertificateFor, RestCertificate};
+ghost use Rattle.ta_check.specs.Checkers.{CheckerStandsFor, subject_of};
 ghost use Rattle.ta_check.specs.Faults.{IsFirstFault, IsFirstFaultFor};
 ghost use Rattle.ta_check.specs.Subjects.{Subject, claiming};
 
@@ -49,12 +49,12 @@ pub fn rest_check(alloc: Global, rest: &RestFile, text: &[u8]) -> Result<Accepte
 
 /// Judges a whole certificate.
 fn judge_whole(checker: Checker<'_>, text: &[u8]) -> Result<Accepted, CertFault>
-    requires { StandsFor checker [] }
+    requires { CheckerStandsFor checker [] }
     ensures accepted { IfOk result (λ accepted. CertificateFor (subject_of checker.entry) text.now accepted.patterns) }
     ensures refused { IfErr result (λ fault. fault ≢ Memory → (numbers : List ℕ) → ¬ CertificateFor (subject_of checker.entry) text.now numbers) }
     ensures fault { IfErr result (λ fault. fault ≢ Memory → IsFirstFaultFor (subject_of checker.entry) text.now fault) }
     ensures exact { (fault : AnyFault) → IsFirstFaultFor (subject_of checker.entry) text.now fault → IsErrOrMemory result fault }
-    ensures holds { IfOk result (λ accepted. AllHold (subject_of checker.entry) accepted.patterns) }
+    ensures holds { IfOk result (λ accepted. AllClaimsHold (subject_of checker.entry) accepted.patterns) }
     ensures unsolved { checker.entry.claim ≡ Safe → IfOk result (λ accepted. AllUnsolved checker.entry.scoped.now.file accepted.patterns) }
 {
     let mut checker = checker;

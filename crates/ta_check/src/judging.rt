@@ -2,13 +2,13 @@
 #![tactic(auto)]
 
 ghost use Rattle.std.specs.Prelude.{ℕ, ◌≡◌, ◌↔◌, IsTrue, None, Some, reverse, ◌≢◌, IfErr};
-ghost use Rattle.ta_automaton.specs.Masks.{In};
+ghost use Rattle.ta_base.specs.Masks.{In};
 ghost use Rattle.ta_cert.specs.Lines.{ArePairs, IsLine, IsNode, IsSplit};
 ghost use Rattle.ta_cert.specs.declared.line.Line.TheVariants.{End, Header, Order, Pattern, Tree};
 ghost use Rattle.ta_cert.specs.declared.line.Node.TheVariants.{Extend, Leaf, Split};
 ghost use Rattle.ta_check.specs.Subjects.{HasVersion, Subject, claiming};
-ghost use Rattle.ta_check.specs.Lines.{IsFree, Standing, TakesOrder};
-ghost use Rattle.ta_check.specs.Positions.{IsAt, IsSomewhere, Taken};
+ghost use Rattle.ta_check.specs.Lines.{NothingIsLeft, Standing, TakesOrder};
+ghost use Rattle.ta_check.specs.Positions.{IsPositionAt, IsSomewhere, LineAnswers};
 
 use crate::leaf::{fault_in, judge_leaf};
 use crate::position::Position;
@@ -32,7 +32,7 @@ impl Position {
     ) -> Result<(), CertFault>
         requires somewhere { IsSomewhere (claiming claim file.now) self.old }
         requires form { IsLine line.now }
-        ensures { (at : Standing) → IsAt (claiming claim file.now) self.old at → Taken (claiming claim file.now) at number line.now self.new result }
+        ensures { (at : Standing) → IsPositionAt (claiming claim file.now) self.old at → LineAnswers (claiming claim file.now) at number line.now self.new result }
     {
         match line {
             Line::Header(version) => self.take_header(claim, file, number, *version),
@@ -53,7 +53,7 @@ impl Position {
         number: u64,
         version: u8,
     ) -> Result<(), CertFault>
-        ensures taken { (at : Standing) → IsAt (claiming claim file.now) self.old at → Taken (claiming claim file.now) at number (Header version) self.new result }
+        ensures taken { (at : Standing) → IsPositionAt (claiming claim file.now) self.old at → LineAnswers (claiming claim file.now) at number (Header version) self.new result }
         ensures no_memory { IfErr result (λ fault. fault ≢ CertFault.Memory) }
     {
         let _file = file;
@@ -66,7 +66,7 @@ impl Position {
 
     /// Whether a pair may come: in version 2, where none waits and no proof began.
     fn takes_order(&self) -> bool
-        ensures { (subject : Subject) (at : Standing) → IsAt subject self.now at → IsTrue result ↔ TakesOrder at }
+        ensures { (subject : Subject) (at : Standing) → IsPositionAt subject self.now at → IsTrue result ↔ TakesOrder at }
     {
         self.version == 2 && self.waiting.is_none() && self.proved.is_empty()
     }
@@ -74,7 +74,7 @@ impl Position {
     /// Whether a proof or the end may come: no pair waits, no proof is being read, and version 2
     /// has a pair.
     fn is_free(&self) -> bool
-        ensures { (subject : Subject) (at : Standing) → IsAt subject self.now at → IsTrue result ↔ IsFree at }
+        ensures { (subject : Subject) (at : Standing) → IsPositionAt subject self.now at → IsTrue result ↔ NothingIsLeft at }
     {
         if self.waiting.is_some() || self.current.is_some() {
             return false;
@@ -91,7 +91,7 @@ impl Position {
         before: u32,
         after: u32,
     ) -> Result<(), CertFault>
-        ensures taken { (at : Standing) → IsAt (claiming claim file.now) self.old at → Taken (claiming claim file.now) at number (Order before after) self.new result }
+        ensures taken { (at : Standing) → IsPositionAt (claiming claim file.now) self.old at → LineAnswers (claiming claim file.now) at number (Order before after) self.new result }
         ensures no_memory { IfErr result (λ fault. fault ≢ CertFault.Memory) }
     {
         if !self.takes_order() {
@@ -116,7 +116,7 @@ impl Position {
     ) -> Result<(), CertFault>
         requires somewhere { IsSomewhere (claiming claim file.now) self.old }
         requires form { IsNode node.now }
-        ensures { (at : Standing) → IsAt (claiming claim file.now) self.old at → Taken (claiming claim file.now) at number (Tree node.now) self.new result }
+        ensures { (at : Standing) → IsPositionAt (claiming claim file.now) self.old at → LineAnswers (claiming claim file.now) at number (Tree node.now) self.new result }
     {
         let Some((before, after)) = self.waiting else {
             return self.take_node(alloc, claim, file, number, node);
@@ -149,7 +149,7 @@ impl Position {
         requires somewhere { IsSomewhere (claiming claim file.now) self.old }
         requires waits { self.old.waiting ≡ Some (before, after) }
         requires form { ArePairs 0 multipliers.now }
-        ensures { (at : Standing) → IsAt (claiming claim file.now) self.old at → Taken (claiming claim file.now) at number (Tree (Leaf multipliers.now)) self.new result }
+        ensures { (at : Standing) → IsPositionAt (claiming claim file.now) self.old at → LineAnswers (claiming claim file.now) at number (Tree (Leaf multipliers.now)) self.new result }
     {
         match self
             .orders
@@ -176,7 +176,7 @@ impl Position {
         pattern: u32,
     ) -> Result<(), CertFault>
         requires { IsSomewhere (claiming claim file.now) self.old }
-        ensures { (at : Standing) → IsAt (claiming claim file.now) self.old at → Taken (claiming claim file.now) at number (Pattern pattern) self.new result }
+        ensures { (at : Standing) → IsPositionAt (claiming claim file.now) self.old at → LineAnswers (claiming claim file.now) at number (Pattern pattern) self.new result }
     {
         if !self.is_free() {
             return Err(CertFault::Line(number));
@@ -209,7 +209,7 @@ impl Position {
 
     /// Takes the last line.
     fn end(&self, number: u64) -> Result<(), CertFault>
-        ensures taken { (subject : Subject) (at : Standing) → IsAt subject self.now at → Taken subject at number End self.now result }
+        ensures taken { (subject : Subject) (at : Standing) → IsPositionAt subject self.now at → LineAnswers subject at number End self.now result }
         ensures no_memory { IfErr result (λ fault. fault ≢ CertFault.Memory) }
     {
         if self.is_free() {
@@ -231,7 +231,7 @@ impl Position {
         requires somewhere { IsSomewhere (claiming claim file.now) self.old }
         requires none { self.old.waiting ≡ None }
         requires form { IsNode node.now }
-        ensures { (at : Standing) → IsAt (claiming claim file.now) self.old at → Taken (claiming claim file.now) at number (Tree node.now) self.new result }
+        ensures { (at : Standing) → IsPositionAt (claiming claim file.now) self.old at → LineAnswers (claiming claim file.now) at number (Tree node.now) self.new result }
     {
         let Some(pattern) = self.current else {
             return Err(CertFault::Line(number));
@@ -259,7 +259,7 @@ impl Position {
         requires somewhere { IsSomewhere (claiming claim file.now) self.old }
         requires none { self.old.waiting ≡ None }
         requires current { self.old.current ≡ Some pattern }
-        ensures { (at : Standing) → IsAt (claiming claim file.now) self.old at → Taken (claiming claim file.now) at number (Tree Extend) self.new result }
+        ensures { (at : Standing) → IsPositionAt (claiming claim file.now) self.old at → LineAnswers (claiming claim file.now) at number (Tree Extend) self.new result }
     {
         let tree = ClaimTree::new(claim, file, pattern, &self.orders);
         let start_mask = self.place.cursor().start_mask();
@@ -286,7 +286,7 @@ impl Position {
         requires none { self.old.waiting ≡ None }
         requires current { self.old.current ≡ Some pattern }
         requires form { IsSplit unknown floor }
-        ensures { (at : Standing) → IsAt (claiming claim file.now) self.old at → Taken (claiming claim file.now) at number (Tree (Split unknown floor)) self.new result }
+        ensures { (at : Standing) → IsPositionAt (claiming claim file.now) self.old at → LineAnswers (claiming claim file.now) at number (Tree (Split unknown floor)) self.new result }
     {
         let tree = ClaimTree::new(claim, file, pattern, &self.orders);
         let start_mask = self.place.cursor().start_mask();
@@ -311,7 +311,7 @@ impl Position {
         requires none { self.old.waiting ≡ None }
         requires current { self.old.current ≡ Some pattern }
         requires form { ArePairs 0 multipliers.now }
-        ensures { (at : Standing) → IsAt (claiming claim file.now) self.old at → Taken (claiming claim file.now) at number (Tree (Leaf multipliers.now)) self.new result }
+        ensures { (at : Standing) → IsPositionAt (claiming claim file.now) self.old at → LineAnswers (claiming claim file.now) at number (Tree (Leaf multipliers.now)) self.new result }
     {
         let tree = ClaimTree::new(claim, file, pattern, &self.orders);
         judge_leaf(

@@ -1,8 +1,8 @@
 //! Where a certificate is being read.
 #![tactic(auto)]
 
-ghost use Rattle.ta_check.specs.Lines.{at_first};
-ghost use Rattle.ta_check.specs.Positions.{IsAt};
+ghost use Rattle.ta_check.specs.Lines.{first_standing};
+ghost use Rattle.ta_check.specs.Positions.{IsPositionAt};
 ghost use Rattle.ta_check.specs.Subjects.{Subject};
 
 use std::alloc::Global;
@@ -33,7 +33,7 @@ pub(crate) struct Position {
 impl Position {
     /// The position before the first line. It takes no memory.
     pub fn new(alloc: Global) -> Position
-        ensures { (subject : Subject) → IsAt subject result at_first }
+        ensures { (subject : Subject) → IsPositionAt subject result first_standing }
     {
         Position {
             version: 0,

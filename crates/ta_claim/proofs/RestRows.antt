@@ -1,32 +1,30 @@
 -- words of rest are words under no pairs, and the rows of their ends
-use Rattle.std.proofs.Common.{◌≡◌, inl, inr, ℕ, zero, suc, ◌+◌, ◌<◌, ◌≤◌, List, [], ◌∷◌, ◌++◌, length, map, cond, Bool, true, false, not, Option, Some, None, slice_get, arith, sym, ap, ◌∙◌, refl, subst, length-append}
+use Rattle.std.proofs.Common.{◌≡◌, inl, inr, ℕ, ◌≤◌, List, [], ◌∷◌, ◌++◌, length, map, cond, Bool, true, false, not, Option, Some, None, slice_get, arith, sym, ap, ◌∙◌, subst, length-append}
 use Rattle.std.specs.Prelude.{filter}
 use Rattle.std.proofs.lemmas.List.{length-map}
-use Rattle.ta_linear.specs.declared.row.Row.{Row}
+use Rattle.ta_base.proofs.Ranges.{count_few, filter_numbers_same}
 use Rattle.ta_linear.specs.declared.row.System.{System}
 use Rattle.ta_automaton.specs.declared.automaton.Automaton.{Automaton}
 use Rattle.ta_automaton.specs.declared.file.File.{File}
 use Rattle.ta_automaton.specs.declared.pattern.Pattern.{Pattern}
-use Rattle.ta_automaton.specs.Masks.{has_bit, numbers_from}
+use Rattle.ta_base.specs.Masks.{has_bit, numbers_from}
 use Rattle.ta_words.specs.declared.element.Element.{Element}
-use Rattle.ta_words.specs.Words.{Legal, has_rise, is_complete}
+use Rattle.ta_words.specs.Words.{LegalWord, has_rise, is_complete}
 use Rattle.ta_words.proofs.Lists.{same_pattern}
 use Rattle.ta_encode.specs.declared.ending.WordEnd.{WordEnd}
-use Rattle.ta_encode.specs.Code.{RowsOf, SystemAt}
+use Rattle.ta_encode.specs.Code.{AreRowsOf, SystemAt}
 use Rattle.ta_encode.specs.Ends.{EndedSystem, ended_rows}
 use Rattle.ta_encode.specs.PatternSearch.{pattern_search}
 use Rattle.ta_encode.specs.Search.{Comes, Pending}
-use Rattle.ta_encode.specs.System.{LinearRow, bound_row, counter_row, form_row, guard_rows, negated, opposite, word_rows}
+use Rattle.ta_encode.specs.System.{LinearRow, bound_row, counter_row, guard_rows, negated, opposite, word_rows}
 use Rattle.ta_encode.specs.Unknowns.{meanings}
-use Rattle.ta_encode.specs.declared.meaning.Meaning.{Meaning}
 use Rattle.ta_encode.proofs.CodeRows.{rows_count}
-use Rattle.ta_encode.proofs.Counting.{count_few}
 use Rattle.ta_encode.proofs.Ended.{guards_same}
-use Rattle.ta_cursor.specs.TreeCalls.{IsRoot, IsSmall, Pushed}
+use Rattle.ta_cursor.specs.TreeCalls.{IsRoot, IsSmall, PushAnswers}
 use Rattle.ta_cursor.specs.declared.pattern_tree.PatternTree.{PatternTree}
 use Rattle.ta_cursor.specs.declared.root.Root.{Root}
 use Rattle.ta_cursor.proofs.PatternWords.{comes_legal}
-use Rattle.ta_cursor.proofs.RowCounts.{few_rows, few_unknowns}
+use Rattle.ta_cursor.proofs.RowCounts.{few_rows, few_unknowns, guards_few}
 use Rattle.ta_rest.specs.RestSearch.{end_rows, must_be_left, rest_rows, rest_search}
 use Rattle.ta_claim.specs.RestEnds.{IsRestEnd}
 
@@ -42,12 +40,12 @@ rest_comes a p start (e ∷ past) (inl b) = inl b
 rest_comes a p start (e ∷ past) (inr c) = inr (c.0, rest_comes a p start past c.1)
 
 -- and goes on with the same elements
-pub rest_pushed : (a : Automaton) (p : Pattern) (start : ℕ) (old new : List Element) (number : ℕ) (r : Bool) → Pushed (pattern_search a p []) start old new number r → Pushed (rest_search a p) start old new number r
+pub rest_pushed : (a : Automaton) (p : Pattern) (start : ℕ) (old new : List Element) (number : ℕ) (r : Bool) → PushAnswers (pattern_search a p []) start old new number r → PushAnswers (rest_search a p) start old new number r
 rest_pushed a p start old new number false h = h
 rest_pushed a p start old new number true h = record { element = h.element; follows = h.follows; word = h.word; more = h.more; small = h.small }
 
 -- a word to which it comes is legal
-pub rest_legal : (a : Automaton) (p : Pattern) (start : ℕ) (past : List Element) → Comes (rest_search a p) start past → Legal a p start past
+pub rest_legal : (a : Automaton) (p : Pattern) (start : ℕ) (past : List Element) → Comes (rest_search a p) start past → LegalWord a p start past
 rest_legal a p start past c = (comes_legal a p [] start past (rest_comes a p start past c)).legal
 
 -- what the tree of a pattern's words under no pairs says of them
@@ -57,12 +55,6 @@ tree_search t file number p f o at named =
     ∙ ap (λ (q : Pattern). pattern_search file.automaton q t.orders.now) (same_pattern file number t.pattern.now p at named)
     ∙ ap (λ (ps : List (ℕ × ℕ)). pattern_search file.automaton p ps) o
 
-filter_same : (f g : ℕ → Bool) (k n most : ℕ) → ((l : ℕ) → l < most → f l ≡ g l) → k + n ≤ most → filter f (numbers_from k n) ≡ filter g (numbers_from k n)
-filter_same f g k zero most same h = refl
-filter_same f g k (suc n) most same h =
-    ap (λ (ls : List ℕ). cond (f k) (k ∷ ls) ls) (filter_same f g (k + 1) n most same (omega arith))
-    ∙ ap (λ (b : Bool). cond b (k ∷ filter g (numbers_from (k + 1) n)) (filter g (numbers_from (k + 1) n))) (same k (omega arith))
-
 -- the rows that are asked for at a word's end are those of rest
 ended_are : (a : Automaton) (p : Pattern) (start : ℕ) (past : List Element) (end : Option WordEnd) → IsRestEnd a p start past end → ended_rows a (meanings a p start past) end ≡ cond (is_complete p past) (end_rows a p start past) []
 unfolding end_rows
@@ -71,7 +63,7 @@ ended_are a p start past (Some end) is =
     let ms = meanings a p start past in
     let row : ℕ → LinearRow = λ l. opposite (counter_row a ms l) in
     let guards = guards_same a ms (has_bit end.failing) (λ i. not (has_rise past i)) 0 (length a.rise) a.rise is.1.failing (omega arith) in
-    let places = filter_same (λ l. not (has_bit end.inhabited l)) (must_be_left a p start past) 0 (length a.locations) (length a.locations) is.1.left (omega arith) in
+    let places = filter_numbers_same (λ l. not (has_bit end.inhabited l)) (must_be_left a p start past) 0 (length a.locations) (length a.locations) is.1.left (omega arith) in
     ap (λ (rs : List LinearRow). map negated rs ++ map row (filter (λ l. not (has_bit end.inhabited l)) (numbers_from 0 (length a.locations)))) guards
     ∙ ap (λ (ls : List ℕ). map negated (guard_rows a ms (λ i. not (has_rise past i)) 0 a.rise) ++ map row ls) places
     ∙ sym (ap (λ (b : Bool). cond b (end_rows a p start past) []) is.0)
@@ -81,16 +73,8 @@ pub rest_system : (a : Automaton) (p : Pattern) (w : Pending) (end : Option Word
 unfolding rest_rows
 rest_system a p w end s is ended = record {
   unknowns = ended.unknowns;
-  rows = subst (λ (ls : List LinearRow). RowsOf ((word_rows a p w.start w.past ++ ls) ++ map bound_row w.bounds) s.rows) (ended_are a p w.start w.past end is) ended.rows;
+  rows = subst (λ (ls : List LinearRow). AreRowsOf ((word_rows a p w.start w.past ++ ls) ++ map bound_row w.bounds) s.rows) (ended_are a p w.start w.past end is) ended.rows;
 }
-
-guards_few : (a : Automaton) (ms : List Meaning) (test : ℕ → Bool) (k : ℕ) (rs : List Row) → length (guard_rows a ms test k rs) ≤ length rs
-guards_few a ms test k [] = omega arith
-guards_few a ms test k (r ∷ rs) = kept (test k) (guards_few a ms test (k + 1) rs)
-  where
-    kept : (b : Bool) → length (guard_rows a ms test (k + 1) rs) ≤ length rs → length (cond b (form_row a ms r.form ∷ guard_rows a ms test (k + 1) rs) (guard_rows a ms test (k + 1) rs)) ≤ suc (length rs)
-    kept true h = omega arith
-    kept false h = omega arith
 
 end_few : (a : Automaton) (p : Pattern) (start : ℕ) (past : List Element) → length (end_rows a p start past) ≤ 48
 unfolding end_rows
@@ -115,7 +99,7 @@ either_few true rows h = h
 either_few false rows h = omega arith
 
 -- its rows, but for the bounds
-pub rest_few : (file : File) (number : ℕ) (p : Pattern) (start : ℕ) (past : List Element) → slice_get file.patterns number ≡ Some p → Legal file.automaton p start past → length (rest_rows file.automaton p start past) ≤ 2640
+pub rest_few : (file : File) (number : ℕ) (p : Pattern) (start : ℕ) (past : List Element) → slice_get file.patterns number ≡ Some p → LegalWord file.automaton p start past → length (rest_rows file.automaton p start past) ≤ 2640
 unfolding rest_rows
 rest_few file number p start past at legal =
     let a = file.automaton in
@@ -123,7 +107,7 @@ rest_few file number p start past at legal =
     omega (arith, length-append (word_rows a p start past) ends, few_rows file number p start past at legal, either_few (is_complete p past) (end_rows a p start past) (end_few a p start past))
 
 -- the unknowns and the rows of its system
-pub rest_small : (file : File) (number : ℕ) (p : Pattern) (w : Pending) (s : System) → slice_get file.patterns number ≡ Some p → Legal file.automaton p w.start w.past → SystemAt (rest_search file.automaton p) w s → IsSmall w.bounds s
+pub rest_small : (file : File) (number : ℕ) (p : Pattern) (w : Pending) (s : System) → slice_get file.patterns number ≡ Some p → LegalWord file.automaton p w.start w.past → SystemAt (rest_search file.automaton p) w s → IsSmall w.bounds s
 rest_small file number p w s at legal is =
     let a = file.automaton in
     let words = rest_rows a p w.start w.past in

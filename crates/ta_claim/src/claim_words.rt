@@ -6,7 +6,7 @@ ghost use Rattle.ta_words.specs.Calls.{OfPattern};
 ghost use Rattle.ta_encode.specs.Marks.{IsEncoding};
 ghost use Rattle.ta_encode.specs.declared.growing.Encoding.{Encoding};
 ghost use Rattle.ta_claim.specs.Claims.{search_for};
-ghost use Rattle.ta_claim.specs.Trees.{IsKeptFor, search_of};
+ghost use Rattle.ta_claim.specs.Trees.{IsKeptFor, search_of_claim};
 
 use crate::claim::Claim;
 use crate::claim_tree::ClaimTree;
@@ -24,7 +24,7 @@ impl<'a> ClaimTree<'a> {
     /// rest are under no pairs.
     pub fn new(claim: Claim, file: &'a File, number: u32, orders: &'a Orders) -> ClaimTree<'a>
         requires { number < length file.now.patterns }
-        ensures search { OfPattern file.now number (λ p. search_of result ≡ search_for claim file.now.automaton p orders.now) }
+        ensures search { OfPattern file.now number (λ p. search_of_claim result ≡ search_for claim file.now.automaton p orders.now) }
         ensures kept { OfPattern file.now number (λ p. (kept : Encoding) → IsKeptFor result kept ↔ IsEncoding file.now.automaton p kept) }
     {
         match claim {
@@ -35,11 +35,11 @@ impl<'a> ClaimTree<'a> {
 }
 
 impl<'a> Tree for ClaimTree<'a> {
-    ghost use Rattle.ta_claim.specs.Trees.{IsKeptFor, search_of};
+    ghost use Rattle.ta_claim.specs.Trees.{IsKeptFor, search_of_claim};
 
     type Kept = Encoding;
 
-    ghost search = { λ t. search_of t };
+    ghost search = { λ t. search_of_claim t };
 
     ghost is_kept = { λ t kept. IsKeptFor t kept };
 

@@ -2,7 +2,7 @@
 #![tactic(auto)]
 
 ghost use Rattle.std.specs.Prelude.{ℕ, ◌≡◌, ◌<◌, ◌||◌, Some, length, reverse, slice_get};
-ghost use Rattle.ta_automaton.specs.Masks.{has_bit};
+ghost use Rattle.ta_base.specs.Masks.{has_bit};
 ghost use Rattle.ta_automaton.specs.Shape.{RuleWithin};
 ghost use Rattle.ta_rest.specs.RestSearch.{leads_out, some_below};
 ghost use Rattle.ta_words.specs.Calls.{OfPattern};

@@ -1,5 +1,5 @@
 -- a run that was replayed starts
-use Rattle.std.proofs.Common.{◌≡◌, Some, refl, sym, subst, ◌∙◌}
+use Rattle.std.proofs.Common.{refl, sym, subst, ◌∙◌}
 use Rattle.std.proofs.lemmas.Option.{same_Some}
 use Rattle.ta_automaton.specs.declared.pattern.Pattern.{Pattern}
 use Rattle.ta_automaton.specs.declared.file.File.{File}
@@ -12,9 +12,9 @@ use Rattle.ta_replay.specs.Inside.Following.{FitsPattern}
 use Rattle.ta_replay.specs.declared.fault.RunFault.TheVariants as runs
 use Rattle.ta_replay.specs.declared.run.Run.{Run}
 use Rattle.ta_replay.proofs.Refusing.{config_denied}
-use Rattle.ta_compress.specs.Faults.{Replayed}
+use Rattle.ta_compress.specs.Faults.{ReplaysInRange}
 
-pub always_starts : (file : File) (run : Run) (fault : StartFault) → Fits file run → Replayed file run → StartFails file.automaton run.parameters run.counts fault → ⊥
+pub always_starts : (file : File) (run : Run) (fault : StartFault) → Fits file run → ReplaysInRange file run → StartFails file.automaton run.parameters run.counts fault → ⊥
 always_starts file run fault fits replayed h = by_fault fault h where
   shown : ShowsPattern file.automaton fits.pattern run
   shown = subst (λ (p : Pattern). ShowsPattern file.automaton p run) (same_Some replayed.shows.pattern fits.pattern (sym replayed.shows.named ∙ fits.named)) replayed.shows.shows

@@ -5,9 +5,10 @@ use Rattle.std.proofs.lemmas.Int.{ints}
 use Rattle.std.proofs.lemmas.Bool.{cases_lt}
 use Rattle.std.proofs.lemmas.Bool.Decides.{eqb_tells}
 use Rattle.std.proofs.lemmas.List.{get_or-set_same, get_or-set_other, length-set}
+use Rattle.ta_base.proofs.Integers.{next_value}
+use Rattle.ta_counter.proofs.Moving.{one_if-one}
 use Rattle.ta_linear.specs.Values.{point_of}
 use Rattle.std.proofs.Math.IntN.{zero-*ℤ}
-use Rattle.ta_linear.proofs.Integers.{distributes_right}
 use Rattle.ta_automaton.specs.declared.automaton.Automaton.{Automaton}
 use Rattle.ta_automaton.specs.Places.{one_if, rule_change}
 use Rattle.ta_automaton.proofs.Moves.{one_if-ne}
@@ -15,7 +16,7 @@ use Rattle.ta_counter.specs.declared.config.Config.{Config}
 use Rattle.ta_counter.specs.declared.holding.Guards.{Guards}
 use Rattle.ta_counter.specs.Configs.{IsOf}
 use Rattle.ta_counter.specs.Holding.{GuardsAre, GuardsStay}
-use Rattle.ta_scope.specs.Arranged.{ArrangedOf, Counts, count_at}
+use Rattle.ta_scope.specs.Arranged.{ArrangedOf, AreRuleCounts, count_at}
 use Rattle.ta_replay.specs.declared.fault.RunFault.{RunFault}
 use Rattle.ta_replay.specs.declared.fault.RunFault.TheVariants as runs
 use Rattle.ta_replay.specs.declared.run.RunLine.{RunLine}
@@ -24,12 +25,9 @@ use Rattle.ta_compress.specs.declared.draft.Draft.{Draft}
 use Rattle.ta_compress.specs.declared.fault.CompressFault.{CompressFault}
 use Rattle.ta_compress.specs.declared.fault.CompressFault.TheVariants.{Replay, TooManySteps, Memory}
 use Rattle.ta_compress.specs.Units.{unit}
-use Rattle.ta_compress.specs.Inside.Drafts.{Advances, Closes, Counted, DraftAt, HasFallen, LeavesWithin, MayRepeat, MayStep, OneMore, Ready, Repeated, RepeatStops, Room, SameGuards, repeated, zeros}
+use Rattle.ta_compress.specs.Inside.Drafts.{Advances, Closes, CountsStep, DraftAt, HasFallen, GuardsOutOfRangeWithin, MayRepeat, MayStep, OneMore, DraftIsReady, RepeatsRule, RepeatStops, Room, SameGuards, repeated, zeros}
 use Rattle.ta_compress.proofs.Drafting.{advance, no_counts, zero_counts}
 use Rattle.ta_compress.proofs.Masks.{same_still, other_switches, fallen_drops, drops_fallen}
-
-one_same : (r : ℕ) → one_if r r ≡ pos 1
-one_same r = elim (eqb_tells r r) [ inl e ↦ rw e.0 refl | inr ne ↦ absurd (ne.1 refl) ]
 
 pub one_more_set : (r : ℕ) (counts : List ℤ) (z : ℤ) → r < length counts → z ≡ (count_at counts r +ℤ pos 1) → OneMore r counts (set counts r z)
 one_more_set r counts z b is = record {
@@ -39,7 +37,7 @@ one_more_set r counts z b is = record {
         let here = get_or-set_same counts r z (pos 0) b in
         let there = ap (count_at (set counts r z)) e.1 in
         let was = ap (count_at counts) e.1 in
-        let one = ap (one_if r) e.1 ∙ one_same r in
+        let one = ap (one_if r) e.1 ∙ one_if-one r in
         omega (arith, ints))
     | inr ne ↦ (
         let here = get_or-set_other counts r q z (pos 0) ne.1 in
@@ -54,19 +52,19 @@ one_natural r q = elim (eqb_tells r q) [ inl e ↦ rw e.0 (omega (arith, ints)) 
 one_most : (r q : ℕ) → one_if r q ≤ℤ pos 1
 one_most r q = elim (eqb_tells r q) [ inl e ↦ rw e.0 (omega (arith, ints)) | inr ne ↦ rw ne.0 (omega (arith, ints)) ]
 
-pub one_more_counts : (a : Automaton) (r : ℕ) (counts more : List ℤ) → Counts a counts → OneMore r counts more → Counts a more
+pub one_more_counts : (a : Automaton) (r : ℕ) (counts more : List ℤ) → AreRuleCounts a counts → OneMore r counts more → AreRuleCounts a more
 one_more_counts a r counts more c one = record {
   each_rule = one.each_rule ∙ c.each_rule;
   natural = λ q. omega (arith, ints, one.counted q, c.natural q, one_natural r q);
 }
 
-pub goes_on : (a : Automaton) (r : ℕ) (f g : ℕ → ℤ) (old new : Draft) (now : Guards) → GuardsAre a f old.guards → GuardsAre a g now → SameGuards old.guards now → OneMore r old.counts.items new.counts.items → new.lines.items ≡ old.lines.items → Counted a r f g old new
+pub goes_on : (a : Automaton) (r : ℕ) (f g : ℕ → ℤ) (old new : Draft) (now : Guards) → GuardsAre a f old.guards → GuardsAre a g now → SameGuards old.guards now → OneMore r old.counts.items new.counts.items → new.lines.items ≡ old.lines.items → CountsStep a r f g old new
 goes_on a r f g old new now at there same one lines = inl (record { still = same_still a f g old.guards now at there same; counted = one; lines = lines })
 
 kept_lines : (old steps kept : List RunLine) → (old ++ (steps ++ [])) ++ kept ≡ old ++ (steps ++ kept)
 kept_lines old steps kept = ap (λ (ls : List RunLine). (old ++ ls) ++ kept) (append-nil steps) ∙ append_assoc old steps kept
 
-pub falls : (a : Automaton) (r : ℕ) (f g : ℕ → ℤ) (old middle closed new : Draft) (now : Guards) → GuardsAre a f old.guards → GuardsAre a g now → HasFallen old.guards.fall now.fall → Closes a old.counts.items [] middle closed → middle.lines.items ≡ old.lines.items → new.counts.items ≡ closed.counts.items → new.lines.items ≡ closed.lines.items ++ unit r ∷ [] → Counted a r f g old new
+pub falls : (a : Automaton) (r : ℕ) (f g : ℕ → ℤ) (old middle closed new : Draft) (now : Guards) → GuardsAre a f old.guards → GuardsAre a g now → HasFallen old.guards.fall now.fall → Closes a old.counts.items [] middle closed → middle.lines.items ≡ old.lines.items → new.counts.items ≡ closed.counts.items → new.lines.items ≡ closed.lines.items ++ unit r ∷ [] → CountsStep a r f g old new
 falls a r f g old middle closed new now at there fallen c same counts lines = inr (inl (record {
   drops = fallen_drops a f g old.guards now at there fallen;
   closes = record {
@@ -77,7 +75,7 @@ falls a r f g old middle closed new now at there fallen c same counts lines = in
   };
 }))
 
-pub rises : (a : Automaton) (r : ℕ) (f g : ℕ → ℤ) (old middle new : Draft) (now : Guards) → GuardsAre a f old.guards → GuardsAre a g now → (SameGuards old.guards now → ⊥) → (HasFallen old.guards.fall now.fall → ⊥) → OneMore r old.counts.items middle.counts.items → Closes a middle.counts.items [] middle new → middle.lines.items ≡ old.lines.items → Counted a r f g old new
+pub rises : (a : Automaton) (r : ℕ) (f g : ℕ → ℤ) (old middle new : Draft) (now : Guards) → GuardsAre a f old.guards → GuardsAre a g now → (SameGuards old.guards now → ⊥) → (HasFallen old.guards.fall now.fall → ⊥) → OneMore r old.counts.items middle.counts.items → Closes a middle.counts.items [] middle new → middle.lines.items ≡ old.lines.items → CountsStep a r f g old new
 rises a r f g old middle new now at there other none one c same = inr (inr (record {
   switches = other_switches a f g old.guards now at there other;
   drops_none = λ d. none (drops_fallen a f g old.guards now at there d);
@@ -87,7 +85,7 @@ rises a r f g old middle new now at there other none one c same = inr (inr (reco
 }))
 
 -- a unit step that leaves the range
-pub leaves_one : (a : Automaton) (r : ℕ) (values after : List ℤ) → Repeated a r values 1 after → (GuardsStay a (point_of after) → ⊥) → LeavesWithin a r 1 values
+pub leaves_one : (a : Automaton) (r : ℕ) (values after : List ℤ) → RepeatsRule a r values 1 after → (GuardsStay a (point_of after) → ⊥) → GuardsOutOfRangeWithin a r 1 values
 leaves_one a r values after moved leaves = record {
   times = 1;
   some = omega arith;
@@ -95,30 +93,30 @@ leaves_one a r values after moved leaves = record {
   leaves = λ stay. leaves (subst (GuardsStay a) (sym (fun_ext moved)) stay);
 }
 
-pub advances : (a : Automaton) (r : ℕ) (old new : Draft) (config : Config) → Ready a old → IsOf a config → Repeated a r old.config.values.items 1 config.values.items → GuardsAre a (point_of config.values.items) new.guards → new.config ≡ config → Counts a new.counts.items → ((f g : ℕ → ℤ) → GuardsAre a f old.guards → GuardsAre a g new.guards → Counted a r f g old new) → Advances a r old new
+pub advances : (a : Automaton) (r : ℕ) (old new : Draft) (config : Config) → DraftIsReady a old → IsOf a config → RepeatsRule a r old.config.values.items 1 config.values.items → GuardsAre a (point_of config.values.items) new.guards → new.config ≡ config → AreRuleCounts a new.counts.items → ((f g : ℕ → ℤ) → GuardsAre a f old.guards → GuardsAre a g new.guards → CountsStep a r f g old new) → Advances a r old new
 advances a r old new config ready is moved guards same counts counted =
     let at_new = subst (λ (c : Config). GuardsAre a (point_of c.values.items) new.guards) (sym same) guards in
     record {
-      moved = subst (λ (c : Config). Repeated a r old.config.values.items 1 c.values.items) (sym same) moved;
+      moved = subst (λ (c : Config). RepeatsRule a r old.config.values.items 1 c.values.items) (sym same) moved;
       ready = record { is_of = subst (IsOf a) (sym same) is; guards = at_new; counts = counts };
       counted = counted (point_of old.config.values.items) (point_of new.config.values.items) ready.guards at_new;
     }
 
 -- one unit step more takes its part of the room
-room_after : (a : Automaton) (r : ℕ) (f g : ℕ → ℤ) (old new : Draft) (more : ℕ) → Counts a old.counts.items → Counted a r f g old new → Room (1 + more) old.counts.items → Room more new.counts.items
+room_after : (a : Automaton) (r : ℕ) (f g : ℕ → ℤ) (old new : Draft) (more : ℕ) → AreRuleCounts a old.counts.items → CountsStep a r f g old new → Room (1 + more) old.counts.items → Room more new.counts.items
 room_after a r f g old new more c (inl s) room q = omega (arith, ints, s.counted.counted q, one_most r q, room q)
 room_after a r f g old new more c (inr (inl s)) room q = omega (arith, ints, no_counts a new.counts.items s.closes.none_left q, c.natural q, room q)
 room_after a r f g old new more c (inr (inr s)) room q = omega (arith, ints, no_counts a new.counts.items s.closes.none_left q, c.natural q, room q)
 
 -- some firings in a row
 pub record Going (a : Automaton) (r factor times : ℕ) (old new : Draft) : Type 0 where
-  pub ready : Ready a new
-  pub moved : Repeated a r old.config.values.items times new.config.values.items
+  pub ready : DraftIsReady a new
+  pub moved : RepeatsRule a r old.config.values.items times new.config.values.items
   pub goes : (first : List ℤ) (done : List RunLine) → DraftAt a first done old → DraftAt a first (done ++ replicate times (unit r)) new
   pub stayed : (t : ℕ) → 1 ≤ t → t ≤ times → GuardsStay a (repeated a r old.config.values.items t)
   pub room : (more : ℕ) → Room (factor + more) old.counts.items → Room ((factor - times) + more) new.counts.items
 
-pub going_none : (a : Automaton) (r factor : ℕ) (old : Draft) → Ready a old → Going a r factor 0 old old
+pub going_none : (a : Automaton) (r factor : ℕ) (old : Draft) → DraftIsReady a old → Going a r factor 0 old old
 going_none a r factor old ready = record {
   ready = ready;
   moved = λ place. (let c = rule_change a (slice_get a.rules r) place in omega (arith, ints, zero-*ℤ c));
@@ -131,12 +129,9 @@ replicate_more : (k r : ℕ) → replicate (k + 1) (unit r) ≡ replicate k (uni
 replicate_more zero r = refl
 replicate_more (suc k) r = (let e : suc k + 1 ≡ suc (k + 1) = omega arith in ap (λ n. replicate n (unit r)) e ∙ ap (λ (ls : List RunLine). unit r ∷ ls) (replicate_more k r))
 
-next_value : (times : ℕ) (v c : ℤ) → ((v +ℤ (pos times *ℤ c)) +ℤ (pos 1 *ℤ c)) ≡ (v +ℤ (pos (times + 1) *ℤ c))
-next_value times v c = (let e : pos (times + 1) ≡ (pos times +ℤ pos 1) = omega (arith, ints) in omega (arith, ints, ap (λ z. z *ℤ c) e, distributes_right (pos times) (pos 1) c))
-
 pub going_more : (a : Automaton) (r factor times : ℕ) (old now new : Draft) → times < factor → Going a r factor times old now → Advances a r now new → Going a r factor (times + 1) old new
 going_more a r factor times old now new less g step =
-    let moved : Repeated a r old.config.values.items (times + 1) new.config.values.items = (λ place. (let c = rule_change a (slice_get a.rules r) place in step.moved place ∙ ap (λ z. z +ℤ (pos 1 *ℤ c)) (g.moved place) ∙ next_value times (point_of old.config.values.items place) c)) in
+    let moved : RepeatsRule a r old.config.values.items (times + 1) new.config.values.items = (λ place. (let c = rule_change a (slice_get a.rules r) place in step.moved place ∙ ap (λ z. z +ℤ (pos 1 *ℤ c)) (g.moved place) ∙ next_value times (point_of old.config.values.items place) c)) in
     record {
       ready = step.ready;
       moved = moved;
@@ -192,22 +187,18 @@ going_stops a r factor times line old now (Replay fault) less g s = by_fault fau
   by_fault (runs.Order l) t = absurd t
   by_fault runs.Memory t = absurd t
 
--- what all firings of a line do
-pub gone_goes : (a : Automaton) (r factor times : ℕ) (old new : Draft) → times ≡ factor → Going a r factor times old new → (first : List ℤ) (done : List RunLine) → DraftAt a first done old → DraftAt a first (done ++ replicate factor (unit r)) new
-gone_goes a r factor times old new all g first done d = subst (λ n. DraftAt a first (done ++ replicate n (unit r)) new) all (g.goes first done d)
-
 pub gone_room : (a : Automaton) (r factor times : ℕ) (old new : Draft) → times ≡ factor → Going a r factor times old new → (more : ℕ) → Room (factor + more) old.counts.items → Room more new.counts.items
 gone_room a r factor times old new all g more room = (let e : (factor - times) + more ≡ more = omega arith in subst (λ n. Room n new.counts.items) e (g.room more room))
 
 -- a mark
-pub mark_ready : (a : Automaton) (old new : Draft) → Ready a old → new.config ≡ old.config → new.guards ≡ old.guards → new.counts.items ≡ zeros a → Ready a new
+pub mark_ready : (a : Automaton) (old new : Draft) → DraftIsReady a old → new.config ≡ old.config → new.guards ≡ old.guards → new.counts.items ≡ zeros a → DraftIsReady a new
 mark_ready a old new ready config guards none = record {
   is_of = subst (IsOf a) (sym config) ready.is_of;
   guards = subst (λ (c : Config). GuardsAre a (point_of c.values.items) new.guards) (sym config) (subst (GuardsAre a (point_of old.config.values.items)) (sym guards) ready.guards);
   counts = zero_counts a new.counts.items none;
 }
 
-pub mark_room : (a : Automaton) (old new : Draft) → Ready a old → new.counts.items ≡ zeros a → (more : ℕ) → Room (0 + more) old.counts.items → Room more new.counts.items
+pub mark_room : (a : Automaton) (old new : Draft) → DraftIsReady a old → new.counts.items ≡ zeros a → (more : ℕ) → Room (0 + more) old.counts.items → Room more new.counts.items
 mark_room a old new ready none more room q = omega (arith, ints, no_counts a new.counts.items none q, ready.counts.natural q, room q)
 
 reclosed : (a : Automaton) (counts more : List ℤ) (kept : List RunLine) (old other new : Draft) → counts ≡ more → other.lines.items ≡ old.lines.items → Closes a counts kept other new → Closes a more kept old new
@@ -219,7 +210,7 @@ reclosed a counts more kept old other new same lines c = record {
 }
 
 -- the same from a draft with another configuration
-pub recounted : (a : Automaton) (r : ℕ) (f g : ℕ → ℤ) (old other new : Draft) → other.counts.items ≡ old.counts.items → other.lines.items ≡ old.lines.items → Counted a r f g other new → Counted a r f g old new
+pub recounted : (a : Automaton) (r : ℕ) (f g : ℕ → ℤ) (old other new : Draft) → other.counts.items ≡ old.counts.items → other.lines.items ≡ old.lines.items → CountsStep a r f g other new → CountsStep a r f g old new
 recounted a r f g old other new counts lines (inl s) = inl (record {
   still = s.still;
   counted = subst (λ (xs : List ℤ). OneMore r xs new.counts.items) counts s.counted;

@@ -1,19 +1,21 @@
 -- a draft grows line by line
-use Rattle.std.proofs.Common.{◌≡◌, inl, inr, ℕ, zero, suc, ◌+◌, ◌<◌, ℤ, pos, ◌+ℤ◌, List, [], ◌∷◌, ◌++◌, length, map, replicate, eqb, cond, arith, sym, ap, ◌∙◌, refl, subst, slice_get, get_or, append_assoc, append-nil}
+use Rattle.std.proofs.Common.{◌≡◌, inl, inr, ℕ, ◌+◌, ◌<◌, ℤ, pos, ◌+ℤ◌, List, [], ◌∷◌, ◌++◌, length, map, eqb, cond, arith, sym, ap, ◌∙◌, refl, subst, slice_get, append_assoc, append-nil}
 use mathlib.Core.Path.{fun_ext}
 use Rattle.std.proofs.lemmas.Int.{ints}
 use Rattle.std.proofs.lemmas.Bool.Decides.{eqb_tells}
 use Rattle.std.proofs.lemmas.List.{ext_get_or, length-replicate}
+use Rattle.ta_base.proofs.Integers.{one_times, replicate_zeros}
+use Rattle.ta_base.proofs.Lists.{split_last}
 use Rattle.ta_linear.specs.Values.{point_of}
 use Rattle.ta_automaton.specs.declared.automaton.Automaton.{Automaton}
 use Rattle.ta_automaton.specs.Places.{one_if, rule_change}
 use Rattle.ta_automaton.specs.Sums.{total, times_in}
-use Rattle.ta_automaton.proofs.Sums.{total-append, one_times}
+use Rattle.ta_automaton.proofs.Sums.{total-append}
 use Rattle.ta_counter.specs.declared.config.Config.{Config}
 use Rattle.ta_counter.specs.Configs.{IsOf}
 use Rattle.ta_counter.specs.Holding.{GuardsAre}
 use Rattle.ta_counter.specs.Starts.{StartsAt}
-use Rattle.ta_scope.specs.Arranged.{ArrangedOf, Counts, count_at}
+use Rattle.ta_scope.specs.Arranged.{ArrangedOf, AreRuleCounts, count_at}
 use Rattle.ta_replay.specs.declared.run.Run.{Run}
 use Rattle.ta_replay.specs.declared.run.RunLine.{RunLine}
 use Rattle.ta_replay.specs.declared.run.RunLine.TheVariants.{Mark}
@@ -21,11 +23,11 @@ use Rattle.ta_replay.specs.Replays.{line_change}
 use Rattle.ta_compress.specs.declared.draft.Draft.{Draft}
 use Rattle.ta_compress.specs.Units.{unit, value_after, Switches, Drops}
 use Rattle.ta_replay.specs.Pieces.{step_line}
-use Rattle.ta_compress.specs.Pieces.{Piece, Cut, IsPiece, Shortened, Still, SwitchesAt, DropsAt, units, lines_in, counts_of}
-use Rattle.ta_compress.specs.Inside.Drafts.{Advances, Begun, Closes, Counted, DraftAt, OneMore, Ready, Repeated, zeros}
+use Rattle.ta_compress.specs.Pieces.{CutPiece, AreCut, IsPiece, IsShortened, Still, SwitchesAt, DropsAt, units, lines_in, counts_of}
+use Rattle.ta_compress.specs.Inside.Drafts.{Advances, IsFirstDraft, Closes, CountsStep, DraftAt, OneMore, DraftIsReady, RepeatsRule, zeros}
 use Rattle.ta_compress.proofs.Cutting.{mark-value}
 use Rattle.ta_compress.proofs.Rearranging.{count_in, counts_length}
-use Rattle.ta_compress.proofs.Steady.{split_last, units-append}
+use Rattle.ta_compress.proofs.Steady.{units-append}
 
 pub times_push : (q : ℕ) (xs : List ℕ) (r : ℕ) → times_in q (xs ++ r ∷ []) ≡ times_in q xs + cond (eqb r q) 1 0
 unfolding times_in
@@ -40,19 +42,19 @@ pub counts_are : (a : Automaton) (xs : List ℕ) (counts : List ℤ) → length 
 counts_are a xs counts long each = ext_get_or (pos 0) counts (counts_of a xs) (long ∙ sym (counts_length a xs)) (λ r b. (let w : r < length a.rules = omega arith in each r w ∙ sym (count_in a xs r w)))
 
 -- one more piece
-pub cut_push : (a : Automaton) (first : List ℤ) (piece : Piece) (added : List RunLine) (pieces : List Piece) (done lines short : List RunLine) → Cut a first done lines pieces short → IsPiece a first (done ++ lines) piece → Shortened a piece added [] → Cut a first done (lines ++ lines_in piece) (pieces ++ piece ∷ []) (short ++ added)
+pub cut_push : (a : Automaton) (first : List ℤ) (piece : CutPiece) (added : List RunLine) (pieces : List CutPiece) (done lines short : List RunLine) → AreCut a first done lines pieces short → IsPiece a first (done ++ lines) piece → IsShortened a piece added [] → AreCut a first done (lines ++ lines_in piece) (pieces ++ piece ∷ []) (short ++ added)
 cut_push a first piece added [] done lines short cut is sh =
     let here = subst (λ (ls : List RunLine). IsPiece a first ls piece) (ap (λ (ls : List RunLine). done ++ ls) cut.0 ∙ append-nil done) is in
     let whole : lines ++ lines_in piece ≡ lines_in piece ++ [] = ap (λ (ls : List RunLine). ls ++ lines_in piece) cut.0 ∙ sym (append-nil (lines_in piece)) in
     let short_is : added ≡ short ++ added = ap (λ (ls : List RunLine). ls ++ added) (sym cut.1) in
-    (here, [], whole, [], subst (λ (ls : List RunLine). Shortened a piece ls []) short_is sh, (refl, refl))
+    (here, [], whole, [], subst (λ (ls : List RunLine). IsShortened a piece ls []) short_is sh, (refl, refl))
 cut_push a first piece added (q ∷ qs) done lines short cut is sh =
     let behind = cut.1 in
     let rest = cut.3 in
     let old = cut.4 in
     let there = subst (λ (ls : List RunLine). IsPiece a first ls piece) (ap (λ (ls : List RunLine). done ++ ls) cut.2 ∙ sym (append_assoc done (lines_in q) behind)) is in
     let more = cut_push a first piece added qs (done ++ lines_in q) behind rest cut.5 there sh in
-    let new : Shortened a q (short ++ added) (rest ++ added) = record {
+    let new : IsShortened a q (short ++ added) (rest ++ added) = record {
       steps = old.steps;
       arranged = old.arranged;
       is = ap (λ (ls : List RunLine). ls ++ added) old.is ∙ append_assoc (map step_line old.steps) (q.kept ++ rest) added ∙ ap (λ (ls : List RunLine). map step_line old.steps ++ ls) (append_assoc q.kept rest added);
@@ -81,33 +83,28 @@ pub unit-value : (a : Automaton) (first : List ℤ) (done : List RunLine) (r i :
 unfolding total
 unit-value a first done r i = omega (arith, ints, total-append (line_change a i) done (unit r ∷ []), one_times (rule_change a (slice_get a.rules r) i))
 
-moved_on : (a : Automaton) (first : List ℤ) (done : List RunLine) (r : ℕ) (old new : Draft) → DraftAt a first done old → Repeated a r old.config.values.items 1 new.config.values.items → (i : ℕ) → point_of new.config.values.items i ≡ value_after a first (done ++ unit r ∷ []) i
+moved_on : (a : Automaton) (first : List ℤ) (done : List RunLine) (r : ℕ) (old new : Draft) → DraftAt a first done old → RepeatsRule a r old.config.values.items 1 new.config.values.items → (i : ℕ) → point_of new.config.values.items i ≡ value_after a first (done ++ unit r ∷ []) i
 moved_on a first done r old new d moved i = omega (arith, ints, moved i, d.reached i, unit-value a first done r i, one_times (rule_change a (slice_get a.rules r) i))
 
 -- what a piece adds to the lines
-closed_short : (a : Automaton) (piece : Piece) (counts : List ℤ) (old new : Draft) (c : Closes a counts piece.kept old new) → counts ≡ counts_of a piece.body → Shortened a piece (map step_line c.steps ++ piece.kept) []
+closed_short : (a : Automaton) (piece : CutPiece) (counts : List ℤ) (old new : Draft) (c : Closes a counts piece.kept old new) → counts ≡ counts_of a piece.body → IsShortened a piece (map step_line c.steps ++ piece.kept) []
 closed_short a piece counts old new c same = record {
   steps = c.steps;
   arranged = subst (λ (xs : List ℤ). ArrangedOf a xs c.steps) same c.arranged;
   is = ap (λ (ls : List RunLine). map step_line c.steps ++ ls) (sym (append-nil piece.kept));
 }
 
-zero_at : (n r : ℕ) → get_or (replicate n (pos 0)) r (pos 0) ≡ pos 0
-zero_at zero r = refl
-zero_at (suc n) zero = refl
-zero_at (suc n) (suc r) = zero_at n r
-
 pub no_counts : (a : Automaton) (counts : List ℤ) → counts ≡ zeros a → (r : ℕ) → count_at counts r ≡ pos 0
-no_counts a counts is r = ap (λ (xs : List ℤ). count_at xs r) is ∙ zero_at (length a.rules) r
+no_counts a counts is r = ap (λ (xs : List ℤ). count_at xs r) is ∙ replicate_zeros (length a.rules) r
 
-pub zero_counts : (a : Automaton) (counts : List ℤ) → counts ≡ zeros a → Counts a counts
+pub zero_counts : (a : Automaton) (counts : List ℤ) → counts ≡ zeros a → AreRuleCounts a counts
 zero_counts a counts is = record {
   each_rule = ap (λ (xs : List ℤ). length xs) is ∙ length-replicate (length a.rules) (pos 0);
   natural = λ r. omega (arith, ints, no_counts a counts is r);
 }
 
 -- a draft whose last piece is closed
-closed : (a : Automaton) (first : List ℤ) (done : List RunLine) (piece : Piece) (counts : List ℤ) (old new : Draft) → (d : DraftAt a first done old) → Ready a new → (whole : List RunLine) → ((i : ℕ) → point_of new.config.values.items i ≡ value_after a first whole i) → whole ≡ d.written ++ lines_in piece → IsPiece a first d.written piece → Closes a counts piece.kept old new → counts ≡ counts_of a piece.body → DraftAt a first whole new
+closed : (a : Automaton) (first : List ℤ) (done : List RunLine) (piece : CutPiece) (counts : List ℤ) (old new : Draft) → (d : DraftAt a first done old) → DraftIsReady a new → (whole : List RunLine) → ((i : ℕ) → point_of new.config.values.items i ≡ value_after a first whole i) → whole ≡ d.written ++ lines_in piece → IsPiece a first d.written piece → Closes a counts piece.kept old new → counts ≡ counts_of a piece.body → DraftAt a first whole new
 unfolding times_in
 closed a first done piece counts old new d ready whole reached is p c same = record {
   ready = ready;
@@ -116,7 +113,7 @@ closed a first done piece counts old new d ready whole reached is p c same = rec
   written = d.written ++ lines_in piece;
   open_ = [];
   done_is = is ∙ sym (append-nil (d.written ++ lines_in piece));
-  cut = subst (λ (ls : List RunLine). Cut a first [] (d.written ++ lines_in piece) (d.pieces ++ piece ∷ []) ls) (sym c.lines) (cut_push a first piece (map step_line c.steps ++ piece.kept) d.pieces [] d.written old.lines.items d.cut p (closed_short a piece counts old new c same));
+  cut = subst (λ (ls : List RunLine). AreCut a first [] (d.written ++ lines_in piece) (d.pieces ++ piece ∷ []) ls) (sym c.lines) (cut_push a first piece (map step_line c.steps ++ piece.kept) d.pieces [] d.written old.lines.items d.cut p (closed_short a piece counts old new c same));
   still = λ front r behind e switches. nothing front r behind e;
   counted = λ r b. no_counts a new.counts.items c.none_left r;
 } where
@@ -151,7 +148,7 @@ advance a first done r old new d step = by_case step.counted where
   longer : done ++ unit r ∷ [] ≡ d.written ++ (units d.open_ ++ unit r ∷ [])
   longer = ap (λ (ls : List RunLine). ls ++ unit r ∷ []) d.done_is ∙ append_assoc d.written (units d.open_) (unit r ∷ [])
 
-  by_case : Counted a r (point_of old.config.values.items) (point_of new.config.values.items) old new → DraftAt a first (done ++ unit r ∷ []) new
+  by_case : CountsStep a r (point_of old.config.values.items) (point_of new.config.values.items) old new → DraftAt a first (done ++ unit r ∷ []) new
   by_case (inl g) = record {
     ready = step.ready;
     reached = moved_on a first done r old new d step.moved;
@@ -159,29 +156,29 @@ advance a first done r old new d step = by_case step.counted where
     written = d.written;
     open_ = d.open_ ++ r ∷ [];
     done_is = longer ∙ ap (λ (ls : List RunLine). d.written ++ ls) (sym (units-append d.open_ (r ∷ [])));
-    cut = subst (λ (ls : List RunLine). Cut a first [] d.written d.pieces ls) (sym g.lines) d.cut;
+    cut = subst (λ (ls : List RunLine). AreCut a first [] d.written d.pieces ls) (sym g.lines) d.cut;
     still = still_push a first d.written d.open_ r d.still (λ s. g.still (switches_here s));
     counted = counted_push a r d.open_ old.counts.items new.counts.items d.counted g.counted;
   }
   by_case (inr (inl f)) =
-      let piece : Piece = record { body = d.open_; kept = unit r ∷ [] } in
+      let piece : CutPiece = record { body = d.open_; kept = unit r ∷ [] } in
       let is : IsPiece a first d.written piece = inr (inl (record { rule = r; kept = refl; still = d.still; drops = drops_there f.drops })) in
       closed a first done piece old.counts.items old new d step.ready (done ++ unit r ∷ []) (moved_on a first done r old new d step.moved) longer is f.closes (counts_are a d.open_ old.counts.items d.ready.counts.each_rule d.counted)
   by_case (inr (inr s)) =
-      let piece : Piece = record { body = d.open_ ++ r ∷ []; kept = [] } in
+      let piece : CutPiece = record { body = d.open_ ++ r ∷ []; kept = [] } in
       let is : IsPiece a first d.written piece = inr (inr (record { front = d.open_; rule = r; body = refl; kept = refl; still = d.still; switches = switches_there s.switches; drops_none = λ x. s.drops_none (drops_here x) })) in
       let whole : done ++ unit r ∷ [] ≡ d.written ++ lines_in piece = longer ∙ ap (λ (ls : List RunLine). d.written ++ ls) (sym (units-append d.open_ (r ∷ [])) ∙ sym (append-nil (units (d.open_ ++ r ∷ [])))) in
       closed a first done piece s.counts old new d step.ready (done ++ unit r ∷ []) (moved_on a first done r old new d step.moved) whole is s.closes (counts_are a (d.open_ ++ r ∷ []) s.counts (s.counted.each_rule ∙ d.ready.counts.each_rule) (counted_push a r d.open_ old.counts.items s.counts d.counted s.counted))
 
 -- a mark more
-pub marked : (a : Automaton) (first : List ℤ) (done : List RunLine) (e : ℕ) (old new : Draft) → DraftAt a first done old → Ready a new → new.config ≡ old.config → Closes a old.counts.items (Mark e ∷ []) old new → DraftAt a first (done ++ Mark e ∷ []) new
+pub marked : (a : Automaton) (first : List ℤ) (done : List RunLine) (e : ℕ) (old new : Draft) → DraftAt a first done old → DraftIsReady a new → new.config ≡ old.config → Closes a old.counts.items (Mark e ∷ []) old new → DraftAt a first (done ++ Mark e ∷ []) new
 marked a first done e old new d ready same c =
-    let piece : Piece = record { body = d.open_; kept = Mark e ∷ [] } in
+    let piece : CutPiece = record { body = d.open_; kept = Mark e ∷ [] } in
     let is : IsPiece a first d.written piece = inl (record { event = e; kept = refl; still = d.still }) in
     closed a first done piece old.counts.items old new d ready (done ++ Mark e ∷ []) (λ i. ap (λ (x : Config). point_of x.values.items i) same ∙ d.reached i ∙ sym (mark-value a first done e i)) (ap (λ (ls : List RunLine). ls ++ Mark e ∷ []) d.done_is ∙ append_assoc d.written (units d.open_) (Mark e ∷ [])) is c (counts_are a d.open_ old.counts.items d.ready.counts.each_rule d.counted)
 
 -- the draft at the first configuration
-pub begun : (a : Automaton) (run : Run) (draft : Draft) → StartsAt a run.parameters run.counts draft.config.values.items → IsOf a draft.config → GuardsAre a (point_of draft.config.values.items) draft.guards → draft.counts.items ≡ zeros a → draft.lines.items ≡ [] → Begun a run draft
+pub begun : (a : Automaton) (run : Run) (draft : Draft) → StartsAt a run.parameters run.counts draft.config.values.items → IsOf a draft.config → GuardsAre a (point_of draft.config.values.items) draft.guards → draft.counts.items ≡ zeros a → draft.lines.items ≡ [] → IsFirstDraft a run draft
 unfolding total times_in
 begun a run draft starts is guards none empty = record {
   starts = starts;

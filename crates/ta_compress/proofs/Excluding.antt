@@ -1,5 +1,5 @@
 -- what can be compressed isn't refused
-use Rattle.std.proofs.Common.{◌≡◌, ◌⊎◌, inl, inr, ℕ, ◌+◌, ◌<◌, ◌≤◌, ℤ, List, ◌++◌, ◌∷◌, [], take, pos, arith, sym, ap, ◌∙◌, refl, subst, slice_get, Some}
+use Rattle.std.proofs.Common.{◌≡◌, inl, inr, ℕ, ◌≤◌, ℤ, List, arith, sym, ◌∙◌, refl, subst}
 use mathlib.Core.Path.{fun_ext}
 use Rattle.std.proofs.lemmas.Int.{ints}
 use Rattle.std.proofs.lemmas.Bool.{cases_lt}
@@ -10,14 +10,13 @@ use Rattle.ta_counter.specs.Holding.{GuardsStay}
 use Rattle.ta_counter.specs.Starts.{StartsAt}
 use Rattle.ta_replay.specs.declared.run.Run.{Run}
 use Rattle.ta_replay.specs.declared.run.RunLine.{RunLine}
-use Rattle.ta_replay.specs.declared.run.RunLine.TheVariants.{Step, Mark}
 use Rattle.ta_replay.specs.Fits.{Fits}
 use Rattle.ta_replay.specs.Shows.{ShowsPattern}
 use Rattle.ta_replay.proofs.Showing.{shown_first}
 use Rattle.ta_compress.specs.declared.fault.CompressFault.{CompressFault}
 use Rattle.ta_compress.specs.declared.fault.CompressFault.TheVariants.{Replay, TooManySteps, Memory}
-use Rattle.ta_compress.specs.Faults.{Admitted, Compressible, CompressFaultOf, GuardsLeaveAt, GuardsStayed, LeavesIn}
-use Rattle.ta_compress.specs.Units.{EndsAtLastMark, value_after}
+use Rattle.ta_compress.specs.Faults.{IsSmallReplay, Compressible, CompressFaultOf, GuardsOutOfRangeAt, GuardsOutOfRangeIn}
+use Rattle.ta_compress.specs.Units.{EndsAtLastMark}
 use Rattle.ta_compress.proofs.Finishing.{shown_named}
 use Rattle.ta_compress.proofs.Shortening.{fits_named}
 
@@ -32,13 +31,13 @@ one_last lines m n a b = elim b.ends [
 ]
 
 -- the values that a run starts with are the same at each place
-pub same_start : (file : File) (run : Run) → Fits file run → Admitted file run → (v w : List ℤ) → StartsAt file.automaton run.parameters run.counts v → StartsAt file.automaton run.parameters run.counts w → (i : ℕ) → point_of v i ≡ point_of w i
+pub same_start : (file : File) (run : Run) → Fits file run → IsSmallReplay file run → (v w : List ℤ) → StartsAt file.automaton run.parameters run.counts v → StartsAt file.automaton run.parameters run.counts w → (i : ℕ) → point_of v i ≡ point_of w i
 same_start file run fits admitted v w a b i =
     let s : ShowsPattern file.automaton fits.pattern run = shown_named file run fits admitted in
     let at = shown_first file.automaton fits.pattern run (fits_named file run fits) s in
     sym (at v a i) ∙ at w b i
 
-pub leaves_same : (a : Automaton) (v w : List ℤ) (lines : List RunLine) (i : ℕ) → ((k : ℕ) → point_of v k ≡ point_of w k) → LeavesIn a v lines i → LeavesIn a w lines i
+pub leaves_same : (a : Automaton) (v w : List ℤ) (lines : List RunLine) (i : ℕ) → ((k : ℕ) → point_of v k ≡ point_of w k) → GuardsOutOfRangeIn a v lines i → GuardsOutOfRangeIn a w lines i
 leaves_same a v w lines i same l = record {
   rule = l.rule;
   factor = l.factor;
@@ -49,7 +48,7 @@ leaves_same a v w lines i same l = record {
   leaves = λ stay. l.leaves (subst (GuardsStay a) (fun_ext (λ k. (let e = same k in omega (arith, ints)))) stay);
 }
 
-guards_stay : (file : File) (run : Run) (line : ℕ) → Fits file run → Compressible file run → GuardsLeaveAt file.automaton run line → ⊥
+guards_stay : (file : File) (run : Run) (line : ℕ) → Fits file run → Compressible file run → GuardsOutOfRangeAt file.automaton run line → ⊥
 guards_stay file run line fits able (inl w) =
     let g = able.guards in
     let l = w.1 in

@@ -2,20 +2,21 @@
 use Rattle.std.proofs.Common.{◌≡◌, inl, inr, ℕ, zero, suc, ◌+◌, ◌-◌, ◌<◌, ◌≤◌, ℤ, pos, negsuc, ◌≤ℤ◌, List, [], ◌∷◌, ◌++◌, length, arith, sym, ap, ◌∙◌, refl, subst, slice_get, Some, append_assoc, append-nil}
 use mathlib.Core.Path.{fun_ext}
 use Rattle.std.proofs.lemmas.Int.{ints}
+use Rattle.std.specs.List.{AllByRecursion}
+use Rattle.ta_base.proofs.Each.{each_back, each_front}
+use Rattle.ta_base.proofs.Lists.{some_at}
 use Rattle.ta_linear.specs.Values.{value_of, RowHolds}
 use Rattle.ta_linear.specs.declared.row.Row.{Row}
 use Rattle.ta_automaton.specs.declared.automaton.Automaton.{Automaton}
 use Rattle.ta_automaton.specs.declared.pattern.Pattern.{Pattern}
-use Rattle.ta_automaton.specs.Lists.{Each}
 use Rattle.ta_automaton.proofs.Onward.{EachRule, later_after}
-use Rattle.ta_automaton.proofs.Thresholds.{Later, falls, rises, fall_back, rise_on}
+use Rattle.ta_automaton.proofs.Thresholds.{Later, falls, fall_back, stays_true}
 use Rattle.ta_replay.specs.declared.run.RunLine.{RunLine}
 use Rattle.ta_replay.specs.declared.run.RunLine.TheVariants.{Step, Mark}
 use Rattle.ta_replay.specs.Fits.{LineFits}
 use Rattle.ta_replay.specs.Shows.{marks_count}
-use Rattle.ta_replay.proofs.Lines.{some_at}
 use Rattle.ta_compress.specs.Units.{unit, value_after, Switches, Drops}
-use Rattle.ta_compress.specs.Pieces.{Piece, Cut, IsPiece, units, lines_in}
+use Rattle.ta_compress.specs.Pieces.{CutPiece, AreCut, IsPiece, units, lines_in}
 use Rattle.ta_compress.proofs.Steady.{holds_or, units-value, units-append, done_append}
 use Rattle.ta_compress.proofs.Cutting.{mark-value}
 
@@ -77,16 +78,13 @@ pub left_most : (a : Automaton) (f : ℕ → ℤ) → left a f ≤ length a.rise
 unfolding left closed open_
 left_most a f = omega (arith, sum_most (closed f) a.rise (λ row. omega arith), sum_most (open_ f) a.fall (λ row. one_most (value_of f row.form)))
 
-rise_later : (a : Automaton) (f g : ℕ → ℤ) → Later a f g → (i : ℕ) (row : Row) → slice_get a.rise i ≡ Some row → RowHolds f row → RowHolds g row
-rise_later a f g later i row at h = omega (arith, ints, h, rise_on a f g later row.form.terms (rises a i row at))
-
 fall_later : (a : Automaton) (f g : ℕ → ℤ) → Later a f g → (j : ℕ) (row : Row) → slice_get a.fall j ≡ Some row → RowHolds g row → RowHolds f row
 fall_later a f g later j row at h = omega (arith, ints, h, fall_back a f g later row.form.terms (falls a j row at))
 
 closed_less : (a : Automaton) (f g : ℕ → ℤ) → Later a f g → (i : ℕ) (row : Row) → slice_get a.rise i ≡ Some row → closed g row ≤ closed f row
 unfolding closed
 closed_less a f g later i row at = elim (holds_or f row) [
-  | inl holds ↦ omega (arith, one_holds (value_of f row.form) holds, one_holds (value_of g row.form) (rise_later a f g later i row at holds))
+  | inl holds ↦ omega (arith, one_holds (value_of f row.form) holds, one_holds (value_of g row.form) (stays_true a f g later i row at holds))
   | inr fails ↦ omega (arith, one_fails (value_of f row.form) fails)
 ]
 
@@ -105,7 +103,7 @@ left_less a f g later = omega (arith, sum_no_more (closed f) (closed g) a.rise (
 pub left_fewer : (a : Automaton) (f g : ℕ → ℤ) → Later a f g → Switches a f g → left a g < left a f
 unfolding left closed open_
 left_fewer a f g later (inl s) = elim s.differs [
-  | inl d ↦ absurd (d.1 (rise_later a f g later s.number s.row s.named d.0))
+  | inl d ↦ absurd (d.1 (stays_true a f g later s.number s.row s.named d.0))
   | inr d ↦ omega (arith, sum_less (closed f) (closed g) a.rise (closed_less a f g later) s.number s.row s.named (omega (arith, one_fails (value_of f s.row.form) d.0, one_holds (value_of g s.row.form) d.1)), sum_no_more (open_ f) (open_ g) a.fall (open_less a f g later))
 ]
 left_fewer a f g later (inr s) = elim s.differs [
@@ -116,21 +114,13 @@ left_fewer a f g later (inr s) = elim s.differs [
 pub drop_switches : (a : Automaton) (f g : ℕ → ℤ) → Drops a f g → Switches a f g
 drop_switches a f g d = inr (record { number = d.number; row = d.row; named = d.named; differs = inl (d.held, d.fails) })
 
-units_rules : (a : Automaton) (p : Pattern) (rules : List ℕ) → Each (LineFits a p) (units rules) → EachRule a rules
+units_rules : (a : Automaton) (p : Pattern) (rules : List ℕ) → AllByRecursion (LineFits a p) (units rules) → EachRule a rules
 units_rules a p [] fits = tt
 units_rules a p (r ∷ rs) fits = (some_at a.rules r fits.0.0, units_rules a p rs fits.1)
 
-units_later : (a : Automaton) (p : Pattern) (first : List ℤ) (done : List RunLine) (rules : List ℕ) → Each (LineFits a p) (units rules) → Later a (value_after a first done) (value_after a first (done ++ units rules))
+units_later : (a : Automaton) (p : Pattern) (first : List ℤ) (done : List RunLine) (rules : List ℕ) → AllByRecursion (LineFits a p) (units rules) → Later a (value_after a first done) (value_after a first (done ++ units rules))
 units_later a p first done rules fits =
     subst (λ (g : ℕ → ℤ). Later a (value_after a first done) g) (sym (fun_ext (units-value a first done rules))) (later_after a (value_after a first done) rules (units_rules a p rules fits))
-
-each_front : {X : Type 0} (P : X → Type 0) (xs ys : List X) → Each P (xs ++ ys) → Each P xs
-each_front P [] ys h = tt
-each_front P (x ∷ xs) ys h = (h.0, each_front P xs ys h.1)
-
-each_back : {X : Type 0} (P : X → Type 0) (xs ys : List X) → Each P (xs ++ ys) → Each P ys
-each_back P [] ys h = h
-each_back P (x ∷ xs) ys h = each_back P xs ys h.1
 
 marks-append : (xs ys : List RunLine) → marks_count (xs ++ ys) ≡ marks_count xs + marks_count ys
 marks-append [] ys = omega arith
@@ -142,16 +132,16 @@ marks-units [] = refl
 marks-units (r ∷ rs) = marks-units rs
 
 -- one piece takes one of what is left, or a mark
-piece_takes : (a : Automaton) (p : Pattern) (first : List ℤ) (done : List RunLine) (piece : Piece) → Each (LineFits a p) (lines_in piece) → IsPiece a first done piece → 1 + left a (value_after a first (done ++ lines_in piece)) ≤ left a (value_after a first done) + marks_count piece.kept
+piece_takes : (a : Automaton) (p : Pattern) (first : List ℤ) (done : List RunLine) (piece : CutPiece) → AllByRecursion (LineFits a p) (lines_in piece) → IsPiece a first done piece → 1 + left a (value_after a first (done ++ lines_in piece)) ≤ left a (value_after a first done) + marks_count piece.kept
 piece_takes a p first done piece fits is = by_end is where
   front : List RunLine
   front = done ++ units piece.body
 
-  fits_body : Each (LineFits a p) (units piece.body)
+  fits_body : AllByRecursion (LineFits a p) (units piece.body)
   fits_body = each_front (LineFits a p) (units piece.body) piece.kept fits
 
-  fits_kept : (ls : List RunLine) → piece.kept ≡ ls → Each (LineFits a p) ls
-  fits_kept ls e = subst (Each (LineFits a p)) e (each_back (LineFits a p) (units piece.body) piece.kept fits)
+  fits_kept : (ls : List RunLine) → piece.kept ≡ ls → AllByRecursion (LineFits a p) ls
+  fits_kept ls e = subst (AllByRecursion (LineFits a p)) e (each_back (LineFits a p) (units piece.body) piece.kept fits)
 
   whole : (ls : List RunLine) → piece.kept ≡ ls → done ++ lines_in piece ≡ (done ++ units piece.body) ++ ls
   whole ls e = sym (append_assoc done (units piece.body) piece.kept) ∙ ap (λ (xs : List RunLine). (done ++ units piece.body) ++ xs) e
@@ -170,18 +160,18 @@ piece_takes a p first done piece fits is = by_end is where
   by_end (inr (inr r)) =
       let same = ap (λ (d : List RunLine). left a (value_after a first d)) (whole [] r.kept ∙ append-nil (done ++ units piece.body)) in
       let body = ap (λ (xs : List ℕ). left a (value_after a first (done ++ units xs))) r.body ∙ ap (λ (d : List RunLine). left a (value_after a first d)) (done_append done r.front (r.rule ∷ [])) in
-      let fits_all = subst (λ (xs : List ℕ). Each (LineFits a p) (units xs)) r.body fits_body in
-      let fits_parts = subst (Each (LineFits a p)) (units-append r.front (r.rule ∷ [])) fits_all in
+      let fits_all = subst (λ (xs : List ℕ). AllByRecursion (LineFits a p) (units xs)) r.body fits_body in
+      let fits_parts = subst (AllByRecursion (LineFits a p)) (units-append r.front (r.rule ∷ [])) fits_all in
       let step = units_later a p first (done ++ units r.front) (r.rule ∷ []) (each_back (LineFits a p) (units r.front) (units (r.rule ∷ [])) fits_parts) in
       let fewer = left_fewer a (value_after a first (done ++ units r.front)) (value_after a first ((done ++ units r.front) ++ unit r.rule ∷ [])) step r.switches in
       omega (arith, same, body, fewer, left_less a (value_after a first done) (value_after a first (done ++ units r.front)) (units_later a p first done r.front (each_front (LineFits a p) (units r.front) (units (r.rule ∷ [])) fits_parts)))
 
 -- there are at most as many pieces as guards that can still switch, and marks
-pub pieces_few : (a : Automaton) (p : Pattern) (first : List ℤ) (pieces : List Piece) (done lines short : List RunLine) → Each (LineFits a p) lines → Cut a first done lines pieces short → length pieces ≤ left a (value_after a first done) + marks_count lines
+pub pieces_few : (a : Automaton) (p : Pattern) (first : List ℤ) (pieces : List CutPiece) (done lines short : List RunLine) → AllByRecursion (LineFits a p) lines → AreCut a first done lines pieces short → length pieces ≤ left a (value_after a first done) + marks_count lines
 pieces_few a p first [] done lines short fits cut = omega arith
 pieces_few a p first (piece ∷ pieces) done lines short fits cut =
     let behind = cut.1 in
-    let all = subst (Each (LineFits a p)) cut.2 fits in
+    let all = subst (AllByRecursion (LineFits a p)) cut.2 fits in
     let here = piece_takes a p first done piece (each_front (LineFits a p) (lines_in piece) behind all) cut.0 in
     let more = pieces_few a p first pieces (done ++ lines_in piece) behind cut.3 (each_back (LineFits a p) (lines_in piece) behind all) cut.5 in
     let marks = ap marks_count cut.2 ∙ marks-append (lines_in piece) behind in

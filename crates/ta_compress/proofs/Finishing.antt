@@ -5,17 +5,17 @@ use Rattle.std.proofs.lemmas.Nat.{mul-le}
 use Rattle.std.proofs.lemmas.Bool.Decides.{eqb_tells}
 use Rattle.std.proofs.lemmas.List.{length-map}
 use Rattle.std.proofs.lemmas.Option.{same_Some}
+use Rattle.std.specs.List.{AllByRecursion}
+use Rattle.ta_base.proofs.Each.{each_append, each_back, each_front, each_take}
 use Rattle.ta_linear.specs.Numbers.{InRange}
 use Rattle.ta_automaton.specs.declared.automaton.Automaton.{Automaton}
 use Rattle.ta_automaton.specs.declared.file.File.{File}
 use Rattle.ta_automaton.specs.declared.pattern.Pattern.{Pattern}
-use Rattle.ta_automaton.specs.Lists.{Each}
 use Rattle.ta_automaton.specs.Runs.{Config, InScope}
 use Rattle.ta_automaton.specs.Sums.{total, times_in}
 use Rattle.ta_automaton.proofs.Thresholds.{pattern_within}
 use Rattle.ta_counter.specs.Configs.{naturals}
 use Rattle.ta_counter.specs.Values.{Value}
-use Rattle.ta_counter.proofs.Models.{each_take}
 use Rattle.ta_scope.specs.Arranged.{count_at}
 use Rattle.ta_scope.specs.Legal.{StepsWithin}
 use Rattle.ta_scope.proofs.Arranging.{arranged_within}
@@ -25,25 +25,25 @@ use Rattle.ta_replay.specs.declared.run.RunLine.TheVariants.{Mark}
 use Rattle.ta_replay.specs.Fits.{Fits, LineFits}
 use Rattle.ta_replay.specs.Pieces as pieces
 use Rattle.ta_replay.specs.Pieces.{OncePerRule, step_line, last_lines, piece_lines, pieces_lines, steps_count}
-use Rattle.ta_replay.specs.Shows.{BeginsWith, Shows, ShowsPattern, marks_count}
+use Rattle.ta_replay.specs.Shows.{IsFirstConfig, Shows, ShowsPattern, marks_count}
 use Rattle.ta_replay.proofs.Counting.{marks_are_events}
 use Rattle.ta_replay.proofs.PieceLines.{are_short}
 use Rattle.ta_replay.proofs.Showing.{shown_first}
-use Rattle.ta_compress.specs.Faults.{Admitted, IsShortRun}
+use Rattle.ta_compress.specs.Faults.{IsSmallReplay, IsShortRun}
 use Rattle.ta_compress.specs.Units.{unit, unfolded, value_after}
-use Rattle.ta_compress.specs.Pieces.{Piece, CompressOf, Cut, IsPiece, Shortened, counts_of, lines_in, units}
-use Rattle.ta_compress.specs.Tales.{SameTale, Tells}
+use Rattle.ta_compress.specs.Pieces.{CutPiece, CompressOf, AreCut, IsPiece, IsShortened, counts_of, lines_in, units}
+use Rattle.ta_compress.specs.Tales.{SameTale, LinesTell}
 use Rattle.ta_compress.proofs.Cutting.{pieces_retell}
 use Rattle.ta_compress.proofs.Few.{left_most, pieces_few}
 use Rattle.ta_compress.proofs.Rearranging.{Stands, count_in, counts_natural}
-use Rattle.ta_compress.proofs.Repeating.{first_whole, leads_all}
+use Rattle.ta_compress.proofs.Repeating.{first_whole, whole_run}
 use Rattle.ta_compress.proofs.Retelling.{shows_same}
 use Rattle.ta_compress.proofs.Shortening.{fits_named}
 use Rattle.ta_compress.proofs.Telling.{cut_off, tell_unfolded, told}
 use Rattle.ta_compress.proofs.Unfolding.{unfold_fits, unfold-marks, front-marks, front-factors, unfold-length}
 
 -- what a run that shows its pattern is to the pattern that it names
-pub shown_named : (file : File) (run : Run) (fits : Fits file run) → Admitted file run → ShowsPattern file.automaton fits.pattern run
+pub shown_named : (file : File) (run : Run) (fits : Fits file run) → IsSmallReplay file run → ShowsPattern file.automaton fits.pattern run
 shown_named file run fits admitted =
     let shown = admitted.replayed.shows in
     let same : shown.pattern ≡ fits.pattern = same_Some shown.pattern fits.pattern (sym shown.named ∙ fits.named) in
@@ -52,9 +52,9 @@ shown_named file run fits admitted =
 -- two runs that tell the same
 record Twice (file : File) (run short : Run) (p : Pattern) (s : ShowsPattern file.automaton p run) : Type 0 where
   tale : List (ℕ × Config)
-  told : Tells file.automaton p s.first run.lines tale
-  short_told : Tells file.automaton p s.first short.lines tale
-  begins : BeginsWith file.automaton short s.first
+  told : LinesTell file.automaton p s.first run.lines tale
+  short_told : LinesTell file.automaton p s.first short.lines tale
+  begins : IsFirstConfig file.automaton short s.first
 
 twice : (file : File) (run short : Run) → InScope file.automaton → (fits : Fits file run) → (s : ShowsPattern file.automaton fits.pattern run) → CompressOf file run short → Twice file run short fits.pattern s
 unfolding total
@@ -62,7 +62,7 @@ twice file run short scope fits s c =
     let a = file.automaton in
     let p = fits.pattern in
     let cut = c.lines in
-    let all = leads_all a p run s in
+    let all = whole_run a p run s in
     let t = told a p s.first run.lines all.0 all.1 in
     let front = tell_unfolded a p s.first (take cut.n run.lines) t.0 (cut_off a p s.first run.lines cut.n t.0 cut.last_mark t.1) in
     let stands : Stands a cut.first [] s.first = record { whole = first_whole a p run s; same = λ i. omega (arith, ints, shown_first a p run (fits_named file run fits) s cut.first cut.starts i) } in
@@ -76,7 +76,7 @@ twice file run short scope fits s c =
       };
     }
 
-pub same_tale : (file : File) (run short : Run) → InScope file.automaton → Fits file run → Admitted file run → CompressOf file run short → SameTale file run short
+pub same_tale : (file : File) (run short : Run) → InScope file.automaton → Fits file run → IsSmallReplay file run → CompressOf file run short → SameTale file run short
 same_tale file run short scope fits admitted c =
     let s = shown_named file run fits admitted in
     let t = twice file run short scope fits s c in
@@ -96,7 +96,7 @@ same_tale file run short scope fits admitted c =
 named_short : (file : File) (run short : Run) (fits : Fits file run) → CompressOf file run short → slice_get file.patterns short.pattern ≡ Some fits.pattern
 named_short file run short fits c = ap (slice_get file.patterns) c.pattern ∙ fits.named
 
-pub short_shows : (file : File) (run short : Run) → InScope file.automaton → Fits file run → Admitted file run → CompressOf file run short → Shows file short
+pub short_shows : (file : File) (run short : Run) → InScope file.automaton → Fits file run → IsSmallReplay file run → CompressOf file run short → Shows file short
 short_shows file run short scope fits admitted c =
     let s = shown_named file run fits admitted in
     let t = twice file run short scope fits s c in
@@ -106,7 +106,7 @@ short_shows file run short scope fits admitted c =
       shows = shows_same file.automaton fits.pattern run short s (first_whole file.automaton fits.pattern run s) t.begins t.tale t.told t.short_told;
     }
 
-within : (a : Automaton) → InScope a → (piece : Piece) (lines rest : List RunLine) → (sh : Shortened a piece lines rest) → StepsWithin a (counts_of a piece.body) sh.steps
+within : (a : Automaton) → InScope a → (piece : CutPiece) (lines rest : List RunLine) → (sh : IsShortened a piece lines rest) → StepsWithin a (counts_of a piece.body) sh.steps
 within a scope piece lines rest sh = arranged_within a scope (counts_of a piece.body) (counts_natural a piece.body) sh.steps sh.arranged
 
 -- the shortened piece as a piece of the run
@@ -115,7 +115,7 @@ record Made (a : Automaton) (lines rest : List RunLine) : Type 0 where
   once : OncePerRule a piece
   is : lines ≡ piece_lines piece ++ rest
 
-made : (a : Automaton) → InScope a → (first : List ℤ) (done : List RunLine) (piece : Piece) (lines rest : List RunLine) → IsPiece a first done piece → Shortened a piece lines rest → Made a lines rest
+made : (a : Automaton) → InScope a → (first : List ℤ) (done : List RunLine) (piece : CutPiece) (lines rest : List RunLine) → IsPiece a first done piece → IsShortened a piece lines rest → Made a lines rest
 made a scope first done piece lines rest is sh = by_end is where
   w : StepsWithin a (counts_of a piece.body) sh.steps
   w = within a scope piece lines rest sh
@@ -137,9 +137,9 @@ record AsPieces (a : Automaton) (short : List RunLine) (count : ℕ) : Type 0 wh
   parts : List pieces.Piece
   lines : short ≡ pieces_lines parts
   many : length parts ≡ count
-  once : Each (OncePerRule a) parts
+  once : AllByRecursion (OncePerRule a) parts
 
-as_pieces : (a : Automaton) → InScope a → (first : List ℤ) (cuts : List Piece) (done lines short : List RunLine) → Cut a first done lines cuts short → AsPieces a short (length cuts)
+as_pieces : (a : Automaton) → InScope a → (first : List ℤ) (cuts : List CutPiece) (done lines short : List RunLine) → AreCut a first done lines cuts short → AsPieces a short (length cuts)
 as_pieces a scope first [] done lines short cut = record { parts = []; lines = cut.1; many = refl; once = tt }
 as_pieces a scope first (piece ∷ cuts) done lines short cut =
     let m = made a scope first done piece short cut.3 cut.0 cut.4 in
@@ -151,10 +151,10 @@ as_pieces a scope first (piece ∷ cuts) done lines short cut =
       once = (m.once, more.once);
     }
 
-events_of : (file : File) (run : Run) (fits : Fits file run) → Admitted file run → marks_count run.lines ≡ length fits.pattern.events
+events_of : (file : File) (run : Run) (fits : Fits file run) → IsSmallReplay file run → marks_count run.lines ≡ length fits.pattern.events
 events_of file run fits admitted = marks_are_events file.automaton fits.pattern run fits.lines (shown_named file run fits admitted)
 
-pub is_short : (file : File) (run short : Run) → InScope file.automaton → Fits file run → Admitted file run → CompressOf file run short → IsShortRun file short
+pub is_short : (file : File) (run short : Run) → InScope file.automaton → Fits file run → IsSmallReplay file run → CompressOf file run short → IsShortRun file short
 is_short file run short scope fits admitted c p named =
     let a = file.automaton in
     let cut = c.lines in
@@ -181,24 +181,12 @@ times_most r (x ∷ xs) = elim (eqb_tells x r) [
   | inr ne ↦ rw ne.0 (omega (arith, times_most r xs))
 ]
 
-each_append : {X : Type 0} (P : X → Type 0) (xs ys : List X) → Each P xs → Each P ys → Each P (xs ++ ys)
-each_append P [] ys h g = g
-each_append P (x ∷ xs) ys h g = (h.0, each_append P xs ys h.1 g)
-
-each_front : {X : Type 0} (P : X → Type 0) (xs ys : List X) → Each P (xs ++ ys) → Each P xs
-each_front P [] ys h = tt
-each_front P (x ∷ xs) ys h = (h.0, each_front P xs ys h.1)
-
-each_back : {X : Type 0} (P : X → Type 0) (xs ys : List X) → Each P (xs ++ ys) → Each P ys
-each_back P [] ys h = h
-each_back P (x ∷ xs) ys h = each_back P xs ys h.1
-
 small_fits : (z : ℤ) (n : ℕ) → pos 1 ≤ℤ z → z ≤ℤ pos n → n ≤ 2000000 → InRange z
 small_fits (pos m) n low high small = omega (arith, ints)
 small_fits (negsuc m) n low high small = absurd (omega (arith, ints))
 
 -- each arranged step fits
-steps_fit : (a : Automaton) (p : Pattern) (body : List ℕ) (steps : List (ℕ × ℤ)) → length body ≤ 2000000 → Each (λ (step : ℕ × ℤ). step.0 < length a.rules) steps → Each (λ (step : ℕ × ℤ). (pos 1 ≤ℤ step.1) × (step.1 ≤ℤ count_at (counts_of a body) step.0)) steps → Each (LineFits a p) (map step_line steps)
+steps_fit : (a : Automaton) (p : Pattern) (body : List ℕ) (steps : List (ℕ × ℤ)) → length body ≤ 2000000 → AllByRecursion (λ (step : ℕ × ℤ). step.0 < length a.rules) steps → AllByRecursion (λ (step : ℕ × ℤ). (pos 1 ≤ℤ step.1) × (step.1 ≤ℤ count_at (counts_of a body) step.0)) steps → AllByRecursion (LineFits a p) (map step_line steps)
 steps_fit a p body [] small exist factors = tt
 steps_fit a p body (step ∷ steps) small exist factors =
     let count = count_in a body step.0 exist.0 in
@@ -209,12 +197,12 @@ steps_fit a p body (step ∷ steps) small exist factors =
       steps_fit a p body steps small exist.1 factors.1,
     )
 
-pieces_fit : (a : Automaton) (p : Pattern) → InScope a → (first : List ℤ) (cuts : List Piece) (done lines short : List RunLine) → length lines ≤ 2000000 → Each (LineFits a p) lines → Cut a first done lines cuts short → Each (LineFits a p) short
-pieces_fit a p scope first [] done lines short small fits cut = subst (Each (LineFits a p)) (sym cut.1) tt
+pieces_fit : (a : Automaton) (p : Pattern) → InScope a → (first : List ℤ) (cuts : List CutPiece) (done lines short : List RunLine) → length lines ≤ 2000000 → AllByRecursion (LineFits a p) lines → AreCut a first done lines cuts short → AllByRecursion (LineFits a p) short
+pieces_fit a p scope first [] done lines short small fits cut = subst (AllByRecursion (LineFits a p)) (sym cut.1) tt
 pieces_fit a p scope first (piece ∷ cuts) done lines short small fits cut =
     let behind = cut.1 in
     let sh = cut.4 in
-    let all = subst (Each (LineFits a p)) cut.2 fits in
+    let all = subst (AllByRecursion (LineFits a p)) cut.2 fits in
     let here = each_front (LineFits a p) (lines_in piece) behind all in
     let kept = each_back (LineFits a p) (units piece.body) piece.kept here in
     let long = ap (λ (ls : List RunLine). length ls) cut.2 in
@@ -223,9 +211,9 @@ pieces_fit a p scope first (piece ∷ cuts) done lines short small fits cut =
     let three = length-map piece.body unit in
     let w = within a scope piece short cut.3 sh in
     let more = pieces_fit a p scope first cuts (done ++ lines_in piece) behind cut.3 (omega arith) (each_back (LineFits a p) (lines_in piece) behind all) cut.5 in
-    subst (Each (LineFits a p)) (sym sh.is) (each_append (LineFits a p) (map step_line sh.steps) (piece.kept ++ cut.3) (steps_fit a p piece.body sh.steps (omega arith) w.exist w.factors) (each_append (LineFits a p) piece.kept cut.3 kept more))
+    subst (AllByRecursion (LineFits a p)) (sym sh.is) (each_append (LineFits a p) (map step_line sh.steps) (piece.kept ++ cut.3) (steps_fit a p piece.body sh.steps (omega arith) w.exist w.factors) (each_append (LineFits a p) piece.kept cut.3 kept more))
 
-pub short_fits : (file : File) (run short : Run) → InScope file.automaton → Fits file run → Admitted file run → CompressOf file run short → Fits file short
+pub short_fits : (file : File) (run short : Run) → InScope file.automaton → Fits file run → IsSmallReplay file run → CompressOf file run short → Fits file short
 short_fits file run short scope fits admitted c =
     let a = file.automaton in
     let cut = c.lines in
@@ -240,8 +228,8 @@ short_fits file run short scope fits admitted c =
       pattern = fits.pattern;
       named = named_short file run short fits c;
       parameters = ap (λ (xs : List ℤ). length xs) c.parameters ∙ fits.parameters;
-      parameters_natural = subst (Each Value) (sym c.parameters) fits.parameters_natural;
+      parameters_natural = subst (AllByRecursion Value) (sym c.parameters) fits.parameters_natural;
       counts = ap (λ (xs : List ℤ). length xs) c.counts ∙ fits.counts;
-      counts_natural = subst (Each Value) (sym c.counts) fits.counts_natural;
+      counts_natural = subst (AllByRecursion Value) (sym c.counts) fits.counts_natural;
       lines = pieces_fit a fits.pattern scope cut.first cut.pieces [] (unfolded front) short.lines (omega arith) (unfold_fits a fits.pattern front (each_take (LineFits a fits.pattern) cut.n run.lines fits.lines)) cut.cut;
     }

@@ -7,24 +7,24 @@ use Rattle.ta_automaton.specs.declared.pattern.Pattern.{Pattern}
 use Rattle.ta_automaton.specs.Places.{Whole}
 use Rattle.ta_automaton.specs.Runs.{Config, Step, Steps, At, value_at}
 use Rattle.ta_automaton.specs.Sums.{total}
-use Rattle.ta_automaton.proofs.Moves.{Fits, move_at}
+use Rattle.ta_automaton.proofs.Moves.{move_at}
 use Rattle.ta_automaton.proofs.Onward.{change_of}
-use Rattle.ta_counter.proofs.Models.{same_model}
+use Rattle.ta_counter.proofs.Models.{same_model, whole_fits}
 use Rattle.ta_pattern.specs.Empty.{KeepsEmpty}
-use Rattle.ta_compress.specs.Tales.{Leads}
+use Rattle.ta_compress.specs.Tales.{StepsLead}
 
-only_one : (p : Pattern) (c : Config) → KeepsEmpty p.empty c → (k : ℕ) (e : Config) → At c [] k e → KeepsEmpty p.empty e
+pub only_one : (p : Pattern) (c : Config) → KeepsEmpty p.empty c → (k : ℕ) (e : Config) → At c [] k e → KeepsEmpty p.empty e
 only_one p c kept zero e at = subst (KeepsEmpty p.empty) (same_Some c e at) kept
 only_one p c kept (suc k) e at = absurd (cc)
 
-pub leads_none : (a : Automaton) (p : Pattern) (c : Config) → KeepsEmpty p.empty c → Leads a p c [] c
+pub leads_none : (a : Automaton) (p : Pattern) (c : Config) → KeepsEmpty p.empty c → StepsLead a p c [] c
 leads_none a p c kept = record { later = []; steps = tt; ends = refl; kept = only_one p c kept }
 
 one_more : (p : Pattern) (c d : Config) (ds : List Config) → KeepsEmpty p.empty c → ((k : ℕ) (e : Config) → At d ds k e → KeepsEmpty p.empty e) → (k : ℕ) (e : Config) → At c (d ∷ ds) k e → KeepsEmpty p.empty e
 one_more p c d ds here rest zero e at = subst (KeepsEmpty p.empty) (same_Some c e at) here
 one_more p c d ds here rest (suc k) e at = rest k e at
 
-pub leads_cons : (a : Automaton) (p : Pattern) (c d e : Config) (r : ℕ) (rs : List ℕ) → KeepsEmpty p.empty c → Step a r c d → Leads a p d rs e → Leads a p c (r ∷ rs) e
+pub leads_cons : (a : Automaton) (p : Pattern) (c d e : Config) (r : ℕ) (rs : List ℕ) → KeepsEmpty p.empty c → Step a r c d → StepsLead a p d rs e → StepsLead a p c (r ∷ rs) e
 leads_cons a p c d e r rs kept step l = record {
   later = d ∷ l.later;
   steps = (step, l.steps);
@@ -37,7 +37,7 @@ pub record First (a : Automaton) (p : Pattern) (c : Config) (r : ℕ) (rs : List
   pub next : Config
   pub kept : KeepsEmpty p.empty c
   pub step : Step a r c next
-  pub rest : Leads a p next rs e
+  pub rest : StepsLead a p next rs e
 
 first_of_steps : (a : Automaton) (p : Pattern) (c : Config) (r : ℕ) (rs : List ℕ) (e : Config) (later : List Config) → Steps a c (r ∷ rs) later → At c later (length (r ∷ rs)) e → ((k : ℕ) (x : Config) → At c later k x → KeepsEmpty p.empty x) → First a p c r rs e
 first_of_steps a p c r rs e [] steps ends kept = absurd steps
@@ -48,28 +48,22 @@ first_of_steps a p c r rs e (d ∷ ds) steps ends kept = record {
   rest = record { later = ds; steps = steps.1; ends = ends; kept = λ k x at. kept (suc k) x at };
 }
 
-pub leads_first : (a : Automaton) (p : Pattern) (c : Config) (r : ℕ) (rs : List ℕ) (e : Config) → Leads a p c (r ∷ rs) e → First a p c r rs e
+pub leads_first : (a : Automaton) (p : Pattern) (c : Config) (r : ℕ) (rs : List ℕ) (e : Config) → StepsLead a p c (r ∷ rs) e → First a p c r rs e
 leads_first a p c r rs e l = first_of_steps a p c r rs e l.later l.steps l.ends l.kept
 
 none_steps : (a : Automaton) (c d : Config) (later : List Config) → Steps a c [] later → At c later 0 d → c ≡ d
 none_steps a c d later steps at = same_Some c d at
 
-pub leads_nowhere : (a : Automaton) (p : Pattern) (c d : Config) → Leads a p c [] d → c ≡ d
+pub leads_nowhere : (a : Automaton) (p : Pattern) (c d : Config) → StepsLead a p c [] d → c ≡ d
 leads_nowhere a p c d l = none_steps a c d l.later l.steps l.ends
-
-pub leads_join : (a : Automaton) (p : Pattern) (c : Config) (xs : List ℕ) (d : Config) (ys : List ℕ) (e : Config) → Leads a p c xs d → Leads a p d ys e → Leads a p c (xs ++ ys) e
-leads_join a p c [] d ys e l m = subst (λ x. Leads a p x ys e) (sym (leads_nowhere a p c d l)) m
-leads_join a p c (x ∷ xs) d ys e l m =
-    let f = leads_first a p c x xs d l in
-    leads_cons a p c f.next e x (xs ++ ys) f.kept f.step (leads_join a p f.next xs d ys e f.rest m)
 
 -- steps in two parts
 pub record Parts (a : Automaton) (p : Pattern) (c : Config) (xs ys : List ℕ) (e : Config) : Type 0 where
   pub middle : Config
-  pub left : Leads a p c xs middle
-  pub right : Leads a p middle ys e
+  pub left : StepsLead a p c xs middle
+  pub right : StepsLead a p middle ys e
 
-pub leads_split : (a : Automaton) (p : Pattern) (c : Config) (xs ys : List ℕ) (e : Config) → Leads a p c (xs ++ ys) e → Parts a p c xs ys e
+pub leads_split : (a : Automaton) (p : Pattern) (c : Config) (xs ys : List ℕ) (e : Config) → StepsLead a p c (xs ++ ys) e → Parts a p c xs ys e
 leads_split a p c [] ys e l = record { middle = c; left = leads_none a p c (l.kept 0 c refl); right = l }
 leads_split a p c (x ∷ xs) ys e l =
     let f = leads_first a p c x (xs ++ ys) e l in
@@ -83,19 +77,16 @@ step_whole a r c d w step = record {
   counters = step.move.counters_count ∙ w.counters;
 }
 
-whole_fits : (a : Automaton) (c : Config) → Whole a c → Fits a c
-whole_fits a c w = record { parameters = w.parameters; shared = w.shared }
-
 pub step_value : (a : Automaton) (r : ℕ) (c d : Config) → Whole a c → Step a r c d → (i : ℕ) → value_at d i ≡ (value_at c i +ℤ change_of a i r)
 step_value a r c d w step i = move_at a r c d (whole_fits a c w) (whole_fits a d (step_whole a r c d w step)) step i
 
-pub leads_whole : (a : Automaton) (p : Pattern) (c : Config) (rs : List ℕ) (e : Config) → Whole a c → Leads a p c rs e → Whole a e
+pub leads_whole : (a : Automaton) (p : Pattern) (c : Config) (rs : List ℕ) (e : Config) → Whole a c → StepsLead a p c rs e → Whole a e
 leads_whole a p c [] e w l = subst (Whole a) (leads_nowhere a p c e l) w
 leads_whole a p c (r ∷ rs) e w l =
     let f = leads_first a p c r rs e l in
     leads_whole a p f.next rs e (step_whole a r c f.next w f.step) f.rest
 
-pub leads_value : (a : Automaton) (p : Pattern) (c : Config) (rs : List ℕ) (e : Config) → Whole a c → Leads a p c rs e → (i : ℕ) → value_at e i ≡ (value_at c i +ℤ total (change_of a i) rs)
+pub leads_value : (a : Automaton) (p : Pattern) (c : Config) (rs : List ℕ) (e : Config) → Whole a c → StepsLead a p c rs e → (i : ℕ) → value_at e i ≡ (value_at c i +ℤ total (change_of a i) rs)
 unfolding total
 leads_value a p c [] e w l i = omega (arith, ints, ap (λ (x : Config). value_at x i) (leads_nowhere a p c e l))
 leads_value a p c (r ∷ rs) e w l i =

@@ -1,20 +1,18 @@
 -- guards that hold before a unit step and behind it
-use Rattle.std.proofs.Common.{◌≡◌, ◌⊎◌, inl, inr, ℕ, zero, suc, ◌≤◌, ℤ, List, [], ◌∷◌, arith, sym, ◌∙◌, refl, subst, slice_get, Some, IsBitSet}
+use Rattle.std.proofs.Common.{◌≡◌, ◌⊎◌, inl, inr, ℕ, zero, suc, ℤ, List, [], ◌∷◌, arith, sym, refl, subst, slice_get, Some, IsBitSet}
 use Rattle.std.specs.Int.{bit_at}
 use Rattle.std.proofs.lemmas.Nat.Bits.{same_from_bits}
-use Rattle.std.proofs.lemmas.Option.{same_Some}
+use Rattle.ta_base.proofs.Bits.{at_set, set_at}
+use Rattle.ta_base.proofs.Naturals.{two_bits}
+use Rattle.ta_counter.proofs.Holdings.{this_row}
 use Rattle.ta_linear.specs.Values.{RowHolds}
 use Rattle.ta_linear.specs.declared.row.Row.{Row}
 use Rattle.ta_automaton.specs.declared.automaton.Automaton.{Automaton}
 use Rattle.ta_counter.specs.declared.holding.Guards.{Guards}
 use Rattle.ta_counter.specs.Holding.{GuardsAre, HoldsThere, MaskAt}
-use Rattle.ta_scope.proofs.Reaching.{set_at, at_set}
 use Rattle.ta_compress.specs.Units.{SomeDiffers, Switches, Drops}
 use Rattle.ta_compress.specs.Inside.Drafts.{HasFallen, SameGuards}
 use Rattle.ta_compress.proofs.Steady.{holds_or}
-
-holds_row : (f : ℕ → ℤ) (rows : List Row) (i : ℕ) (row : Row) → slice_get rows i ≡ Some row → HoldsThere f rows i → RowHolds f row
-holds_row f rows i row at h = subst (RowHolds f) (same_Some h.row row (sym h.named ∙ at)) h.holds
 
 -- a row that holds at both points or at neither, for all rows
 abbrev Agree : List Row → (ℕ → ℤ) → (ℕ → ℤ) → Type 0
@@ -49,15 +47,6 @@ moved_on rows f g all i h = record { row = h.row; named = h.named; holds = (all 
 moved_back : (rows : List Row) (f g : ℕ → ℤ) → Agree rows f g → (i : ℕ) → HoldsThere g rows i → HoldsThere f rows i
 moved_back rows f g all i h = record { row = h.row; named = h.named; holds = (all i h.row h.named).1 h.holds }
 
-two_bits : (m n : ℕ) → (m ≡ 1 → n ≡ 1) → (n ≡ 1 → m ≡ 1) → m ≤ 1 → n ≤ 1 → m ≡ n
-two_bits zero zero h g b c = refl
-two_bits zero (suc zero) h g b c = absurd (let e = g refl in omega arith)
-two_bits (suc zero) zero h g b c = absurd (let e = h refl in omega arith)
-two_bits (suc zero) (suc zero) h g b c = refl
-two_bits (suc (suc m)) n h g b c = absurd (omega arith)
-two_bits zero (suc (suc n)) h g b c = absurd (omega arith)
-two_bits (suc zero) (suc (suc n)) h g b c = absurd (omega arith)
-
 -- masks of rows that agree are the same
 same_mask : (rows : List Row) (f g : ℕ → ℤ) (m n : ℕ) → MaskAt f rows m → MaskAt g rows n → Agree rows f g → m ≡ n
 same_mask rows f g m n at there all = same_from_bits m n (λ i. two_bits (bit_at m i) (bit_at n i)
@@ -67,8 +56,8 @@ same_mask rows f g m n at there all = same_from_bits m n (λ i. two_bits (bit_at
 
 same_agree : (rows : List Row) (f g : ℕ → ℤ) (m n : ℕ) → MaskAt f rows m → MaskAt g rows n → m ≡ n → SomeDiffers rows f g → ⊥
 same_agree rows f g m n at there same s = elim s.differs [
-  | inl d ↦ d.1 (holds_row g rows s.number s.row s.named ((there s.number).0 (subst (λ x. IsBitSet x s.number) same ((at s.number).1 (record { row = s.row; named = s.named; holds = d.0 })))))
-  | inr d ↦ d.0 (holds_row f rows s.number s.row s.named ((at s.number).0 (subst (λ x. IsBitSet x s.number) (sym same) ((there s.number).1 (record { row = s.row; named = s.named; holds = d.1 })))))
+  | inl d ↦ d.1 (this_row g rows s.number s.row s.named ((there s.number).0 (subst (λ x. IsBitSet x s.number) same ((at s.number).1 (record { row = s.row; named = s.named; holds = d.0 })))))
+  | inr d ↦ d.0 (this_row f rows s.number s.row s.named ((at s.number).0 (subst (λ x. IsBitSet x s.number) (sym same) ((there s.number).1 (record { row = s.row; named = s.named; holds = d.1 })))))
 ]
 
 pub same_still : (a : Automaton) (f g : ℕ → ℤ) (before now : Guards) → GuardsAre a f before → GuardsAre a g now → SameGuards before now → Switches a f g → ⊥
@@ -99,5 +88,5 @@ pub drops_fallen : (a : Automaton) (f g : ℕ → ℤ) (before now : Guards) →
 drops_fallen a f g before now at there d = (
   d.number,
   (at.fall d.number).1 (record { row = d.row; named = d.named; holds = d.held }),
-  λ bit. d.fails (holds_row g a.fall d.number d.row d.named ((there.fall d.number).0 bit)),
+  λ bit. d.fails (this_row g a.fall d.number d.row d.named ((there.fall d.number).0 bit)),
 )

@@ -1,34 +1,34 @@
 -- the arranged steps of a piece lead where the piece leads
-use Rattle.std.proofs.Common.{◌≡◌, inl, inr, ℕ, zero, suc, ◌+◌, ◌<◌, ◌≤◌, ℤ, pos, ◌*ℤ◌, ◌≤ℤ◌, List, [], ◌∷◌, ◌++◌, length, map, true, arith, sym, ap, ◌∙◌, refl, subst, slice_get, get_or, Some, IsBitSet}
+use Rattle.std.proofs.Common.{◌≡◌, inl, inr, ℕ, zero, suc, ◌+◌, ◌<◌, ◌≤◌, ℤ, pos, ◌*ℤ◌, ◌≤ℤ◌, List, [], ◌∷◌, ◌++◌, length, true, arith, sym, ap, ◌∙◌, refl, subst, slice_get, get_or, Some, IsBitSet}
 use mathlib.Core.Path.{fun_ext}
-use Rattle.std.specs.Prelude.{filter}
 use Rattle.std.proofs.lemmas.Int.{ints}
 use Rattle.std.proofs.lemmas.Bool.{cases_lt}
 use Rattle.std.proofs.lemmas.Bool.Decides.{eqb_tells}
 use Rattle.std.proofs.lemmas.List.{length-map, get_or_past}
 use Rattle.std.proofs.lemmas.Option.{same_Some, slice_get_within}
+use Rattle.ta_base.proofs.Lists.{filter_all}
+use Rattle.ta_base.proofs.Ranges.{length_numbers, number_get}
 use Rattle.ta_linear.specs.Values.{RowHolds}
 use Rattle.ta_linear.specs.declared.row.Row.{Row}
 use Rattle.ta_automaton.specs.declared.automaton.Automaton.{Automaton}
 use Rattle.ta_automaton.specs.declared.pattern.Pattern.{Pattern}
 use Rattle.ta_automaton.specs.declared.rule.Rule.{Rule}
-use Rattle.ta_automaton.specs.Masks.{In, numbers_from}
+use Rattle.ta_base.specs.Masks.{In, numbers_from}
 use Rattle.ta_automaton.specs.Places.{Whole, location_place}
 use Rattle.ta_automaton.specs.Runs.{Config, InScope, Step, Steps, At, value_at}
 use Rattle.ta_automaton.specs.Sums.{total, times_in}
-use Rattle.ta_automaton.proofs.Fire.{length_numbers}
 use Rattle.ta_automaton.proofs.Fired.{EachOnce, firings, once}
 use Rattle.ta_automaton.proofs.Onward.{change_of}
 use Rattle.ta_counter.proofs.Models.{same_model}
 use Rattle.ta_pattern.specs.Empty.{KeepsEmpty}
-use Rattle.ta_scope.specs.Arranged.{ArrangedOf, Counts, count_at}
+use Rattle.ta_scope.specs.Arranged.{ArrangedOf, AreRuleCounts, count_at}
 use Rattle.ta_scope.specs.Legal as legal
 use Rattle.ta_scope.specs.Legal.{GuardsHold, LeadsToEnd, rise_mask, fall_mask, value_at_end}
 use Rattle.ta_scope.proofs.ArrangedLaws.{FromCounts, from_counts, arranged_end}
 use Rattle.ta_replay.specs.declared.run.RunLine.{RunLine}
 use Rattle.ta_compress.specs.Units.{value_after}
 use Rattle.ta_compress.specs.Pieces.{units, counts_of}
-use Rattle.ta_compress.specs.Tales.{Leads}
+use Rattle.ta_compress.specs.Tales.{StepsLead}
 use Rattle.ta_compress.proofs.Leading.{leads_first, leads_split, leads_value, leads_whole}
 use Rattle.ta_compress.proofs.Steady.{Steady, units-value}
 
@@ -48,18 +48,13 @@ occurs r (x ∷ xs) h = elim (eqb_tells x r) [
       record { front = x ∷ o.front; behind = o.behind; is = ap (λ (ys : List ℕ). x ∷ ys) o.is })
 ]
 
-number_get : (f : ℕ → ℤ) (k n i : ℕ) → i < n → get_or (map f (numbers_from k n)) i (pos 0) ≡ f (k + i)
-number_get f k zero i b = absurd (omega arith)
-number_get f k (suc n) zero b = ap f (omega arith)
-number_get f k (suc n) (suc i) b = number_get f (k + 1) n i (omega arith) ∙ ap f (omega arith)
-
 pub count_in : (a : Automaton) (body : List ℕ) (r : ℕ) → r < length a.rules → count_at (counts_of a body) r ≡ pos (times_in r body)
 count_in a body r b = number_get (λ q. pos (times_in q body)) 0 (length a.rules) r b ∙ (let e : 0 + r ≡ r = omega arith in ap (λ q. pos (times_in q body)) e)
 
 pub counts_length : (a : Automaton) (body : List ℕ) → length (counts_of a body) ≡ length a.rules
 counts_length a body = length-map (numbers_from 0 (length a.rules)) _ ∙ length_numbers 0 (length a.rules)
 
-pub counts_natural : (a : Automaton) (body : List ℕ) → Counts a (counts_of a body)
+pub counts_natural : (a : Automaton) (body : List ℕ) → AreRuleCounts a (counts_of a body)
 counts_natural a body = record {
   each_rule = counts_length a body;
   natural = λ r. elim (cases_lt r (length a.rules)) [
@@ -77,20 +72,16 @@ unfolding total
 total_below f g k zero h = refl
 total_below f g k (suc n) h = omega (arith, ints, h k (omega arith), total_below f g (k + 1) n (λ r b. h r (omega arith)))
 
-keeps_all : (xs : List ℕ) → filter (λ r. true) xs ≡ xs
-keeps_all [] = refl
-keeps_all (x ∷ xs) = ap (λ (ys : List ℕ). x ∷ ys) (keeps_all xs)
-
-each_once : (a : Automaton) (p : Pattern) (c : Config) (rules : List ℕ) (d : Config) → Leads a p c rules d → EachOnce rules (numbers_from 0 (length a.rules))
+each_once : (a : Automaton) (p : Pattern) (c : Config) (rules : List ℕ) (d : Config) → StepsLead a p c rules d → EachOnce rules (numbers_from 0 (length a.rules))
 each_once a p c [] d l = tt
 each_once a p c (r ∷ rs) d l =
     let f = leads_first a p c r rs d l in (
-      ap (times_in r) (sym (keeps_all (numbers_from 0 (length a.rules)))) ∙ once (λ q. true) r 0 (length a.rules) refl (omega arith) (let b = slice_get_within a.rules r f.step.rule f.step.named in omega arith),
+      ap (times_in r) (sym (filter_all (numbers_from 0 (length a.rules)))) ∙ once (λ q. true) r 0 (length a.rules) refl (omega arith) (let b = slice_get_within a.rules r f.step.rule f.step.named in omega arith),
       each_once a p f.next rs d f.rest,
     )
 
 -- the end that the counts of a body have is the end of the body
-end_value : (a : Automaton) (p : Pattern) (c : Config) (body : List ℕ) (d : Config) → Whole a c → Leads a p c body d → (i : ℕ) → value_at_end a c (counts_of a body) i ≡ value_at d i
+end_value : (a : Automaton) (p : Pattern) (c : Config) (body : List ℕ) (d : Config) → Whole a c → StepsLead a p c body d → (i : ℕ) → value_at_end a c (counts_of a body) i ≡ value_at d i
 end_value a p c body d w l i =
     let n = length a.rules in
     let counts = total_below (λ r. change_of a i r *ℤ count_at (counts_of a body) r) (λ r. change_of a i r *ℤ pos (times_in r body)) 0 n (λ r b. ap (λ z. change_of a i r *ℤ z) (count_in a body r (omega arith))) in
@@ -103,16 +94,16 @@ pub record Taken (a : Automaton) (p : Pattern) (c : Config) (body : List ℕ) (r
   pub is : body ≡ front ++ r ∷ behind
   pub before : Config
   pub after : Config
-  pub leads : Leads a p c front before
+  pub leads : StepsLead a p c front before
   pub step : Step a r before after
   pub same : step.rule ≡ rule
   pub kept : KeepsEmpty p.empty before
   pub kept_after : KeepsEmpty p.empty after
 
-taken : (a : Automaton) (p : Pattern) (c : Config) (body : List ℕ) (d : Config) → Leads a p c body d → (r : ℕ) (rule : Rule) → slice_get a.rules r ≡ Some rule → pos 1 ≤ℤ count_at (counts_of a body) r → Taken a p c body r rule
+taken : (a : Automaton) (p : Pattern) (c : Config) (body : List ℕ) (d : Config) → StepsLead a p c body d → (r : ℕ) (rule : Rule) → slice_get a.rules r ≡ Some rule → pos 1 ≤ℤ count_at (counts_of a body) r → Taken a p c body r rule
 taken a p c body d l r rule named h =
     let o = counted_occurs a body r rule named h in
-    let parts = leads_split a p c o.front (r ∷ o.behind) d (subst (λ (xs : List ℕ). Leads a p c xs d) o.is l) in
+    let parts = leads_split a p c o.front (r ∷ o.behind) d (subst (λ (xs : List ℕ). StepsLead a p c xs d) o.is l) in
     let f = leads_first a p parts.middle r o.behind d parts.right in
     record {
       front = o.front;
@@ -132,7 +123,7 @@ pub record Stands (a : Automaton) (first : List ℤ) (done : List RunLine) (c : 
   pub whole : Whole a c
   pub same : (i : ℕ) → value_at c i ≡ value_after a first done i
 
-pub stands_after : (a : Automaton) (p : Pattern) (first : List ℤ) (done : List RunLine) (c : Config) (rules : List ℕ) (d : Config) → Stands a first done c → Leads a p c rules d → Stands a first (done ++ units rules) d
+pub stands_after : (a : Automaton) (p : Pattern) (first : List ℤ) (done : List RunLine) (c : Config) (rules : List ℕ) (d : Config) → Stands a first done c → StepsLead a p c rules d → Stands a first (done ++ units rules) d
 stands_after a p first done c rules d s l = record {
   whole = leads_whole a p c rules d s.whole l;
   same = λ i. omega (arith, ints, leads_value a p c rules d s.whole l i, s.same i, units-value a first done rules i);
@@ -178,7 +169,7 @@ keeps_on a p (r ∷ rs) c (d ∷ ds) out kept steps (suc k) e at =
     keeps_on a p rs d ds (λ q i. out q (inr i)) (keeps_step a p r c d steps.0 (out r (inl refl) steps.0.rule steps.0.named) kept) steps.1 k e at
 
 -- the arranged steps of a steady body lead where the body leads
-pub rearranged : (a : Automaton) (p : Pattern) (first : List ℤ) (done : List RunLine) (body : List ℕ) (c d : Config) (steps : List (ℕ × ℤ)) → InScope a → Stands a first done c → Leads a p c body d → Steady a first done body → ArrangedOf a (counts_of a body) steps → Leads a p c (legal.unit_steps steps) d
+pub rearranged : (a : Automaton) (p : Pattern) (first : List ℤ) (done : List RunLine) (body : List ℕ) (c d : Config) (steps : List (ℕ × ℤ)) → InScope a → Stands a first done c → StepsLead a p c body d → Steady a first done body → ArrangedOf a (counts_of a body) steps → StepsLead a p c (legal.arranged_steps steps) d
 rearranged a p first done body c d steps scope s l steady arranged =
     let counts = counts_of a body in
     let natural = counts_natural a body in
@@ -192,12 +183,12 @@ rearranged a p first done body c d steps scope s l steady arranged =
     let held : RowHolds (value_at t.before) row = t.step.move.fall j row at (subst (λ (q : Rule). IsBitSet q.fall j) (sym t.same) bit) in
     let end = steady.fall t.front r t.behind t.is j row at (holds_there a first (done ++ units t.front) t.before row (stands_after a p first done c t.front t.before s t.leads) held) in
     subst (λ (f : ℕ → ℤ). RowHolds f row) (sym (fun_ext same)) (holds_here a first (done ++ units body) d row (stands_after a p first done c body d s l) end)) in
-    let ends : LeadsToEnd a c counts (legal.unit_steps steps) = arranged_end a scope counts natural steps arranged c s.whole rise fall (λ m b. omega (arith, ints, same (location_place a m))) in
+    let ends : LeadsToEnd a c counts (legal.arranged_steps steps) = arranged_end a scope counts natural steps arranged c s.whole rise fall (λ m b. omega (arith, ints, same (location_place a m))) in
     let here : ends.last ≡ d = same_model a ends.last d ends.whole (leads_whole a p c body d s.whole l) (λ i. ends.values i ∙ same i) in
-    let from : FromCounts a counts (legal.unit_steps steps) = from_counts a scope counts natural steps arranged in
+    let from : FromCounts a counts (legal.arranged_steps steps) = from_counts a scope counts natural steps arranged in
     record {
       later = ends.later;
       steps = ends.legal;
-      ends = subst (λ (x : Config). At c ends.later (length (legal.unit_steps steps)) x) here ends.reached;
-      kept = keeps_on a p (legal.unit_steps steps) c ends.later (λ q i rule named. no_entry a p c body q rule (taken a p c body d l q rule named (from.above q i))) (l.kept 0 c refl) ends.legal;
+      ends = subst (λ (x : Config). At c ends.later (length (legal.arranged_steps steps)) x) here ends.reached;
+      kept = keeps_on a p (legal.arranged_steps steps) c ends.later (λ q i rule named. no_entry a p c body q rule (taken a p c body d l q rule named (from.above q i))) (l.kept 0 c refl) ends.legal;
     }

@@ -1,26 +1,27 @@
 -- the unit steps of a run that shows its pattern pass every check, where all guards stay in range
-use Rattle.std.proofs.Common.{◌≡◌, inl, inr, ℕ, zero, suc, ◌+◌, ◌-◌, ◌<◌, ℤ, pos, negsuc, ◌+ℤ◌, ◌-ℤ◌, ◌*ℤ◌, ◌≤ℤ◌, List, [], ◌∷◌, ◌++◌, length, map, take, drop, replicate, unsigned_abs, arith, sym, ap, ◌∙◌, refl, subst, slice_get, Some, Option, append_assoc}
+use Rattle.std.proofs.Common.{◌≡◌, inl, inr, ℕ, zero, suc, ◌+◌, ◌-◌, ◌<◌, ℤ, pos, ◌+ℤ◌, ◌-ℤ◌, ◌*ℤ◌, List, [], ◌∷◌, ◌++◌, length, map, take, drop, replicate, unsigned_abs, arith, sym, ap, ◌∙◌, refl, subst, slice_get, Some, Option, append_assoc}
 use mathlib.Core.Path.{fun_ext}
 use Rattle.std.proofs.lemmas.Int.{ints}
 use Rattle.std.proofs.lemmas.Bool.Decides.{eqb_tells}
 use Rattle.std.proofs.Math.IntN.{zero-*ℤ}
-use Rattle.ta_linear.specs.Numbers.{InRange}
+use Rattle.std.specs.List.{AllByRecursion}
+use Rattle.ta_base.proofs.Each.{each_at, each_point, each_take}
+use Rattle.ta_base.proofs.Integers.{abs_natural, distributes_right, minus_times, mul-ge-zero, one_times}
+use Rattle.ta_base.proofs.Lists.{cut_at, replicate_cut, some_at}
+use Rattle.ta_counter.proofs.Adding.{range_below}
 use Rattle.ta_linear.specs.Sums.{StaysInRange}
 use Rattle.ta_linear.specs.Terms.{coefficient}
 use Rattle.ta_linear.specs.Values.{point_of}
-use Rattle.ta_linear.proofs.Integers.{distributes_right, minus_times}
-use Rattle.ta_linear.proofs.Signs.{mul-ge-zero}
 use Rattle.ta_automaton.specs.declared.automaton.Automaton.{Automaton}
 use Rattle.ta_automaton.specs.declared.pattern.Pattern.{Pattern}
 use Rattle.ta_automaton.specs.declared.rule.Rule.{Rule}
-use Rattle.ta_automaton.specs.Lists.{Each, Distinct}
+use Rattle.ta_base.specs.Lists.{Distinct}
 use Rattle.ta_automaton.specs.Places.{Whole, location_place, rule_change, shared_change}
 use Rattle.ta_automaton.specs.Runs.{Config, Step, value_at}
 use Rattle.ta_automaton.specs.Shape.{Update, variable_of}
 use Rattle.ta_automaton.proofs.Moves.{one_if-ne, shared_change-shared}
 use Rattle.ta_automaton.proofs.Onward.{change_of}
-use Rattle.ta_automaton.proofs.Sums.{one_times}
-use Rattle.ta_automaton.proofs.Thresholds.{each_at, rule_within}
+use Rattle.ta_automaton.proofs.Thresholds.{rule_within}
 use Rattle.ta_automaton.proofs.Trails.{run_length}
 use Rattle.ta_counter.specs.declared.config.Config as counter
 use Rattle.ta_counter.specs.declared.fault.StepFault.TheVariants.{Count, OutOfRange, Guard}
@@ -28,7 +29,7 @@ use Rattle.ta_counter.specs.Configs.{IsOf, config_of}
 use Rattle.ta_counter.specs.Holding.{GuardsStay}
 use Rattle.ta_counter.specs.Steps.{Fires, AllGrow, before_last}
 use Rattle.ta_counter.specs.Values.{Value}
-use Rattle.ta_counter.proofs.Models.{model_at, model_whole, natural_pos, same_model, each_take, each_point}
+use Rattle.ta_counter.proofs.Models.{model_at, model_whole, same_model}
 use Rattle.ta_counter.proofs.Stepping.{no_steps}
 use Rattle.ta_replay.specs.declared.run.Run.{Run}
 use Rattle.ta_replay.specs.declared.run.RunLine.TheVariants as line
@@ -36,27 +37,14 @@ use Rattle.ta_replay.specs.Fits.{LineFits}
 use Rattle.ta_replay.specs.Replays.{NumbersStay, ValuesAfter}
 use Rattle.ta_replay.specs.Shows.{ShowsPattern, unit_steps}
 use Rattle.ta_replay.specs.Inside.Following.{FitsPattern}
-use Rattle.ta_replay.proofs.Lines.{some_at, unit_steps-append}
+use Rattle.ta_replay.proofs.Lines.{unit_steps-append}
 use Rattle.ta_replay.proofs.Showing.{lines-change, total-replicate, shown_first}
-use Rattle.ta_compress.specs.Inside.Drafts.{MayRepeat, MayStep, Repeated}
-use Rattle.ta_compress.specs.Tales.{Leads}
+use Rattle.ta_compress.specs.Inside.Drafts.{MayRepeat, MayStep, RepeatsRule}
+use Rattle.ta_compress.specs.Tales.{StepsLead}
 use Rattle.ta_compress.proofs.Leading.{First, leads_first, leads_split, leads_value, leads_whole}
 
--- a list with an item has a front, the item, and what is behind it
-cut_at : {X : Type 0} (xs : List X) (i : ℕ) (x : X) → slice_get xs i ≡ Some x → xs ≡ take i xs ++ x ∷ drop (suc i) xs
-cut_at [] i x at = absurd (cc)
-cut_at {X} (y ∷ ys) zero x at = let same : y ≡ x = cc in ap (λ (z : X). z ∷ ys) same
-cut_at {X} (y ∷ ys) (suc i) x at = ap (λ (zs : List X). y ∷ zs) (cut_at ys i x at)
-
-replicate_cut : (k t r : ℕ) → t < k → replicate k r ≡ replicate t r ++ r ∷ replicate (k - suc t) r
-replicate_cut zero t r b = absurd (omega arith)
-replicate_cut (suc k) zero r b = let e : k ≡ suc k - suc 0 = omega arith in ap (λ n. r ∷ replicate n r) e
-replicate_cut (suc k) (suc t) r b =
-    let e : k - suc t ≡ suc k - suc (suc t) = omega arith in
-    ap (λ (xs : List ℕ). r ∷ xs) (replicate_cut k t r (omega arith) ∙ ap (λ n. replicate t r ++ r ∷ replicate n r) e)
-
 -- the whole run as steps that lead somewhere
-whole_run : (a : Automaton) (p : Pattern) (run : Run) (s : ShowsPattern a p run) → (end : Config) × Leads a p s.first (unit_steps run.lines) end
+pub whole_run : (a : Automaton) (p : Pattern) (run : Run) (s : ShowsPattern a p run) → (end : Config) × StepsLead a p s.first (unit_steps run.lines) end
 whole_run a p run s =
     let count = run_length a s.first (unit_steps run.lines) s.later s.follows.steps in
     let last = some_at (s.first ∷ s.later) (length (unit_steps run.lines)) (omega arith) in
@@ -65,16 +53,13 @@ whole_run a p run s =
 pub first_whole : (a : Automaton) (p : Pattern) (run : Run) (s : ShowsPattern a p run) → Whole a s.first
 first_whole a p run s = record { parameters = s.follows.initial.admissible.count; shared = s.follows.initial.shared_count; counters = s.follows.initial.locations_count }
 
-pub leads_all : (a : Automaton) (p : Pattern) (run : Run) (s : ShowsPattern a p run) → (end : Config) × Leads a p s.first (unit_steps run.lines) end
-leads_all a p run s = whole_run a p run s
-
 -- a step of the model from a configuration
 record StepFrom (a : Automaton) (r : ℕ) (c : Config) : Type 0 where
   next : Config
   step : Step a r c next
 
 -- the unit steps of a line are steps of the model
-unit_of_line : (a : Automaton) (p : Pattern) (run : Run) → FitsPattern a p run → (s : ShowsPattern a p run) → (i r : ℕ) (k : ℤ) → slice_get run.lines i ≡ Some (line.Step r k) → (values : List ℤ) → ValuesAfter a run (take i run.lines) values → (times : ℕ) (now : counter.Config) → times < unsigned_abs k → IsOf a now → Repeated a r values times now.values.items → StepFrom a r (config_of a now)
+unit_of_line : (a : Automaton) (p : Pattern) (run : Run) → FitsPattern a p run → (s : ShowsPattern a p run) → (i r : ℕ) (k : ℤ) → slice_get run.lines i ≡ Some (line.Step r k) → (values : List ℤ) → ValuesAfter a run (take i run.lines) values → (times : ℕ) (now : counter.Config) → times < unsigned_abs k → IsOf a now → RepeatsRule a r values times now.values.items → StepFrom a r (config_of a now)
 unit_of_line a p run fits s i r k at values reached times now less is repeated =
     let n = unsigned_abs k in
     let front = unit_steps (take i run.lines) in
@@ -83,7 +68,7 @@ unit_of_line a p run fits s i r k at values reached times now less is repeated =
     let lines : unit_steps run.lines ≡ front ++ (replicate n r ++ back) = ap unit_steps (cut_at run.lines i (line.Step r k) at) ∙ unit_steps-append (take i run.lines) (line.Step r k ∷ drop (suc i) run.lines) in
     let parts : unit_steps run.lines ≡ front ++ (replicate times r ++ (r ∷ (replicate (n - suc times) r ++ back))) =
     lines ∙ ap (λ (xs : List ℕ). front ++ (xs ++ back)) (replicate_cut n times r less) ∙ ap (λ (xs : List ℕ). front ++ xs) (append_assoc (replicate times r) (r ∷ replicate (n - suc times) r) back) in
-    let one = leads_split a p s.first front (replicate times r ++ (r ∷ (replicate (n - suc times) r ++ back))) all.0 (subst (λ (xs : List ℕ). Leads a p s.first xs all.0) parts all.1) in
+    let one = leads_split a p s.first front (replicate times r ++ (r ∷ (replicate (n - suc times) r ++ back))) all.0 (subst (λ (xs : List ℕ). StepsLead a p s.first xs all.0) parts all.1) in
     let two = leads_split a p one.middle (replicate times r) (r ∷ (replicate (n - suc times) r ++ back)) all.0 one.right in
     let f : First a p two.middle r (replicate (n - suc times) r ++ back) all.0 = leads_first a p two.middle r (replicate (n - suc times) r ++ back) all.0 two.right in
     let start = first_whole a p run s in
@@ -94,7 +79,7 @@ unit_of_line a p run fits s i r k at values reached times now less is repeated =
     let same : two.middle ≡ config_of a now = same_model a two.middle (config_of a now) here (model_whole a now.values.items is.places) (λ place. value place ∙ sym (model_at a now.values.items now.natural place)) in
     record { next = f.next; step = subst (λ (c : Config). Step a r c f.next) same f.step }
 
-coefficient_none : (ts : List (ℕ × ℤ)) (x : ℕ) → Each (λ y. x ≡ y → ⊥) (map variable_of ts) → coefficient ts x ≡ pos 0
+coefficient_none : (ts : List (ℕ × ℤ)) (x : ℕ) → AllByRecursion (λ y. x ≡ y → ⊥) (map variable_of ts) → coefficient ts x ≡ pos 0
 coefficient_none [] x h = refl
 coefficient_none (t ∷ ts) x h = elim (eqb_tells t.0 x) [
   | inl e ↦ absurd (h.0 (sym e.1))
@@ -113,18 +98,13 @@ coefficient_there (t ∷ ts) (suc j) u h at = elim (eqb_tells t.0 u.0) [
   | inl e ↦ absurd (other_one t.0 ts j u h.0 at e.1)
   | inr ne ↦ rw ne.0 (omega (arith, ints, coefficient_there ts j u h.1 at))
 ] where
-  other_one : (x : ℕ) (ts : List (ℕ × ℤ)) (j : ℕ) (u : ℕ × ℤ) → Each (λ y. x ≡ y → ⊥) (map variable_of ts) → slice_get ts j ≡ Some u → x ≡ u.0 → ⊥
+  other_one : (x : ℕ) (ts : List (ℕ × ℤ)) (j : ℕ) (u : ℕ × ℤ) → AllByRecursion (λ y. x ≡ y → ⊥) (map variable_of ts) → slice_get ts j ≡ Some u → x ≡ u.0 → ⊥
   other_one x [] j u h at e = absurd (cc)
   other_one x (w ∷ ws) zero u h at e = h.0 (let same : w ≡ u = cc in e ∙ sym (ap variable_of same))
   other_one x (w ∷ ws) (suc j) u h at e = other_one x ws j u h.1 at e
 
-range_less : (x y : ℤ) → pos 0 ≤ℤ x → x ≤ℤ y → InRange y → InRange x
-range_less (pos m) (pos n) low less fits = omega (arith, ints)
-range_less (pos m) (negsuc n) low less fits = absurd (omega (arith, ints))
-range_less (negsuc m) y low less fits = absurd (omega (arith, ints))
-
 -- what many firings add without leaving the range, one of them adds
-one_grows : (a : Automaton) (r : ℕ) (rule : Rule) → slice_get a.rules r ≡ Some rule → (k : ℕ) (values : List ℤ) (times : ℕ) (now : counter.Config) → times < k → IsOf a now → Repeated a r values times now.values.items → AllGrow a rule (pos k) values → AllGrow a rule (pos 1) now.values.items
+one_grows : (a : Automaton) (r : ℕ) (rule : Rule) → slice_get a.rules r ≡ Some rule → (k : ℕ) (values : List ℤ) (times : ℕ) (now : counter.Config) → times < k → IsOf a now → RepeatsRule a r values times now.values.items → AllGrow a rule (pos k) values → AllGrow a rule (pos 1) now.values.items
 one_grows a r rule named k values times now less is repeated grow j u at =
     let w = rule_within a r rule named in
     let update = each_at (Update (length a.shared)) rule.updates j u w.updates at in
@@ -140,8 +120,8 @@ one_grows a r rule named k values times now less is repeated grow j u at =
     let next : (pos (suc times) *ℤ u.1) ≡ ((pos times *ℤ u.1) +ℤ u.1) = (let e : pos (suc times) ≡ (pos times +ℤ pos 1) = omega (arith, ints) in ap (λ z. z *ℤ u.1) e ∙ distributes_right (pos times) (pos 1) u.1 ∙ ap (λ z. (pos times *ℤ u.1) +ℤ z) (one_times u.1)) in
     let so_far = mul-ge-zero (pos times) u.1 (omega (arith, ints)) (omega (arith, ints, update.least)) in
     record {
-      product = range_less (pos 1 *ℤ u.1) (pos k *ℤ u.1) (omega (arith, ints, one_times u.1, update.least)) (omega (arith, ints, one_times u.1, more, most, next, so_far)) g.product;
-      sum = range_less (point_of now.values.items place +ℤ (pos 1 *ℤ u.1)) (point_of values place +ℤ (pos k *ℤ u.1)) (omega (arith, ints, one_times u.1, natural, update.least)) (omega (arith, ints, one_times u.1, here, more, most, next)) g.sum;
+      product = range_below (pos 1 *ℤ u.1) (pos k *ℤ u.1) (omega (arith, ints, one_times u.1, update.least)) (omega (arith, ints, one_times u.1, more, most, next, so_far)) g.product;
+      sum = range_below (point_of now.values.items place +ℤ (pos 1 *ℤ u.1)) (point_of values place +ℤ (pos k *ℤ u.1)) (omega (arith, ints, one_times u.1, natural, update.least)) (omega (arith, ints, one_times u.1, here, more, most, next)) g.sum;
     }
 
 -- before the last of one firing nothing has changed
@@ -169,7 +149,7 @@ step_passes a r now is s grow stay (OutOfRange place) rule named h = elim h.1 [
 -- the unit steps of a line pass their checks one after another, where all guards stay in range
 pub may_repeat : (a : Automaton) (p : Pattern) (run : Run) → FitsPattern a p run → ShowsPattern a p run → NumbersStay a p run → (i r : ℕ) (k : ℤ) → slice_get run.lines i ≡ Some (line.Step r k) → (values : List ℤ) → ValuesAfter a run (take i run.lines) values → MayRepeat a r (unsigned_abs k) values
 may_repeat a p run fits s stays i r k at values reached times now less is repeated stay =
-    let natural : pos (unsigned_abs k) ≡ k = natural_pos k (let f = each_at (LineFits a p) run.lines i (line.Step r k) fits.lines at in omega (arith, ints, f.1)) in
+    let natural : pos (unsigned_abs k) ≡ k = abs_natural k (let f = each_at (LineFits a p) run.lines i (line.Step r k) fits.lines at in omega (arith, ints, f.1)) in
     step_passes a r now is (unit_of_line a p run fits s i r k at values reached times now less is repeated)
     (λ rule named.
     let grow = (stays.lines i (line.Step r k) values at reached rule named).grow in

@@ -11,11 +11,11 @@ use Rattle.ta_pattern.specs.Empty.{KeepsEmpty}
 use Rattle.ta_replay.specs.declared.run.Run.{Run}
 use Rattle.ta_replay.specs.declared.run.RunLine.{RunLine}
 use Rattle.ta_replay.specs.declared.run.RunLine.TheVariants.{Step, Mark}
-use Rattle.ta_replay.specs.Shows.{unit_steps, steps_before, marks_count, MarksAt, BeginsWith, ShowsPattern}
+use Rattle.ta_replay.specs.Shows.{unit_steps, steps_before, marks_count, MarksAt, IsFirstConfig, ShowsPattern}
 use Rattle.ta_automaton.proofs.Trails.{run_length}
-use Rattle.ta_compress.specs.Tales.{Leads, Tells}
+use Rattle.ta_compress.specs.Tales.{StepsLead, LinesTell}
 use Rattle.ta_replay.proofs.Paths.{steps-append, at_further, at_either}
-use Rattle.ta_compress.proofs.Leading.{steps_same}
+use Rattle.ta_compress.proofs.Leading.{steps_same, only_one}
 
 -- how many marks stand before line i
 abbrev pub marks_before : List RunLine → ℕ → ℕ
@@ -42,21 +42,17 @@ pub record Path (a : Automaton) (p : Pattern) (c : Config) (lines : List RunLine
   pub told : (i e : ℕ) → MarksAt lines i e → ToldAt lines c later tale i e
   pub line : (j e : ℕ) (d : Config) → slice_get tale j ≡ Some (e, d) → LineOf lines c later j e d
 
-only_here : (p : Pattern) (c : Config) → KeepsEmpty p.empty c → (k : ℕ) (e : Config) → At c [] k e → KeepsEmpty p.empty e
-only_here p c kept zero e at = subst (KeepsEmpty p.empty) (same_Some c e at) kept
-only_here p c kept (suc k) e at = absurd (cc)
-
 path_none : (a : Automaton) (p : Pattern) (c : Config) (tale : List (ℕ × Config)) → KeepsEmpty p.empty c → tale ≡ [] → Path a p c [] tale
 path_none a p c tale kept none = record {
   later = [];
   steps = tt;
-  kept = only_here p c kept;
+  kept = only_one p c kept;
   told = λ i e at. absurd (cc);
   line = λ j e d at. (let nothing = subst (λ (xs : List (ℕ × Config)). slice_get xs j ≡ Some (e, d)) none at in absurd (cc));
 }
 
 -- the place of a moment behind some steps
-further : (a : Automaton) (p : Pattern) (c : Config) (r : ℕ) (k : ℤ) (d : Config) (l : Leads a p c (replicate (unsigned_abs k) r) d) (lines : List RunLine) (more : List Config) (i : ℕ) (e : Config) → At d more (steps_before lines i) e → At c (l.later ++ more) (steps_before (Step r k ∷ lines) (suc i)) e
+further : (a : Automaton) (p : Pattern) (c : Config) (r : ℕ) (k : ℤ) (d : Config) (l : StepsLead a p c (replicate (unsigned_abs k) r) d) (lines : List RunLine) (more : List Config) (i : ℕ) (e : Config) → At d more (steps_before lines i) e → At c (l.later ++ more) (steps_before (Step r k ∷ lines) (suc i)) e
 further a p c r k d l lines more i e at =
     let n = unsigned_abs k in
     let count = run_length a c (replicate n r) l.later l.steps in
@@ -65,7 +61,7 @@ further a p c r k d l lines more i e at =
     let place : length l.later + steps_before lines i ≡ steps_before (Step r k ∷ lines) (suc i) = omega (arith, count, long, length-append (replicate n r) (unit_steps (take i lines))) in
     subst (λ m. At c (l.later ++ more) m e) place (at_further c l.later d more (steps_before lines i) e ends at)
 
-path_step : (a : Automaton) (p : Pattern) (c : Config) (r : ℕ) (k : ℤ) (d : Config) (lines : List RunLine) (tale : List (ℕ × Config)) → Leads a p c (replicate (unsigned_abs k) r) d → Path a p d lines tale → Path a p c (Step r k ∷ lines) tale
+path_step : (a : Automaton) (p : Pattern) (c : Config) (r : ℕ) (k : ℤ) (d : Config) (lines : List RunLine) (tale : List (ℕ × Config)) → StepsLead a p c (replicate (unsigned_abs k) r) d → Path a p d lines tale → Path a p c (Step r k ∷ lines) tale
 path_step a p c r k d lines tale l rest =
     let n = unsigned_abs k in
     let count = run_length a c (replicate n r) l.later l.steps in
@@ -77,7 +73,7 @@ path_step a p c r k d lines tale l rest =
       told = told_behind a p c r k d l lines rest.later tale rest.told;
       line = λ j e x at. (let o = rest.line j e x at in record { line = suc o.line; marked = o.marked; place = o.place; there = further a p c r k d l lines rest.later o.line x o.there });
     } where
-      told_behind : (a : Automaton) (p : Pattern) (c : Config) (r : ℕ) (k : ℤ) (d : Config) (l : Leads a p c (replicate (unsigned_abs k) r) d) (lines : List RunLine) (more : List Config) (tale : List (ℕ × Config)) → ((i e : ℕ) → MarksAt lines i e → ToldAt lines d more tale i e) → (i e : ℕ) → MarksAt (Step r k ∷ lines) i e → ToldAt (Step r k ∷ lines) c (l.later ++ more) tale i e
+      told_behind : (a : Automaton) (p : Pattern) (c : Config) (r : ℕ) (k : ℤ) (d : Config) (l : StepsLead a p c (replicate (unsigned_abs k) r) d) (lines : List RunLine) (more : List Config) (tale : List (ℕ × Config)) → ((i e : ℕ) → MarksAt lines i e → ToldAt lines d more tale i e) → (i e : ℕ) → MarksAt (Step r k ∷ lines) i e → ToldAt (Step r k ∷ lines) c (l.later ++ more) tale i e
       told_behind a p c r k d l lines more tale told zero e at = absurd (cc)
       told_behind a p c r k d l lines more tale told (suc i) e at =
           let o = told i e at in
@@ -111,7 +107,7 @@ path_mark a p c x lines tale rest = record {
   line = line_from x c lines rest.later tale rest.line;
 }
 
-pub path : (a : Automaton) (p : Pattern) (c : Config) (lines : List RunLine) (tale : List (ℕ × Config)) → KeepsEmpty p.empty c → Tells a p c lines tale → Path a p c lines tale
+pub path : (a : Automaton) (p : Pattern) (c : Config) (lines : List RunLine) (tale : List (ℕ × Config)) → KeepsEmpty p.empty c → LinesTell a p c lines tale → Path a p c lines tale
 path a p c [] tale kept t = path_none a p c tale kept t
 path a p c (Step r k ∷ lines) tale kept t =
     path_step a p c r k t.0 lines tale t.1 (path a p t.0 lines tale (t.1.kept (length (replicate (unsigned_abs k) r)) t.0 t.1.ends) t.2)
@@ -144,7 +140,7 @@ same_mark lines i j e f at there same = elim (cases_lt i j) [
 ]
 
 -- a run that tells the same from the same configuration on shows the same
-pub shows_same : (a : Automaton) (p : Pattern) (run other : Run) (s : ShowsPattern a p run) → Whole a s.first → BeginsWith a other s.first → (tale : List (ℕ × Config)) → Tells a p s.first run.lines tale → Tells a p s.first other.lines tale → ShowsPattern a p other
+pub shows_same : (a : Automaton) (p : Pattern) (run other : Run) (s : ShowsPattern a p run) → Whole a s.first → IsFirstConfig a other s.first → (tale : List (ℕ × Config)) → LinesTell a p s.first run.lines tale → LinesTell a p s.first other.lines tale → ShowsPattern a p other
 shows_same a p run other s whole begins tale t u =
     let kept = s.kept_empty 0 s.first refl in
     let old = path a p s.first run.lines tale kept t in

@@ -4,32 +4,31 @@ use mathlib.Core.Path.{fun_ext}
 use Rattle.std.proofs.lemmas.Int.{ints}
 use Rattle.std.proofs.lemmas.Bool.{cases_lt}
 use Rattle.std.proofs.lemmas.Option.{same_Some}
+use Rattle.ta_base.proofs.Each.{each_at, each_take}
 use Rattle.ta_linear.specs.Values.{point_of}
 use Rattle.ta_automaton.specs.declared.file.File.{File}
 use Rattle.ta_automaton.specs.declared.pattern.Pattern.{Pattern}
 use Rattle.ta_automaton.specs.Sums.{total}
 use Rattle.ta_automaton.proofs.Sums.{total-append}
-use Rattle.ta_automaton.proofs.Thresholds.{each_at}
 use Rattle.ta_counter.specs.Holding.{GuardsStay}
 use Rattle.ta_counter.specs.Starts.{StartsAt}
-use Rattle.ta_counter.proofs.Models.{each_take}
 use Rattle.ta_replay.specs.declared.fault.RunFault.TheVariants as runs
 use Rattle.ta_replay.specs.declared.fault.RunFault.{RunFault}
 use Rattle.ta_replay.specs.declared.run.Run.{Run}
 use Rattle.ta_replay.specs.declared.run.RunLine.{RunLine}
 use Rattle.ta_replay.specs.declared.run.RunLine.TheVariants.{Step, Mark}
 use Rattle.ta_replay.specs.Fits.{Fits, LineFits}
-use Rattle.ta_replay.specs.ReplayFaults.{line_number}
+use Rattle.ta_replay.specs.ReplayFaults.{run_line_number}
 use Rattle.ta_replay.specs.Replays.{ValuesAfter, line_change}
 use Rattle.ta_replay.specs.Shows.{ShowsPattern, factor_of, factors_sum}
 use Rattle.ta_replay.specs.Inside.Following.{FitsPattern}
 use Rattle.ta_compress.specs.declared.draft.Draft.{Draft}
 use Rattle.ta_compress.specs.declared.fault.CompressFault.{CompressFault}
 use Rattle.ta_compress.specs.declared.fault.CompressFault.TheVariants.{Replay, TooManySteps, Memory}
-use Rattle.ta_compress.specs.Faults.{Admitted, CompressFaultOf, GuardsStayed, LeavesIn}
-use Rattle.ta_compress.specs.Pieces.{Cut, CutOf, units}
+use Rattle.ta_compress.specs.Faults.{IsSmallReplay, CompressFaultOf, GuardsStayed, GuardsOutOfRangeIn}
+use Rattle.ta_compress.specs.Pieces.{AreCut, CutOf, units}
 use Rattle.ta_compress.specs.Units.{EndsAtLastMark, unfolded, value_after}
-use Rattle.ta_compress.specs.Inside.Drafts.{Begun, DraftAt, LineKeeps, LineMay, LineStops, RepeatStops, Room, repeated}
+use Rattle.ta_compress.specs.Inside.Drafts.{DraftAt, LineKeeps, LineMay, DraftStops, RepeatStops, Room, repeated}
 use Rattle.ta_compress.proofs.Repeating.{may_repeat}
 use Rattle.ta_compress.proofs.Unfolding.{unfold-next, unfold-value, factors_at, factors_behind, nothing_open}
 
@@ -49,18 +48,8 @@ pub record Going (file : File) (run : Run) (number : ℕ) (draft : Draft) : Type
   pub starts : StartsAt file.automaton run.parameters run.counts first
   pub at_start : GuardsStay file.automaton (point_of first)
   pub at : DraftAt file.automaton first (unfolded (take number run.lines)) draft
-  pub kept : (i : ℕ) → i < number → LeavesIn file.automaton first run.lines i → ⊥
+  pub kept : (i : ℕ) → i < number → GuardsOutOfRangeIn file.automaton first run.lines i → ⊥
   pub room : Room (factors_sum (drop number run.lines)) draft.counts.items
-
-pub going_first : (file : File) (run : Run) (draft : Draft) → Admitted file run → Begun file.automaton run draft → Going file run 0 draft
-going_first file run draft admitted begun = record {
-  first = draft.config.values.items;
-  starts = begun.starts;
-  at_start = begun.stay;
-  at = begun.at;
-  kept = λ i b l. absurd (omega arith);
-  room = λ r. (let few = admitted.few in omega (arith, ints, begun.room r));
-}
 
 -- the values behind some lines
 reached_values : (file : File) (run : Run) (number : ℕ) (draft : Draft) → Fits file run → (g : Going file run number draft) → (place : ℕ) → point_of draft.config.values.items place ≡ value_after file.automaton g.first (take number run.lines) place
@@ -76,7 +65,7 @@ values_there file run number draft fits g = record {
 }
 
 -- the next line may be followed
-pub may_follow : (file : File) (run : Run) (number : ℕ) (draft : Draft) (line : RunLine) → Fits file run → Admitted file run → Going file run number draft → slice_get run.lines number ≡ Some line → LineMay file.automaton draft line
+pub may_follow : (file : File) (run : Run) (number : ℕ) (draft : Draft) (line : RunLine) → Fits file run → IsSmallReplay file run → Going file run number draft → slice_get run.lines number ≡ Some line → LineMay file.automaton draft line
 may_follow file run number draft (Mark e) fits admitted g at = tt
 may_follow file run number draft (Step r k) fits admitted g at =
     let a = file.automaton in
@@ -101,7 +90,7 @@ unfolding total
 step_value file run number draft fits g r times place =
     omega (arith, ints, reached_values file run number draft fits g place, total-append (line_change file.automaton place) (take number run.lines) (Step r (pos times) ∷ []))
 
-kept_there : (file : File) (run : Run) (number : ℕ) (draft : Draft) (line : RunLine) → Fits file run → (g : Going file run number draft) → slice_get run.lines number ≡ Some line → LineKeeps file.automaton draft.config.values.items line → LeavesIn file.automaton g.first run.lines number → ⊥
+kept_there : (file : File) (run : Run) (number : ℕ) (draft : Draft) (line : RunLine) → Fits file run → (g : Going file run number draft) → slice_get run.lines number ≡ Some line → LineKeeps file.automaton draft.config.values.items line → GuardsOutOfRangeIn file.automaton g.first run.lines number → ⊥
 kept_there file run number draft (Mark e) fits g at keeps l =
     let same = same_Some (Mark e) (Step l.rule l.factor) (sym at ∙ l.at) in
     absurd (cc)
@@ -122,13 +111,13 @@ going_next file run number old new line fits g at goes keeps room = record {
   at = subst (λ (ls : List RunLine). DraftAt file.automaton g.first ls new) (sym (unfold-next run.lines number line at)) (goes g.first (unfolded (take number run.lines)) g.at);
   kept = λ i b l. elim (cases_lt i number) [
     | inl less ↦ g.kept i less l
-    | inr more ↦ (let same : i ≡ number = omega arith in kept_there file run number old line fits g at keeps (subst (λ n. LeavesIn file.automaton g.first run.lines n) same l))
+    | inr more ↦ (let same : i ≡ number = omega arith in kept_there file run number old line fits g at keeps (subst (λ n. GuardsOutOfRangeIn file.automaton g.first run.lines n) same l))
   ];
   room = room (factors_sum (drop (number + 1) run.lines)) (subst (λ n. Room n old.counts.items) (factors_at run.lines number line at) g.room);
 }
 
 -- a line that stops
-pub going_stops : (file : File) (run : Run) (number n : ℕ) (draft : Draft) (line : RunLine) (place : ℕ) (fault : CompressFault) → Fits file run → Admitted file run → Going file run number draft → EndsAtLastMark run.lines n → number < n → slice_get run.lines number ≡ Some line → place ≡ line_number file.automaton number → LineStops file.automaton draft.config.values.items line place fault → CompressFaultOf file run fault
+pub going_stops : (file : File) (run : Run) (number n : ℕ) (draft : Draft) (line : RunLine) (place : ℕ) (fault : CompressFault) → Fits file run → IsSmallReplay file run → Going file run number draft → EndsAtLastMark run.lines n → number < n → slice_get run.lines number ≡ Some line → place ≡ run_line_number file.automaton number → DraftStops file.automaton draft.config.values.items line place fault → CompressFaultOf file run fault
 going_stops file run number n draft (Mark e) place fault fits admitted g last b at is stops = subst (CompressFaultOf file run) (sym stops) tt
 going_stops file run number n draft (Step r k) place (TooManySteps steps) fits admitted g last b at is stops = absurd stops
 going_stops file run number n draft (Step r k) place Memory fits admitted g last b at is stops = tt
@@ -187,7 +176,7 @@ gone file run n draft last g =
       n = n;
       last_mark = last;
       pieces = d.pieces;
-      cut = subst (λ (ls : List RunLine). Cut file.automaton g.first [] ls d.pieces draft.lines.items) (sym whole) d.cut;
+      cut = subst (λ (ls : List RunLine). AreCut file.automaton g.first [] ls d.pieces draft.lines.items) (sym whole) d.cut;
     }
 
 pub gone_stayed : (file : File) (run : Run) (n : ℕ) (draft : Draft) → EndsAtLastMark run.lines n → Going file run n draft → GuardsStayed file.automaton run

@@ -1,24 +1,22 @@
 -- guards within a piece
-use Rattle.std.proofs.Common.{◌≡◌, ◌⊎◌, inl, inr, ℕ, ℤ, pos, negsuc, ◌+ℤ◌, ◌≤ℤ◌, List, [], ◌∷◌, ◌++◌, arith, sym, ap, ◌∙◌, refl, subst, slice_get, Some, append-nil, append_assoc}
+use Rattle.std.proofs.Common.{◌≡◌, ◌⊎◌, inl, inr, ℕ, ℤ, ◌+ℤ◌, List, [], ◌∷◌, ◌++◌, arith, sym, ap, ◌∙◌, refl, subst, slice_get, Some, append-nil, append_assoc}
 use Rattle.std.proofs.lemmas.Int.{ints}
+use Rattle.ta_base.proofs.Integers.{natural_or_not, one_times}
+use Rattle.ta_base.proofs.Lists.{split_last}
 use Rattle.ta_linear.specs.Values.{value_of, RowHolds}
 use Rattle.ta_linear.specs.declared.row.Row.{Row}
 use Rattle.ta_automaton.specs.declared.automaton.Automaton.{Automaton}
 use Rattle.ta_automaton.specs.Places.{rule_change}
 use Rattle.ta_automaton.specs.Sums.{total}
 use Rattle.ta_automaton.proofs.Onward.{change_of}
-use Rattle.ta_automaton.proofs.Sums.{total-append, one_times}
+use Rattle.ta_automaton.proofs.Sums.{total-append}
 use Rattle.ta_replay.specs.declared.run.RunLine.{RunLine}
 use Rattle.ta_replay.specs.Replays.{line_change}
 use Rattle.ta_compress.specs.Units.{unit, value_after, SomeDiffers, Drops}
-use Rattle.ta_compress.specs.Pieces.{Piece, units, Still, DropsAt, IsPiece}
-
-sign : (z : ℤ) → (pos 0 ≤ℤ z) ⊎ (pos 0 ≤ℤ z → ⊥)
-sign (pos n) = inl (omega (arith, ints))
-sign (negsuc n) = inr (λ h. absurd (omega (arith, ints)))
+use Rattle.ta_compress.specs.Pieces.{CutPiece, units, Still, DropsAt, IsPiece}
 
 pub holds_or : (f : ℕ → ℤ) (row : Row) → RowHolds f row ⊎ (RowHolds f row → ⊥)
-holds_or f row = sign (value_of f row.form)
+holds_or f row = natural_or_not (value_of f row.form)
 
 -- where no row differs, each holds at both points or at neither
 pub holds_on : (rows : List Row) (f g : ℕ → ℤ) → (SomeDiffers rows f g → ⊥) → (i : ℕ) (row : Row) → slice_get rows i ≡ Some row → RowHolds f row → RowHolds g row
@@ -110,20 +108,6 @@ still_steady a first done body still = record {
   fall = λ front r behind is j row at h. fall_on a first done body front (r ∷ behind) still is j row at h;
 }
 
--- where an item stands in a list with one more item
-pub split_last : (xs : List ℕ) (x : ℕ) (front : List ℕ) (r : ℕ) (behind : List ℕ) → xs ++ x ∷ [] ≡ front ++ r ∷ behind → (front ≡ xs) ⊎ ((rest : List ℕ) × (xs ≡ front ++ r ∷ rest))
-split_last [] x [] r behind e = inl refl
-split_last [] x (f ∷ []) r behind e = absurd (cc)
-split_last [] x (f ∷ g ∷ fs) r behind e = absurd (cc)
-split_last (y ∷ ys) x [] r behind e = inr (ys, let same : y ≡ r = cc in ap (λ z. z ∷ ys) same)
-split_last (y ∷ ys) x (f ∷ fs) r behind e =
-    let same : y ≡ f = cc in
-    let tail : ys ++ x ∷ [] ≡ fs ++ r ∷ behind = cc in
-    elim (split_last ys x fs r behind tail) [
-      | inl whole ↦ inl (ap (λ (zs : List ℕ). f ∷ zs) whole ∙ ap (λ z. z ∷ ys) (sym same))
-      | inr w ↦ inr (w.0, ap (λ z. z ∷ ys) same ∙ ap (λ (zs : List ℕ). f ∷ zs) w.1)
-    ]
-
 drops_none : (a : Automaton) (f g : ℕ → ℤ) → (Drops a f g → ⊥) → (j : ℕ) (row : Row) → slice_get a.fall j ≡ Some row → RowHolds f row → RowHolds g row
 drops_none a f g none j row at h = elim (holds_or g row) [
   | inl holds ↦ holds
@@ -145,7 +129,7 @@ risen_steady a first done body front rule whole still none = record {
       subst (λ (d : List RunLine). RowHolds (value_after a first d) row) (sym (ap (λ (xs : List ℕ). done ++ units xs) whole ∙ done_append done front (rule ∷ []))) end;
 }
 
-pub piece_steady : (a : Automaton) (first : List ℤ) (done : List RunLine) (piece : Piece) → IsPiece a first done piece → Steady a first done piece.body
+pub piece_steady : (a : Automaton) (first : List ℤ) (done : List RunLine) (piece : CutPiece) → IsPiece a first done piece → Steady a first done piece.body
 piece_steady a first done piece (inl m) = still_steady a first done piece.body m.still
 piece_steady a first done piece (inr (inl f)) = still_steady a first done piece.body f.still
 piece_steady a first done piece (inr (inr r)) = risen_steady a first done piece.body r.front r.rule r.body r.still r.drops_none

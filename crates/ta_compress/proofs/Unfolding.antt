@@ -3,20 +3,20 @@ use Rattle.std.proofs.Common.{◌≡◌, inl, inr, ℕ, zero, suc, ◌+◌, ◌�
 use Rattle.std.proofs.lemmas.List.{length-replicate}
 use Rattle.std.proofs.lemmas.Int.{ints}
 use Rattle.std.proofs.Math.IntN.{zero-*ℤ}
-use Rattle.ta_linear.proofs.Integers.{distributes_right}
+use Rattle.std.specs.List.{AllByRecursion}
+use Rattle.ta_base.proofs.Each.{each_append, each_copies}
+use Rattle.ta_base.proofs.Integers.{abs_natural, distributes_right, one_times}
+use Rattle.ta_base.proofs.Lists.{take_next}
 use Rattle.ta_automaton.specs.declared.automaton.Automaton.{Automaton}
 use Rattle.ta_automaton.specs.declared.pattern.Pattern.{Pattern}
-use Rattle.ta_automaton.specs.Lists.{Each}
 use Rattle.ta_automaton.specs.Places.{rule_change}
 use Rattle.ta_automaton.specs.Sums.{total}
-use Rattle.ta_automaton.proofs.Sums.{total-append, one_times}
-use Rattle.ta_counter.proofs.Models.{natural_pos}
+use Rattle.ta_automaton.proofs.Sums.{total-append}
 use Rattle.ta_replay.specs.declared.run.RunLine.{RunLine}
 use Rattle.ta_replay.specs.declared.run.RunLine.TheVariants.{Step, Mark}
 use Rattle.ta_replay.specs.Fits.{LineFits}
 use Rattle.ta_replay.specs.Replays.{line_change}
 use Rattle.ta_replay.specs.Shows.{factor_of, factors_sum, marks_count}
-use Rattle.ta_replay.proofs.Lines.{take_next}
 use Rattle.ta_linear.specs.Numbers.{InRange}
 use Rattle.ta_compress.specs.Units.{unit, unfolded, value_after, EndsAtLastMark}
 use Rattle.ta_compress.specs.Pieces.{units}
@@ -38,31 +38,22 @@ total-copies a i (suc k) r =
     omega (arith, ints, total-copies a i k r, ap (λ z. z *ℤ c) e, distributes_right (pos 1) (pos k) c, one_times c)
 
 -- unfolding changes no value
-pub unfold-total : (a : Automaton) (p : Pattern) (i : ℕ) (lines : List RunLine) → Each (LineFits a p) lines → total (line_change a i) (unfolded lines) ≡ total (line_change a i) lines
+pub unfold-total : (a : Automaton) (p : Pattern) (i : ℕ) (lines : List RunLine) → AllByRecursion (LineFits a p) lines → total (line_change a i) (unfolded lines) ≡ total (line_change a i) lines
 unfolding total
 unfold-total a p i [] fits = refl
 unfold-total a p i (Step r k ∷ lines) fits =
     let some = fits.0.1 in
-    let natural : pos (unsigned_abs k) ≡ k = natural_pos k (omega (arith, ints)) in
+    let natural : pos (unsigned_abs k) ≡ k = abs_natural k (omega (arith, ints)) in
     omega (arith, ints, total-append (line_change a i) (replicate (unsigned_abs k) (unit r)) (unfolded lines), total-copies a i (unsigned_abs k) r, ap (λ z. z *ℤ rule_change a (slice_get a.rules r) i) natural, unfold-total a p i lines fits.1)
 unfold-total a p i (Mark e ∷ lines) fits = omega (arith, ints, unfold-total a p i lines fits.1)
 
-pub unfold-value : (a : Automaton) (p : Pattern) (first : List ℤ) (lines : List RunLine) → Each (LineFits a p) lines → (i : ℕ) → value_after a first (unfolded lines) i ≡ value_after a first lines i
+pub unfold-value : (a : Automaton) (p : Pattern) (first : List ℤ) (lines : List RunLine) → AllByRecursion (LineFits a p) lines → (i : ℕ) → value_after a first (unfolded lines) i ≡ value_after a first lines i
 unfold-value a p first lines fits i = omega (arith, ints, unfold-total a p i lines fits)
-
--- the unfolded lines fit
-each_append : {X : Type 0} (P : X → Type 0) (xs ys : List X) → Each P xs → Each P ys → Each P (xs ++ ys)
-each_append P [] ys h g = g
-each_append P (x ∷ xs) ys h g = (h.0, each_append P xs ys h.1 g)
-
-each_copies : {X : Type 0} (P : X → Type 0) (k : ℕ) (x : X) → P x → Each P (replicate k x)
-each_copies P zero x h = tt
-each_copies P (suc k) x h = (h, each_copies P k x h)
 
 one_fits : InRange (pos 1)
 one_fits = omega (arith, ints)
 
-pub unfold_fits : (a : Automaton) (p : Pattern) (lines : List RunLine) → Each (LineFits a p) lines → Each (LineFits a p) (unfolded lines)
+pub unfold_fits : (a : Automaton) (p : Pattern) (lines : List RunLine) → AllByRecursion (LineFits a p) lines → AllByRecursion (LineFits a p) (unfolded lines)
 unfold_fits a p [] fits = tt
 unfold_fits a p (Step r k ∷ lines) fits =
     each_append (LineFits a p) (replicate (unsigned_abs k) (unit r)) (unfolded lines) (each_copies (LineFits a p) (unsigned_abs k) (unit r) (fits.0.0, omega (arith, ints), one_fits)) (unfold_fits a p lines fits.1)

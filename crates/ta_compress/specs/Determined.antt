@@ -8,6 +8,6 @@ use Rattle.ta_compress.specs.declared.fault.CompressFault.TheVariants.{Memory}
 use Rattle.ta_compress.specs.Faults.{Compressible, CompressFaultOf}
 
 -- a run that fits is refused in one way at most, want of memory aside, and in none where it can be compressed
-pub record RefusalsAreDetermined : Type 0 where
+pub record CompressFaultsAreDetermined : Type 0 where
   pub one : (file : File) (run : Run) (e f : CompressFault) → e ≢ Memory → f ≢ Memory → Fits file run → CompressFaultOf file run e → CompressFaultOf file run f → e ≡ f
   pub none : (file : File) (run : Run) (e : CompressFault) → e ≢ Memory → Fits file run → Compressible file run → ¬ CompressFaultOf file run e

@@ -11,8 +11,8 @@ use Rattle.ta_replay.specs.declared.fault.RunFault.TheVariants as runs
 use Rattle.ta_replay.specs.declared.run.Run.{Run}
 use Rattle.ta_replay.specs.declared.run.RunLine.{RunLine}
 use Rattle.ta_replay.specs.declared.run.RunLine.TheVariants.{Step}
-use Rattle.ta_replay.specs.Pieces.{IsShort}
-use Rattle.ta_replay.specs.ReplayFaults.{ReplayFault, line_number}
+use Rattle.ta_replay.specs.Pieces.{HasFewSteps}
+use Rattle.ta_replay.specs.ReplayFaults.{ReplayFault, run_line_number}
 use Rattle.ta_replay.specs.Replays.{ReplayStays}
 use Rattle.ta_replay.specs.Shows.{Shows, factors_sum}
 use Rattle.ta_compress.specs.declared.fault.CompressFault.{CompressFault}
@@ -20,17 +20,17 @@ use Rattle.ta_compress.specs.declared.fault.CompressFault.TheVariants.{Replay, T
 use Rattle.ta_compress.specs.Units.{value_after, EndsAtLastMark}
 
 -- the run shows its pattern, and no number of its replay leaves the range
-pub record Replayed (file : File) (run : Run) : Type 0 where
+pub record ReplaysInRange (file : File) (run : Run) : Type 0 where
   pub shows : Shows file run
   pub stays : ReplayStays file run
 
 -- the run is replayed, and its factors add up to at most 1,000,000
-pub record Admitted (file : File) (run : Run) : Type 0 where
-  pub replayed : Replayed file run
+pub record IsSmallReplay (file : File) (run : Run) : Type 0 where
+  pub replayed : ReplaysInRange file run
   pub few : factors_sum run.lines ≤ 1000000
 
 -- after some unit steps of line i a guard of the file leaves the range
-pub record LeavesIn (a : Automaton) (first : List ℤ) (lines : List RunLine) (i : ℕ) : Type 0 where
+pub record GuardsOutOfRangeIn (a : Automaton) (first : List ℤ) (lines : List RunLine) (i : ℕ) : Type 0 where
   pub rule : ℕ
   pub factor : ℤ
   pub at : slice_get lines i ≡ Some (Step rule factor)
@@ -46,32 +46,32 @@ pub record GuardsStayed (a : Automaton) (run : Run) : Type 0 where
   pub n : ℕ
   pub last_mark : EndsAtLastMark run.lines n
   pub at_start : GuardsStay a (point_of first)
-  pub on_the_way : (i : ℕ) → i < n → ¬ LeavesIn a first run.lines i
+  pub on_the_way : (i : ℕ) → i < n → ¬ GuardsOutOfRangeIn a first run.lines i
 
 -- a guard leaves the range in the first configuration
-pub record LeavesAtStart (a : Automaton) (run : Run) : Type 0 where
+pub record GuardsOutOfRangeAtStart (a : Automaton) (run : Run) : Type 0 where
   pub first : List ℤ
   pub starts : StartsAt a run.parameters run.counts first
   pub leaves : ¬ GuardsStay a (point_of first)
 
 -- line i is the first one with a unit step, before the last mark, after which a guard leaves the range
-pub record LeavesFirstIn (a : Automaton) (run : Run) (i : ℕ) : Type 0 where
+pub record GuardsOutOfRangeFirstIn (a : Automaton) (run : Run) (i : ℕ) : Type 0 where
   pub first : List ℤ
   pub starts : StartsAt a run.parameters run.counts first
   pub n : ℕ
   pub last_mark : EndsAtLastMark run.lines n
   pub at_start : GuardsStay a (point_of first)
   pub within : i < n
-  pub leaves : LeavesIn a first run.lines i
-  pub before : (j : ℕ) → j < i → ¬ LeavesIn a first run.lines j
+  pub leaves : GuardsOutOfRangeIn a first run.lines i
+  pub before : (j : ℕ) → j < i → ¬ GuardsOutOfRangeIn a first run.lines j
 
 -- the line at which a guard leaves the range first
-abbrev pub GuardsLeaveAt : Automaton → Run → ℕ → Type 0
-GuardsLeaveAt a run line = ((line ≡ 1) × LeavesAtStart a run) ⊎ ((i : ℕ) × (line ≡ line_number a i) × LeavesFirstIn a run i)
+abbrev pub GuardsOutOfRangeAt : Automaton → Run → ℕ → Type 0
+GuardsOutOfRangeAt a run line = ((line ≡ 1) × GuardsOutOfRangeAtStart a run) ⊎ ((i : ℕ) × (line ≡ run_line_number a i) × GuardsOutOfRangeFirstIn a run i)
 
 -- the run is replayed, its factors add up to at most 1,000,000, and no guard of the file leaves the range on its way
 pub record Compressible (file : File) (run : Run) : Type 0 where
-  pub replayed : Replayed file run
+  pub replayed : ReplaysInRange file run
   pub few : factors_sum run.lines ≤ 1000000
   pub guards : GuardsStayed file.automaton run
 
@@ -79,19 +79,19 @@ pub record Compressible (file : File) (run : Run) : Type 0 where
 pub record ReplayRefuses (file : File) (run : Run) (fault : RunFault) : Type 0 where
   pub first : ReplayFault file run fault
   pub no_memory : fault ≢ runs.Memory
-  pub not_replayed : ¬ Replayed file run
+  pub not_replayed : ¬ ReplaysInRange file run
 
 -- the run is replayed and has few steps, but a guard of the file leaves the range
 pub record GuardsRefuse (file : File) (run : Run) (fault : RunFault) : Type 0 where
-  pub replayed : Replayed file run
+  pub replayed : ReplaysInRange file run
   pub few : factors_sum run.lines ≤ 1000000
   pub line : ℕ
   pub is : fault ≡ runs.Overflow line
-  pub leaves : GuardsLeaveAt file.automaton run line
+  pub leaves : GuardsOutOfRangeAt file.automaton run line
 
 -- the run is replayed, but its factors add up to more than 1,000,000: the sum, or 2^127 - 1 where it is larger
 pub record StepsRefuse (file : File) (run : Run) (steps : ℤ) : Type 0 where
-  pub replayed : Replayed file run
+  pub replayed : ReplaysInRange file run
   pub many : 1000000 < factors_sum run.lines
   pub sum : steps ≡ pos (min (factors_sum run.lines) (2 ^ 127 - 1))
 
@@ -109,4 +109,4 @@ StepsStop lines Memory = ⊥
 
 -- at most (guards + events) · (rules + 1) steps; guards are the distinct rise and fall guards of the file
 abbrev pub IsShortRun : File → Run → Type 0
-IsShortRun file run = (p : Pattern) → slice_get file.patterns run.pattern ≡ Some p → IsShort file.automaton p run.lines
+IsShortRun file run = (p : Pattern) → slice_get file.patterns run.pattern ≡ Some p → HasFewSteps file.automaton p run.lines

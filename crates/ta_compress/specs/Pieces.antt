@@ -2,7 +2,7 @@
 use Rattle.std.specs.Prelude.{ℕ, ℤ, pos, ◌≡◌, ◌⊎◌, List, [], ◌∷◌, ◌++◌, length, map, take}
 use Rattle.ta_automaton.specs.declared.automaton.Automaton.{Automaton}
 use Rattle.ta_automaton.specs.declared.file.File.{File}
-use Rattle.ta_automaton.specs.Masks.{numbers_from}
+use Rattle.ta_base.specs.Masks.{numbers_from}
 use Rattle.ta_automaton.specs.Sums.{times_in}
 use Rattle.ta_counter.specs.Starts.{StartsAt}
 use Rattle.ta_scope.specs.Arranged.{ArrangedOf}
@@ -13,7 +13,7 @@ use Rattle.ta_replay.specs.Pieces.{step_line}
 use Rattle.ta_compress.specs.Units.{unit, unfolded, value_after, EndsAtLastMark, Switches, Drops}
 
 -- what stands between two cuts: the rules of the unit steps that are arranged, and the line that is kept, if there is one
-pub record Piece : Type 0 where
+pub record CutPiece : Type 0 where
   pub body : List ℕ
   pub kept : List RunLine
 
@@ -22,7 +22,7 @@ abbrev pub units : List ℕ → List RunLine
 units rules = map unit rules
 
 -- the lines of a piece, unfolded
-abbrev pub lines_in : Piece → List RunLine
+abbrev pub lines_in : CutPiece → List RunLine
 lines_in piece = units piece.body ++ piece.kept
 
 -- a unit step after some lines changes the truth of a guard
@@ -38,20 +38,20 @@ abbrev pub Still : Automaton → List ℤ → List RunLine → List ℕ → Type
 Still a first done rules = (front : List ℕ) (r : ℕ) (behind : List ℕ) → rules ≡ front ++ r ∷ behind → ¬ SwitchesAt a first (done ++ units front) r
 
 -- a mark ends the piece, and is kept
-pub record MarkedEnd (a : Automaton) (first : List ℤ) (done : List RunLine) (piece : Piece) : Type 0 where
+pub record MarkedEnd (a : Automaton) (first : List ℤ) (done : List RunLine) (piece : CutPiece) : Type 0 where
   pub event : ℕ
   pub kept : piece.kept ≡ Mark event ∷ []
   pub still : Still a first done piece.body
 
 -- a unit step that makes a fall guard false ends the piece, and is kept by itself
-pub record FallenEnd (a : Automaton) (first : List ℤ) (done : List RunLine) (piece : Piece) : Type 0 where
+pub record FallenEnd (a : Automaton) (first : List ℤ) (done : List RunLine) (piece : CutPiece) : Type 0 where
   pub rule : ℕ
   pub kept : piece.kept ≡ unit rule ∷ []
   pub still : Still a first done piece.body
   pub drops : DropsAt a first (done ++ units piece.body) rule
 
 -- a unit step that makes rise guards true, and no fall guard false, ends the piece, and is one of those that are arranged
-pub record RisenEnd (a : Automaton) (first : List ℤ) (done : List RunLine) (piece : Piece) : Type 0 where
+pub record RisenEnd (a : Automaton) (first : List ℤ) (done : List RunLine) (piece : CutPiece) : Type 0 where
   pub front : List ℕ
   pub rule : ℕ
   pub body : piece.body ≡ front ++ rule ∷ []
@@ -61,7 +61,7 @@ pub record RisenEnd (a : Automaton) (first : List ℤ) (done : List RunLine) (pi
   pub drops_none : ¬ DropsAt a first (done ++ units front) rule
 
 -- a piece that stands after some lines ends at the first cut behind them: at a mark, or at a switch of a guard
-abbrev pub IsPiece : Automaton → List ℤ → List RunLine → Piece → Type 0
+abbrev pub IsPiece : Automaton → List ℤ → List RunLine → CutPiece → Type 0
 IsPiece a first done piece = MarkedEnd a first done piece ⊎ (FallenEnd a first done piece ⊎ RisenEnd a first done piece)
 
 -- how often each rule of the automaton is in a list
@@ -69,19 +69,19 @@ abbrev pub counts_of : Automaton → List ℕ → List ℤ
 counts_of a rules = map (λ r. pos (times_in r rules)) (numbers_from 0 (length a.rules))
 
 -- the lines are the piece's arranged steps and the line that it keeps, and what follows
-pub record Shortened (a : Automaton) (piece : Piece) (lines rest : List RunLine) : Type 0 where
+pub record IsShortened (a : Automaton) (piece : CutPiece) (lines rest : List RunLine) : Type 0 where
   pub steps : List (ℕ × ℤ)
   pub arranged : ArrangedOf a (counts_of a piece.body) steps
   pub is : lines ≡ map step_line steps ++ (piece.kept ++ rest)
 
 -- lines that stand after some others are pieces, one after another, and these are the shortened ones
-abbrev pub Cut : Automaton → List ℤ → List RunLine → List RunLine → List Piece → List RunLine → Type 0
-Cut a first done lines [] short = (lines ≡ []) × (short ≡ [])
-Cut a first done lines (piece ∷ pieces) short =
+abbrev pub AreCut : Automaton → List ℤ → List RunLine → List RunLine → List CutPiece → List RunLine → Type 0
+AreCut a first done lines [] short = (lines ≡ []) × (short ≡ [])
+AreCut a first done lines (piece ∷ pieces) short =
     IsPiece a first done piece
     × (behind : List RunLine) × (lines ≡ lines_in piece ++ behind)
-    × (rest : List RunLine) × Shortened a piece short rest
-    × Cut a first (done ++ lines_in piece) behind pieces rest
+    × (rest : List RunLine) × IsShortened a piece short rest
+    × AreCut a first (done ++ lines_in piece) behind pieces rest
 
 -- the lines of the compressed run: the run is unfolded up to its last mark and cut at each mark and behind each switch of a
 -- guard; in each piece the unit steps, but a last one that makes a fall guard false, are arranged
@@ -90,8 +90,8 @@ pub record CutOf (a : Automaton) (run : Run) (short : List RunLine) : Type 0 whe
   pub starts : StartsAt a run.parameters run.counts first
   pub n : ℕ
   pub last_mark : EndsAtLastMark run.lines n
-  pub pieces : List Piece
-  pub cut : Cut a first [] (unfolded (take n run.lines)) pieces short
+  pub pieces : List CutPiece
+  pub cut : AreCut a first [] (unfolded (take n run.lines)) pieces short
 
 -- the compressed run: all but the lines stays as it is
 pub record CompressOf (file : File) (run short : Run) : Type 0 where

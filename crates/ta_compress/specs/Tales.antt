@@ -8,20 +8,20 @@ use Rattle.ta_pattern.specs.Empty.{KeepsEmpty}
 use Rattle.ta_replay.specs.declared.run.Run.{Run}
 use Rattle.ta_replay.specs.declared.run.RunLine.{RunLine}
 use Rattle.ta_replay.specs.declared.run.RunLine.TheVariants.{Step, Mark}
-use Rattle.ta_replay.specs.Shows.{BeginsWith}
+use Rattle.ta_replay.specs.Shows.{IsFirstConfig}
 
 -- unit steps of these rules lead from one configuration to another, and the pattern's `empty` is kept all along
-pub record Leads (a : Automaton) (p : Pattern) (c : Config) (rules : List ℕ) (d : Config) : Type 0 where
+pub record StepsLead (a : Automaton) (p : Pattern) (c : Config) (rules : List ℕ) (d : Config) : Type 0 where
   pub later : List Config
   pub steps : Steps a c rules later
   pub ends : At c later (length rules) d
   pub kept : (k : ℕ) (e : Config) → At c later k e → KeepsEmpty p.empty e
 
 -- from a configuration on, the steps of lines are legal, and their marks are these events at these configurations
-abbrev pub Tells : Automaton → Pattern → Config → List RunLine → List (ℕ × Config) → Type 0
-Tells a p c [] tale = tale ≡ []
-Tells a p c (Step r factor ∷ lines) tale = (d : Config) × Leads a p c (replicate (unsigned_abs factor) r) d × Tells a p d lines tale
-Tells a p c (Mark e ∷ lines) tale = (rest : List (ℕ × Config)) × (tale ≡ (e, c) ∷ rest) × Tells a p c lines rest
+abbrev pub LinesTell : Automaton → Pattern → Config → List RunLine → List (ℕ × Config) → Type 0
+LinesTell a p c [] tale = tale ≡ []
+LinesTell a p c (Step r factor ∷ lines) tale = (d : Config) × StepsLead a p c (replicate (unsigned_abs factor) r) d × LinesTell a p d lines tale
+LinesTell a p c (Mark e ∷ lines) tale = (rest : List (ℕ × Config)) × (tale ≡ (e, c) ∷ rest) × LinesTell a p c lines rest
 
 -- two runs begin at the same configuration, and mark the same events in the same order at the same configurations
 pub record SameTale (file : File) (run other : Run) : Type 0 where
@@ -30,8 +30,8 @@ pub record SameTale (file : File) (run other : Run) : Type 0 where
   pub same_pattern : other.pattern ≡ run.pattern
   pub first : Config
   pub initial : Initial file.automaton first
-  pub begins : BeginsWith file.automaton run first
-  pub other_begins : BeginsWith file.automaton other first
+  pub begins : IsFirstConfig file.automaton run first
+  pub other_begins : IsFirstConfig file.automaton other first
   pub tale : List (ℕ × Config)
-  pub told : Tells file.automaton pattern first run.lines tale
-  pub other_told : Tells file.automaton pattern first other.lines tale
+  pub told : LinesTell file.automaton pattern first run.lines tale
+  pub other_told : LinesTell file.automaton pattern first other.lines tale

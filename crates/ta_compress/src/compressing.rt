@@ -8,16 +8,17 @@ ghost use Rattle.ta_replay.specs.declared.run.RunLine.TheVariants.{Mark};
 ghost use Rattle.ta_counter.specs.Configs.{IsOf};
 ghost use Rattle.ta_counter.specs.Starts.{StartsAt};
 ghost use Rattle.ta_compress.specs.declared.fault.CompressFault.TheVariants.{Memory};
-ghost use Rattle.ta_compress.specs.Faults.{Admitted, Compressible, CompressFaultOf, GuardsStayed, IsShortRun, StepsStop};
+ghost use Rattle.ta_compress.specs.Faults.{IsSmallReplay, Compressible, CompressFaultOf, GuardsStayed, IsShortRun, StepsStop};
 ghost use Rattle.ta_compress.specs.Pieces.{CompressOf, CutOf};
 ghost use Rattle.ta_compress.specs.Tales.{SameTale};
 ghost use Rattle.ta_compress.specs.Units.{EndsAtLastMark};
-ghost use Rattle.ta_compress.specs.Inside.Drafts.{Begun};
+ghost use Rattle.ta_compress.specs.Inside.Drafts.{IsFirstDraft};
 
 use crate::draft::{Draft, no_counts};
 use crate::fault::CompressFault;
 use std::alloc::{AllocError, Global};
-use ta_automaton::{File, List};
+use ta_automaton::File;
+use ta_base::List;
 use ta_counter::{Config, guards_at};
 use ta_replay::{Run, RunFault, RunLine, replay};
 use ta_scope::ScopedFile;
@@ -78,7 +79,7 @@ fn with_lines(alloc: Global, run: &Run, lines: Vec<RunLine>) -> Result<Run, Allo
 /// Whether the run is replayed and has at most 1,000,000 unit steps.
 fn admit(file: &File, run: &Run) -> Result<(), CompressFault>
     requires { Fits file.now run.now }
-    ensures admitted { OnOk result (Admitted file.now run.now) }
+    ensures admitted { OnOk result (IsSmallReplay file.now run.now) }
     ensures fault { IfErr result (CompressFaultOf file.now run.now) }
     ensures no_memory { IfErr result (λ fault. fault ≢ Memory) }
 {
@@ -103,7 +104,7 @@ fn few_steps(lines: &[RunLine]) -> Result<(), CompressFault>
 /// The lines of the compressed run.
 fn shorten(alloc: Global, scoped: &ScopedFile, run: &Run) -> Result<Vec<RunLine>, CompressFault>
     requires fits { Fits scoped.now.file run.now }
-    requires admitted { Admitted scoped.now.file run.now }
+    requires admitted { IsSmallReplay scoped.now.file run.now }
     ensures cut { IfOk result (λ lines. CutOf scoped.now.file.automaton run.now lines.items) }
     ensures stayed { OnOk result (GuardsStayed scoped.now.file.automaton run.now) }
     ensures fault { IfErr result (CompressFaultOf scoped.now.file run.now) }
@@ -121,8 +122,8 @@ fn shorten(alloc: Global, scoped: &ScopedFile, run: &Run) -> Result<Vec<RunLine>
 /// The draft at the first configuration.
 fn begin(alloc: Global, file: &File, run: &Run) -> Result<Draft, CompressFault>
     requires fits { Fits file.now run.now }
-    requires admitted { Admitted file.now run.now }
-    ensures begun { IfOk result (Begun file.now.automaton run.now) }
+    requires admitted { IsSmallReplay file.now run.now }
+    ensures begun { IfOk result (IsFirstDraft file.now.automaton run.now) }
     ensures fault { IfErr result (CompressFaultOf file.now run.now) }
 {
     let config = first_config(file, run)?;
@@ -141,7 +142,7 @@ fn begin(alloc: Global, file: &File, run: &Run) -> Result<Draft, CompressFault>
 /// The first configuration.
 fn first_config(file: &File, run: &Run) -> Result<Config, CompressFault>
     requires fits { Fits file.now run.now }
-    requires admitted { Admitted file.now run.now }
+    requires admitted { IsSmallReplay file.now run.now }
     ensures starts { IfOk result (λ config. StartsAt file.now.automaton run.now.parameters run.now.counts config.values.items) }
     ensures is_of { IfOk result (IsOf file.now.automaton) }
     ensures always { IsOk result }

@@ -5,18 +5,19 @@ ghost use Rattle.std.specs.Prelude.{ℕ, ℤ, pos, ◌+◌, ◌≡◌, ◌<◌, 
 ghost use Rattle.ta_linear.specs.Values.{point_of};
 ghost use Rattle.ta_counter.specs.Configs.{IsOf};
 ghost use Rattle.ta_counter.specs.Holding.{GuardsAnswer, GuardsAre, GuardsStay};
-ghost use Rattle.ta_scope.specs.Arranged.{Counts, count_at};
+ghost use Rattle.ta_scope.specs.Arranged.{AreRuleCounts, count_at};
 ghost use Rattle.ta_replay.specs.declared.run.RunLine.{RunLine};
 ghost use Rattle.ta_replay.specs.declared.run.RunLine.TheVariants.{Mark};
 ghost use Rattle.ta_replay.specs.Shows.{factor_of};
 ghost use Rattle.ta_compress.specs.declared.fault.CompressFault.TheVariants.{Memory};
 ghost use Rattle.ta_replay.specs.Pieces.{step_line};
 ghost use Rattle.ta_compress.specs.Units.{unit, unfolded};
-ghost use Rattle.ta_compress.specs.Inside.Drafts.{Advances, Closes, Counted, DraftAt, HasFallen, LineKeeps, LineMay, LineStops, MayRepeat, MayStep, OneMore, Ready, Repeated, RepeatStops, Room, SameGuards, repeated, zeros};
+ghost use Rattle.ta_compress.specs.Inside.Drafts.{Advances, Closes, CountsStep, DraftAt, HasFallen, LineKeeps, LineMay, DraftStops, MayRepeat, MayStep, OneMore, DraftIsReady, RepeatsRule, RepeatStops, Room, SameGuards, repeated, zeros};
 
 use crate::fault::CompressFault;
 use std::alloc::{AllocError, Global};
 use ta_automaton::Automaton;
+use ta_base::masks::contains;
 use ta_counter::{Config, Guards, guards_at};
 use ta_linear::OutOfRange;
 use ta_replay::{RunFault, RunLine};
@@ -41,13 +42,13 @@ impl Draft {
         line: RunLine,
         number: u64,
     ) -> Result<(), CompressFault>
-        requires ready { Ready scoped.now.file.automaton self.old }
+        requires ready { DraftIsReady scoped.now.file.automaton self.old }
         requires may { LineMay scoped.now.file.automaton self.old line }
-        ensures ready { OnOk result (Ready scoped.now.file.automaton self.new) }
+        ensures ready { OnOk result (DraftIsReady scoped.now.file.automaton self.new) }
         ensures goes { OnOk result ((first : List ℤ) (done : List RunLine) → DraftAt scoped.now.file.automaton first done self.old → DraftAt scoped.now.file.automaton first (done ++ unfolded (line ∷ [])) self.new) }
         ensures keeps { OnOk result (LineKeeps scoped.now.file.automaton self.old.config.values.items line) }
         ensures room { OnOk result ((more : ℕ) → Room (factor_of line + more) self.old.counts.items → Room more self.new.counts.items) }
-        ensures stops { IfErr result (LineStops scoped.now.file.automaton self.old.config.values.items line number) }
+        ensures stops { IfErr result (DraftStops scoped.now.file.automaton self.old.config.values.items line number) }
     {
         match line {
             RunLine::Step { rule, factor } => {
@@ -69,11 +70,11 @@ impl Draft {
         factor: u32,
         line: u64,
     ) -> Result<(), CompressFault>
-        requires ready { Ready scoped.now.file.automaton self.old }
+        requires ready { DraftIsReady scoped.now.file.automaton self.old }
         requires exists { rule < length scoped.now.file.automaton.rules }
         requires may { MayRepeat scoped.now.file.automaton rule factor self.old.config.values.items }
         requires room { Room factor self.old.counts.items }
-        ensures ready { OnOk result (Ready scoped.now.file.automaton self.new) }
+        ensures ready { OnOk result (DraftIsReady scoped.now.file.automaton self.new) }
         ensures goes { OnOk result ((first : List ℤ) (done : List RunLine) → DraftAt scoped.now.file.automaton first done self.old → DraftAt scoped.now.file.automaton first (done ++ replicate factor (unit rule)) self.new) }
         ensures stayed { OnOk result ((times : ℕ) → 1 ≤ times → times ≤ factor → GuardsStay scoped.now.file.automaton (repeated scoped.now.file.automaton rule self.old.config.values.items times)) }
         ensures room { OnOk result ((more : ℕ) → Room (factor + more) self.old.counts.items → Room more self.new.counts.items) }
@@ -93,7 +94,7 @@ impl Draft {
         rule: u32,
         line: u64,
     ) -> Result<(), CompressFault>
-        requires ready { Ready scoped.now.file.automaton self.old }
+        requires ready { DraftIsReady scoped.now.file.automaton self.old }
         requires exists { rule < length scoped.now.file.automaton.rules }
         requires may { MayStep scoped.now.file.automaton rule self.old.config.values.items }
         requires room { Room 1 self.old.counts.items }
@@ -120,12 +121,12 @@ impl Draft {
         guards: Guards,
     ) -> Result<(), AllocError>
         requires exists { rule < length scoped.now.file.automaton.rules }
-        requires counts { Counts scoped.now.file.automaton self.old.counts.items }
+        requires counts { AreRuleCounts scoped.now.file.automaton self.old.counts.items }
         requires room { Room 1 self.old.counts.items }
         ensures config { self.new.config ≡ self.old.config }
         ensures guards { self.new.guards ≡ guards }
-        ensures counts { OnOk result (Counts scoped.now.file.automaton self.new.counts.items) }
-        ensures counted { OnOk result ((before after : ℕ → ℤ) → GuardsAre scoped.now.file.automaton before self.old.guards → GuardsAre scoped.now.file.automaton after guards → Counted scoped.now.file.automaton rule before after self.old self.new) }
+        ensures counts { OnOk result (AreRuleCounts scoped.now.file.automaton self.new.counts.items) }
+        ensures counted { OnOk result ((before after : ℕ → ℤ) → GuardsAre scoped.now.file.automaton before self.old.guards → GuardsAre scoped.now.file.automaton after guards → CountsStep scoped.now.file.automaton rule before after self.old self.new) }
     {
         let before = self.guards;
         self.guards = guards;
@@ -145,7 +146,7 @@ impl Draft {
 
     /// Marks an event, which ends the piece.
     pub fn mark(&mut self, alloc: Global, scoped: &ScopedFile, event: u32) -> Result<(), AllocError>
-        requires { Counts scoped.now.file.automaton self.old.counts.items }
+        requires { AreRuleCounts scoped.now.file.automaton self.old.counts.items }
         ensures config { self.new.config ≡ self.old.config }
         ensures guards { self.new.guards ≡ self.old.guards }
         ensures closes { OnOk result (Closes scoped.now.file.automaton self.old.counts.items (Mark event ∷ []) self.old self.new) }
@@ -157,7 +158,7 @@ impl Draft {
 
     /// Adds the arranged steps of the counts, and begins to count anew.
     fn close(&mut self, alloc: Global, scoped: &ScopedFile) -> Result<(), AllocError>
-        requires { Counts scoped.now.file.automaton self.old.counts.items }
+        requires { AreRuleCounts scoped.now.file.automaton self.old.counts.items }
         ensures config { self.new.config ≡ self.old.config }
         ensures guards { self.new.guards ≡ self.old.guards }
         ensures closes { OnOk result (Closes scoped.now.file.automaton self.old.counts.items [] self.old self.new) }
@@ -175,7 +176,7 @@ fn next_guards(automaton: &Automaton, config: &mut Config, rule: u32) -> Result<
     requires exists { rule < length automaton.now.rules }
     requires may { MayStep automaton.now rule config.old.values.items }
     ensures is_of { IsOf automaton.now config.new }
-    ensures moved { Repeated automaton.now rule config.old.values.items 1 config.new.values.items }
+    ensures moved { RepeatsRule automaton.now rule config.old.values.items 1 config.new.values.items }
     ensures answer { GuardsAnswer automaton.now (point_of config.new.values.items) result }
 {
     match config.unit_step(automaton, rule) {
@@ -211,14 +212,6 @@ fn has_fallen(before: u32, now: u32) -> bool
         }
     }
     false
-}
-
-/// Whether a mask has a number.
-fn contains(mask: u32, number: u32) -> bool
-    requires { number < 32 }
-    ensures { IsTrue result ↔ IsBitSet mask number }
-{
-    mask & (1 << number) != 0
 }
 
 /// Adds steps as lines.

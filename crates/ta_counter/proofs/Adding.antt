@@ -1,29 +1,25 @@
 -- sums of natural numbers, from left to right
-use Rattle.std.proofs.Common.{◌≡◌, ℕ, zero, suc, ◌+◌, ◌<◌, ◌≤◌, ◌^◌, ℤ, pos, negsuc, ◌+ℤ◌, ◌≤ℤ◌, List, [], ◌∷◌, length, drop, arith, ap, refl, subst, get_or, unsigned_abs}
+use Rattle.std.proofs.Common.{◌≡◌, ℕ, zero, suc, ◌+◌, ◌<◌, ◌≤◌, ◌^◌, ℤ, pos, ◌+ℤ◌, ◌≤ℤ◌, List, [], ◌∷◌, length, drop, arith, ap, refl, subst, get_or}
 use Rattle.std.proofs.lemmas.Int.{ints}
 use Rattle.std.proofs.lemmas.List.{drop_more, drop_all}
+use Rattle.std.specs.List.{AllByRecursion}
+use Rattle.ta_base.proofs.Integers.{abs_below}
 use Rattle.ta_linear.specs.Numbers.{InRange}
-use Rattle.ta_automaton.specs.Lists.{Each}
 use Rattle.ta_automaton.specs.Sums.{total}
 use Rattle.ta_counter.specs.Values.{Value}
 use Rattle.ta_counter.specs.Configs.{sum_of}
 
-below_limit : (n : ℕ) (x y : ℤ) → pos 0 ≤ℤ x → x ≤ℤ y → unsigned_abs y < n → unsigned_abs x < n
-below_limit n (pos x) (pos y) h le b = omega (arith, ints)
-below_limit n (pos x) (negsuc y) h le b = absurd (omega (arith, ints))
-below_limit n (negsuc x) y h le b = absurd (omega (arith, ints))
-
 -- a natural number that isn't above a number in range is in range
 pub range_below : (x y : ℤ) → pos 0 ≤ℤ x → x ≤ℤ y → InRange y → InRange x
-range_below x y h le b = below_limit (2 ^ 127) x y h le b
+range_below x y h le b = abs_below (2 ^ 127) x y h le b
 
-pub sum_natural : (xs : List ℤ) → Each Value xs → pos 0 ≤ℤ sum_of xs
+pub sum_natural : (xs : List ℤ) → AllByRecursion Value xs → pos 0 ≤ℤ sum_of xs
 unfolding total
 sum_natural [] h = omega (arith, ints)
 sum_natural (x ∷ xs) h = omega (arith, ints, (h.0).natural, sum_natural xs h.1)
 
 -- each of the numbers is at most their sum
-pub item_below : (xs : List ℤ) → Each Value xs → (i : ℕ) → get_or xs i (pos 0) ≤ℤ sum_of xs
+pub item_below : (xs : List ℤ) → AllByRecursion Value xs → (i : ℕ) → get_or xs i (pos 0) ≤ℤ sum_of xs
 unfolding total
 item_below [] h i = omega (arith, ints)
 item_below (x ∷ xs) h zero = omega (arith, ints, sum_natural xs h.1)
@@ -33,14 +29,8 @@ item_below (x ∷ xs) h (suc i) = omega (arith, ints, (h.0).natural, item_below 
 pub record Adding (counts : List ℤ) (part : ℤ) (left : List ℤ) : Type 0 where
   pub natural : pos 0 ≤ℤ part
   pub fits : InRange part
-  pub values : Each Value left
+  pub values : AllByRecursion Value left
   pub whole : (part +ℤ sum_of left) ≡ sum_of counts
-
-zero_fits : InRange (pos 0)
-zero_fits = omega arith
-
-pub add_start : (counts : List ℤ) → Each Value counts → Adding counts (pos 0) counts
-add_start counts h = record { natural = omega (arith, ints); fits = zero_fits; values = h; whole = omega (arith, ints) }
 
 front_sum : (x : ℤ) (xs : List ℤ) → sum_of (x ∷ xs) ≡ (x +ℤ sum_of xs)
 unfolding total
@@ -49,7 +39,7 @@ front_sum x xs = refl
 pub add_next : (counts : List ℤ) (i : ℕ) (part next : ℤ) → Adding counts part (drop i counts) → i < length counts → InRange (part +ℤ get_or counts i (pos 0)) → next ≡ (part +ℤ get_or counts i (pos 0)) → Adding counts next (drop (i + 1) counts)
 add_next counts i part next h b fits is =
     let split = drop_more counts i (pos 0) b in
-    let values : Each Value (get_or counts i (pos 0) ∷ drop (i + 1) counts) = subst (Each Value) split h.values in
+    let values : AllByRecursion Value (get_or counts i (pos 0) ∷ drop (i + 1) counts) = subst (AllByRecursion Value) split h.values in
     record {
       natural = omega (arith, ints, (values.0).natural, h.natural);
       fits = rw is fits;
@@ -60,7 +50,7 @@ add_next counts i part next h b fits is =
 pub add_leaves : (counts : List ℤ) (i : ℕ) (part : ℤ) → Adding counts part (drop i counts) → i < length counts → ¬ InRange (part +ℤ get_or counts i (pos 0)) → ¬ InRange (sum_of counts)
 add_leaves counts i part h b leaves fits =
     let split = drop_more counts i (pos 0) b in
-    let values : Each Value (get_or counts i (pos 0) ∷ drop (i + 1) counts) = subst (Each Value) split h.values in
+    let values : AllByRecursion Value (get_or counts i (pos 0) ∷ drop (i + 1) counts) = subst (AllByRecursion Value) split h.values in
     let whole : ((part +ℤ get_or counts i (pos 0)) +ℤ sum_of (drop (i + 1) counts)) ≡ sum_of counts = omega (arith, ints, h.whole, ap sum_of split, front_sum (get_or counts i (pos 0)) (drop (i + 1) counts)) in
     leaves (range_below (part +ℤ get_or counts i (pos 0)) (sum_of counts) (omega (arith, ints, (values.0).natural, h.natural)) (omega (arith, ints, sum_natural (drop (i + 1) counts) values.1)) fits)
 

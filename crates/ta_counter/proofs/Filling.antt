@@ -1,56 +1,25 @@
 -- the values at the start, count by count
-use Rattle.std.proofs.Common.{◌≡◌, inl, inr, ℕ, zero, suc, ◌+◌, ◌-◌, ◌<◌, ◌≤◌, ℤ, pos, List, [], ◌∷◌, ◌++◌, length, take, set, replicate, arith, sym, ap, ◌∙◌, refl, get_or, slice_get, Some, length-append}
+use Rattle.std.proofs.Common.{◌≡◌, inl, inr, ℕ, ◌+◌, ◌<◌, ◌≤◌, ℤ, pos, List, ◌++◌, length, set, replicate, arith, sym, ap, ◌∙◌, get_or, slice_get, Some, length-append}
 use Rattle.std.proofs.lemmas.Int.{ints}
 use Rattle.std.proofs.lemmas.Bool.{cases_lt}
-use Rattle.std.proofs.lemmas.List.{get_or-set_same, get_or-set_other, length-set, take-set-le, take_at, get_or-append_right, get_or-replicate, get_or_past, length-replicate}
+use Rattle.std.proofs.lemmas.List.{get_or-set_same, get_or-set_other, length-set, take-set-le, take_at, length-replicate}
 use Rattle.std.proofs.lemmas.Option.{same_Some, slice_get_within, get_or_from_slice_get}
-use Rattle.ta_linear.specs.Values.{point_of}
+use Rattle.std.specs.List.{AllByRecursion}
+use Rattle.ta_base.proofs.Each.{each_append, each_copies, each_set}
+use Rattle.ta_base.proofs.Lists.{zeros_past}
+use Rattle.ta_base.proofs.Ranges.{rises_apart, rises_within}
 use Rattle.ta_automaton.specs.declared.automaton.Automaton.{Automaton}
-use Rattle.ta_automaton.specs.Lists.{Each, Rises}
 use Rattle.ta_automaton.specs.Places.{location_place}
 use Rattle.ta_counter.specs.Values.{Value}
-use Rattle.ta_counter.specs.Configs.{places_of}
 use Rattle.ta_counter.specs.Starts.{StartsAt}
 use Rattle.ta_counter.specs.Inside.Filling.{Filling}
-use Rattle.ta_counter.proofs.Starting.{rises_within}
-
-pub each_set : {X : Type 0} (P : X → Type 0) (xs : List X) (i : ℕ) (x : X) → Each P xs → P x → Each P (set xs i x)
-each_set P [] i x h p = tt
-each_set P (y ∷ ys) zero x h p = (p, h.1)
-each_set P (y ∷ ys) (suc i) x h p = (h.0, each_set P ys i x h.1 p)
-
-pub each_append : {X : Type 0} (P : X → Type 0) (xs ys : List X) → Each P xs → Each P ys → Each P (xs ++ ys)
-each_append P [] ys h g = g
-each_append P (x ∷ xs) ys h g = (h.0, each_append P xs ys h.1 g)
-
-pub each_replicate : {X : Type 0} (P : X → Type 0) (n : ℕ) (x : X) → P x → Each P (replicate n x)
-each_replicate P zero x p = tt
-each_replicate P (suc n) x p = (p, each_replicate P n x p)
-
-rises_apart : (low high : ℕ) (ls : List ℕ) → Rises low high ls → (i j l k : ℕ) → j < i → slice_get ls i ≡ Some l → slice_get ls j ≡ Some k → k < l
-rises_apart low high [] h i j l k b at there = absurd (cc)
-rises_apart low high (x ∷ ls) h zero j l k b at there = absurd (omega arith)
-rises_apart low high (x ∷ ls) h (suc i) zero l k b at there =
-    let same : x ≡ k = cc in
-    let w = rises_within (x + 1) high ls h.2 i l at in
-    let a = w.0 in
-    omega arith
-rises_apart low high (x ∷ ls) h (suc i) (suc j) l k b at there = rises_apart (x + 1) high ls h.2 i j l k (omega arith) at there
-
-zeros_past : (xs : List ℤ) (n i : ℕ) → length xs ≤ i → get_or (xs ++ replicate n (pos 0)) i (pos 0) ≡ pos 0
-zeros_past xs n i b =
-    get_or-append_right xs (replicate n (pos 0)) (length xs) i (pos 0) refl b
-    ∙ elim (cases_lt (i - length xs) n) [
-      | inl c ↦ get_or-replicate n (i - length xs) (pos 0) (pos 0) c
-      | inr c ↦ get_or_past (replicate n (pos 0)) (i - length xs) (pos 0) (omega (arith, length-replicate n (pos 0)))
-    ]
 
 zero_value : Value (pos 0)
 zero_value = record { natural = omega (arith, ints); fits = omega arith }
 
-pub fill_start : (a : Automaton) (parameters counts : List ℤ) (n : ℕ) → length parameters ≡ length a.parameters → Each Value parameters → n ≡ length a.shared + length a.locations → Filling a parameters counts (parameters ++ replicate n (pos 0)) 0
+pub fill_start : (a : Automaton) (parameters counts : List ℤ) (n : ℕ) → length parameters ≡ length a.parameters → AllByRecursion Value parameters → n ≡ length a.shared + length a.locations → Filling a parameters counts (parameters ++ replicate n (pos 0)) 0
 fill_start a parameters counts n same h is = record {
-  natural = each_append Value parameters (replicate n (pos 0)) h (each_replicate Value n (pos 0) zero_value);
+  natural = each_append Value parameters (replicate n (pos 0)) h (each_copies Value n (pos 0) zero_value);
   places = omega (arith, length-append parameters (replicate n (pos 0)), length-replicate n (pos 0));
   parameters_first = take_at parameters (replicate n (pos 0)) (length a.parameters) same;
   shared_zero = λ x b. zeros_past parameters n (length a.parameters + x) (omega arith);

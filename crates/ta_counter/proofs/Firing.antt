@@ -4,17 +4,16 @@ use Rattle.std.proofs.lemmas.Int.{ints}
 use Rattle.std.proofs.lemmas.Bool.Decides.{nat_tests, eqb_tells}
 use Rattle.std.proofs.lemmas.Option.{same_Some}
 use Rattle.std.proofs.Math.IntN.{zero-*ℤ, *ℤ-zero}
+use Rattle.ta_base.proofs.Each.{each_at}
+use Rattle.ta_base.proofs.Integers.{one_times, suc_times, times_natural}
 use Rattle.ta_linear.specs.Values.{value_of, RowHolds}
 use Rattle.ta_linear.specs.declared.row.Row.{Row}
-use Rattle.ta_linear.proofs.Integers.{distributes_right}
-use Rattle.ta_linear.proofs.Signs.{mul-ge-zero}
 use Rattle.ta_automaton.specs.declared.rule.Rule.{Rule}
 use Rattle.ta_automaton.specs.declared.automaton.Automaton.{Automaton}
 use Rattle.ta_automaton.specs.Forms.{FallRow}
 use Rattle.ta_automaton.specs.Runs.{Config, Step, Steps, MaskedHold, value_at}
 use Rattle.ta_automaton.specs.Places.{one_if, location_place, shared_change, rule_change}
-use Rattle.ta_automaton.proofs.Sums.{one_times}
-use Rattle.ta_automaton.proofs.Thresholds.{Later, each_at, falls, fall_back, form_same, stays_true, updates_natural}
+use Rattle.ta_automaton.proofs.Thresholds.{Later, falls, fall_back, form_same, stays_true, updates_natural}
 use Rattle.ta_automaton.proofs.Moves.{Fits, fits_after, step_later, move_at, one_if-shift, one_if-ne, value_at-location, shared_change-parameter, shared_change-shared, shared_change-location, place_cases}
 use Rattle.ta_automaton.proofs.Fire.{Whole, fire, fire_whole, fire_step}
 use Rattle.ta_counter.specs.Steps.{Fires}
@@ -51,11 +50,6 @@ fall_earlier a rule f g later h j row at bit =
 abbrev pub after_updates : Automaton → Rule → ℕ → (ℕ → ℤ) → ℕ → ℤ
 after_updates a rule k point i = point i +ℤ (pos k *ℤ shared_change a rule i)
 
-more_times : (k : ℕ) (x : ℤ) → (pos (suc k) *ℤ x) ≡ (x +ℤ (pos k *ℤ x))
-more_times k x =
-    let e : pos (suc k) ≡ (pos 1 +ℤ pos k) = omega (arith, ints) in
-    ap (λ z. z *ℤ x) e ∙ distributes_right (pos 1) (pos k) x ∙ ap (λ z. z +ℤ (pos k *ℤ x)) (one_times x)
-
 -- below the locations a rule changes what its updates change
 shared_part : (a : Automaton) (rule : Rule) (i : ℕ) → i < length a.parameters + length a.shared → rule_change a (Some rule) i ≡ shared_change a rule i
 shared_part a rule i b =
@@ -69,9 +63,6 @@ change_natural a r rule named i = elim (place_cases a i) [
   | inr (inl w) ↦ (let at = ap (shared_change a rule) w.2 in omega (arith, ints, at, shared_change-shared a rule w.0 w.1, updates_natural a r rule named w.0))
   | inr (inr w) ↦ (let at = ap (shared_change a rule) w.1 in omega (arith, ints, at, shared_change-location a rule w.0))
 ]
-
-times_natural : (k : ℕ) (x : ℤ) → pos 0 ≤ℤ x → pos 0 ≤ℤ (pos k *ℤ x)
-times_natural k x h = mul-ge-zero (pos k) x (omega (arith, ints)) h
 
 later_updates : (a : Automaton) (r : ℕ) (rule : Rule) → slice_get a.rules r ≡ Some rule → (k : ℕ) (point : ℕ → ℤ) → Later a point (after_updates a rule k point)
 later_updates a r rule named k point = record {
@@ -152,13 +143,13 @@ fire_times a r rule named (suc k) c w enough rise fall =
     let g = whole_fits a d x in
     let change = one_change a r rule c d named f g step in
     let still : MaskedHold rule.rise a.rise d = λ i row at bit. stays_true a (value_at c) (value_at d) (step_later a r c d f g step) i row at (rise i row at bit) in
-    let ahead = fall_agree a rule (after_updates a rule (suc k) (value_at c)) (after_updates a rule k (value_at d)) (λ i b. omega (arith, ints, change i, shared_part a rule i b, more_times k (shared_change a rule i))) fall in
+    let ahead = fall_agree a rule (after_updates a rule (suc k) (value_at c)) (after_updates a rule k (value_at d)) (λ i b. omega (arith, ints, change i, shared_part a rule i b, suc_times k (shared_change a rule i))) fall in
     let rest = fire_times a r rule named k d x (enough_next a rule k (value_at c) (value_at d) change enough) still ahead in
     record {
       after = rest.after;
       fires = record { later = d ∷ rest.fires.later; steps = (step, rest.fires.steps); last = rest.fires.last };
       whole = rest.whole;
-      change = λ i. omega (arith, ints, rest.change i, change i, more_times (suc k) (rule_change a (Some rule) i));
+      change = λ i. omega (arith, ints, rest.change i, change i, suc_times (suc k) (rule_change a (Some rule) i));
     }
 
 -- what legal firings say of the checks
@@ -195,5 +186,5 @@ steps_checked a r rule named (suc k) c (d ∷ ds) f steps =
     record {
       enough = enough_before a rule k (value_at c) (value_at d) change (first_source a r rule c d named f steps.0) rest.enough;
       rise = first_rise a r rule c d named steps.0;
-      fall = fall_agree a rule (after_updates a rule k (value_at d)) (after_updates a rule (suc k) (value_at c)) (λ i b. omega (arith, ints, change i, shared_part a rule i b, more_times k (shared_change a rule i))) rest.fall;
+      fall = fall_agree a rule (after_updates a rule k (value_at d)) (after_updates a rule (suc k) (value_at c)) (λ i b. omega (arith, ints, change i, shared_part a rule i b, suc_times k (shared_change a rule i))) rest.fall;
     }

@@ -1,31 +1,31 @@
 -- guards one after another
 use Rattle.std.proofs.Common.{◌≡◌, inl, inr, ℕ, ◌+◌, ◌≤◌, ℤ, List, [], ◌∷◌, length, arith, refl, subst, slice_get, Some, IsBitSet}
+use Rattle.std.specs.List.{AllByRecursion}
+use Rattle.ta_base.proofs.Lists.{PassedTo}
 use Rattle.ta_linear.specs.declared.row.Row.{Row}
 use Rattle.ta_linear.proofs.TermLemmas.{IsNormal-higher}
 use Rattle.ta_automaton.specs.declared.rule.Rule.{Rule}
 use Rattle.ta_automaton.specs.declared.automaton.Automaton.{Automaton}
-use Rattle.ta_automaton.specs.Lists.{Each}
 use Rattle.ta_automaton.specs.Forms.{RiseRow, FallRow}
 use Rattle.ta_counter.specs.declared.fault.StepFault.{StepFault}
 use Rattle.ta_counter.specs.declared.fault.StepFault.TheVariants.{Count, OutOfRange, Guard}
 use Rattle.ta_counter.specs.Checks.{RowPasses, RowFails, RowsOver}
 use Rattle.ta_counter.specs.Configs.{places_of}
 use Rattle.ta_counter.specs.Guards.{MaskedPass, MaskedStop}
-use Rattle.ta_counter.specs.Inside.Guards.{RowFault, MaskedFault, GuardFault}
-use Rattle.ta_counter.proofs.Passing.{PassedTo}
+use Rattle.ta_counter.specs.Inside.Guards.{GuardRowFault, MaskedFault, GuardFault}
 
-pub masked_fault : (point : ℕ → ℤ) (mask : ℕ) (rows : List Row) (places first number : ℕ) (row : Row) (fault : StepFault) → PassedTo (λ j (other : Row). IsBitSet mask j → RowPasses point other) rows number → slice_get rows number ≡ Some row → IsBitSet mask number → RowFault point row places (first + number) fault → MaskedFault point mask rows places first fault
+pub masked_fault : (point : ℕ → ℤ) (mask : ℕ) (rows : List Row) (places first number : ℕ) (row : Row) (fault : StepFault) → PassedTo (λ j (other : Row). IsBitSet mask j → RowPasses point other) rows number → slice_get rows number ≡ Some row → IsBitSet mask number → GuardRowFault point row places (first + number) fault → MaskedFault point mask rows places first fault
 masked_fault point mask rows places first number row Count before at bit h = h
 masked_fault point mask rows places first number row (OutOfRange place) before at bit h =
     (number, h.0, record { item = row; at = at; before = before; bad = (bit, h.1) })
 masked_fault point mask rows places first number row (Guard guard) before at bit h =
     (number, h.0, record { item = row; at = at; before = before; bad = (bit, h.1) })
 
-rise_over : (p s n : ℕ) (rows : List Row) → p + s ≤ n → Each (RiseRow p s) rows → RowsOver n rows
+rise_over : (p s n : ℕ) (rows : List Row) → p + s ≤ n → AllByRecursion (RiseRow p s) rows → RowsOver n rows
 rise_over p s n [] h e = tt
 rise_over p s n (row ∷ rows) h e = (IsNormal-higher 0 (p + s) n row.form.terms h ((e.0).over).below, rise_over p s n rows h e.1)
 
-fall_over : (p s n : ℕ) (rows : List Row) → p + s ≤ n → Each (FallRow p s) rows → RowsOver n rows
+fall_over : (p s n : ℕ) (rows : List Row) → p + s ≤ n → AllByRecursion (FallRow p s) rows → RowsOver n rows
 fall_over p s n [] h e = tt
 fall_over p s n (row ∷ rows) h e = (IsNormal-higher 0 (p + s) n row.form.terms h ((e.0).over).below, fall_over p s n rows h e.1)
 

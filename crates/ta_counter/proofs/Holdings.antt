@@ -1,7 +1,6 @@
 -- masks of the rows that hold
-use Rattle.std.proofs.Common.{◌≡◌, ◌⊎◌, inl, inr, ℕ, ◌+◌, ◌<◌, ◌≤◌, ◌↔◌, ℤ, Bool, true, false, List, length, arith, sym, ap, ◌∙◌, refl, subst, slice_get, Some, IsTrue, IsBitSet, Ok}
+use Rattle.std.proofs.Common.{◌≡◌, ◌⊎◌, inl, inr, ℕ, ◌+◌, ◌<◌, ◌≤◌, ◌↔◌, ℤ, Bool, true, false, List, length, arith, sym, ◌∙◌, refl, subst, slice_get, Some, IsTrue, IsBitSet, Ok}
 use Rattle.std.proofs.lemmas.Bool.{cases_lt, false≢true}
-use Rattle.std.proofs.lemmas.Bool.Decides.{nat_tests}
 use Rattle.std.proofs.lemmas.Option.{same_Some, slice_get_within}
 use Rattle.ta_linear.specs.Sums.{StaysInRange}
 use Rattle.ta_linear.specs.Values.{RowHolds}
@@ -13,7 +12,7 @@ use Rattle.ta_counter.specs.Holding.{HoldsThere, MaskAt}
 abbrev pub MaskBefore : (ℕ → ℤ) → List Row → ℕ → ℕ → Type 0
 MaskBefore point rows n mask = (i : ℕ) → IsBitSet mask i ↔ ((i < n) × HoldsThere point rows i)
 
-this_row : (point : ℕ → ℤ) (rows : List Row) (n : ℕ) (row : Row) → slice_get rows n ≡ Some row → HoldsThere point rows n → RowHolds point row
+pub this_row : (point : ℕ → ℤ) (rows : List Row) (n : ℕ) (row : Row) → slice_get rows n ≡ Some row → HoldsThere point rows n → RowHolds point row
 this_row point rows n row at h = subst (RowHolds point) (same_Some h.row row (sym h.named ∙ at)) h.holds
 
 told_true : (point : ℕ → ℤ) (row : Row) (b : Bool) → RowAnswer point row (Ok b) → b ≡ true → RowHolds point row

@@ -1,12 +1,14 @@
 -- the model's configuration with given values
-use Rattle.std.proofs.Common.{◌≡◌, ℕ, zero, suc, ◌+◌, ◌<◌, ℤ, pos, negsuc, ◌≤ℤ◌, List, [], ◌∷◌, ◌++◌, length, map, take, drop, sum, arith, sym, ap, ◌∙◌, refl, get_or, append_assoc, length-drop, unsigned_abs}
+use Rattle.std.proofs.Common.{◌≡◌, ℕ, zero, suc, ◌+◌, ◌<◌, ℤ, pos, List, [], ◌∷◌, ◌++◌, length, map, take, drop, sum, arith, sym, ap, ◌∙◌, refl, get_or, length-drop, unsigned_abs}
 use mathlib.Core.Path.{fun_ext}
 use Rattle.std.proofs.lemmas.Int.{ints}
-use Rattle.std.proofs.lemmas.List.{map-append, drop-drop, take-append-drop, length-map, length-take-le, ext_get_or}
+use Rattle.std.proofs.lemmas.List.{map-append, length-map, length-take-le}
 use Rattle.std.proofs.lemmas.List.Sums.{sum_by-cons}
+use Rattle.std.specs.List.{AllByRecursion}
+use Rattle.ta_base.proofs.Integers.{abs_natural}
+use Rattle.ta_base.proofs.Lists.{pieces, same_numbers}
 use Rattle.ta_linear.specs.Values.{point_of}
 use Rattle.ta_automaton.specs.declared.automaton.Automaton.{Automaton}
-use Rattle.ta_automaton.specs.Lists.{Each}
 use Rattle.ta_automaton.specs.Runs.{Config, value_at}
 use Rattle.ta_automaton.specs.Sums.{total}
 use Rattle.ta_automaton.specs.Places.{location_place}
@@ -15,31 +17,22 @@ use Rattle.ta_automaton.proofs.Moves.{Fits, value_at-parameter, value_at-shared,
 use Rattle.ta_counter.specs.Values.{Value}
 use Rattle.ta_counter.specs.Configs.{places_of, naturals, model_of, sum_of}
 
-pub natural_pos : (z : ℤ) → pos 0 ≤ℤ z → pos (unsigned_abs z) ≡ z
-natural_pos (pos n) h = refl
-natural_pos (negsuc n) h = absurd (omega (arith, ints))
-
-pub naturals_at : (values : List ℤ) → Each Value values → (i : ℕ) → pos (get_or (map unsigned_abs values) i 0) ≡ get_or values i (pos 0)
+pub naturals_at : (values : List ℤ) → AllByRecursion Value values → (i : ℕ) → pos (get_or (map unsigned_abs values) i 0) ≡ get_or values i (pos 0)
 naturals_at [] h i = refl
-naturals_at (z ∷ zs) h zero = natural_pos z (h.0).natural
+naturals_at (z ∷ zs) h zero = abs_natural z (h.0).natural
 naturals_at (z ∷ zs) h (suc i) = naturals_at zs h.1 i
-
-pub pieces : (p s : ℕ) (v : List ℤ) → take p v ++ take s (drop p v) ++ drop (p + s) v ≡ v
-pieces p s v =
-    rw (← drop-drop s p v)
-    (append_assoc (take p v) (take s (drop p v)) (drop s (drop p v)) ∙ ap (λ r. take p v ++ r) (take-append-drop s (drop p v)) ∙ take-append-drop p v)
 
 joined : (a b c : List ℤ) → naturals a ++ naturals b ++ naturals c ≡ naturals (a ++ b ++ c)
 joined a b c = ap (λ r. r ++ naturals c) (sym (map-append unsigned_abs a b)) ∙ sym (map-append unsigned_abs (a ++ b) c)
 
 -- the value at a place is that of the list
-pub model_at : (a : Automaton) (v : List ℤ) → Each Value v → (i : ℕ) → value_at (model_of a v) i ≡ point_of v i
+pub model_at : (a : Automaton) (v : List ℤ) → AllByRecursion Value v → (i : ℕ) → value_at (model_of a v) i ≡ point_of v i
 model_at a v h i =
     let p = length a.parameters in
     let s = length a.shared in
     ap (λ (ns : List ℕ). pos (get_or ns i 0)) (joined (take p v) (take s (drop p v)) (drop (p + s) v) ∙ ap naturals (pieces p s v)) ∙ naturals_at v h i
 
-pub model_point : (a : Automaton) (v : List ℤ) → Each Value v → value_at (model_of a v) ≡ point_of v
+pub model_point : (a : Automaton) (v : List ℤ) → AllByRecursion Value v → value_at (model_of a v) ≡ point_of v
 model_point a v h = fun_ext (model_at a v h)
 
 pub model_whole : (a : Automaton) (v : List ℤ) → length v ≡ places_of a → Whole a (model_of a v)
@@ -54,12 +47,6 @@ model_whole a v same =
 
 pub whole_fits : (a : Automaton) (c : Config) → Whole a c → Fits a c
 whole_fits a c w = record { parameters = w.parameters; shared = w.shared }
-
-pos_same : (m n : ℕ) → pos m ≡ pos n → m ≡ n
-pos_same m n e = omega (arith, ints)
-
-same_numbers : (xs ys : List ℕ) → length xs ≡ length ys → ((i : ℕ) → i < length xs → pos (get_or xs i 0) ≡ pos (get_or ys i 0)) → xs ≡ ys
-same_numbers xs ys same h = ext_get_or 0 xs ys same (λ i b. pos_same (get_or xs i 0) (get_or ys i 0) (h i b))
 
 same_parts : (p q s t k l : List ℕ) → p ≡ q → s ≡ t → k ≡ l → ◌≡◌ {A = Config} (record { parameters = p; shared = s; counters = k }) (record { parameters = q; shared = t; counters = l })
 same_parts p q s t k l e f g = rw (e, f, g) refl
@@ -78,28 +65,8 @@ same_model a c d w x h =
     sym (value_at-shared a c i f l) ∙ h (length a.parameters + i) ∙ value_at-shared a d i g l))
     (same_numbers c.counters d.counters (w.counters ∙ sym x.counters) (λ i b. sym (value_at-location a c i f) ∙ h (location_place a i) ∙ value_at-location a d i g))
 
-pub sum_naturals : (xs : List ℤ) → Each Value xs → pos (sum (naturals xs)) ≡ sum_of xs
+pub sum_naturals : (xs : List ℤ) → AllByRecursion Value xs → pos (sum (naturals xs)) ≡ sum_of xs
 unfolding total
 sum_naturals [] h = refl
 sum_naturals (z ∷ zs) h =
-    omega (arith, ints, natural_pos z (h.0).natural, sum_naturals zs h.1, sum_by-cons (λ n. n) (unsigned_abs z) (naturals zs))
-
-pub each_take : {X : Type 0} (P : X → Type 0) (n : ℕ) (xs : List X) → Each P xs → Each P (take n xs)
-each_take P zero xs h = tt
-each_take P (suc n) [] h = tt
-each_take P (suc n) (x ∷ xs) h = (h.0, each_take P n xs h.1)
-
-pub each_drop : {X : Type 0} (P : X → Type 0) (n : ℕ) (xs : List X) → Each P xs → Each P (drop n xs)
-each_drop P zero xs h = h
-each_drop P (suc n) [] h = tt
-each_drop P (suc n) (x ∷ xs) h = each_drop P n xs h.1
-
--- a property of each item, by its number
-pub each_from : (P : ℤ → Type 0) (xs : List ℤ) → ((i : ℕ) → i < length xs → P (get_or xs i (pos 0))) → Each P xs
-each_from P [] h = tt
-each_from P (x ∷ xs) h = (h 0 (omega arith), each_from P xs (λ i b. h (suc i) (omega arith)))
-
-pub each_point : (P : ℤ → Type 0) (xs : List ℤ) → Each P xs → (i : ℕ) → i < length xs → P (get_or xs i (pos 0))
-each_point P [] h i b = absurd (omega arith)
-each_point P (x ∷ xs) h zero b = h.0
-each_point P (x ∷ xs) h (suc i) b = each_point P xs h.1 i (omega arith)
+    omega (arith, ints, abs_natural z (h.0).natural, sum_naturals zs h.1, sum_by-cons (λ n. n) (unsigned_abs z) (naturals zs))

@@ -5,24 +5,23 @@ use Rattle.std.specs.Int.{w128}
 use Rattle.std.proofs.lemmas.Bool.Decides.{nat_tests, eqb_tells}
 use Rattle.std.proofs.lemmas.List.{get_or-set_same, get_or-set_other, length-set}
 use Rattle.std.proofs.Math.IntN.{*ℤ-zero}
+use Rattle.std.specs.List.{AllByRecursion}
+use Rattle.ta_base.proofs.Each.{each_drop, each_point, each_set}
+use Rattle.ta_base.proofs.Integers.{by_one, times_minus_one}
+use Rattle.ta_counter.proofs.Starting.{counter_at}
 use Rattle.ta_linear.specs.Numbers.{InRange}
 use Rattle.ta_linear.specs.Values.{point_of}
-use Rattle.ta_linear.proofs.Integers.{mul-neg}
 use Rattle.ta_automaton.specs.declared.rule.Rule.{Rule}
 use Rattle.ta_automaton.specs.declared.automaton.Automaton.{Automaton}
-use Rattle.ta_automaton.specs.Lists.{Each}
 use Rattle.ta_automaton.specs.Places.{one_if, location_place}
-use Rattle.ta_automaton.proofs.Fired.{times_one}
 use Rattle.ta_automaton.proofs.Moves.{one_if-ne}
 use Rattle.ta_counter.specs.Values.{Value}
 use Rattle.ta_counter.specs.Configs.{places_of, counters_of, sum_of}
 use Rattle.ta_counter.specs.Steps.{Enough}
-use Rattle.ta_counter.proofs.Models.{each_point, each_drop}
-use Rattle.ta_counter.proofs.Filling.{each_set}
 use Rattle.ta_counter.proofs.Adding.{range_below, item_below}
-use Rattle.ta_counter.proofs.Updating.{Within, moved_values, counters-set-sum, counter-get}
+use Rattle.ta_counter.proofs.Updating.{Within, moved_values, counters-set-sum}
 
-one_if-one : (x : ℕ) → one_if x x ≡ pos 1
+pub one_if-one : (x : ℕ) → one_if x x ≡ pos 1
 one_if-one x = grind (arith, nat_tests)
 
 -- what stays of the counter of the source fits, and so does what the counter of the target becomes
@@ -33,10 +32,10 @@ pub record MayMove (a : Automaton) (from to : ℕ) (k : ℤ) (values : List ℤ)
   pub some : pos 1 ≤ℤ k
   pub enough : k ≤ℤ point_of values (location_place a from)
   pub places : length values ≡ places_of a
-  pub natural : Each Value values
+  pub natural : AllByRecursion Value values
   pub fits : InRange (sum_of (counters_of a values))
 
-value_there : (a : Automaton) (values : List ℤ) (l : ℕ) → length values ≡ places_of a → Each Value values → l < length a.locations → Value (point_of values (location_place a l))
+value_there : (a : Automaton) (values : List ℤ) (l : ℕ) → length values ≡ places_of a → AllByRecursion Value values → l < length a.locations → Value (point_of values (location_place a l))
 value_there a values l places natural b = each_point Value values natural (location_place a l) (omega arith)
 
 pub left_value : (a : Automaton) (from to : ℕ) (k : ℤ) (values : List ℤ) → MayMove a from to k values → Value (point_of values (location_place a from) -ℤ k)
@@ -48,7 +47,7 @@ left_value a from to k values m =
       fits = range_below (point_of values (location_place a from) -ℤ k) (point_of values (location_place a from)) low (omega (arith, ints, m.some)) v.fits;
     }
 
-pub left_natural : (a : Automaton) (from to : ℕ) (k : ℤ) (values : List ℤ) → MayMove a from to k values → Each Value (set values (location_place a from) (point_of values (location_place a from) -ℤ k))
+pub left_natural : (a : Automaton) (from to : ℕ) (k : ℤ) (values : List ℤ) → MayMove a from to k values → AllByRecursion Value (set values (location_place a from) (point_of values (location_place a from) -ℤ k))
 left_natural a from to k values m = each_set Value values (location_place a from) _ m.natural (left_value a from to k values m)
 
 pub target_same : (a : Automaton) (from to : ℕ) (k : ℤ) (values : List ℤ) → MayMove a from to k values → point_of (set values (location_place a from) (point_of values (location_place a from) -ℤ k)) (location_place a to) ≡ point_of values (location_place a to)
@@ -63,14 +62,14 @@ right_value a from to k values m =
     let v = value_there a values to m.places m.natural m.to_exists in
     let left = set values (location_place a from) (point_of values (location_place a from) -ℤ k) in
     let below = item_below (counters_of a left) (each_drop Value (length a.parameters + length a.shared) left (left_natural a from to k values m)) to in
-    let at = counter-get a left to in
+    let at = counter_at a left to in
     let low : pos 0 ≤ℤ (point_of values (location_place a to) +ℤ k) = omega (arith, ints, v.natural, m.some) in
     record {
       natural = low;
       fits = range_below (point_of values (location_place a to) +ℤ k) (sum_of (counters_of a values)) low (omega (arith, ints, below, at, target_same a from to k values m, left_sum a from to k values m)) m.fits;
     }
 
-pub moved_natural : (a : Automaton) (from to : ℕ) (k : ℤ) (values : List ℤ) → MayMove a from to k values → Each Value (moved_values a from to k values)
+pub moved_natural : (a : Automaton) (from to : ℕ) (k : ℤ) (values : List ℤ) → MayMove a from to k values → AllByRecursion Value (moved_values a from to k values)
 moved_natural a from to k values m =
     each_set Value (set values (location_place a from) (point_of values (location_place a from) -ℤ k)) (location_place a to) _ (left_natural a from to k values m) (right_value a from to k values m)
 
@@ -79,9 +78,6 @@ moved_sum a from to k values m =
     let left = set values (location_place a from) (point_of values (location_place a from) -ℤ k) in
     let places : length left ≡ places_of a = length-set values (location_place a from) _ ∙ m.places in
     omega (arith, ints, counters-set-sum a left to (point_of values (location_place a to) +ℤ k) places m.to_exists, target_same a from to k values m, left_sum a from to k values m)
-
-minus_one : (k : ℤ) → (k *ℤ negsuc 0) ≡ (pos 0 -ℤ k)
-minus_one k = mul-neg k (pos 1) ∙ omega (arith, ints, times_one k)
 
 pub moved_at : (a : Automaton) (from to : ℕ) (k : ℤ) (values : List ℤ) → MayMove a from to k values → (place : ℕ) → point_of (moved_values a from to k values) place ≡ (point_of values place +ℤ (k *ℤ (one_if (location_place a to) place -ℤ one_if (location_place a from) place)))
 moved_at a from to k values m place =
@@ -95,7 +91,7 @@ moved_at a from to k values m place =
           let one = one_if-one t in
           let none = one_if-ne f t apart in
           let change : (one_if t t -ℤ one_if f t) ≡ pos 1 = omega (arith, ints) in
-          let whole : point_of (moved_values a from to k values) t ≡ (point_of values t +ℤ (k *ℤ (one_if t t -ℤ one_if f t))) = omega (arith, ints, here, ap (λ z. k *ℤ z) change, times_one k) in
+          let whole : point_of (moved_values a from to k values) t ≡ (point_of values t +ℤ (k *ℤ (one_if t t -ℤ one_if f t))) = omega (arith, ints, here, ap (λ z. k *ℤ z) change, by_one k) in
           subst (λ p. point_of (moved_values a from to k values) p ≡ (point_of values p +ℤ (k *ℤ (one_if t p -ℤ one_if f p)))) at.1 whole)
       | inr nt ↦ elim (eqb_tells f place) [
         | inl at ↦ (
@@ -104,7 +100,7 @@ moved_at a from to k values m place =
             let one = one_if-one f in
             let none = one_if-ne t f (λ e. apart (sym e)) in
             let change : (one_if t f -ℤ one_if f f) ≡ negsuc 0 = omega (arith, ints) in
-            let whole : point_of (moved_values a from to k values) f ≡ (point_of values f +ℤ (k *ℤ (one_if t f -ℤ one_if f f))) = omega (arith, ints, other, here, ap (λ z. k *ℤ z) change, minus_one k) in
+            let whole : point_of (moved_values a from to k values) f ≡ (point_of values f +ℤ (k *ℤ (one_if t f -ℤ one_if f f))) = omega (arith, ints, other, here, ap (λ z. k *ℤ z) change, times_minus_one k) in
             subst (λ p. point_of (moved_values a from to k values) p ≡ (point_of values p +ℤ (k *ℤ (one_if t p -ℤ one_if f p)))) at.1 whole)
         | inr nf ↦ (
             let other = get_or-set_other left t place (point_of values t +ℤ k) (pos 0) (λ e. nt.1 (sym e)) in
@@ -119,7 +115,7 @@ moved_at a from to k values m place =
 pub value_fits : (z : ℤ) → Value z → FitsSigned w128 z
 value_fits z v = fits_signed_from_abs w128 z v.fits
 
-pub may_move : (a : Automaton) (rule : Rule) (k : ℤ) (values : List ℤ) → rule.from ≢ rule.to → Within a rule → pos 1 ≤ℤ k → length values ≡ places_of a → Each Value values → Enough a rule k values → InRange (sum_of (counters_of a values)) → MayMove a rule.from rule.to k values
+pub may_move : (a : Automaton) (rule : Rule) (k : ℤ) (values : List ℤ) → rule.from ≢ rule.to → Within a rule → pos 1 ≤ℤ k → length values ≡ places_of a → AllByRecursion Value values → Enough a rule k values → InRange (sum_of (counters_of a values)) → MayMove a rule.from rule.to k values
 may_move a rule k values apart w some places natural enough fits = record {
   apart = apart;
   from_exists = w.from;

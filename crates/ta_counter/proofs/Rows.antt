@@ -1,6 +1,7 @@
 -- what the tests of rows and conditions say
-use Rattle.std.proofs.Common.{◌≡◌, ℕ, ℤ, Bool, true, false, List, subst, slice_get, Some, All, Ok}
-use Rattle.std.proofs.lemmas.Option.{slice_get_within, slice_get-get_or, get_or_from_slice_get}
+use Rattle.std.proofs.Common.{◌≡◌, ℕ, ℤ, Bool, true, false, List, subst, All, Ok}
+use Rattle.std.proofs.lemmas.Option.{slice_get-get_or}
+use Rattle.ta_base.proofs.Each.{all_at}
 use Rattle.ta_linear.specs.Values.{RowHolds}
 use Rattle.ta_linear.specs.declared.row.Row.{Row}
 use Rattle.ta_automaton.specs.declared.condition.Comparison.{Comparison}
@@ -19,9 +20,6 @@ rows_pass point rows b told is = subst (λ (x : Bool). RowsAnswer point rows (Ok
 
 pub rows_fail : (point : ℕ → ℤ) (rows : List Row) (b : Bool) → RowsAnswer point rows (Ok b) → b ≡ false → RowsStop point (RowFails point) rows
 rows_fail point rows b told is = subst (λ (x : Bool). RowsAnswer point rows (Ok x)) is told
-
-pub all_at : {X : Type 0} (P : X → Type 0) (xs : List X) (i : ℕ) (x : X) → All P xs → slice_get xs i ≡ Some x → P x
-all_at P xs i x all at = subst P (get_or_from_slice_get xs i x x at) (all i x (slice_get_within xs i x at))
 
 pub holds_from : (point : ℕ → ℤ) (condition : Condition) → ConditionPasses point condition → HoldsAt point condition
 holds_from point condition passes k d b i e c =

@@ -6,10 +6,12 @@ use Rattle.std.proofs.lemmas.Bool.{cases_lt}
 use Rattle.std.proofs.lemmas.Bool.Decides.{eqb_tells}
 use Rattle.std.proofs.lemmas.List.{get_or-drop, get_or-take, get_or_past}
 use Rattle.std.proofs.lemmas.Option.{slice_get-get_or, slice_get_within, same_Some}
+use Rattle.std.specs.List.{AllByRecursion}
+use Rattle.ta_base.proofs.Each.{each_drop, each_from_get_or, each_point}
 use Rattle.ta_linear.specs.Values.{point_of, value_of}
 use Rattle.ta_automaton.specs.declared.automaton.Automaton.{Automaton}
-use Rattle.ta_automaton.specs.Lists.{Each, Rises}
-use Rattle.ta_automaton.specs.Masks.{numbers_from}
+use Rattle.ta_base.specs.Lists.{Rises}
+use Rattle.ta_base.specs.Masks.{numbers_from}
 use Rattle.ta_automaton.specs.Runs.{Initial, HoldsAt, number_at}
 use Rattle.ta_automaton.specs.Sums.{total}
 use Rattle.ta_automaton.specs.Places.{location_place}
@@ -22,7 +24,7 @@ use Rattle.ta_counter.specs.Starts.{StartsAt, MayStart, StartChecked, NoStart}
 use Rattle.ta_counter.specs.declared.fault.StartFault.{StartFault}
 use Rattle.ta_counter.specs.declared.fault.StartFault.TheVariants.{Resilience, Processes, OutOfRange}
 use Rattle.ta_counter.proofs.Rows.{holds_from, fails_from}
-use Rattle.ta_counter.proofs.Models.{naturals_at, model_at, model_whole, whole_fits, sum_naturals, each_drop, each_from, each_point}
+use Rattle.ta_counter.proofs.Models.{naturals_at, model_at, model_whole, whole_fits, sum_naturals}
 
 abbrev pub NotIn : List ℕ → ℕ → Type 0
 NotIn ls l = (j : ℕ) → slice_get ls j ≡ Some l → ⊥
@@ -31,11 +33,6 @@ below_all : (low high : ℕ) (ls : List ℕ) → Rises low high ls → (l : ℕ)
 below_all low high [] h l b j e = absurd (cc)
 below_all low high (x ∷ ls) h l b zero e = let same : x ≡ l = cc in absurd (let low_is = h.0 in omega arith)
 below_all low high (x ∷ ls) h l b (suc j) e = below_all (x + 1) high ls h.2 l (let low_is = h.0 in omega arith) j e
-
-pub rises_within : (low high : ℕ) (ls : List ℕ) → Rises low high ls → (j l : ℕ) → slice_get ls j ≡ Some l → (low ≤ l) × (l < high)
-rises_within low high [] h j l e = absurd (cc)
-rises_within low high (x ∷ ls) h zero l e = let same : x ≡ l = cc in (let a = h.0 in omega arith, let b = h.1 in omega arith)
-rises_within low high (x ∷ ls) h (suc j) l e = let w = rises_within (x + 1) high ls h.2 j l e in (let a = h.0 in let b = w.0 in omega arith, w.1)
 
 -- a function that has given values at rising places, and is 0 elsewhere, adds up to them
 placed_sum : (f : ℕ → ℤ) (low n : ℕ) (ls : List ℕ) (cs : List ℤ) → Rises low (low + n) ls → length cs ≡ length ls → ((j l : ℕ) → slice_get ls j ≡ Some l → f l ≡ get_or cs j (pos 0)) → ((l : ℕ) → low ≤ l → NotIn ls l → f l ≡ pos 0) → total f (numbers_from low n) ≡ sum_of cs
@@ -118,11 +115,11 @@ starts_of a parameters counts values same s may =
     }
 
 -- the model's parameters
-parameter_points : (a : Automaton) (parameters counts values : List ℤ) → Each Value parameters → StartsAt a parameters counts values → number_at (model_of a values).parameters ≡ point_of parameters
+parameter_points : (a : Automaton) (parameters counts values : List ℤ) → AllByRecursion Value parameters → StartsAt a parameters counts values → number_at (model_of a values).parameters ≡ point_of parameters
 parameter_points a parameters counts values n s =
     fun_ext (λ i. ap (λ (ps : List ℤ). pos (get_or (naturals ps) i 0)) s.parameters_first ∙ naturals_at parameters n i)
 
-pub starts_initial : (a : Automaton) (parameters counts values : List ℤ) → length counts ≡ length a.initial → Each Value parameters → Each Value values → StartsAt a parameters counts values → MayStart a parameters counts → Initial a (model_of a values)
+pub starts_initial : (a : Automaton) (parameters counts values : List ℤ) → length counts ≡ length a.initial → AllByRecursion Value parameters → AllByRecursion Value values → StartsAt a parameters counts values → MayStart a parameters counts → Initial a (model_of a values)
 starts_initial a parameters counts values same n e s may =
     let whole = model_whole a values s.places in
     let fits = whole_fits a (model_of a values) whole in
@@ -163,8 +160,8 @@ zero_value : Value (pos 0)
 zero_value = record { natural = omega (arith, ints); fits = omega arith }
 
 -- values that start so are natural and in range
-pub starts_natural : (a : Automaton) (parameters counts values : List ℤ) → length parameters ≡ length a.parameters → length counts ≡ length a.initial → Each Value parameters → Each Value counts → StartsAt a parameters counts values → Each Value values
-starts_natural a parameters counts values many same n m s = each_from Value values (λ i b. elim (place_cases a i) [
+pub starts_natural : (a : Automaton) (parameters counts values : List ℤ) → length parameters ≡ length a.parameters → length counts ≡ length a.initial → AllByRecursion Value parameters → AllByRecursion Value counts → StartsAt a parameters counts values → AllByRecursion Value values
+starts_natural a parameters counts values many same n m s = each_from_get_or Value values (λ i b. elim (place_cases a i) [
   | inl p ↦ subst Value (sym (first_points a parameters counts values s i p)) (each_point Value parameters n i (omega arith))
   | inr (inl w) ↦ subst Value (sym (ap (point_of values) w.2 ∙ s.shared_zero w.0 w.1)) zero_value
   | inr (inr w) ↦ elim (in_or_not a.initial w.0) [
@@ -174,7 +171,7 @@ starts_natural a parameters counts values many same n m s = each_from Value valu
 ])
 
 -- a configuration that isn't initial
-pub no_start : (a : Automaton) (parameters counts : List ℤ) (fault : StartFault) → length parameters ≡ length a.parameters → length counts ≡ length a.initial → Each Value parameters → Each Value counts → StartChecked a parameters counts (Err fault) → NoStart a parameters counts fault
+pub no_start : (a : Automaton) (parameters counts : List ℤ) (fault : StartFault) → length parameters ≡ length a.parameters → length counts ≡ length a.initial → AllByRecursion Value parameters → AllByRecursion Value counts → StartChecked a parameters counts (Err fault) → NoStart a parameters counts fault
 no_start a parameters counts (Resilience k) many same n m stop = λ values s initial.
     fails_from (point_of parameters) a.resilience k stop (subst (λ (f : ℕ → ℤ). HoldsAt f a.resilience) (parameter_points a parameters counts values n s) initial.admissible.resilience)
 no_start a parameters counts Processes many same n m other = λ values s initial.

@@ -1,21 +1,19 @@
 -- the checks of a step, and the steps of the model
-use Rattle.std.proofs.Common.{◌≡◌, inl, inr, ℕ, zero, suc, ◌+◌, ◌<◌, ℤ, pos, negsuc, ◌+ℤ◌, ◌-ℤ◌, ◌*ℤ◌, ◌≤ℤ◌, List, ◌++◌, length, take, drop, eqb, cond, unsigned_abs, arith, sym, ap, ◌∙◌, subst, slice_get, Some, FitsSigned, length-drop}
+use Rattle.std.proofs.Common.{◌≡◌, inl, inr, ℕ, zero, suc, ◌+◌, ◌<◌, ℤ, pos, negsuc, ◌+ℤ◌, ◌-ℤ◌, ◌*ℤ◌, ◌≤ℤ◌, List, length, eqb, cond, unsigned_abs, arith, sym, ap, ◌∙◌, subst, slice_get, Some, length-drop}
 use Rattle.std.proofs.lemmas.Int.{ints}
-use Rattle.std.specs.Int.{w128}
-use Rattle.std.proofs.lemmas.List.{take_at, ext_get_or, get_or-drop}
+use Rattle.std.proofs.lemmas.List.{ext_get_or, get_or-drop}
 use Rattle.std.proofs.Math.IntN.{*ℤ-zero}
+use Rattle.std.specs.List.{AllByRecursion}
+use Rattle.ta_base.proofs.Each.{each_at, each_point}
+use Rattle.ta_base.proofs.Integers.{distributes, minus_times, mul-ge-zero, one_times}
 use Rattle.ta_linear.specs.Values.{point_of, RowHolds}
-use Rattle.ta_linear.proofs.Integers.{distributes, minus_times}
-use Rattle.ta_linear.proofs.Signs.{mul-ge-zero}
 use Rattle.ta_automaton.specs.declared.rule.Rule.{Rule}
 use Rattle.ta_automaton.specs.declared.automaton.Automaton.{Automaton}
-use Rattle.ta_automaton.specs.Lists.{Each}
 use Rattle.ta_automaton.specs.Runs as runs
 use Rattle.ta_automaton.specs.Runs.{value_at, MaskedHold}
 use Rattle.ta_automaton.specs.Shape.{Update}
 use Rattle.ta_automaton.specs.Places.{one_if, location_place, shared_change, rule_change}
-use Rattle.ta_automaton.proofs.Sums.{one_times}
-use Rattle.ta_automaton.proofs.Thresholds.{each_at, form_same}
+use Rattle.ta_automaton.proofs.Thresholds.{form_same}
 use Rattle.ta_automaton.proofs.Moves.{one_if-ne, shared_change-parameter, shared_change-location}
 use Rattle.ta_counter.specs.declared.config.Config.{Config}
 use Rattle.ta_counter.specs.declared.fault.StepFault.{StepFault}
@@ -24,19 +22,11 @@ use Rattle.ta_counter.specs.Values.{Value}
 use Rattle.ta_counter.specs.Configs.{places_of, counters_of, sum_of, model_of, AreOf}
 use Rattle.ta_counter.specs.Guards.{MaskedPass}
 use Rattle.ta_counter.specs.Inside.Guards.{GuardFault}
-use Rattle.ta_counter.specs.Steps.{Fires, Enough, Grows, AllGrow, LeavesAt, shifted, before_last, StepFails, Taken, NoSteps}
-use Rattle.ta_counter.proofs.Models.{model_at, model_point, model_whole, whole_fits, same_model, each_point}
+use Rattle.ta_counter.specs.Steps.{Fires, Enough, Grows, AllGrow, UpdateOutOfRange, shifted, before_last, StepFails, StepIsTaken, NoSteps}
+use Rattle.ta_counter.proofs.Models.{model_at, model_point, model_whole, whole_fits, same_model}
 use Rattle.ta_counter.proofs.Adding.{range_below}
 use Rattle.ta_counter.proofs.Updating.{Within}
 use Rattle.ta_counter.proofs.Firing.{EnoughAt, after_updates, fall_agree, fire_times, Checked, steps_checked}
-
--- what a slice of the whole list leaves of it
-pub front_back : (old new : List ℤ) → length new ≡ length old → take (length old) (new ++ drop (length new) old) ≡ new
-front_back old new same = take_at new (drop (length new) old) (length old) same
-
-pub twice_back : (old new newer rest : List ℤ) → length new ≡ length old → length newer ≡ length old → take (length (take (length old) (new ++ drop (length new) old))) (newer ++ rest) ≡ newer
-twice_back old new newer rest same also =
-    take_at newer rest (length (take (length old) (new ++ drop (length new) old))) (also ∙ sym same ∙ sym (ap (λ (xs : List ℤ). length xs) (front_back old new same)))
 
 less_grows : (a : Automaton) (values : List ℤ) (factor : ℤ) (u : ℕ × ℤ) → pos 1 ≤ℤ factor → pos 1 ≤ℤ u.1 → pos 0 ≤ℤ point_of values (length a.parameters + u.0) → Grows a values factor u → Grows a values (factor -ℤ pos 1) u
 less_grows a values factor u some least natural g =
@@ -48,13 +38,13 @@ less_grows a values factor u some least natural g =
     }
 
 -- no number of one firing less leaves the range
-pub no_leave : (a : Automaton) (rule : Rule) (factor : ℤ) (values : List ℤ) (place : ℕ) → Within a rule → pos 1 ≤ℤ factor → length values ≡ places_of a → Each Value values → AllGrow a rule factor values → LeavesAt a rule (factor -ℤ pos 1) values place → ⊥
+pub no_leave : (a : Automaton) (rule : Rule) (factor : ℤ) (values : List ℤ) (place : ℕ) → Within a rule → pos 1 ≤ℤ factor → length values ≡ places_of a → AllByRecursion Value values → AllGrow a rule factor values → UpdateOutOfRange a rule (factor -ℤ pos 1) values place → ⊥
 no_leave a rule factor values place w some places natural grow l =
     let u = l.first.item in
     let update = each_at (Update (length a.shared)) rule.updates l.number u w.updates l.first.at in
     l.first.bad (less_grows a values factor u some update.least (each_point Value values natural (length a.parameters + u.0) (omega (arith, update.exists))).natural (grow l.number u l.first.at))
 
-pub updates_fail : (a : Automaton) (rule : Rule) (factor : ℤ) (values : List ℤ) (fault : StepFault) → Enough a rule factor values → ((place : ℕ) × (fault ≡ OutOfRange place) × LeavesAt a rule factor values place) → StepFails a rule factor values fault
+pub updates_fail : (a : Automaton) (rule : Rule) (factor : ℤ) (values : List ℤ) (fault : StepFault) → Enough a rule factor values → ((place : ℕ) × (fault ≡ OutOfRange place) × UpdateOutOfRange a rule factor values place) → StepFails a rule factor values fault
 updates_fail a rule factor values fault enough h = subst (StepFails a rule factor values) (sym h.1) (enough, inl h.2)
 
 pub guards_fail : (a : Automaton) (rule : Rule) (factor : ℤ) (values : List ℤ) (last : ℕ → ℤ) (fault : StepFault) → Enough a rule factor values → AllGrow a rule factor values → last ≡ before_last a rule factor values → GuardFault a rule (point_of values) last fault → StepFails a rule factor values fault
@@ -82,7 +72,7 @@ counters_after a rule factor values after count is =
 abbrev pub GuardsAt : Automaton → Rule → List ℤ → (ℕ → ℤ) → Type 0
 GuardsAt a rule values last = MaskedPass (point_of values) rule.rise a.rise × MaskedPass last rule.fall a.fall
 
-pub taken : (a : Automaton) (rule : Rule) (factor : ℤ) (values middle after : List ℤ) (last : ℕ → ℤ) → Enough a rule factor values → AllGrow a rule factor values → last ≡ before_last a rule factor values → GuardsAt a rule values last → length after ≡ length values → ((place : ℕ) → point_of middle place ≡ shifted a rule factor values place) → ((place : ℕ) → point_of after place ≡ (point_of middle place +ℤ (factor *ℤ (one_if (location_place a rule.to) place -ℤ one_if (location_place a rule.from) place)))) → Taken a rule factor values after
+pub taken : (a : Automaton) (rule : Rule) (factor : ℤ) (values middle after : List ℤ) (last : ℕ → ℤ) → Enough a rule factor values → AllGrow a rule factor values → last ≡ before_last a rule factor values → GuardsAt a rule values last → length after ≡ length values → ((place : ℕ) → point_of middle place ≡ shifted a rule factor values place) → ((place : ℕ) → point_of after place ≡ (point_of middle place +ℤ (factor *ℤ (one_if (location_place a rule.to) place -ℤ one_if (location_place a rule.from) place)))) → StepIsTaken a rule factor values after
 taken a rule factor values middle after last enough grow same guards count shift move = record {
   enough = enough;
   grow = grow;
@@ -94,14 +84,14 @@ taken a rule factor values middle after last enough grow same guards count shift
   changed = λ place. omega (arith, ints, move place, shift place, distributes factor (shared_change a rule place) (one_if (location_place a rule.to) place -ℤ one_if (location_place a rule.from) place));
 }
 
-parameter_kept : (a : Automaton) (rule : Rule) (factor : ℤ) (values after : List ℤ) → Taken a rule factor values after → (i : ℕ) → i < length a.parameters → point_of values i ≡ point_of after i
+parameter_kept : (a : Automaton) (rule : Rule) (factor : ℤ) (values after : List ℤ) → StepIsTaken a rule factor values after → (i : ℕ) → i < length a.parameters → point_of values i ≡ point_of after i
 parameter_kept a rule factor values after t i b =
     let to = one_if-ne (location_place a rule.to) i (λ e. omega arith) in
     let from = one_if-ne (location_place a rule.from) i (λ e. omega arith) in
     let none : rule_change a (Some rule) i ≡ pos 0 = omega (arith, ints, to, from, shared_change-parameter a rule i b) in
     omega (arith, ints, t.changed i, ap (λ z. factor *ℤ z) none, *ℤ-zero factor)
 
-pub of_after : (a : Automaton) (rule : Rule) (factor : ℤ) (values after : List ℤ) → AreOf a values → Taken a rule factor values after → sum_of (counters_of a after) ≡ sum_of (counters_of a values) → AreOf a after
+pub of_after : (a : Automaton) (rule : Rule) (factor : ℤ) (values after : List ℤ) → AreOf a values → StepIsTaken a rule factor values after → sum_of (counters_of a after) ≡ sum_of (counters_of a values) → AreOf a after
 of_after a rule factor values after are t sum = record {
   places = t.places ∙ are.places;
   add_up = sum ∙ are.add_up ∙ form_same (point_of values) (point_of after) (length a.parameters) a.processes a.shape.processes_over (parameter_kept a rule factor values after t);
@@ -109,19 +99,19 @@ of_after a rule factor values after are t sum = record {
 }
 
 -- the checks in the model
-model_enough : (a : Automaton) (rule : Rule) (factor : ℤ) (values : List ℤ) → Each Value values → Enough a rule factor values → EnoughAt a rule factor (value_at (model_of a values))
+model_enough : (a : Automaton) (rule : Rule) (factor : ℤ) (values : List ℤ) → AllByRecursion Value values → Enough a rule factor values → EnoughAt a rule factor (value_at (model_of a values))
 model_enough a rule factor values n h = subst (λ (f : ℕ → ℤ). EnoughAt a rule factor f) (sym (model_point a values n)) h
 
-enough_model : (a : Automaton) (rule : Rule) (factor : ℤ) (values : List ℤ) → Each Value values → EnoughAt a rule factor (value_at (model_of a values)) → Enough a rule factor values
+enough_model : (a : Automaton) (rule : Rule) (factor : ℤ) (values : List ℤ) → AllByRecursion Value values → EnoughAt a rule factor (value_at (model_of a values)) → Enough a rule factor values
 enough_model a rule factor values n h = subst (λ (f : ℕ → ℤ). EnoughAt a rule factor f) (model_point a values n) h
 
-last_point : (a : Automaton) (rule : Rule) (k : ℕ) (values : List ℤ) → Each Value values → (i : ℕ) → before_last a rule (pos (suc k)) values i ≡ after_updates a rule k (value_at (model_of a values)) i
+last_point : (a : Automaton) (rule : Rule) (k : ℕ) (values : List ℤ) → AllByRecursion Value values → (i : ℕ) → before_last a rule (pos (suc k)) values i ≡ after_updates a rule k (value_at (model_of a values)) i
 last_point a rule k values n i =
     let one : (pos (suc k) -ℤ pos 1) ≡ pos k = omega (arith, ints) in
     omega (arith, ints, model_at a values n i, ap (λ z. z *ℤ shared_change a rule i) one)
 
 -- a step that no check refuses is so many steps of the model
-pub taken_fires : (a : Automaton) (r : ℕ) (rule : Rule) (factor : ℤ) (values after : List ℤ) → slice_get a.rules r ≡ Some rule → pos 1 ≤ℤ factor → Each Value values → AreOf a values → Each Value after → Taken a rule factor values after → Fires a r (unsigned_abs factor) (model_of a values) (model_of a after)
+pub taken_fires : (a : Automaton) (r : ℕ) (rule : Rule) (factor : ℤ) (values after : List ℤ) → slice_get a.rules r ≡ Some rule → pos 1 ≤ℤ factor → AllByRecursion Value values → AreOf a values → AllByRecursion Value after → StepIsTaken a rule factor values after → Fires a r (unsigned_abs factor) (model_of a values) (model_of a after)
 taken_fires a r rule (pos zero) values after named some n are m t = absurd (omega (arith, ints))
 taken_fires a r rule (negsuc k) values after named some n are m t = absurd (omega (arith, ints))
 taken_fires a r rule (pos (suc k)) values after named some n are m t =
@@ -138,7 +128,7 @@ checked_at a r rule k values d named are f =
     steps_checked a r rule named k (model_of a values) f.later (whole_fits a (model_of a values) (model_whole a values are.places)) f.steps
 
 -- a step that a count or a guard refuses isn't so many steps of the model
-refused_values : (a : Automaton) (r : ℕ) (rule : Rule) (k : ℕ) (values : List ℤ) (d : runs.Config) → slice_get a.rules r ≡ Some rule → Each Value values → AreOf a values → Fires a r (suc k) (model_of a values) d → (guard : ℕ) → StepFails a rule (pos (suc k)) values (Guard guard) → ⊥
+refused_values : (a : Automaton) (r : ℕ) (rule : Rule) (k : ℕ) (values : List ℤ) (d : runs.Config) → slice_get a.rules r ≡ Some rule → AllByRecursion Value values → AreOf a values → Fires a r (suc k) (model_of a values) d → (guard : ℕ) → StepFails a rule (pos (suc k)) values (Guard guard) → ⊥
 refused_values a r rule k values d named n are f guard h =
     let checked = checked_at a r rule k values d named are f in
     elim h.2 [
@@ -158,6 +148,3 @@ no_steps a r rule (pos (suc k)) c Count named some are h = λ d f.
 no_steps a r rule (pos zero) c (Guard guard) named some are h = absurd (omega (arith, ints))
 no_steps a r rule (negsuc k) c (Guard guard) named some are h = absurd (omega (arith, ints))
 no_steps a r rule (pos (suc k)) c (Guard guard) named some are h = λ d f. refused_values a r rule k c.values.items d named c.natural are f guard h
-
-pub less_fits : (z : ℤ) → pos 1 ≤ℤ z → FitsSigned w128 z → FitsSigned w128 (z -ℤ pos 1)
-less_fits z some fits = first_of (omega (arith, ints), grind (arith, ints))

@@ -2,27 +2,27 @@
 use Rattle.std.proofs.Common.{◌≡◌, ◌≢◌, inl, inr, ℕ, zero, suc, ◌+◌, ◌<◌, ◌≤◌, ℤ, pos, ◌+ℤ◌, ◌-ℤ◌, ◌*ℤ◌, ◌≤ℤ◌, List, [], ◌∷◌, ◌++◌, length, map, take, set, eqb, cond, arith, sym, ap, ◌∙◌, refl, subst, get_or, slice_get, Some, length-drop}
 use Rattle.std.proofs.lemmas.Int.{ints}
 use Rattle.std.proofs.lemmas.Bool.Decides.{eqb_tells}
-use Rattle.std.proofs.lemmas.List.{get_or-set_same, get_or-set_other, length-set, take_more, take_all, drop-set-add, get_or-drop}
+use Rattle.std.proofs.lemmas.List.{get_or-set_same, get_or-set_other, length-set, take_more, take_all, drop-set-add}
 use Rattle.std.proofs.lemmas.Option.{get_or_from_slice_get, slice_get_within}
 use Rattle.std.proofs.Math.IntN.{*ℤ-zero}
+use Rattle.std.specs.List.{AllByRecursion}
+use Rattle.ta_base.proofs.Each.{each_at, each_point, each_set}
+use Rattle.ta_base.proofs.Integers.{mul-ge-zero}
+use Rattle.ta_base.proofs.Lists.{PassedTo, all_passed, none_passed, one_passed}
+use Rattle.ta_counter.proofs.Starting.{counter_at}
 use Rattle.ta_linear.specs.Numbers.{InRange}
 use Rattle.ta_linear.specs.Terms.{coefficient}
 use Rattle.ta_linear.specs.Values.{point_of}
-use Rattle.ta_linear.proofs.Signs.{mul-ge-zero}
 use Rattle.ta_automaton.specs.declared.rule.Rule.{Rule}
 use Rattle.ta_automaton.specs.declared.automaton.Automaton.{Automaton}
-use Rattle.ta_automaton.specs.Lists.{Each, Distinct}
+use Rattle.ta_base.specs.Lists.{Distinct}
 use Rattle.ta_automaton.specs.Shape.{Update, RuleWithin, variable_of}
 use Rattle.ta_automaton.specs.Places.{location_place, shared_change}
 use Rattle.ta_automaton.specs.Sums.{total}
-use Rattle.ta_automaton.proofs.Thresholds.{each_at}
 use Rattle.ta_automaton.proofs.Moves.{place_cases, shared_change-parameter, shared_change-shared, shared_change-location}
 use Rattle.ta_counter.specs.Values.{Value}
 use Rattle.ta_counter.specs.Configs.{places_of, counters_of, sum_of}
-use Rattle.ta_counter.specs.Steps.{Grows, AllGrow, LeavesAt, shifted}
-use Rattle.ta_counter.proofs.Passing.{PassedTo, none_passed, one_passed, all_passed}
-use Rattle.ta_counter.proofs.Models.{each_point}
-use Rattle.ta_counter.proofs.Filling.{each_set}
+use Rattle.ta_counter.specs.Steps.{Grows, AllGrow, UpdateOutOfRange, shifted}
 
 -- the rule's parts exist in the automaton
 abbrev pub Within : Automaton → Rule → Type 0
@@ -38,7 +38,7 @@ coefficient-next ts i t y at =
     ∙ ap (λ u. coefficient (take i ts ++ u ∷ []) y) (get_or_from_slice_get ts i t t at)
     ∙ coefficient-push (take i ts) t y
 
-other_variable : (x : ℕ) (ts : List (ℕ × ℤ)) (i : ℕ) (t : ℕ × ℤ) → Each (λ y. x ≡ y → ⊥) (map variable_of ts) → slice_get ts i ≡ Some t → x ≡ t.0 → ⊥
+other_variable : (x : ℕ) (ts : List (ℕ × ℤ)) (i : ℕ) (t : ℕ × ℤ) → AllByRecursion (λ y. x ≡ y → ⊥) (map variable_of ts) → slice_get ts i ≡ Some t → x ≡ t.0 → ⊥
 other_variable x [] i t h at e = absurd (cc)
 other_variable x (u ∷ ts) zero t h at e = h.0 (let same : u ≡ t = cc in e ∙ sym (ap variable_of same))
 other_variable x (u ∷ ts) (suc i) t h at e = other_variable x ts i t h.1 at e
@@ -56,12 +56,12 @@ coefficient-before (u ∷ ts) (suc i) t h at =
 pub record Updating (a : Automaton) (rule : Rule) (times : ℤ) (old values : List ℤ) (i : ℕ) : Type 0 where
   pub passed : PassedTo (λ j update. Grows a old times update) rule.updates i
   pub places : length values ≡ places_of a
-  pub natural : Each Value values
+  pub natural : AllByRecursion Value values
   pub parameters : (x : ℕ) → x < length a.parameters → point_of values x ≡ point_of old x
   pub shared : (x : ℕ) → x < length a.shared → point_of values (length a.parameters + x) ≡ (point_of old (length a.parameters + x) +ℤ (times *ℤ coefficient (take i rule.updates) x))
   pub locations : (l : ℕ) → point_of values (location_place a l) ≡ point_of old (location_place a l)
 
-pub update_start : (a : Automaton) (rule : Rule) (times : ℤ) (old : List ℤ) → length old ≡ places_of a → Each Value old → Updating a rule times old old 0
+pub update_start : (a : Automaton) (rule : Rule) (times : ℤ) (old : List ℤ) → length old ≡ places_of a → AllByRecursion Value old → Updating a rule times old old 0
 update_start a rule times old places natural = record {
   passed = none_passed (λ j update. Grows a old times update) rule.updates;
   places = places;
@@ -116,7 +116,7 @@ update_next a rule times old values i place u v w more h at here product sum is 
       locations = λ l. get_or-set_other values place (location_place a l) v (pos 0) (λ e. omega arith) ∙ h.locations l;
     }
 
-pub update_leaves : (a : Automaton) (rule : Rule) (times : ℤ) (old values : List ℤ) (i place : ℕ) (u : ℕ × ℤ) → Within a rule → Updating a rule times old values i → slice_get rule.updates i ≡ Some u → place ≡ length a.parameters + u.0 → ¬ (InRange (times *ℤ u.1) × InRange (get_or values place (pos 0) +ℤ (times *ℤ u.1))) → LeavesAt a rule times old place
+pub update_leaves : (a : Automaton) (rule : Rule) (times : ℤ) (old values : List ℤ) (i place : ℕ) (u : ℕ × ℤ) → Within a rule → Updating a rule times old values i → slice_get rule.updates i ≡ Some u → place ≡ length a.parameters + u.0 → ¬ (InRange (times *ℤ u.1) × InRange (get_or values place (pos 0) +ℤ (times *ℤ u.1))) → UpdateOutOfRange a rule times old place
 update_leaves a rule times old values i place u w h at here leaves =
     let was : get_or values place (pos 0) ≡ point_of old (length a.parameters + u.0) = ap (point_of values) here ∙ untouched a rule times old values i u w h at in
     record {
@@ -163,10 +163,7 @@ moved_values a from to k values =
 counters-set : (a : Automaton) (values : List ℤ) (l : ℕ) (v : ℤ) → counters_of a (set values (location_place a l) v) ≡ set (counters_of a values) l v
 counters-set a values l v = drop-set-add (length a.parameters + length a.shared) values l v
 
-pub counter-get : (a : Automaton) (values : List ℤ) (l : ℕ) → get_or (counters_of a values) l (pos 0) ≡ point_of values (location_place a l)
-counter-get a values l = get_or-drop (length a.parameters + length a.shared) values l (pos 0)
-
 pub counters-set-sum : (a : Automaton) (values : List ℤ) (l : ℕ) (v : ℤ) → length values ≡ places_of a → l < length a.locations → sum_of (counters_of a (set values (location_place a l) v)) ≡ ((sum_of (counters_of a values) +ℤ v) -ℤ point_of values (location_place a l))
 counters-set-sum a values l v places b =
     let within : l < length (counters_of a values) = omega (arith, length-drop (length a.parameters + length a.shared) values) in
-    ap sum_of (counters-set a values l v) ∙ sum-set (counters_of a values) l v within ∙ ap (λ z. (sum_of (counters_of a values) +ℤ v) -ℤ z) (counter-get a values l)
+    ap sum_of (counters-set a values l v) ∙ sum-set (counters_of a values) l v within ∙ ap (λ z. (sum_of (counters_of a values) +ℤ v) -ℤ z) (counter_at a values l)

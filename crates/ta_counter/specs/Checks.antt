@@ -1,5 +1,6 @@
 -- Checks in order, and the rows of conditions and guards as checks (this project's profile)
 use Rattle.std.specs.Prelude.{ℕ, ℤ, ◌<◌, ◌≡◌, Bool, true, false, List, slice_get, Option, Some, None, Result, Ok, Err}
+use Rattle.std.specs.List.{AllByRecursion}
 use Rattle.ta_linear.specs.Terms.{IsNormal}
 use Rattle.ta_linear.specs.Sums.{StaysInRange}
 use Rattle.ta_linear.specs.Values.{RowHolds}
@@ -7,7 +8,6 @@ use Rattle.ta_linear.specs.declared.row.Row.{Row}
 use Rattle.ta_linear.specs.declared.fault.OutOfRange.{OutOfRange}
 use Rattle.ta_automaton.specs.declared.condition.Comparison.{Comparison}
 use Rattle.ta_automaton.specs.declared.condition.Condition.{Condition}
-use Rattle.ta_automaton.specs.Lists.{Each}
 
 -- each item passes, its number being known
 abbrev pub AllPass : {X : Type 0} → (ℕ → X → Type 0) → List X → Type 0
@@ -31,14 +31,14 @@ pub record RowFails (point : ℕ → ℤ) (row : Row) : Type 0 where
   pub fails : ¬ RowHolds point row
 
 -- a row with a product or a partial sum that leaves the range
-abbrev pub RowLeaves : (ℕ → ℤ) → Row → Type 0
-RowLeaves point row = ¬ StaysInRange point row.form.constant row.form.terms
+abbrev pub RowOutOfRange : (ℕ → ℤ) → Row → Type 0
+RowOutOfRange point row = ¬ StaysInRange point row.form.constant row.form.terms
 
 -- what the test of a row answers
 abbrev pub RowAnswer : (ℕ → ℤ) → Row → Result Bool OutOfRange → Type 0
 RowAnswer point row (Ok true) = RowPasses point row
 RowAnswer point row (Ok false) = RowFails point row
-RowAnswer point row (Err fault) = RowLeaves point row
+RowAnswer point row (Err fault) = RowOutOfRange point row
 
 -- each row passes
 abbrev pub RowsPass : (ℕ → ℤ) → List Row → Type 0
@@ -52,7 +52,7 @@ RowsStop point Bad rows = (k : ℕ) × StopsAt (λ j row. RowPasses point row) (
 abbrev pub RowsAnswer : (ℕ → ℤ) → List Row → Result Bool OutOfRange → Type 0
 RowsAnswer point rows (Ok true) = RowsPass point rows
 RowsAnswer point rows (Ok false) = RowsStop point (RowFails point) rows
-RowsAnswer point rows (Err fault) = RowsStop point (RowLeaves point) rows
+RowsAnswer point rows (Err fault) = RowsStop point (RowOutOfRange point) rows
 
 -- each row of each comparison passes
 abbrev pub ConditionPasses : (ℕ → ℤ) → Condition → Type 0
@@ -67,11 +67,11 @@ ConditionStopsAt point Bad condition k =
 abbrev pub FirstFalse : (ℕ → ℤ) → Condition → Result (Option ℕ) OutOfRange → Type 0
 FirstFalse point condition (Ok None) = ConditionPasses point condition
 FirstFalse point condition (Ok (Some k)) = ConditionStopsAt point (RowFails point) condition k
-FirstFalse point condition (Err fault) = (k : ℕ) × ConditionStopsAt point (RowLeaves point) condition k
+FirstFalse point condition (Err fault) = (k : ℕ) × ConditionStopsAt point (RowOutOfRange point) condition k
 
 -- rows, and conditions, over the first places alone
 abbrev pub RowsOver : ℕ → List Row → Type 0
-RowsOver places rows = Each (λ (row : Row). IsNormal 0 places row.form.terms) rows
+RowsOver places rows = AllByRecursion (λ (row : Row). IsNormal 0 places row.form.terms) rows
 
 abbrev pub Over : ℕ → Condition → Type 0
-Over places condition = Each (λ (comparison : Comparison). RowsOver places comparison.rows) condition.comparisons
+Over places condition = AllByRecursion (λ (comparison : Comparison). RowsOver places comparison.rows) condition.comparisons

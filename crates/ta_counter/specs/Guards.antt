@@ -3,10 +3,7 @@ use Rattle.std.specs.Prelude.{ℕ, ℤ, ◌+◌, ◌≡◌, ◌⊎◌, List, len
 use Rattle.ta_linear.specs.declared.row.Row.{Row}
 use Rattle.ta_automaton.specs.declared.rule.Rule.{Rule}
 use Rattle.ta_automaton.specs.declared.automaton.Automaton.{Automaton}
-use Rattle.ta_counter.specs.declared.fault.StepFault.{StepFault}
-use Rattle.ta_counter.specs.declared.fault.StepFault.TheVariants.{Count, OutOfRange, Guard}
-use Rattle.ta_counter.specs.Configs.{places_of}
-use Rattle.ta_counter.specs.Checks.{AllPass, StopsAt, RowPasses, RowFails, RowLeaves}
+use Rattle.ta_counter.specs.Checks.{AllPass, StopsAt, RowPasses}
 
 -- each row that a mask names passes
 abbrev pub MaskedPass : (ℕ → ℤ) → ℕ → List Row → Type 0

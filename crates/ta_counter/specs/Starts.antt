@@ -10,7 +10,7 @@ use Rattle.ta_counter.specs.declared.config.Config.{Config}
 use Rattle.ta_counter.specs.declared.fault.StartFault.{StartFault}
 use Rattle.ta_counter.specs.declared.fault.StartFault.TheVariants.{Resilience, Processes, OutOfRange}
 use Rattle.ta_counter.specs.Configs.{places_of, sum_of, model_of}
-use Rattle.ta_counter.specs.Checks.{RowFails, RowLeaves, ConditionPasses, ConditionStopsAt}
+use Rattle.ta_counter.specs.Checks.{RowFails, RowOutOfRange, ConditionPasses, ConditionStopsAt}
 
 -- these parameters, these counts at the initial locations in order, and 0 elsewhere
 pub record StartsAt (a : Automaton) (parameters counts values : List ℤ) : Type 0 where
@@ -39,16 +39,16 @@ pub record OtherSum (a : Automaton) (parameters counts : List ℤ) : Type 0 wher
   pub differ : value_of (point_of parameters) a.processes ≢ sum_of counts
 
 -- a comparison on the way leaves the range; or the condition holds, and the number of processes or the sum of the counts leaves it
-abbrev pub StartLeaves : Automaton → List ℤ → List ℤ → Type 0
-StartLeaves a parameters counts =
-    ((k : ℕ) × ConditionStopsAt (point_of parameters) (RowLeaves (point_of parameters)) a.resilience k)
+abbrev pub StartOutOfRange : Automaton → List ℤ → List ℤ → Type 0
+StartOutOfRange a parameters counts =
+    ((k : ℕ) × ConditionStopsAt (point_of parameters) (RowOutOfRange (point_of parameters)) a.resilience k)
     ⊎ (ConditionPasses (point_of parameters) a.resilience × (¬ ProcessesStay a parameters ⊎ ¬ InRange (sum_of counts)))
 
 -- the first check that fails
 abbrev pub StartFails : Automaton → List ℤ → List ℤ → StartFault → Type 0
 StartFails a parameters counts (Resilience k) = ConditionStopsAt (point_of parameters) (RowFails (point_of parameters)) a.resilience k
 StartFails a parameters counts Processes = OtherSum a parameters counts
-StartFails a parameters counts OutOfRange = StartLeaves a parameters counts
+StartFails a parameters counts OutOfRange = StartOutOfRange a parameters counts
 
 -- what the checks answer
 abbrev pub StartChecked : Automaton → List ℤ → List ℤ → Result Unit StartFault → Type 0

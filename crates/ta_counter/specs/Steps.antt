@@ -11,7 +11,7 @@ use Rattle.ta_counter.specs.declared.config.Config.{Config}
 use Rattle.ta_counter.specs.declared.fault.StepFault.{StepFault}
 use Rattle.ta_counter.specs.declared.fault.StepFault.TheVariants.{Count, OutOfRange, Guard}
 use Rattle.ta_counter.specs.Configs.{places_of, config_of}
-use Rattle.ta_counter.specs.Checks.{AllPass, StopsAt, RowFails, RowLeaves}
+use Rattle.ta_counter.specs.Checks.{AllPass, StopsAt, RowFails, RowOutOfRange}
 use Rattle.ta_counter.specs.Guards.{MaskedPass, BadGuard}
 
 -- k steps of a rule in a row, from one configuration of the model to another
@@ -34,7 +34,7 @@ abbrev pub AllGrow : Automaton → Rule → ℤ → List ℤ → Type 0
 AllGrow a rule factor values = AllPass (λ j update. Grows a values factor update) rule.updates
 
 -- an update, whose variable has this place, leaves the range, and none before it does
-pub record LeavesAt (a : Automaton) (rule : Rule) (factor : ℤ) (values : List ℤ) (place : ℕ) : Type 0 where
+pub record UpdateOutOfRange (a : Automaton) (rule : Rule) (factor : ℤ) (values : List ℤ) (place : ℕ) : Type 0 where
   pub number : ℕ
   pub first : StopsAt (λ j update. Grows a values factor update) (λ j update. ¬ Grows a values factor update) rule.updates number
   pub place_is : place ≡ length a.parameters + first.item.0
@@ -57,12 +57,12 @@ abbrev pub StepFails : Automaton → Rule → ℤ → List ℤ → StepFault →
 StepFails a rule factor values Count = ¬ Enough a rule factor values
 StepFails a rule factor values (OutOfRange place) =
     Enough a rule factor values
-    × (LeavesAt a rule factor values place ⊎ (AllGrow a rule factor values × ((guard : ℕ) × (place ≡ places_of a + guard) × BadGuard a rule (point_of values) (before_last a rule factor values) RowLeaves guard)))
+    × (UpdateOutOfRange a rule factor values place ⊎ (AllGrow a rule factor values × ((guard : ℕ) × (place ≡ places_of a + guard) × BadGuard a rule (point_of values) (before_last a rule factor values) RowOutOfRange guard)))
 StepFails a rule factor values (Guard guard) =
     Enough a rule factor values × AllGrow a rule factor values × BadGuard a rule (point_of values) (before_last a rule factor values) RowFails guard
 
 -- no check fails, and each place changes by the rule, as many times as the factor says
-pub record Taken (a : Automaton) (rule : Rule) (factor : ℤ) (values after : List ℤ) : Type 0 where
+pub record StepIsTaken (a : Automaton) (rule : Rule) (factor : ℤ) (values after : List ℤ) : Type 0 where
   pub enough : Enough a rule factor values
   pub grow : AllGrow a rule factor values
   pub guards : GuardsPass a rule factor values
@@ -72,7 +72,7 @@ pub record Taken (a : Automaton) (rule : Rule) (factor : ℤ) (values after : Li
 -- what a step answers, and what stands afterwards
 abbrev pub StepAnswer : Automaton → ℕ → ℤ → List ℤ → List ℤ → Result Unit StepFault → Type 0
 StepAnswer a r factor values after (Ok done) =
-    (rule : Rule) → slice_get a.rules r ≡ Some rule → Taken a rule factor values after
+    (rule : Rule) → slice_get a.rules r ≡ Some rule → StepIsTaken a rule factor values after
 StepAnswer a r factor values after (Err fault) =
     (rule : Rule) → slice_get a.rules r ≡ Some rule → StepFails a rule factor values fault
 

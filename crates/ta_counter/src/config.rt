@@ -1,7 +1,7 @@
 //! Configurations.
 #![tactic(auto)]
 
-ghost use Rattle.ta_automaton.specs.Lists.{Each, Each-prop};
+ghost use Rattle.std.specs.List.{AllByRecursion, AllByRecursion-prop};
 ghost use Rattle.ta_counter.specs.Values.{Value, Value-prop};
 
 use arrayvec::ArrayVec;
@@ -14,7 +14,7 @@ pub(crate) type Places = ArrayVec<i128, 64>;
 #[derive(Drop)]
 pub struct Config {
     pub(crate) values: Places,
-    pub ghost natural: { Each Value values.items } by { Each-prop Value Value-prop values.items },
+    pub ghost natural: { AllByRecursion Value values.items } by { AllByRecursion-prop Value Value-prop values.items },
 }
 
 impl Config {

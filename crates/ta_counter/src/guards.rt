@@ -8,11 +8,12 @@ ghost use Rattle.ta_automaton.specs.Shape.{RuleWithin};
 ghost use Rattle.ta_counter.specs.Checks.{RowPasses, RowsOver};
 ghost use Rattle.ta_counter.specs.Configs.{places_of};
 ghost use Rattle.ta_counter.specs.Guards.{MaskedPass};
-ghost use Rattle.ta_counter.specs.Inside.Guards.{RowFault, MaskedFault, GuardFault};
+ghost use Rattle.ta_counter.specs.Inside.Guards.{GuardRowFault, MaskedFault, GuardFault};
 
 use crate::condition::row_holds;
 use crate::fault::StepFault;
 use ta_automaton::{Automaton, Rule};
+use ta_base::masks::contains;
 use ta_linear::Row;
 
 /// Checks rise guards at the old values, then fall guards at the values before the last firing.
@@ -57,7 +58,7 @@ fn check_row(row: &Row, guard: u32, values: &[i128]) -> Result<(), StepFault>
     requires places { length values.now ≤ 64 }
     requires over { IsNormal 0 (length values.now) row.now.form.terms }
     ensures passes { OnOk result (RowPasses (point_of values.now) row.now) }
-    ensures fails { IfErr result (λ fault. RowFault (point_of values.now) row.now (length values.now) guard fault) }
+    ensures fails { IfErr result (λ fault. GuardRowFault (point_of values.now) row.now (length values.now) guard fault) }
 {
     let Ok(holds) = row_holds(row, values) else {
         return Err(StepFault::OutOfRange(values.len() as u32 + guard));
@@ -66,12 +67,4 @@ fn check_row(row: &Row, guard: u32, values: &[i128]) -> Result<(), StepFault>
         return Err(StepFault::Guard(guard));
     }
     Ok(())
-}
-
-/// Whether a mask has a number.
-fn contains(mask: u32, number: u32) -> bool
-    requires { number < 32 }
-    ensures { IsTrue result ↔ IsBitSet mask number }
-{
-    mask & (1 << number) != 0
 }

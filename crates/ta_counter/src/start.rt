@@ -2,8 +2,8 @@
 #![tactic(auto)]
 
 ghost use Rattle.std.specs.Prelude.{ℤ, pos, ◌≡◌, ◌≤◌, ◌++◌, List, length, replicate, take, IfOk, IfErr, OkIff};
+ghost use Rattle.std.specs.List.{AllByRecursion};
 ghost use Rattle.ta_linear.specs.Numbers.{InRange};
-ghost use Rattle.ta_automaton.specs.Lists.{Each};
 ghost use Rattle.ta_automaton.specs.Runs.{Initial};
 ghost use Rattle.ta_counter.specs.Values.{Value};
 ghost use Rattle.ta_counter.specs.Configs.{config_of, IsOf, sum_of, places_of};
@@ -26,9 +26,9 @@ impl Config {
         counts: &[i128],
     ) -> Result<Config, StartFault>
         requires parameters { length parameters.now ≡ length automaton.now.parameters }
-        requires parameters_natural { Each Value parameters.now }
+        requires parameters_natural { AllByRecursion Value parameters.now }
         requires counts { length counts.now ≡ length automaton.now.initial }
-        requires counts_natural { Each Value counts.now }
+        requires counts_natural { AllByRecursion Value counts.now }
         ensures answer { StartAnswer automaton.now parameters.now counts.now result }
         ensures initial { IfOk result (λ config. Initial automaton.now (config_of automaton.now config)) }
         ensures is_of { IfOk result (λ config. IsOf automaton.now config) }
@@ -48,7 +48,7 @@ fn check_start(
     counts: &[i128],
 ) -> Result<(), StartFault>
     requires parameters { length parameters.now ≡ length automaton.now.parameters }
-    requires natural { Each Value counts.now }
+    requires natural { AllByRecursion Value counts.now }
     ensures { StartChecked automaton.now parameters.now counts.now result }
 {
     if let Some(number) = first_false(&automaton.resilience, parameters)? {
@@ -64,7 +64,7 @@ fn check_start(
 
 /// The sum, from left to right.
 fn sum(counts: &[i128]) -> Result<i128, OutOfRange>
-    requires { Each Value counts.now }
+    requires { AllByRecursion Value counts.now }
     ensures { OkIff result (InRange (sum_of counts.now)) (sum_of counts.now) }
 {
     let mut sum = 0;
@@ -80,9 +80,9 @@ fn sum(counts: &[i128]) -> Result<i128, OutOfRange>
 /// The parameters, zeros, and the counts at the initial locations.
 fn start_values(automaton: &Automaton, parameters: &[i128], counts: &[i128]) -> Places
     requires parameters { length parameters.now ≡ length automaton.now.parameters }
-    requires parameters_natural { Each Value parameters.now }
+    requires parameters_natural { AllByRecursion Value parameters.now }
     requires counts { length counts.now ≡ length automaton.now.initial }
-    requires counts_natural { Each Value counts.now }
+    requires counts_natural { AllByRecursion Value counts.now }
     ensures { Filling automaton.now parameters.now counts.now result.items (length automaton.now.initial) }
 {
     let more = automaton.shared.as_slice().len() + automaton.locations.as_slice().len();
@@ -106,7 +106,7 @@ fn with_zeros(values: &[i128], more: usize) -> Places
 /// Writes the counts at the initial locations.
 fn fill_counts(automaton: &Automaton, counts: &[i128], values: &mut [i128])
     requires counts { length counts.now ≡ length automaton.now.initial }
-    requires counts_natural { Each Value counts.now }
+    requires counts_natural { AllByRecursion Value counts.now }
     requires places { length values.old ≡ places_of automaton.now }
     ensures { (parameters : List ℤ) → Filling automaton.now parameters counts.now values.old 0 → Filling automaton.now parameters counts.now values.new (length automaton.now.initial) }
 {

@@ -2,14 +2,14 @@
 #![tactic(auto)]
 
 ghost use Rattle.std.specs.Prelude.{ℕ, ◌≡◌, ◌+◌, ◌<◌, ◌≤◌, ◌↔◌, ◌+ℤ◌, ◌-ℤ◌, ◌*ℤ◌, ◌≤ℤ◌, pos, length, IsTrue, OnOk, IfOk, IfErr};
+ghost use Rattle.std.specs.List.{AllByRecursion};
 ghost use Rattle.ta_linear.specs.Numbers.{InRange};
 ghost use Rattle.ta_linear.specs.Values.{point_of};
-ghost use Rattle.ta_automaton.specs.Lists.{Each};
 ghost use Rattle.ta_automaton.specs.Places.{location_place, one_if};
 ghost use Rattle.ta_automaton.specs.Shape.{RuleWithin};
 ghost use Rattle.ta_counter.specs.Values.{Value};
 ghost use Rattle.ta_counter.specs.Configs.{AreOf, counters_of, places_of, sum_of};
-ghost use Rattle.ta_counter.specs.Steps.{AllGrow, Enough, StepFails, Taken, LeavesAt, shifted};
+ghost use Rattle.ta_counter.specs.Steps.{AllGrow, Enough, StepFails, StepIsTaken, UpdateOutOfRange, shifted};
 ghost use Rattle.ta_counter.specs.declared.fault.StepFault.TheVariants.{OutOfRange};
 
 use crate::config::Places;
@@ -28,10 +28,10 @@ pub(crate) fn values_after(
 ) -> Result<Places, StepFault>
     requires within { RuleWithin (length automaton.now.shared) (length automaton.now.locations) (length automaton.now.rise) (length automaton.now.fall) rule.now }
     requires factor { pos 1 ≤ℤ factor }
-    requires natural { Each Value values.now }
+    requires natural { AllByRecursion Value values.now }
     requires is_of { AreOf automaton.now values.now }
-    ensures ok { IfOk result (λ after. Taken automaton.now rule.now factor values.now after.items) }
-    ensures natural { IfOk result (λ after. Each Value after.items) }
+    ensures ok { IfOk result (λ after. StepIsTaken automaton.now rule.now factor values.now after.items) }
+    ensures natural { IfOk result (λ after. AllByRecursion Value after.items) }
     ensures is_of { IfOk result (λ after. AreOf automaton.now after.items) }
     ensures fails { IfErr result (λ fault. StepFails automaton.now rule.now factor values.now fault) }
 {
@@ -85,11 +85,11 @@ fn add_updates(
     requires within { RuleWithin (length automaton.now.shared) (length automaton.now.locations) (length automaton.now.rise) (length automaton.now.fall) rule.now }
     requires times { pos 0 ≤ℤ times }
     requires places { length values.old ≡ places_of automaton.now }
-    requires natural { Each Value values.old }
+    requires natural { AllByRecursion Value values.old }
     ensures grow { OnOk result (AllGrow automaton.now rule.now times values.old) }
     ensures shifted { OnOk result ((place : ℕ) → point_of values.new place ≡ shifted automaton.now rule.now times values.old place) }
-    ensures natural { OnOk result (Each Value values.new) }
-    ensures leaves { IfErr result (λ fault. (place : ℕ) × (fault ≡ OutOfRange place) × LeavesAt automaton.now rule.now times values.old place) }
+    ensures natural { OnOk result (AllByRecursion Value values.new) }
+    ensures leaves { IfErr result (λ fault. (place : ℕ) × (fault ≡ OutOfRange place) × UpdateOutOfRange automaton.now rule.now times values.old place) }
 {
     let first = automaton.parameters.as_slice().len() as u32;
     for (variable, amount) in rule.updates.as_slice() {
@@ -108,11 +108,11 @@ fn move_processes(automaton: &Automaton, rule: &Rule, factor: i128, values: &mut
     requires within { RuleWithin (length automaton.now.shared) (length automaton.now.locations) (length automaton.now.rise) (length automaton.now.fall) rule.now }
     requires factor { pos 1 ≤ℤ factor }
     requires places { length values.old ≡ places_of automaton.now }
-    requires natural { Each Value values.old }
+    requires natural { AllByRecursion Value values.old }
     requires enough { Enough automaton.now rule.now factor values.old }
     requires fits { InRange (sum_of (counters_of automaton.now values.old)) }
     ensures moved { (place : ℕ) → point_of values.new place ≡ (point_of values.old place +ℤ (factor *ℤ (one_if (location_place automaton.now rule.now.to) place -ℤ one_if (location_place automaton.now rule.now.from) place))) }
-    ensures natural { Each Value values.new }
+    ensures natural { AllByRecursion Value values.new }
     ensures sum { sum_of (counters_of automaton.now values.new) ≡ sum_of (counters_of automaton.now values.old) }
 {
     if rule.from != rule.to {

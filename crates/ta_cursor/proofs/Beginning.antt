@@ -1,18 +1,17 @@
 -- at a word with which a search begins, that word is left
-use Rattle.std.proofs.Common.{◌≡◌, inl, ℕ, List, [], ◌∷◌, ◌++◌, length, reverse, slice_get, Some, sym, ap, refl, subst}
+use Rattle.std.proofs.Common.{◌≡◌, inl, ℕ, List, [], ◌∷◌, length, reverse, sym, ap, refl, subst}
+use Rattle.ta_base.proofs.Members.{in_at}
 use Rattle.ta_words.specs.declared.element.Element.{Element}
-use Rattle.ta_encode.specs.Search.{Pending, Search, BeginsWith, Comes}
+use Rattle.ta_encode.specs.Search.{Pending, Search, BeginsAtWord, Comes}
 use Rattle.ta_cursor.specs.declared.cursor.Cursor.{Cursor}
-use Rattle.ta_cursor.specs.declared.cursor.Frame.{Frame}
-use Rattle.ta_cursor.specs.Cursors.{here, word_at, all_behind, FramesFit, IsFirst, IsWord, Within, BeginsWithin}
-use Rattle.ta_cursor.proofs.FramesParts.{in_at}
+use Rattle.ta_cursor.specs.Cursors.{here, word_at, all_behind, FramesFit, IsAtRoot, IsWord, Within, BeginsWithin}
 
-pub comes_first : (s : Search) (start : ℕ) (past : List Element) → BeginsWith s start past → Comes s start past
+pub comes_first : (s : Search) (start : ℕ) (past : List Element) → BeginsAtWord s start past → Comes s start past
 comes_first s start [] b = b
 comes_first s start (e ∷ past) b = inl b
 
 -- where no node is open, no word comes behind
-pub at_word : (s : Search) (c : Cursor) (w : Pending) → IsFirst c w → IsWord s w → Within s c (w ∷ [])
+pub at_word : (s : Search) (c : Cursor) (w : Pending) → IsAtRoot c w → IsWord s w → Within s c (w ∷ [])
 at_word s c w is word =
     let none : [] ≡ reverse c.frames.items = sym (ap reverse is.frames) in
     record {

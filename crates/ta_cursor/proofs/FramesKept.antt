@@ -1,7 +1,7 @@
 -- what open nodes leave depends on the beginnings of the word and of the bounds alone
-use Rattle.std.proofs.Common.{◌≡◌, ℕ, zero, suc, ◌+◌, ◌≤◌, List, [], ◌∷◌, ◌++◌, length, take, drop, reverse, slice_get, Some, None, arith, sym, ap, ◌∙◌, refl, subst, length-append}
-use Rattle.std.proofs.Math.Seq.{take-length}
-use Rattle.std.proofs.lemmas.List.{take-append-le, length-take-le, reverse-append}
+use Rattle.std.proofs.Common.{◌≡◌, ℕ, ◌+◌, ◌≤◌, List, [], ◌∷◌, ◌++◌, length, take, drop, reverse, slice_get, Some, arith, sym, ap, ◌∙◌, refl, subst}
+use Rattle.std.proofs.lemmas.List.{length-take-le, reverse-append}
+use Rattle.ta_base.proofs.Lists.{all_taken, fewer_alike, longer_by, next_dropped, take_begins, take_take}
 use Rattle.ta_words.specs.declared.element.Element.{Element}
 use Rattle.ta_encode.specs.declared.meaning.Bound.{Bound}
 use Rattle.ta_encode.specs.Search.{Pending, Search, parts}
@@ -9,31 +9,11 @@ use Rattle.ta_cursor.specs.declared.cursor.Frame.{Frame}
 use Rattle.ta_cursor.specs.declared.cursor.Cursor.{Cursor}
 use Rattle.ta_cursor.specs.Cursors.{here, word_of, node_of, behind, all_behind, IsWord, SplitFits, FrameFits, FramesFit, Inside, Within}
 
-pub take_less : {X : Type 0} (m n : ℕ) (xs : List X) → m ≤ n → take m (take n xs) ≡ take m xs
-take_less zero n xs le = refl
-take_less (suc m) zero xs le = absurd (omega arith)
-take_less (suc m) (suc n) [] le = refl
-take_less (suc m) (suc n) (x ∷ xs) le = ap (λ ys. x ∷ ys) (take_less m n xs (omega arith))
-
-pub next_dropped : {X : Type 0} (xs : List X) (k : ℕ) (x : X) → slice_get xs k ≡ Some x → drop k xs ≡ x ∷ drop (k + 1) xs
-next_dropped [] k x e = cc
-next_dropped (y ∷ ys) zero x e = let same : y ≡ x = cc in ap (λ z. z ∷ ys) same
-next_dropped (y ∷ ys) (suc k) x e = next_dropped ys k x e ∙ ap (λ n. x ∷ drop n (y ∷ ys)) (let more : suc (k + 1) ≡ suc k + 1 = omega arith in more)
-
-pub none_dropped : {X : Type 0} (xs : List X) (k : ℕ) → slice_get xs k ≡ None → drop k xs ≡ []
-none_dropped [] zero e = refl
-none_dropped [] (suc k) e = refl
-none_dropped (y ∷ ys) zero e = cc
-none_dropped (y ∷ ys) (suc k) e = none_dropped ys k e
-
 -- cursors under the same start set, with this many elements and bounds alike
 pub record BeginAlike (c d : Cursor) (n m : ℕ) : Type 0 where
   pub start : d.start_mask ≡ c.start_mask
   pub word : take n d.word ≡ take n c.word
   pub bounds : take m d.bounds.items ≡ take m c.bounds.items
-
-fewer_alike : {X : Type 0} (m n : ℕ) (xs ys : List X) → m ≤ n → take n xs ≡ take n ys → take m xs ≡ take m ys
-fewer_alike m n xs ys le e = sym (take_less m n xs le) ∙ ap (take m) e ∙ take_less m n ys le
 
 alike_before : (c d : Cursor) (n m k l : ℕ) → BeginAlike c d n m → k ≤ n → l ≤ m → BeginAlike c d k l
 alike_before c d n m k l h le less = record {
@@ -78,20 +58,11 @@ pub record Opened (old new : Cursor) (f : Frame) : Type 0 where
   pub more_bounds : List Bound
   pub bounds : new.bounds.items ≡ old.bounds.items ++ more_bounds
 
-begins : {X : Type 0} (n : ℕ) (xs ys more : List X) → n ≡ length xs → ys ≡ xs ++ more → take n ys ≡ take n xs
-begins n xs ys more e f = ap (take n) f ∙ take-append-le n xs more (omega arith)
-
-all_taken : {X : Type 0} (n : ℕ) (xs : List X) → n ≡ length xs → take n xs ≡ xs
-all_taken n xs e = ap (λ m. take m xs) e ∙ take-length xs
-
-longer_by : {X : Type 0} (n : ℕ) (xs ys more : List X) → n ≡ length xs → ys ≡ xs ++ more → n ≤ length ys
-longer_by n xs ys more e f = omega (arith, ap length f, length-append xs more)
-
 alike_opened : (old new : Cursor) (f : Frame) → Opened old new f → BeginAlike old new f.length f.bounds
 alike_opened old new f o = record {
   start = o.start;
-  word = begins f.length old.word new.word o.more_word o.elements o.word;
-  bounds = begins f.bounds old.bounds.items new.bounds.items o.more_bounds o.marks o.bounds;
+  word = take_begins f.length old.word new.word o.more_word o.elements o.word;
+  bounds = take_begins f.bounds old.bounds.items new.bounds.items o.more_bounds o.marks o.bounds;
 }
 
 opened_word : (old new : Cursor) (f : Frame) → Opened old new f → word_of new f ≡ here old
@@ -157,8 +128,8 @@ popped_word old new f o = same_pending new.start_mask old.start_mask (reverse ne
 alike_popped : (old new : Cursor) (f : Frame) → Popped old new f → BeginAlike old new f.length f.bounds
 alike_popped old new f o = record {
   start = o.start;
-  word = ap (take f.length) o.word ∙ take_less f.length f.length old.word (omega arith);
-  bounds = ap (take f.bounds) o.bounds ∙ take_less f.bounds f.bounds old.bounds.items (omega arith);
+  word = ap (take f.length) o.word ∙ take_take f.length f.length old.word (omega arith);
+  bounds = ap (take f.bounds) o.bounds ∙ take_take f.bounds f.bounds old.bounds.items (omega arith);
 }
 
 pub reopened : (s : Search) (old new : Cursor) (words : List Pending) (f : Frame) → Inside s old words → Popped old new f → Reopened s new words f

@@ -1,10 +1,11 @@
 -- the parts of a node, one after another
-use Rattle.std.proofs.Common.{◌≡◌, ◌⊎◌, inl, inr, ℕ, zero, suc, ◌+◌, ◌≤◌, ℤ, List, [], ◌∷◌, ◌++◌, length, map, drop, reverse, slice_get, Some, None, true, false, arith, sym, ap, ◌∙◌, refl, subst}
+use Rattle.std.proofs.Common.{◌≡◌, ◌⊎◌, inl, inr, ℕ, ◌≤◌, ℤ, List, [], ◌∷◌, ◌++◌, length, map, drop, reverse, slice_get, Some, None, true, false, arith, sym, ap, ◌∙◌, refl, subst}
 use Rattle.std.specs.Prelude.{Ok, Err}
 use Rattle.std.specs.declared.alloc.AllocError.{AllocError}
 use Rattle.std.proofs.lemmas.Option.{slice_get-map}
-use Rattle.ta_automaton.specs.Lists.{Each}
-use Rattle.ta_automaton.specs.Masks.{In}
+use Rattle.ta_base.proofs.Each.{each_push}
+use Rattle.ta_base.proofs.Lists.{none_dropped}
+use Rattle.ta_base.proofs.Members.{in_at}
 use Rattle.ta_words.specs.declared.element.Element.{Element}
 use Rattle.ta_encode.specs.Lines.{BoundWithin, BoundsWithin}
 use Rattle.ta_encode.specs.declared.meaning.Bound.{Bound}
@@ -16,20 +17,11 @@ use Rattle.ta_cert.specs.declared.line.Node.TheVariants.{Extend, Split}
 use Rattle.ta_cursor.specs.declared.cursor.Frame.{Frame}
 use Rattle.ta_cursor.specs.declared.cursor.Cursor.{Cursor}
 use Rattle.ta_cursor.specs.Cursors.{here, IsWord, SplitFits, Within, GoesOn}
-use Rattle.ta_cursor.proofs.FramesKept.{Opened, opened_on, none_dropped}
-
-each_push : {X : Type 0} (P : X → Type 0) (xs : List X) (x : X) → Each P xs → P x → Each P (xs ++ x ∷ [])
-each_push P [] x h g = (g, tt)
-each_push P (y ∷ ys) x h g = (h.0, each_push P ys x h.1 g)
+use Rattle.ta_cursor.proofs.FramesKept.{Opened, opened_on}
 
 bounds_more : (n m : ℕ) (bounds : List Bound) → n ≤ m → BoundsWithin n bounds → BoundsWithin m bounds
 bounds_more n m [] le h = tt
 bounds_more n m (b ∷ bs) le h = let first = h.0 in (record { exists = omega (arith, first.exists); least = first.least; most = first.most }, bounds_more n m bs le h.1)
-
-pub in_at : {X : Type 0} (xs : List X) (k : ℕ) (x : X) → slice_get xs k ≡ Some x → In x xs
-in_at [] k x e = cc
-in_at (y ∷ ys) zero x e = inl (let same : x ≡ y = cc in same)
-in_at (y ∷ ys) (suc k) x e = inr (in_at ys k x e)
 
 -- the cursor went on to a word that is longer by an element
 pub opened_child : (s : Search) (old new : Cursor) (w : Pending) (words : List Pending) (k : ℕ) (e : Element)

@@ -1,12 +1,13 @@
 -- open nodes of which the outermost go to another cursor
-use Rattle.std.proofs.Common.{◌≡◌, ℕ, zero, suc, ◌+◌, ◌≤◌, List, [], ◌∷◌, ◌++◌, length, take, drop, reverse, slice_get, Some, Ok, true, arith, sym, ap, ◌∙◌, refl, subst, append_assoc}
+use Rattle.std.proofs.Common.{◌≡◌, ℕ, ◌+◌, ◌≤◌, List, [], ◌∷◌, ◌++◌, length, take, drop, reverse, slice_get, Some, arith, sym, ap, ◌∙◌, refl, subst, append_assoc}
 use Rattle.std.proofs.lemmas.List.{length-take-le, reverse-append, take-append-drop}
+use Rattle.ta_base.proofs.Lists.{next_dropped, take_take, take_whole}
 use Rattle.ta_encode.specs.Search.{Pending, Search}
 use Rattle.ta_cursor.specs.declared.cursor.Frame.{Frame}
 use Rattle.ta_cursor.specs.declared.cursor.Cursor.{Cursor}
-use Rattle.ta_cursor.specs.Cursors.{here, word_of, behind, all_behind, left_at, FramesFit, GoesOn, Inside, IsBefore, IsShared, IsWord, Within}
+use Rattle.ta_cursor.specs.Cursors.{here, word_of, behind, all_behind, left_at, FramesFit, Inside, IsBeforeWords, IsShared, IsWord, Within}
 use Rattle.ta_cursor.proofs.FramesLeft.{SamePlace, inside_moved}
-use Rattle.ta_cursor.proofs.FramesKept.{BeginAlike, frames_kept, left_kept, next_dropped, same_pending, take_less}
+use Rattle.ta_cursor.proofs.FramesKept.{BeginAlike, frames_kept, left_kept, same_pending}
 
 -- the nodes around one that is open
 pub record Around (s : Search) (c : Cursor) (n m : ℕ) (g : Frame) (outers : List Frame) : Type 0 where
@@ -63,8 +64,8 @@ stands_inside s c d k g words inside at o =
     let a = around s c (here c) (length c.word) (length c.bounds.items) (reverse (drop (k + 1) c.frames.items)) g fs fit in
     let alike : BeginAlike c d g.length g.bounds = record {
       start = o.start;
-      word = ap (take g.length) o.word ∙ take_less g.length g.length c.word (omega arith);
-      bounds = ap (take g.bounds) o.bounds ∙ take_less g.bounds g.bounds c.bounds.items (omega arith);
+      word = ap (take g.length) o.word ∙ take_take g.length g.length c.word (omega arith);
+      bounds = ap (take g.bounds) o.bounds ∙ take_take g.bounds g.bounds c.bounds.items (omega arith);
     } in
     let is : here d ≡ word_of c g = same_pending d.start_mask c.start_mask (reverse d.word) (reverse (take g.length c.word)) d.bounds.items (take g.bounds c.bounds.items) o.start (ap reverse o.word) o.bounds in
     let elements : length d.word ≡ g.length = ap length o.word ∙ length-take-le g.length c.word a.length in
@@ -85,7 +86,7 @@ pub record KeepsInner (c d : Cursor) (k : ℕ) : Type 0 where
   pub bounds : d.bounds.items ≡ c.bounds.items
   pub frames : d.frames.items ≡ drop k c.frames.items
 
-pub shared : (s : Search) (c d later : Cursor) (k : ℕ) (pending : List Pending) → Within s c pending → KeepsInner c d k → IsBefore s (all_behind s c (reverse (take k c.frames.items))) later → IsShared s c d later
+pub shared : (s : Search) (c d later : Cursor) (k : ℕ) (pending : List Pending) → Within s c pending → KeepsInner c d k → IsBeforeWords s (all_behind s c (reverse (take k c.frames.items))) later → IsShared s c d later
 shared s c d later k pending within o is =
     let n = length c.word in
     let m = length c.bounds.items in
@@ -117,20 +118,6 @@ shared s c d later k pending within o is =
       };
       second = is.within;
     }
-
--- a cursor that went on to some words is before the first of them
-pub is_before : (s : Search) (c : Cursor) (words : List Pending) → GoesOn s c words (Ok true) → IsBefore s words c
-is_before s c [] goes = absurd (cc)
-is_before s c (w ∷ ws) goes =
-    let within = goes.1 in
-    let left : w ∷ ws ≡ left_at s c = within.left ∙ ap (λ (us : List Pending). here c ∷ us) within.inside.left in
-    record { words = sym left; within = subst (Within s c) left within }
-
-pub take_whole : {X : Type 0} (k : ℕ) (xs : List X) → length xs ≤ k → take k xs ≡ xs
-take_whole zero [] most = refl
-take_whole zero (x ∷ xs) most = absurd (omega arith)
-take_whole (suc k) [] most = refl
-take_whole (suc k) (x ∷ xs) most = ap (λ ys. x ∷ ys) (take_whole k xs (omega arith))
 
 -- a cursor at the same place, with all nodes open
 pub all_inside : (s : Search) (c d : Cursor) (k : ℕ) (words : List Pending) → Inside s c words → SamePlace c d → length c.frames.items ≤ k → Inside s d (all_behind s c (reverse (take k c.frames.items)))

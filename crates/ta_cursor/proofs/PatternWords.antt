@@ -2,21 +2,22 @@
 use Rattle.std.proofs.Common.{◌≡◌, inl, inr, ℕ, zero, suc, ◌+◌, ◌-◌, ◌*◌, ◌%◌, ◌^◌, ◌<◌, ◌≤◌, List, [], ◌∷◌, ◌++◌, length, map, reverse, slice_get, Some, None, cond, Bool, true, false, arith, sym, ap, ◌∙◌, refl, subst, length-append, lit<}
 use Rattle.std.specs.Prelude.{filter, if◌then◌else◌}
 use Rattle.std.proofs.Math.Nat.{pow-le-pow_right}
-use Rattle.std.proofs.lemmas.Nat.{one_shl, pow_pos}
+use Rattle.std.proofs.lemmas.Nat.{one_shl}
 use Rattle.std.proofs.lemmas.Option.{slice_get-map, slice_get_within}
-use Rattle.ta_automaton.specs.Masks.{In, numbers_from}
+use Rattle.ta_base.specs.Masks.{In, numbers_from}
+use Rattle.ta_base.proofs.Ranges.{numbers_end, slice_numbers}
 use Rattle.ta_automaton.specs.declared.automaton.Automaton.{Automaton}
 use Rattle.ta_automaton.specs.declared.file.File.{File}
 use Rattle.ta_automaton.specs.declared.pattern.Pattern.{Pattern}
 use Rattle.ta_words.specs.declared.element.Element.{Element}
 use Rattle.ta_words.specs.declared.element.Element.TheVariants.{Event, Rise, Fall}
-use Rattle.ta_words.specs.Words.{Legal, LegalUnder, children, is_complete, is_ready, is_standing, may_rise}
+use Rattle.ta_words.specs.Words.{LegalWord, LegalUnder, children, is_complete, is_ready, is_standing, may_rise}
 use Rattle.ta_words.proofs.Counts.{under_none}
 use Rattle.ta_words.proofs.Lists.{events_named, passed_length}
-use Rattle.ta_encode.specs.Search.{Pending, BeginsWith, Comes}
+use Rattle.ta_encode.specs.Search.{Pending, BeginsAtWord, Comes}
 use Rattle.ta_encode.specs.PatternSearch.{all_starts, empty_word, pattern_search}
 use Rattle.ta_encode.proofs.Prefixes.{prefix_fewer}
-use Rattle.ta_cursor.specs.TreeCalls.{IsPushed, Pushed}
+use Rattle.ta_cursor.specs.TreeCalls.{IsPushed, PushAnswers}
 
 either_most : (b : Bool) (xs : List Element) → length xs ≤ 87 → length (cond b [] xs) ≤ 87
 either_most true xs h = omega arith
@@ -45,16 +46,6 @@ children_most file number p pairs start past named =
 pub child_below : (file : File) (number : ℕ) (p : Pattern) (pairs : List (ℕ × ℕ)) (start : ℕ) (past : List Element) (k : ℕ) (e : Element) → slice_get file.patterns number ≡ Some p → slice_get (children file.automaton p pairs start past) k ≡ Some e → k < 87
 child_below file number p pairs start past k e named at = omega (arith, children_most file number p pairs start past named, slice_get_within (children file.automaton p pairs start past) k e at)
 
-slice_numbers : (k n i : ℕ) → i < n → slice_get (numbers_from k n) i ≡ Some (k + i)
-slice_numbers k zero i h = absurd (omega arith)
-slice_numbers k (suc n) zero h = ap (λ m. Some m) (let e : k ≡ k + 0 = omega arith in e)
-slice_numbers k (suc n) (suc i) h = slice_numbers (k + 1) n i (omega arith) ∙ ap (λ m. Some m) (let e : k + 1 + i ≡ k + suc i = omega arith in e)
-
-numbers_end : (k n i : ℕ) → n ≤ i → slice_get (numbers_from k n) i ≡ None
-numbers_end k zero i h = refl
-numbers_end k (suc n) zero h = absurd (omega arith)
-numbers_end k (suc n) (suc i) h = numbers_end (k + 1) n i (omega arith)
-
 -- the word of a start set, by its number
 pub start_at : (a : Automaton) (number : ℕ) → number < 2 ^ length a.fall → slice_get (all_starts a) number ≡ Some (empty_word number)
 start_at a number h =
@@ -78,16 +69,16 @@ starts_are a k (suc n) w h (inr is) = starts_are a (k + 1) n w (omega arith) is
 pub record IsLegal (a : Automaton) (p : Pattern) (pairs : List (ℕ × ℕ)) (start : ℕ) (past : List Element) : Type 0 where
   pub start_is : start < 2 ^ length a.fall
   pub under : LegalUnder a p pairs start past
-  pub legal : Legal a p start past
+  pub legal : LegalWord a p start past
 
-began : (a : Automaton) (p : Pattern) (pairs : List (ℕ × ℕ)) (start : ℕ) (past : List Element) → BeginsWith (pattern_search a p pairs) start past → IsLegal a p pairs start past
+began : (a : Automaton) (p : Pattern) (pairs : List (ℕ × ℕ)) (start : ℕ) (past : List Element) → BeginsAtWord (pattern_search a p pairs) start past → IsLegal a p pairs start past
 began a p pairs start past b =
     let is = starts_are a 0 (2 ^ length a.fall) b.0 (omega arith) b.1 in
     let none : [] ≡ past = sym is.past ∙ b.3 in
     record {
       start_is = subst (λ (k : ℕ). k < 2 ^ length a.fall) b.2 is.start;
       under = subst (LegalUnder a p pairs start) none tt;
-      legal = subst (Legal a p start) none tt;
+      legal = subst (LegalWord a p start) none tt;
     }
 
 pub comes_legal : (a : Automaton) (p : Pattern) (pairs : List (ℕ × ℕ)) (start : ℕ) (past : List Element) → Comes (pattern_search a p pairs) start past → IsLegal a p pairs start past
@@ -98,7 +89,7 @@ comes_legal a p pairs start (e ∷ past) (inr c) = (let before = comes_legal a p
 -- a word that is pushed a child
 pub child_pushed : (file : File) (number : ℕ) (p : Pattern) (pairs : List (ℕ × ℕ)) (start : ℕ) (old new : List Element) (k : ℕ) (e : Element) (r : Bool) → slice_get file.patterns number ≡ Some p
     → slice_get (children file.automaton p pairs start (reverse old)) k ≡ Some e → r ≡ true → new ≡ (if r then old ++ e ∷ [] else old)
-    → Pushed (pattern_search file.automaton p pairs) start old new k r
+    → PushAnswers (pattern_search file.automaton p pairs) start old new k r
 child_pushed file number p pairs start old new k e r named at yea word =
     let s = pattern_search file.automaton p pairs in
     let few = child_below file number p pairs start (reverse old) k e named at in
@@ -111,7 +102,7 @@ child_pushed file number p pairs start old new k e r named at yea word =
       more = prefix_fewer file.automaton p start (reverse old) (e ∷ []);
       small = omega arith;
     } in
-    subst (Pushed s start old new k) (sym yea) is
+    subst (PushAnswers s start old new k) (sym yea) is
 
 -- how many start sets there are, as the code counts them
 pub record Shifted (n : ℕ) : Type 0 where

@@ -8,8 +8,8 @@ use Rattle.ta_linear.specs.Numbers.{InRange}
 use Rattle.ta_linear.specs.Sums.{StaysInRange}
 use Rattle.ta_linear.specs.Leaf.{coefficient_in as code_coefficient, constant_in as code_constant}
 use Rattle.ta_linear.specs.declared.row.System.{System}
-use Rattle.ta_encode.specs.Search.{Pending, Search, rows_of}
-use Rattle.ta_encode.specs.Refutes.{coefficient_in, constant_in}
+use Rattle.ta_encode.specs.Search.{Pending, Search, bounded_rows}
+use Rattle.ta_encode.specs.Refutes.{linear_coefficient_in, linear_constant_in}
 use Rattle.ta_encode.specs.Code.{SystemAt}
 use Rattle.ta_encode.proofs.CodeRows.{coefficient_same, constant_same}
 use Rattle.ta_farkas.specs.Columns.{entry, CheckStays}
@@ -47,22 +47,22 @@ entry_constant s column k h =
     ap (λ b. cond b (code_coefficient column (slice_get s.rows k)) (code_constant (slice_get s.rows k))) e
 
 -- a check that stays in range over a system of the code does so over the word's rows
-pub leaf_stays : (search : Search) (w : Pending) (s : System) (ts : List (ℕ × ℤ)) → SystemAt search w s → CheckStays s ts → LeafStays (rows_of search w) ts
+pub leaf_stays : (search : Search) (w : Pending) (s : System) (ts : List (ℕ × ℤ)) → SystemAt search w s → CheckStays s ts → LeafStays (bounded_rows search w) ts
 leaf_stays search w s ts is stays =
-    let ls = rows_of search w in
+    let ls = bounded_rows search w in
     record {
       coefficients = λ u. elim (cases_lt u s.unknowns) [
-        | inl below ↦ stays_same (entry s u) (λ k. coefficient_in u (slice_get ls k)) (pos 0) ts (λ k. entry_unknown s u k below ∙ coefficient_same u ls s.rows k is.rows) (stays u (omega arith))
-        | inr beyond ↦ zeros_stay (λ k. coefficient_in u (slice_get ls k)) (pos 0) ts (λ k. sym (coefficient_same u ls s.rows k is.rows) ∙ none_beyond s.unknowns u s.rows k s.within beyond) refl
+        | inl below ↦ stays_same (entry s u) (λ k. linear_coefficient_in u (slice_get ls k)) (pos 0) ts (λ k. entry_unknown s u k below ∙ coefficient_same u ls s.rows k is.rows) (stays u (omega arith))
+        | inr beyond ↦ zeros_stay (λ k. linear_coefficient_in u (slice_get ls k)) (pos 0) ts (λ k. sym (coefficient_same u ls s.rows k is.rows) ∙ none_beyond s.unknowns u s.rows k s.within beyond) refl
       ];
-      constants = stays_same (entry s s.unknowns) (λ k. constant_in (slice_get ls k)) (pos 0) ts (λ k. entry_constant s s.unknowns k (omega arith) ∙ constant_same ls s.rows k is.rows) (stays s.unknowns (omega arith));
+      constants = stays_same (entry s s.unknowns) (λ k. linear_constant_in (slice_get ls k)) (pos 0) ts (λ k. entry_constant s s.unknowns k (omega arith) ∙ constant_same ls s.rows k is.rows) (stays s.unknowns (omega arith));
     }
 
 -- and the other way
-pub check_stays : (search : Search) (w : Pending) (s : System) (ts : List (ℕ × ℤ)) → SystemAt search w s → LeafStays (rows_of search w) ts → CheckStays s ts
+pub check_stays : (search : Search) (w : Pending) (s : System) (ts : List (ℕ × ℤ)) → SystemAt search w s → LeafStays (bounded_rows search w) ts → CheckStays s ts
 check_stays search w s ts is stays column within =
-    let ls = rows_of search w in
+    let ls = bounded_rows search w in
     elim (cases_lt column s.unknowns) [
-      | inl below ↦ stays_same (λ k. coefficient_in column (slice_get ls k)) (entry s column) (pos 0) ts (λ k. sym (entry_unknown s column k below ∙ coefficient_same column ls s.rows k is.rows)) (stays.coefficients column)
-      | inr beyond ↦ stays_same (λ k. constant_in (slice_get ls k)) (entry s column) (pos 0) ts (λ k. sym (entry_constant s column k beyond ∙ constant_same ls s.rows k is.rows)) stays.constants
+      | inl below ↦ stays_same (λ k. linear_coefficient_in column (slice_get ls k)) (entry s column) (pos 0) ts (λ k. sym (entry_unknown s column k below ∙ coefficient_same column ls s.rows k is.rows)) (stays.coefficients column)
+      | inr beyond ↦ stays_same (λ k. linear_constant_in (slice_get ls k)) (entry s column) (pos 0) ts (λ k. sym (entry_constant s column k beyond ∙ constant_same ls s.rows k is.rows)) stays.constants
     ]

@@ -2,9 +2,11 @@
 use Rattle.std.proofs.Common.{◌≡◌, inl, inr, ℕ, suc, ◌+◌, ◌*◌, ◌<◌, ◌≤◌, ◌^◌, List, [], ◌∷◌, ◌++◌, length, map, cond, Bool, true, false, not, slice_get, Option, None, Some, arith, ap, length-append}
 use Rattle.std.specs.Prelude.{filter, ◌==◌}
 use Rattle.std.proofs.lemmas.List.{length-map}
+use Rattle.ta_base.proofs.Naturals.{count, count_most}
+use Rattle.ta_base.proofs.Ranges.{count_few}
 use Rattle.ta_linear.specs.declared.row.Row.{Row}
 use Rattle.ta_linear.specs.declared.row.System.{System}
-use Rattle.ta_automaton.specs.Masks.{has_bit, numbers_from}
+use Rattle.ta_base.specs.Masks.{has_bit, numbers_from}
 use Rattle.ta_automaton.specs.declared.automaton.Automaton.{Automaton}
 use Rattle.ta_automaton.specs.declared.condition.Comparison.{Comparison}
 use Rattle.ta_automaton.specs.declared.file.File.{File}
@@ -12,8 +14,8 @@ use Rattle.ta_automaton.specs.declared.pattern.Event.{Event as PatternEvent}
 use Rattle.ta_automaton.specs.declared.pattern.Pattern.{Pattern}
 use Rattle.ta_words.specs.declared.element.Element.{Element}
 use Rattle.ta_words.specs.declared.element.Element.TheVariants.{Event, Rise, Fall}
-use Rattle.ta_words.specs.Words.{Legal, allowed_rules, has_event, has_rise, has_fallen, is_ready, is_standing}
-use Rattle.ta_words.proofs.Counts.{count, count_most, in_children, event_new, rise_new, fall_new, legal_length}
+use Rattle.ta_words.specs.Words.{LegalWord, allowed_rules, has_event, has_rise, has_fallen, is_ready, is_standing}
+use Rattle.ta_words.proofs.Counts.{in_children, event_new, rise_new, fall_new, legal_length}
 use Rattle.ta_words.proofs.Lists.{events_named}
 use Rattle.ta_encode.specs.declared.meaning.Meaning.{Meaning}
 use Rattle.ta_encode.specs.Unknowns.{meanings, start_meanings, counts_after, singles_after}
@@ -22,7 +24,6 @@ use Rattle.ta_encode.specs.Code.{SystemAt}
 use Rattle.ta_encode.specs.Search.{Pending}
 use Rattle.ta_encode.specs.PatternSearch.{pattern_search}
 use Rattle.ta_encode.proofs.CodeRows.{rows_count}
-use Rattle.ta_encode.proofs.Counting.{count_few}
 use Rattle.ta_encode.proofs.Drafts.{start_few as start_meanings_few, counts_few, singles_few}
 use Rattle.ta_cursor.specs.TreeCalls.{IsSmall}
 
@@ -34,7 +35,7 @@ condition_few a ms (k ∷ ks) =
     let most = k.most in
     omega (arith, length-append (map row k.rows) (condition_rows a ms ks), length-map k.rows row, condition_few a ms ks)
 
-guards_few : (a : Automaton) (ms : List Meaning) (test : ℕ → Bool) (k : ℕ) (rs : List Row) → length (guard_rows a ms test k rs) ≤ length rs
+pub guards_few : (a : Automaton) (ms : List Meaning) (test : ℕ → Bool) (k : ℕ) (rs : List Row) → length (guard_rows a ms test k rs) ≤ length rs
 guards_few a ms test k [] = omega arith
 guards_few a ms test k (r ∷ rs) = kept (test k) (guards_few a ms test (k + 1) rs)
   where
@@ -160,7 +161,7 @@ fall_heft : (a : Automaton) (p : Pattern) (start : ℕ) (past : List Element) (x
 unfolding has_event has_rise
 fall_heft a p start past x standing least most = omega (arith, fall_new a start past x standing least most)
 
-unknowns_few : (a : Automaton) (p : Pattern) (start : ℕ) (past : List Element) → Legal a p start past → length (meanings a p start past) ≤ 48 + 128 * heft a p start past
+unknowns_few : (a : Automaton) (p : Pattern) (start : ℕ) (past : List Element) → LegalWord a p start past → length (meanings a p start past) ≤ 48 + 128 * heft a p start past
 unknowns_few a p start [] legal = omega (arith, none_adds a p start)
 unknowns_few a p start (e ∷ past) legal =
     let rest = unknowns_few a p start past legal.1 in
@@ -186,7 +187,7 @@ unknowns_few a p start (e ∷ past) legal =
     ]
 
 -- at most 16 parameters and 32 start counts; 8 events and 16 rise guards, with 128 unknowns each; 6 fall guards, with 256 each
-pub few_unknowns : (file : File) (number : ℕ) (p : Pattern) (start : ℕ) (past : List Element) → slice_get file.patterns number ≡ Some p → Legal file.automaton p start past → length (meanings file.automaton p start past) ≤ 4656
+pub few_unknowns : (file : File) (number : ℕ) (p : Pattern) (start : ℕ) (past : List Element) → slice_get file.patterns number ≡ Some p → LegalWord file.automaton p start past → length (meanings file.automaton p start past) ≤ 4656
 few_unknowns file number p start past at legal =
     let a = file.automaton in
     let limit = (events_named file number p at).limit in
@@ -202,15 +203,15 @@ few_unknowns file number p start past at legal =
     )
 
 -- a legal word of a file's pattern has at most 30 elements
-short : (file : File) (number : ℕ) (p : Pattern) (start : ℕ) (past : List Element) → slice_get file.patterns number ≡ Some p → Legal file.automaton p start past → length past ≤ 30
+short : (file : File) (number : ℕ) (p : Pattern) (start : ℕ) (past : List Element) → slice_get file.patterns number ≡ Some p → LegalWord file.automaton p start past → length past ≤ 30
 short file number p start past at legal = legal_length file.automaton p start past (events_named file number p at).limit legal
 
 -- its rows, but for the bounds
-pub few_rows : (file : File) (number : ℕ) (p : Pattern) (start : ℕ) (past : List Element) → slice_get file.patterns number ≡ Some p → Legal file.automaton p start past → length (word_rows file.automaton p start past) ≤ 2592
+pub few_rows : (file : File) (number : ℕ) (p : Pattern) (start : ℕ) (past : List Element) → slice_get file.patterns number ≡ Some p → LegalWord file.automaton p start past → length (word_rows file.automaton p start past) ≤ 2592
 few_rows file number p start past at legal = omega (arith, word_few file.automaton p start past, short file number p start past at legal)
 
 -- the unknowns and the rows of its system
-pub is_small : (file : File) (number : ℕ) (p : Pattern) (w : Pending) (s : System) → slice_get file.patterns number ≡ Some p → Legal file.automaton p w.start w.past → SystemAt (pattern_search file.automaton p []) w s → IsSmall w.bounds s
+pub is_small : (file : File) (number : ℕ) (p : Pattern) (w : Pending) (s : System) → slice_get file.patterns number ≡ Some p → LegalWord file.automaton p w.start w.past → SystemAt (pattern_search file.automaton p []) w s → IsSmall w.bounds s
 is_small file number p w s at legal is =
     let a = file.automaton in
     let words = word_rows a p w.start w.past in

@@ -1,16 +1,16 @@
 -- a place goes on within its tree, or to the next
 use Rattle.std.proofs.Common.{◌≡◌, ℕ, ◌+◌, ◌^◌, ◌<◌, true, false, List, [], ◌∷◌, ◌++◌, drop, slice_get, Some, None, Ok, Err, IfOk, Result, Bool, sym, ap, ◌∙◌, refl, subst, append_assoc}
 use Rattle.std.specs.declared.alloc.AllocError.{AllocError}
+use Rattle.ta_base.proofs.Lists.{next_dropped, none_dropped}
 use Rattle.ta_cert.specs.declared.line.Node.{Node}
 use Rattle.ta_encode.specs.Search.{Pending, Search, parts}
 use Rattle.ta_cursor.specs.declared.cursor.Cursor.{Cursor}
 use Rattle.ta_cursor.specs.declared.place.Place.{Place}
 use Rattle.ta_cursor.specs.declared.root.Root.{Root}
-use Rattle.ta_cursor.specs.Cursors.{word_at, GoesOn, Inside, IsFirst, WentOn, Within}
+use Rattle.ta_cursor.specs.Cursors.{word_at, GoesOn, Inside, IsAtRoot, WentOn, Within}
 use Rattle.ta_cursor.specs.InTrees.{here_at, AllWithin, AllGoOn}
 use Rattle.ta_cursor.specs.TreeCalls.{IsRoot}
 use Rattle.ta_cursor.proofs.Beginning.{begins_within}
-use Rattle.ta_cursor.proofs.FramesKept.{next_dropped, none_dropped}
 
 -- the words behind the first
 abbrev pub later_words : (s : Search) (t : Place) (pending : List Pending) → AllWithin s t pending → List Pending
@@ -53,12 +53,8 @@ pub tree_ends : (s : Search) (c : Cursor) (t : Place) (ws all later : List Pendi
 tree_ends s c t [] all later more goes left on = subst (λ (us : List Pending). AllGoOn s t us (Ok more)) (sym left) on
 tree_ends s c t (w ∷ ws) all later more goes left on = absurd (let e = goes.0 in cc)
 
-pub no_memory_left : (s : Search) (t : Place) (all : List Pending) (e : AllocError) → AllGoOn s t all (Err e)
-no_memory_left s t [] e = tt
-no_memory_left s t (w ∷ ws) e = tt
-
 -- the next tree begins
-pub root_comes : (s : Search) (t : Place) (number : ℕ) (root : Root) → IsRoot s number (Some root) → IsFirst t.cursor (word_at root.start_mask root.word []) → t.root ≡ number → AllGoOn s t (drop number s.roots) (Ok true)
+pub root_comes : (s : Search) (t : Place) (number : ℕ) (root : Root) → IsRoot s number (Some root) → IsAtRoot t.cursor (word_at root.start_mask root.word []) → t.root ≡ number → AllGoOn s t (drop number s.roots) (Ok true)
 root_comes s t number root is first same =
     let w = word_at root.start_mask root.word [] in
     let within = begins_within s t.cursor number root.start_mask root.word is.is first in
@@ -77,7 +73,7 @@ pub root_none : (s : Search) (t : Place) (number : ℕ) → IsRoot s number None
 root_none s t number none = subst (λ (ws : List Pending). AllGoOn s t ws (Ok false)) (sym (none_dropped s.roots number none)) refl
 
 -- the first tree begins
-pub first_begins : (s : Search) (t : Place) (root : Root) → IsRoot s 0 (Some root) → IsFirst t.cursor (word_at root.start_mask root.word []) → t.root ≡ 0 → AllWithin s t s.roots
+pub first_begins : (s : Search) (t : Place) (root : Root) → IsRoot s 0 (Some root) → IsAtRoot t.cursor (word_at root.start_mask root.word []) → t.root ≡ 0 → AllWithin s t s.roots
 first_begins s t root is first same = all_at s.roots (root_comes s t 0 root is first same)
   where
     all_at : (ws : List Pending) → AllGoOn s t ws (Ok true) → AllWithin s t ws

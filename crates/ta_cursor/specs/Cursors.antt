@@ -75,7 +75,7 @@ pub record Within (s : Search) (c : Cursor) (pending : List Pending) : Type 0 wh
   pub left : pending ≡ here c ∷ words
 
 -- at a word, with no node open
-pub record IsFirst (c : Cursor) (w : Pending) : Type 0 where
+pub record IsAtRoot (c : Cursor) (w : Pending) : Type 0 where
   pub here : here c ≡ w
   pub frames : c.frames.items ≡ []
 
@@ -83,7 +83,7 @@ pub record IsFirst (c : Cursor) (w : Pending) : Type 0 where
 abbrev pub BeginsWithin : Type 0
 BeginsWithin =
     (s : Search) (c : Cursor) (number start : ℕ) (elements : List Element) → slice_get s.roots number ≡ Some (word_at start elements [])
-    → IsFirst c (word_at start elements []) → Within s c (word_at start elements [] ∷ [])
+    → IsAtRoot c (word_at start elements []) → Within s c (word_at start elements [] ∷ [])
 
 abbrev pub IsInside : Search → Cursor → Type 0
 IsInside s c = (words : List Pending) × Inside s c words
@@ -118,6 +118,6 @@ Shares s old new None = new ≡ old
 Shares s old new (Some later) = IsShared s old new later
 
 -- a cursor at the first of these words
-pub record IsBefore (s : Search) (pending : List Pending) (c : Cursor) : Type 0 where
+pub record IsBeforeWords (s : Search) (pending : List Pending) (c : Cursor) : Type 0 where
   pub words : left_at s c ≡ pending
   pub within : Within s c (left_at s c)

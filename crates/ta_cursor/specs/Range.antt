@@ -2,20 +2,20 @@
 use Rattle.std.specs.Prelude.{ℕ, ℤ, pos, List, slice_get}
 use Rattle.ta_linear.specs.Sums.{StaysInRange}
 use Rattle.ta_encode.specs.System.{LinearRow}
-use Rattle.ta_encode.specs.Search.{Pending, Search, rows_of}
-use Rattle.ta_encode.specs.Refutes.{coefficient_in, constant_in, LeafOfRows}
+use Rattle.ta_encode.specs.Search.{Pending, Search, bounded_rows}
+use Rattle.ta_encode.specs.Refutes.{linear_coefficient_in, linear_constant_in, LeafOfRows}
 
 -- the products of the multipliers with the rows' coefficients of each unknown, and with the rows' constants, and the
 -- partial sums of each in the order of the list, are in range
 pub record LeafStays (rows : List LinearRow) (ts : List (ℕ × ℤ)) : Type 0 where
-  pub coefficients : (u : ℕ) → StaysInRange (λ r. coefficient_in u (slice_get rows r)) (pos 0) ts
-  pub constants : StaysInRange (λ r. constant_in (slice_get rows r)) (pos 0) ts
+  pub coefficients : (u : ℕ) → StaysInRange (λ r. linear_coefficient_in u (slice_get rows r)) (pos 0) ts
+  pub constants : StaysInRange (λ r. linear_constant_in (slice_get rows r)) (pos 0) ts
 
 -- a leaf whose check stays in range
-pub record Judged (rows : List LinearRow) (ts : List (ℕ × ℤ)) : Type 0 where
+pub record LeafIsJudged (rows : List LinearRow) (ts : List (ℕ × ℤ)) : Type 0 where
   pub leaf : LeafOfRows rows ts
   pub in_range : LeafStays rows ts
 
 -- so it is over the rows of a word
 abbrev pub IsJudged : Search → Pending → List (ℕ × ℤ) → Type 0
-IsJudged s w ts = Judged (rows_of s w) ts
+IsJudged s w ts = LeafIsJudged (bounded_rows s w) ts

@@ -26,9 +26,9 @@ pub record IsPushed (s : Search) (start : ℕ) (old new : List Element) (number 
   pub small : number < 2 ^ 31
 
 -- whether there is an element of this number that may follow, and the word with it
-abbrev pub Pushed : Search → ℕ → List Element → List Element → ℕ → Bool → Type 0
-Pushed s start old new number true = IsPushed s start old new number
-Pushed s start old new number false = (slice_get (s.following start (reverse old)) number ≡ None) × (new ≡ old)
+abbrev pub PushAnswers : Search → ℕ → List Element → List Element → ℕ → Bool → Type 0
+PushAnswers s start old new number true = IsPushed s start old new number
+PushAnswers s start old new number false = (slice_get (s.following start (reverse old)) number ≡ None) × (new ≡ old)
 
 -- a system of few unknowns and rows, but for those of its bounds
 abbrev pub IsSmall : List Bound → System → Type 0

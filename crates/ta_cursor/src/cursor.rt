@@ -2,7 +2,7 @@
 #![tactic(auto)]
 
 ghost use Rattle.std.specs.Prelude.{◌≡◌, []};
-ghost use Rattle.ta_cursor.specs.Cursors.{IsFirst, word_at};
+ghost use Rattle.ta_cursor.specs.Cursors.{IsAtRoot, word_at};
 
 use crate::root::Root;
 use std::alloc::Global;
@@ -36,7 +36,7 @@ pub struct Cursor {
 impl Cursor {
     /// The cursor at the first node of the tree of a word. It takes no memory.
     pub fn new(alloc: Global, root: Root) -> Cursor
-        ensures { IsFirst result (word_at root.start_mask root.word []) }
+        ensures { IsAtRoot result (word_at root.start_mask root.word []) }
     {
         let Root { start_mask, word } = root;
         Cursor {

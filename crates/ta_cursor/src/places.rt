@@ -5,7 +5,7 @@ ghost use Rattle.std.specs.Prelude.{◌≡◌, ◌+◌, ◌^◌, ◌++◌, ◌�
 ghost use Rattle.ta_cert.specs.Lines.{IsSplit};
 ghost use Rattle.ta_cert.specs.declared.line.Node.TheVariants.{Extend, Split};
 ghost use Rattle.ta_encode.specs.Search.{Pending, parts};
-ghost use Rattle.ta_cursor.specs.Cursors.{IsFirst, word_at};
+ghost use Rattle.ta_cursor.specs.Cursors.{IsAtRoot, word_at};
 ghost use Rattle.ta_cursor.specs.InTrees.{AllGoOn, AllWithin, BeginsAll, IsAllWithin};
 
 use crate::cursor::Cursor;
@@ -18,7 +18,7 @@ use ta_words::Word;
 impl Place {
     /// The place at the empty word of the empty start set, before any search. It takes no memory.
     pub fn new(alloc: Global) -> Place
-        ensures { IsFirst result.cursor (word_at 0 [] []) }
+        ensures { IsAtRoot result.cursor (word_at 0 [] []) }
     {
         let root = Root {
             start_mask: 0,

@@ -3,7 +3,7 @@
 
 ghost use Rattle.std.specs.Prelude.{◌≡◌, ◌≤◌, IfOk, IfSome, length, reverse, take};
 ghost use Rattle.ta_encode.specs.Search.{Search};
-ghost use Rattle.ta_cursor.specs.Cursors.{Inside, IsBefore, IsWithin, Shares, all_behind};
+ghost use Rattle.ta_cursor.specs.Cursors.{Inside, IsBeforeWords, IsWithin, Shares, all_behind};
 
 use crate::cursor::Cursor;
 use crate::tree::Tree;
@@ -35,7 +35,7 @@ impl Cursor {
     ) -> Result<Option<Cursor>, AllocError>
         requires within { IsWithin (T.search tree.now) self.now }
         requires most { outer ≤ length self.now.frames.items }
-        ensures { IfOk result (λ later. IfSome later (IsBefore (T.search tree.now) (all_behind (T.search tree.now) self.now (reverse (take outer self.now.frames.items))))) }
+        ensures { IfOk result (λ later. IfSome later (IsBeforeWords (T.search tree.now) (all_behind (T.search tree.now) self.now (reverse (take outer self.now.frames.items))))) }
     {
         let mut later = self.outermost(alloc, outer)?;
         if later.leave(tree)? {

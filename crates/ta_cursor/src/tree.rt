@@ -24,7 +24,7 @@ pub trait Tree {
     ghost use Rattle.ta_encode.specs.Marks.{SameRows};
     ghost use Rattle.ta_encode.specs.Search.{Comes, Search};
     ghost use Rattle.ta_cursor.specs.Cursors.{word_at};
-    ghost use Rattle.ta_cursor.specs.TreeCalls.{IsRoot, IsSmall, Pushed};
+    ghost use Rattle.ta_cursor.specs.TreeCalls.{IsRoot, IsSmall, PushAnswers};
 
     /// The system that was written last, with what it takes to write another from it.
     type Kept: Drop;
@@ -43,7 +43,7 @@ pub trait Tree {
     /// says whether there is one.
     fn push_child(&self, start_mask: u8, word: &mut Word, number: usize) -> bool
         requires { Comes (search self.now) start_mask (reverse word.old) }
-        ensures { Pushed (search self.now) start_mask word.old word.new number result };
+        ensures { PushAnswers (search self.now) start_mask word.old word.new number result };
 
     /// Whether a word is complete: then its unknowns are split, and no element follows it.
     fn is_complete(&self, start_mask: u8, word: &Word) -> bool

@@ -1,22 +1,23 @@
 -- bounds of rows, and what they keep
-use Rattle.std.proofs.Common.{◌≡◌, inl, inr, ℕ, suc, ◌<◌, ◌≤◌, ◌+◌, ◌*◌, ◌/◌, ◌^◌, List, ◌∷◌, length, map, set, get_or, arith, sym, refl, ap, ◌∙◌, ℤ, pos, negsuc, neg_ℤ, ◌+ℤ◌, ◌-ℤ◌, ◌*ℤ◌, ◌<ℤ◌, ◌≤ℤ◌, unsigned_abs, get_or-set_same, get_or-set_other}
+use Rattle.std.proofs.Common.{◌≡◌, inl, inr, ℕ, ◌<◌, ◌≤◌, ◌+◌, ◌*◌, ◌^◌, List, ◌∷◌, length, map, set, get_or, arith, sym, refl, ap, ◌∙◌, ℤ, pos, negsuc, neg_ℤ, ◌-ℤ◌, ◌*ℤ◌, ◌<ℤ◌, unsigned_abs, get_or-set_same, get_or-set_other}
 use Rattle.std.specs.Prelude.{int_div}
 use Rattle.std.specs.Int.{w32}
 use Rattle.std.proofs.lemmas.Bool.{cases_eq}
-use Rattle.std.proofs.lemmas.Int.{ints, unsigned_abs-mul, fits_signed_from_abs}
+use Rattle.std.proofs.lemmas.Int.{ints, fits_signed_from_abs}
 use Rattle.std.proofs.lemmas.List.{length-set}
 use Rattle.std.proofs.lemmas.List.Elements.{All-from_get_or, All-map, All-set}
 use Rattle.std.proofs.lemmas.Nat.Gcd.{le_of_dvd, dvd_antisymm}
-use Rattle.std.proofs.Math.Nat.{one-dvd, div-le_self, mul-le-mul_left, mul-le-mul_right}
+use Rattle.std.proofs.Math.Nat.{one-dvd}
 use mir.Val.{SFits}
+use Rattle.ta_base.proofs.Integers.{abs_minus, abs_positive, div-one, product_le, quotient_le, unsigned_abs-neg, zero_minus}
 use Rattle.ta_linear.specs.Numbers.{InRange}
 use Rattle.ta_dense.specs.Tableau.{TableauRow, combine, merged_by, divided, turned, divisor_of, factor_divisor}
 use Rattle.ta_dense.specs.Merge.{CombinesInRange, MergesByInRange}
 use Rattle.ta_dense.specs.Bounds.{AreBounded, IsBound, CombinesIn32, AllCombineIn32}
 use Rattle.ta_linear.proofs.GcdLemmas.{IsGcd-gcd_of}
-use Rattle.ta_dense.proofs.Divide.{unsigned_abs-neg, gcd_with_divides}
+use Rattle.ta_dense.proofs.Divide.{gcd_with_divides}
 use Rattle.ta_dense.proofs.PivotLaws.{length-combine, get_or-combine}
-use Rattle.ta_dense.proofs.ReduceFacts.{zero_minus, div-one, factors_positive}
+use Rattle.ta_dense.proofs.ReduceFacts.{factors_positive}
 
 abbrev pub IsSmall : ℤ → Type 0
 IsSmall z = unsigned_abs z < 2 ^ 31
@@ -28,34 +29,6 @@ pub fits_minus32 : (z : ℤ) → IsSmall z → SFits w32 (pos 0 -ℤ z)
 fits_minus32 z h =
     let same : unsigned_abs (pos 0 -ℤ z) ≡ unsigned_abs z = ap unsigned_abs (zero_minus z) ∙ unsigned_abs-neg z in
     fits_signed_from_abs w32 (pos 0 -ℤ z) (omega arith)
-
--- absolute values of differences, products and quotients
-abs_upper : (z : ℤ) → z ≤ℤ pos (unsigned_abs z)
-abs_upper (pos n) = omega (arith, ints)
-abs_upper (negsuc n) = omega (arith, ints)
-
-abs_lower : (z : ℤ) → pos 0 ≤ℤ (z +ℤ pos (unsigned_abs z))
-abs_lower (pos n) = omega (arith, ints)
-abs_lower (negsuc n) = omega (arith, ints)
-
-abs_from : (z : ℤ) (t : ℕ) → z ≤ℤ pos t → pos 0 ≤ℤ (z +ℤ pos t) → unsigned_abs z ≤ t
-abs_from (pos n) t h k = omega (arith, ints, h)
-abs_from (negsuc n) t h k = omega (arith, ints, k)
-
-difference_le : (a b : ℤ) (s t : ℕ) → unsigned_abs a ≤ s → unsigned_abs b ≤ t → unsigned_abs (a -ℤ b) ≤ s + t
-difference_le a b s t h k =
-    let au = abs_upper a in
-    let al = abs_lower a in
-    let bu = abs_upper b in
-    let bl = abs_lower b in
-    abs_from (a -ℤ b) (s + t) (omega (arith, ints, au, bl, h, k)) (omega (arith, ints, al, bu, h, k))
-
-product_le : (p x : ℤ) (b : ℕ) → unsigned_abs x ≤ b → unsigned_abs (p *ℤ x) ≤ unsigned_abs p * b
-product_le p x b h = rw (unsigned_abs-mul p x) (mul-le-mul_left (unsigned_abs p) h)
-
-pub quotient_le : (z : ℤ) (g : ℕ) → unsigned_abs (int_div z (pos g)) ≤ unsigned_abs z
-quotient_le (pos a) g = div-le_self a g
-quotient_le (negsuc a) g = rw (unsigned_abs-neg (pos (suc a / g))) (div-le_self (suc a) g)
 
 -- the bound of a place after a merge
 pub record CombinesBelow (p a q c : ℤ) (t : ℕ) : Type 0 where
@@ -70,7 +43,7 @@ combines_below p a q c b d h k =
     record {
       left = omega arith;
       right = omega arith;
-      difference = difference_le (p *ℤ a) (q *ℤ c) (unsigned_abs p * b) (unsigned_abs q * d) x y;
+      difference = abs_minus (p *ℤ a) (q *ℤ c) (unsigned_abs p * b) (unsigned_abs q * d) x y;
     }
 
 pub in32 : (p a q c : ℤ) (t : ℕ) → CombinesBelow p a q c t → t < 2 ^ 31 → CombinesIn32 p a q c
@@ -150,18 +123,6 @@ IsBound-turned b entering column r h k = record {
   constant = rw (unsigned_abs-neg r.constant) k.constant;
   cells = All-set (λ x. unsigned_abs x ≤ b) (map neg_ℤ r.cells) column r.denominator k.denominator (All-map (λ x. unsigned_abs x ≤ b) neg_ℤ r.cells (λ i e inside. rw (unsigned_abs-neg (get_or r.cells i e)) (k.cells i e inside)));
 }
-
--- smaller factors show as much
-pub factors_below : (c a : ℤ) (g b d : ℕ) → unsigned_abs c * b + unsigned_abs a * d < 2 ^ 31 → unsigned_abs (int_div c (pos g)) * b + unsigned_abs (int_div a (pos g)) * d < 2 ^ 31
-factors_below c a g b d h =
-    let x = mul-le-mul_right b (quotient_le c g) in
-    let y = mul-le-mul_right d (quotient_le a g) in
-    omega arith
-
--- divisors of positive numbers of 32 bits
-abs_positive : (z : ℤ) → pos 0 <ℤ z → 0 < unsigned_abs z
-abs_positive (pos n) h = omega (arith, ints, h)
-abs_positive (negsuc n) h = omega arith
 
 small_positive : (z : ℤ) → SFits w32 z → pos 0 <ℤ z → unsigned_abs z < 2 ^ 31
 small_positive (pos n) f h = let s = f.sfits in omega arith

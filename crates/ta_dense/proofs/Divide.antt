@@ -1,24 +1,14 @@
-use Rattle.std.proofs.Common.{◌≡◌, ℕ, zero, suc, refl, ◌<◌, List, [], ◌∷◌, map, arith, ap, ℤ, pos, negsuc, ◌+ℤ◌, ◌*ℤ◌, ◌<ℤ◌, neg_ℤ}
+use Rattle.std.proofs.Common.{◌≡◌, ℕ, ◌<◌, List, [], ◌∷◌, map, arith, ap, ℤ, pos, ◌+ℤ◌, ◌*ℤ◌}
 use Rattle.std.specs.Prelude.{unsigned_abs, int_div}
 use Rattle.std.specs.Int.{◌∣◌}
 use Rattle.std.proofs.Math.Nat.{one-dvd}
 use Rattle.std.proofs.lemmas.Nat.Gcd.{dvd_refl, dvd_trans, dvd_antisymm}
 use Rattle.std.proofs.lemmas.Int.{ints}
-use Rattle.ta_linear.proofs.Divide.{mul_cancel, div_exact}
-use Rattle.ta_linear.proofs.Integers.{expand}
+use Rattle.ta_base.proofs.Integers.{div_exact, divided_arith, expand, mul_cancel}
 use Rattle.ta_linear.proofs.GcdLemmas.{IsGcd-gcd_of}
 use Rattle.ta_linear.specs.Gcd.{gcd_of}
 use Rattle.ta_dense.specs.Tableau.{TableauRow, divided, gcd_with}
-use Rattle.ta_dense.specs.Valid.{dot, Holds, AllDivided}
-
-pub unsigned_abs-neg : (z : ℤ) → unsigned_abs (neg_ℤ z) ≡ unsigned_abs z
-unsigned_abs-neg (pos zero) = refl
-unsigned_abs-neg (pos (suc n)) = refl
-unsigned_abs-neg (negsuc n) = refl
-
-pub cancel_positive : (d x y : ℤ) → pos 0 <ℤ d → d *ℤ x ≡ d *ℤ y → x ≡ y
-cancel_positive (pos d) x y h e = mul_cancel d x y (omega (arith, ints, h)) e
-cancel_positive (negsuc d) x y h e = absurd (omega (arith, ints, h))
+use Rattle.ta_dense.specs.Valid.{dot, EquationHolds, AllDivided}
 
 pub gcd_with_divides : (xs : List ℤ) (g : ℕ) → (gcd_with g xs ∣ g) × AllDivided (gcd_with g xs) xs
 gcd_with_divides [] g = (dvd_refl g, tt)
@@ -38,16 +28,9 @@ dot-divided g (c ∷ cs) (u ∷ us) value h =
     let e = simp expand at (ap (λ (z : ℤ). z *ℤ value u) (div_exact g c h.0)) in
     simp expand (omega (arith, ints, e, dot-divided g cs us value h.1))
 
-divided_arith : (g d v s b t d' b' t' : ℤ) → d *ℤ v ≡ s *ℤ b +ℤ t → g *ℤ d' ≡ d → g *ℤ b' ≡ b → g *ℤ t' ≡ t →
-    g *ℤ (d' *ℤ v) ≡ g *ℤ (s *ℤ b' +ℤ t')
-divided_arith g d v s b t d' b' t' h e f k =
-    let x = simp expand at (ap (λ (z : ℤ). z *ℤ v) e) in
-    let y = simp expand at (ap (λ (z : ℤ). s *ℤ z) f) in
-    simp expand (omega (arith, ints, h, x, y, k))
-
 -- a row divided by a number that divides each of its numbers
 pub Holds-divided : (us : List ℕ) (g : ℕ) (r : TableauRow) (scale : ℤ) (value : ℕ → ℤ) → 0 < g →
-    g ∣ unsigned_abs r.denominator → AllDivided g (r.constant ∷ r.cells) → Holds us r scale value → Holds us (divided g r) scale value
+    g ∣ unsigned_abs r.denominator → AllDivided g (r.constant ∷ r.cells) → EquationHolds us r scale value → EquationHolds us (divided g r) scale value
 Holds-divided us g r scale value some first others h =
     mul_cancel g (int_div r.denominator (pos g) *ℤ value r.basic) (scale *ℤ int_div r.constant (pos g) +ℤ dot (map (λ z. int_div z (pos g)) r.cells) us value) some
     (divided_arith (pos g) r.denominator (value r.basic) scale r.constant (dot r.cells us value) (int_div r.denominator (pos g)) (int_div r.constant (pos g)) (dot (map (λ z. int_div z (pos g)) r.cells) us value) h (div_exact g r.denominator first) (div_exact g r.constant others.0) (dot-divided g r.cells us value others.1))

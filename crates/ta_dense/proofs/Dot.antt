@@ -1,6 +1,6 @@
 use Rattle.std.proofs.Common.{◌≡◌, ◌≢◌, ℕ, zero, suc, ◌<◌, List, [], ◌∷◌, length, map, set, get_or, arith, refl, ap, ℤ, pos, ◌+ℤ◌, ◌*ℤ◌, ◌-ℤ◌, neg_ℤ}
 use Rattle.std.proofs.lemmas.Int.{ints}
-use Rattle.ta_linear.proofs.Integers.{expand}
+use Rattle.ta_base.proofs.Integers.{expand}
 use Rattle.ta_dense.specs.Valid.{dot}
 use Rattle.ta_dense.specs.Tableau.{combine}
 

@@ -2,9 +2,9 @@
 use Rattle.std.proofs.Common.{◌≡◌, ◌≢◌, inl, inr, ℕ, suc, ◌+◌, ◌<◌, List, [], ◌∷◌, ◌++◌, length, arith, sym, ap, ◌∙◌, subst, ℤ, pos, ◌*ℤ◌, ◌<ℤ◌, ◌≤ℤ◌}
 use Rattle.std.proofs.lemmas.Int.{ints}
 use Rattle.std.proofs.lemmas.List.{length-append}
+use Rattle.ta_base.proofs.Integers.{ge-zero_of_mul, lt-zero_of_mul, mul-ge-zero, mul-lt-zero}
 use Rattle.ta_linear.specs.declared.row.Row.{Row}
 use Rattle.ta_linear.specs.declared.row.System.{System}
-use Rattle.ta_linear.proofs.Signs.{lt-zero_of_mul, ge-zero_of_mul, mul-lt-zero, mul-ge-zero}
 use Rattle.ta_dense.specs.Tableau.{Tableau, row_of, basic_of, non_basic_of}
 use Rattle.ta_dense.specs.Valid.{IsDictionary, dot}
 use Rattle.ta_dense.specs.Leaving.{Leaves}

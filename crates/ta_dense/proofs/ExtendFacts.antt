@@ -13,7 +13,7 @@ use Rattle.ta_dense.specs.Slack.{slack_rows}
 use Rattle.ta_dense.specs.Rows.{row_view, views, AreProper}
 use Rattle.ta_dense.specs.declared.rows.DenseRow.{DenseRow}
 use Rattle.ta_dense.specs.Extending.{raised, widened, new_rows, FirstLeaving}
-use Rattle.ta_dense.specs.Inside.Padded.{padded}
+use Rattle.ta_dense.specs.Inside.Padded.{padded, zero_filled}
 use Rattle.ta_dense.specs.Kept.{KeptPivot, kept_at, chosen_row, carried, AreKept, StayInRange}
 
 pub IsProper-padded : (n basic columns : ℕ) (r : TableauRow) → IsProper n r → n ≤ columns → IsProper columns (padded basic columns r)
@@ -34,6 +34,11 @@ pub padded_widened : (u n basic : ℕ) (r : TableauRow) → length r.cells ≡ u
 padded_widened u n basic r long e =
     let f : u + n - length r.cells ≡ n = omega arith in
     rw (e, f) refl
+
+pub padded_filled : (u n : ℕ) (r : TableauRow) → length r.cells ≡ u → padded r.basic (u + n) r ≡ zero_filled n r
+padded_filled u n r long =
+    let f : u + n - length r.cells ≡ n = omega arith in
+    rw f refl
 
 -- one more row
 pub map_take_more : {A : Type 0} (view : A → TableauRow) (f : TableauRow → TableauRow) (xs : List A) (i : ℕ) (x d : A) (y : TableauRow) → i < length xs → x ≡ get_or xs i x → y ≡ f (view x) →

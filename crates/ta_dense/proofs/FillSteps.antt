@@ -1,14 +1,14 @@
 -- one more coefficient is written into the cell of its unknown
-use Rattle.std.proofs.Common.{◌≡◌, ◌≢◌, inl, inr, ℕ, zero, suc, ◌+◌, ◌<◌, ◌≤◌, List, [], length, set, get_or, drop, arith, refl, ap, ◌∙◌, ℤ, pos, ◌+ℤ◌, get_or-set_other, get_or-set_same, eqb, cond, replicate}
-use Rattle.std.proofs.lemmas.Bool.{cases_eq}
-use Rattle.std.proofs.lemmas.Bool.Decides.{nat_tests}
+use Rattle.std.proofs.Common.{◌≡◌, ◌≢◌, ℕ, ◌+◌, ◌<◌, ◌≤◌, List, [], length, set, get_or, drop, arith, ap, ◌∙◌, ℤ, pos, ◌+ℤ◌, get_or-set_other, replicate}
 use Rattle.std.proofs.lemmas.Int.{ints}
 use Rattle.std.proofs.lemmas.List.{ext_get_or, length-map, length-set, get_or-map}
 use Rattle.std.proofs.lemmas.List.FromFn.{length-range_with_len, get_or-range_with_len}
 use Rattle.std.proofs.Math.ListN.{drop_of_length-le}
 use Rattle.std.specs.List.{range_with_len}
+use Rattle.ta_base.proofs.Integers.{replicate_zeros}
+use Rattle.ta_base.proofs.Lists.{at_drop, get_set_added}
 use Rattle.ta_linear.specs.Terms.{coefficient, IsNormal}
-use Rattle.ta_linear.proofs.TermLemmas.{at_drop, IsNormal-le}
+use Rattle.ta_linear.proofs.TermLemmas.{IsNormal-le}
 use Rattle.ta_dense.specs.Slack.{coefficients}
 
 -- what is written and what is left make up the coefficients; nothing is written from a place on
@@ -26,19 +26,6 @@ fill-inside n all ts i d cells f h =
     let long = f.long in
     omega arith
 
-written : (cells : List ℤ) (a x : ℕ) (z rest : ℤ) → a < length cells → get_or cells a (pos 0) ≡ pos 0 → (get_or (set cells a z) x (pos 0) +ℤ rest) ≡ (get_or cells x (pos 0) +ℤ (cond (eqb a x) z (pos 0) +ℤ rest))
-written cells a x z rest inside none =
-    elim (cases_eq x a) [
-      | inl same ↦
-          let on : cond (eqb a x) z (pos 0) ≡ z = grind (arith, nat_tests) in
-          let new : get_or (set cells a z) x (pos 0) ≡ z = rw same (get_or-set_same cells a z (pos 0) inside) in
-          let old : get_or cells x (pos 0) ≡ pos 0 = rw same none in
-          omega (arith, ints, on, new, old)
-      | inr apart ↦
-          let off : cond (eqb a x) z (pos 0) ≡ pos 0 = grind (arith, nat_tests) in
-          omega (arith, ints, off, get_or-set_other cells a x z (pos 0) apart)
-    ]
-
 pub fill-more : (n : ℕ) (all ts : List (ℕ × ℤ)) (i : ℕ) (d : ℕ × ℤ) (cells : List ℤ) → Filling n all (drop i ts) cells → i < length ts → Filling n all (drop (i + 1) ts) (set cells (get_or ts i d).0 (get_or ts i d).1)
 fill-more n all ts i d cells f h =
     let t = get_or ts i d in
@@ -48,7 +35,7 @@ fill-more n all ts i d cells f h =
       place = t.0 + 1;
       normal = g.normal.2;
       long = length-set cells t.0 t.1 ∙ f.long;
-      sums = λ x. (written cells t.0 x t.1 (coefficient (drop (i + 1) ts) x) inside (f.empty t.0 g.normal.0) ∙ g.sums x);
+      sums = λ x. (get_set_added cells t.0 x t.1 (coefficient (drop (i + 1) ts) x) inside (f.empty t.0 g.normal.0) ∙ g.sums x);
       empty = λ x above. (let apart : x ≢ (get_or ts i d).0 = omega arith in get_or-set_other cells t.0 x t.1 (pos 0) apart ∙ f.empty x (let low = g.normal.0 in omega arith));
     }
 
@@ -66,16 +53,11 @@ fill-end n ts i cells f h =
     let same : coefficient ts (get_or (range_with_len 0 n) x 0) ≡ coefficient ts x = ap (coefficient ts) (place ∙ omega arith) in
     omega (arith, ints, sums, at, same)))
 
-zeros : (n x : ℕ) → get_or (replicate n (pos 0)) x (pos 0) ≡ pos 0
-zeros zero x = refl
-zeros (suc n) zero = refl
-zeros (suc n) (suc x) = zeros n x
-
 pub fill-start : (n : ℕ) (ts : List (ℕ × ℤ)) (cells : List ℤ) → IsNormal 0 n ts → length cells ≡ n → cells ≡ replicate n (pos 0) → Filling n ts ts cells
 fill-start n ts cells normal long empty = record {
   place = 0;
   normal = normal;
   long = long;
-  sums = λ x. (let e = ap (λ (cs : List ℤ). get_or cs x (pos 0)) empty ∙ zeros n x in omega (arith, ints, e));
-  empty = λ x _. (ap (λ (cs : List ℤ). get_or cs x (pos 0)) empty ∙ zeros n x);
+  sums = λ x. (let e = ap (λ (cs : List ℤ). get_or cs x (pos 0)) empty ∙ replicate_zeros n x in omega (arith, ints, e));
+  empty = λ x _. (ap (λ (cs : List ℤ). get_or cs x (pos 0)) empty ∙ replicate_zeros n x);
 }

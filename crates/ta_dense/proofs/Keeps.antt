@@ -1,16 +1,13 @@
 use Rattle.std.proofs.Common.{◌≡◌, ◌≢◌, ◌⊎◌, inl, inr, ℕ, suc, ◌+◌, ◌*◌, ◌<◌, length, map, arith, refl, sym, ap, ◌∙◌, subst, ℤ, pos, ◌+ℤ◌, ◌*ℤ◌, ◌-ℤ◌, neg_ℤ, ◌<ℤ◌, get_or-set_same, get_or-set_other}
 use Rattle.std.proofs.lemmas.Bool.{cases_eq}
-use Rattle.std.proofs.lemmas.Int.{ints}
 use Rattle.std.proofs.lemmas.List.{length-map, length-set, get_or-map}
-use Rattle.ta_linear.proofs.Integers.{expand}
+use Rattle.ta_base.proofs.Integers.{cancel_positive, leaving_arith, pos_out, product_positive, times_assoc}
 use Rattle.ta_dense.specs.Tableau.{factor_divisor, TableauRow, Tableau, cell_of, turned, merged, row_of, no_row, pivoted, basic_of, non_basic_of}
 use Rattle.ta_dense.specs.Valid.{IsPrimitive, dot, IsDictionary}
 use Rattle.ta_dense.proofs.Dot.{dot-change, dot-scaled}
 use Rattle.ta_dense.proofs.PivotLaws.{Holds-turned}
-use Rattle.ta_dense.proofs.Divide.{cancel_positive}
-use Rattle.ta_linear.proofs.Integers.{times_assoc}
 use Rattle.std.specs.Prelude.{int_div}
-use Rattle.ta_dense.proofs.MergedRow.{Good, Good-merged, merged_cases, merged_with, product_positive, pos_out}
+use Rattle.ta_dense.proofs.MergedRow.{Good, Good-merged, merged_cases, merged_with}
 use Rattle.ta_dense.proofs.ReduceFacts.{factors_positive}
 use Rattle.ta_dense.proofs.Primitive.{IsPrimitive-turned, IsPrimitive-merged}
 
@@ -31,7 +28,7 @@ row_count t row column = length-set (map (merged column (row_of t row)) t.rows) 
 pub column_count : (t : Tableau) (row column : ℕ) → length (pivoted t row column).non_basic ≡ length t.non_basic
 column_count t row column = length-set t.non_basic column (basic_of t row)
 
-merged_basic : (column : ℕ) (chosen r : TableauRow) → (merged column chosen r).basic ≡ r.basic
+pub merged_basic : (column : ℕ) (chosen r : TableauRow) → (merged column chosen r).basic ≡ r.basic
 merged_basic column chosen r = elim (merged_cases column chosen r) [ inl stays ↦ ap (λ (x : TableauRow). x.basic) stays.1 | inr is ↦ ap (λ (x : TableauRow). x.basic) is ]
 
 pub basic_at : (t : Tableau) (row column : ℕ) → row < length t.rows → basic_of (pivoted t row column) row ≡ non_basic_of t column
@@ -100,16 +97,6 @@ pick-elsewhere e entering c want v h = go (cases_eq v e)
     go : (x : (v ≡ e) ⊎ (v ≡ e → ⊥)) → pick_by v e entering (c *ℤ want v) x ≡ c *ℤ want v
     go (inl same) = absurd (h same)
     go (inr apart) = refl
-
-leaving_arith : (d vl m c s b sum picked scaled w wl we : ℤ) →
-    d *ℤ vl ≡ (m *ℤ (c *ℤ s)) *ℤ b +ℤ sum → sum ≡ m *ℤ picked →
-    picked +ℤ c *ℤ (c *ℤ we) ≡ scaled +ℤ c *ℤ (d *ℤ wl -ℤ s *ℤ b -ℤ w +ℤ c *ℤ we) → scaled ≡ c *ℤ w →
-    d *ℤ vl ≡ d *ℤ ((m *ℤ c) *ℤ wl)
-leaving_arith d vl m c s b sum picked scaled w wl we h1 h2 h3 h4 =
-    let x = simp expand at h1 in
-    let y = simp expand at (ap (λ (z : ℤ). m *ℤ z) h3) in
-    let z = ap (λ (z : ℤ). m *ℤ z) h4 in
-    simp expand (omega (arith, ints, x, y, z, h2))
 
 free_after : (A : ℤ → (ℕ → ℤ) → Type 0) (n : ℕ) (t : Tableau) (row column : ℕ) → IsDictionary A n t → row < length t.rows → column < length t.non_basic → pos 0 <ℤ cell_of (row_of t row) column →
     (scale : ℤ) (want : ℕ → ℤ) → (m : ℕ) × (value : (ℕ → ℤ)) × (0 < m) × A (pos m *ℤ scale) value ×

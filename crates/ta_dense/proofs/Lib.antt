@@ -1,7 +1,6 @@
 -- lemmas for the crates above
 pub mod PivotLaws
 pub mod Divide
-pub mod Single
 pub mod RowFacts
 pub mod MergedRow
 pub mod Keeps
@@ -12,7 +11,6 @@ pub mod SlackRows
 pub mod SlackDictionary
 pub mod PushedRows
 mod Dot
-mod ListSteps
 mod CellSteps
 mod Unique
 mod RowSteps
@@ -23,6 +21,7 @@ mod FillSteps
 mod Primitive
 mod Bounded
 mod NarrowFacts
+mod SharedFacts
 mod ExtendFacts
 mod Halves
 mod EqualRows

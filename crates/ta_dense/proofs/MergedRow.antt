@@ -1,14 +1,12 @@
-use Rattle.std.proofs.Common.{◌≡◌, ◌⊎◌, inl, inr, ℕ, zero, suc, ◌<◌, List, ◌∷◌, length, set, arith, refl, sym, ap, ◌∙◌, ℤ, pos, negsuc, ◌*ℤ◌, ◌<ℤ◌}
+use Rattle.std.proofs.Common.{◌≡◌, ◌⊎◌, inl, inr, ℕ, zero, suc, ◌<◌, List, ◌∷◌, length, set, arith, refl, sym, ◌∙◌, ℤ, pos, negsuc, ◌<ℤ◌}
 use Rattle.std.specs.Prelude.{unsigned_abs, int_div}
-use Rattle.std.proofs.lemmas.Int.{ints}
 use Rattle.std.proofs.lemmas.List.{length-map, length-set}
-use Rattle.ta_linear.proofs.Integers.{expand}
+use Rattle.ta_base.proofs.Integers.{div_exact, factor_positive, factors_agree, product_positive}
 use Rattle.ta_linear.proofs.GcdLemmas.{IsGcd-gcd_of}
 use Rattle.ta_dense.specs.Tableau.{TableauRow, combine, cell_of, merged, merged_at, merged_by, reduced, divisor_of, factor_divisor}
-use Rattle.ta_dense.specs.Valid.{Holds}
+use Rattle.ta_dense.specs.Valid.{EquationHolds}
 use Rattle.ta_dense.proofs.Dot.{dot-replaced}
 use Rattle.ta_dense.proofs.PivotLaws.{Holds-merged_by, length-combine}
-use Rattle.ta_linear.proofs.Divide.{mul_cancel, div_exact}
 use Rattle.ta_dense.proofs.Divide.{gcd_with_divides, Holds-divided}
 
 -- the merged row by a cell
@@ -27,30 +25,11 @@ merged_cases column chosen r = go (cell_of r column) refl
     go (pos (suc n)) e = inr refl
     go (negsuc n) e = inr refl
 
-pub pos_out : (z : ℤ) → pos 0 <ℤ z → (k : ℕ) × (z ≡ pos (suc k))
-pos_out (pos zero) h = absurd (omega (arith, ints, h))
-pos_out (pos (suc k)) h = (k, refl)
-pos_out (negsuc k) h = absurd (omega (arith, ints, h))
-
--- a positive number's factor is positive where the other is natural
-pub factor_positive : (g : ℕ) (z w : ℤ) → pos g *ℤ z ≡ w → pos 0 <ℤ w → (0 < g) × (pos 0 <ℤ z)
-factor_positive zero z w e h = absurd (omega (arith, ints, e, h))
-factor_positive (suc g) (pos zero) w e h = absurd (omega (arith, ints, e, h))
-factor_positive (suc g) (pos (suc k)) w e h = (omega arith, omega (arith, ints))
-factor_positive (suc g) (negsuc k) w e h = absurd (omega (arith, ints, e, h))
-
-pub product_positive : (a b : ℤ) → pos 0 <ℤ a → pos 0 <ℤ b → pos 0 <ℤ (a *ℤ b)
-product_positive (pos zero) b h k = absurd (omega (arith, ints, h))
-product_positive (pos (suc a)) (pos zero) h k = absurd (omega (arith, ints, k))
-product_positive (pos (suc a)) (pos (suc b)) h k = omega (arith, ints)
-product_positive (pos (suc a)) (negsuc b) h k = absurd (omega (arith, ints, k))
-product_positive (negsuc a) b h k = absurd (omega (arith, ints, h))
-
 -- what each row of a dictionary keeps
 pub record Good (A : ℤ → (ℕ → ℤ) → Type 0) (us : List ℕ) (r : TableauRow) : Type 0 where
   pub positive : pos 0 <ℤ r.denominator
   pub long : length r.cells ≡ length us
-  pub holds : (scale : ℤ) (value : ℕ → ℤ) → A scale value → Holds us r scale value
+  pub holds : (scale : ℤ) (value : ℕ → ℤ) → A scale value → EquationHolds us r scale value
 
 -- a divided row is as good
 Good-reduced : (A : ℤ → (ℕ → ℤ) → Type 0) (us : List ℕ) (r : TableauRow) → Good A us r → Good A us (reduced r)
@@ -63,11 +42,6 @@ Good-reduced A us r good =
       long = length-map r.cells (λ z. int_div z (pos (divisor_of r))) ∙ good.long;
       holds = λ scale value a. Holds-divided us (divisor_of r) r scale value some.0 divides.0 divides.1 (good.holds scale value a);
     }
-
-factors_agree : (c a p q : ℤ) (g : ℕ) → 0 < g → pos g *ℤ p ≡ c → pos g *ℤ q ≡ a → p *ℤ a ≡ q *ℤ c
-factors_agree c a p q g some e f =
-    mul_cancel g (p *ℤ a) (q *ℤ c) some
-    (let x = simp expand at (ap (λ (z : ℤ). z *ℤ a) e) in let y = simp expand at (ap (λ (z : ℤ). z *ℤ c) f) in simp expand (omega (arith, ints, x, y)))
 
 -- each other row stays good
 pub Good-merged : (A : ℤ → (ℕ → ℤ) → Type 0) (us : List ℕ) (chosen r : TableauRow) (column : ℕ) → column < length us → pos 0 <ℤ cell_of chosen column →

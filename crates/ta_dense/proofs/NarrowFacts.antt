@@ -3,6 +3,7 @@ use Rattle.std.proofs.Common.{◌≡◌, ℕ, ◌<◌, ◌+◌, ◌-◌, ◌*◌
 use Rattle.std.proofs.lemmas.List.{length-map, length-append, get_or-map, get_or_append_left, get_or-append_right}
 use Rattle.std.proofs.lemmas.List.Elements.{All-append, All-cons, All-head, All-tail}
 use Rattle.std.specs.Prelude.{int_div}
+use Rattle.ta_base.proofs.Integers.{factors_below}
 use Rattle.ta_dense.specs.Tableau.{TableauRow, cell_of, merged_by, reduced, turned, divisor_of, factor_divisor, no_row}
 use Rattle.ta_dense.specs.Merge.{IsProper, MergesInRange, RowsMergeBelow}
 use Rattle.ta_dense.specs.Bounds.{IsBound}
@@ -10,7 +11,7 @@ use Rattle.ta_dense.specs.Narrow.{narrow_view, narrow_views, IsNarrow, AreNarrow
 use Rattle.ta_dense.specs.declared.narrow_rows.NarrowRow.{NarrowRow}
 use Rattle.ta_dense.proofs.ProperFacts.{IsProper-reduced, IsProper-merged_by, IsProper-turned}
 use Rattle.ta_dense.proofs.PivotParts.{Cut, cut_by, at_row}
-use Rattle.ta_dense.proofs.Bounded.{IsBound-merged_by, IsBound-divided, IsBound-turned, merges_by_in_range, factors_below}
+use Rattle.ta_dense.proofs.Bounded.{IsBound-merged_by, IsBound-divided, IsBound-turned, merges_by_in_range}
 
 pub narrow_itself : (n : ℕ) (r : NarrowRow) → IsNarrow n r → IsNarrow (length r.cells.items) r
 narrow_itself n r k = subst (λ (m : ℕ). IsNarrow m r) (sym k.proper.long) k

@@ -1,19 +1,11 @@
-use Rattle.std.proofs.Common.{◌≡◌, ℕ, zero, suc, ◌<◌, List, [], ◌∷◌, length, map, set, get_or, arith, refl, sym, ap, ℤ, pos, ◌+ℤ◌, ◌*ℤ◌, ◌-ℤ◌, neg_ℤ}
+use Rattle.std.proofs.Common.{◌≡◌, ℕ, zero, suc, ◌<◌, List, [], ◌∷◌, length, map, set, get_or, arith, refl, sym, ap, ℤ, pos, ◌*ℤ◌, ◌-ℤ◌, neg_ℤ}
 use Rattle.std.proofs.lemmas.Int.{ints}
 use Rattle.std.proofs.lemmas.List.{length-map}
-use Rattle.ta_linear.proofs.Integers.{expand}
+use Rattle.ta_base.proofs.Integers.{merged_arith, turned_arith}
+use Rattle.ta_base.proofs.Lists.{get_or-neg}
 use Rattle.ta_dense.specs.Tableau.{TableauRow, combine, cell_of, turned, merged_by}
-use Rattle.ta_dense.specs.Valid.{dot, Holds}
+use Rattle.ta_dense.specs.Valid.{dot, EquationHolds}
 use Rattle.ta_dense.proofs.Dot.{dot-set, dot-neg, dot-combine}
-
--- what the row says, as linear arithmetic
-turned_arith : (d l q b s c e n : ℤ) → d *ℤ l ≡ q *ℤ b +ℤ s → n +ℤ neg_ℤ c *ℤ e ≡ neg_ℤ s +ℤ d *ℤ l → c *ℤ e ≡ q *ℤ neg_ℤ b +ℤ n
-turned_arith d l q b s c e n h1 h2 = let k = simp expand at h2 in simp expand (omega (arith, ints, h1, k))
-
-pub get_or-neg : (cs : List ℤ) (column : ℕ) → get_or (map neg_ℤ cs) column (pos 0) ≡ neg_ℤ (get_or cs column (pos 0))
-get_or-neg [] column = refl
-get_or-neg (c ∷ cs) zero = refl
-get_or-neg (c ∷ cs) (suc column) = get_or-neg cs column
 
 pub get_or-combine : (p q : ℤ) (xs cs : List ℤ) (column : ℕ) → length xs ≡ length cs → get_or (combine p q xs cs) column (pos 0) ≡ p *ℤ get_or xs column (pos 0) -ℤ q *ℤ get_or cs column (pos 0)
 get_or-combine p q [] [] column e = omega (arith, ints)
@@ -30,25 +22,15 @@ length-combine p q (a ∷ xs) (c ∷ cs) e = ap suc (length-combine p q xs cs (o
 
 -- the turned row holds where the chosen row does
 pub Holds-turned : (us : List ℕ) (r : TableauRow) (column : ℕ) (scale : ℤ) (value : ℕ → ℤ) → column < length r.cells → length us ≡ length r.cells →
-    Holds us r scale value → Holds (set us column r.basic) (turned (get_or us column 0) column r) scale value
+    EquationHolds us r scale value → EquationHolds (set us column r.basic) (turned (get_or us column 0) column r) scale value
 Holds-turned us r column scale value h e holds =
     let n = dot-set (map neg_ℤ r.cells) us value column r.denominator r.basic (simp length-map h) (simp length-map e) in
     let m = simp (get_or-neg, dot-neg) at n in
     turned_arith r.denominator (value r.basic) scale r.constant (dot r.cells us value) (cell_of r column) (value (get_or us column 0)) (dot (set (map neg_ℤ r.cells) column r.denominator) (set us column r.basic) value) holds m
 
-merged_arith : (d l s b t c e k v m u a n p q : ℤ) → d *ℤ l ≡ s *ℤ b +ℤ t → k *ℤ v ≡ s *ℤ m +ℤ u → p *ℤ a ≡ q *ℤ c →
-    n +ℤ (p *ℤ a -ℤ q *ℤ c) *ℤ e ≡ (p *ℤ u -ℤ q *ℤ t) +ℤ (q *ℤ d) *ℤ l →
-    (p *ℤ k) *ℤ v ≡ s *ℤ (p *ℤ m -ℤ q *ℤ b) +ℤ n
-merged_arith d l s b t c e k v m u a n p q h1 h2 h3 h4 =
-    let x = simp expand at (ap (λ (z : ℤ). q *ℤ z) h1) in
-    let y = simp expand at (ap (λ (z : ℤ). p *ℤ z) h2) in
-    let z = simp expand at h4 in
-    let w = simp expand at (ap (λ (z : ℤ). z *ℤ e) h3) in
-    simp expand (omega (arith, ints, x, y, z, w))
-
 pub Holds-merged_by : (us : List ℕ) (chosen r : TableauRow) (column : ℕ) (p q scale : ℤ) (value : ℕ → ℤ) → column < length r.cells → length us ≡ length r.cells → length chosen.cells ≡ length r.cells →
-    p *ℤ cell_of r column ≡ q *ℤ cell_of chosen column → Holds us chosen scale value → Holds us r scale value →
-    Holds (set us column chosen.basic) (merged_by p q column chosen r) scale value
+    p *ℤ cell_of r column ≡ q *ℤ cell_of chosen column → EquationHolds us chosen scale value → EquationHolds us r scale value →
+    EquationHolds (set us column chosen.basic) (merged_by p q column chosen r) scale value
 Holds-merged_by us chosen r column p q scale value h e f same first second =
     let long : length (combine p q r.cells chosen.cells) ≡ length r.cells = length-combine p q r.cells chosen.cells (sym f) in
     let n = dot-set (combine p q r.cells chosen.cells) us value column (q *ℤ chosen.denominator) chosen.basic (omega arith) (omega arith) in

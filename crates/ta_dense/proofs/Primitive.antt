@@ -1,18 +1,16 @@
-use Rattle.std.proofs.Common.{◌≡◌, inl, inr, ℕ, zero, suc, ◌*◌, ◌<◌, List, [], ◌∷◌, length, map, set, get_or, arith, sym, ap, ◌∙◌, subst, ℤ, pos, neg_ℤ, ◌<ℤ◌, get_or-set_same}
+use Rattle.std.proofs.Common.{◌≡◌, inl, inr, ℕ, zero, suc, ◌*◌, ◌<◌, List, [], ◌∷◌, length, map, set, get_or, arith, subst, ℤ, pos, neg_ℤ, ◌<ℤ◌, get_or-set_same}
 use Rattle.std.specs.Prelude.{unsigned_abs, int_div}
 use Rattle.std.specs.Int.{◌∣◌}
-use Rattle.std.proofs.lemmas.Int.{unsigned_abs-mul}
 use Rattle.std.proofs.lemmas.List.{length-map, length-set}
-use Rattle.std.proofs.Math.Nat.{dvd_of_mul-dvd-mul_left, mul-dvd-mul_left, eq-one_of_dvd-one}
+use Rattle.std.proofs.Math.Nat.{dvd_of_mul-dvd-mul_left, eq-one_of_dvd-one}
+use Rattle.ta_base.proofs.Integers.{dvd_times, unsigned_abs-neg}
 use Rattle.ta_linear.proofs.GcdLemmas.{IsGcd-gcd_of}
 use Rattle.ta_linear.specs.Gcd.{gcd_of}
 use Rattle.ta_dense.specs.Valid.{IsPrimitive, AllDivided}
 use Rattle.ta_dense.specs.Tableau.{TableauRow, cell_of, turned, merged, reduced, divisor_of, gcd_with}
-use Rattle.ta_linear.proofs.Divide.{div_exact}
-use Rattle.ta_dense.proofs.Divide.{unsigned_abs-neg, gcd_with_divides}
+use Rattle.ta_dense.proofs.Divide.{gcd_with_divides}
 use Rattle.ta_dense.proofs.MergedRow.{merged_cases, merged_with}
 use Rattle.ta_dense.proofs.ReduceFacts.{divisor_positive}
-use Rattle.ta_dense.specs.Valid.{AllDivided}
 
 gcd_with_greatest : (k g : ℕ) (xs : List ℤ) → k ∣ g → AllDivided k xs → k ∣ gcd_with g xs
 gcd_with_greatest k g [] h all = h
@@ -22,12 +20,6 @@ pub primitive_divisor : (r : TableauRow) → IsPrimitive r → divisor_of r ≡ 
 primitive_divisor r h =
     let d = gcd_with_divides (r.constant ∷ r.cells) (unsigned_abs r.denominator) in
     h (divisor_of r) record { denominator = d.0; constant = d.1.0; cells = d.1.1 }
-
--- a divisor of the quotient, times the divisor
-dvd_times : (g k : ℕ) (z : ℤ) → g ∣ unsigned_abs z → k ∣ unsigned_abs (int_div z (pos g)) → g * k ∣ unsigned_abs z
-dvd_times g k z h d =
-    let e : g * unsigned_abs (int_div z (pos g)) ≡ unsigned_abs z = sym (unsigned_abs-mul (pos g) (int_div z (pos g))) ∙ ap unsigned_abs (div_exact g z h) in
-    subst (λ (m : ℕ). g * k ∣ m) e (mul-dvd-mul_left k g d)
 
 all_times : (g k : ℕ) (zs : List ℤ) → AllDivided g zs → AllDivided k (map (λ z. int_div z (pos g)) zs) → AllDivided (g * k) zs
 all_times g k [] h d = tt

@@ -1,15 +1,14 @@
-use Rattle.std.proofs.Common.{◌≡◌, ℕ, zero, suc, ◌/◌, ◌<◌, List, [], ◌∷◌, map, arith, sym, refl, ap, ◌∙◌, ℤ, pos, negsuc, neg_ℤ, ◌-ℤ◌, ◌<ℤ◌, ◌≤ℤ◌}
+use Rattle.std.proofs.Common.{◌≡◌, zero, suc, ◌<◌, ◌∷◌, map, arith, sym, ap, ◌∙◌, ℤ, pos, negsuc, ◌-ℤ◌, ◌<ℤ◌, ◌≤ℤ◌}
 use Rattle.std.specs.Prelude.{unsigned_abs, int_div}
-use Rattle.std.proofs.lemmas.Int.{ints}
 use mir.Val.{SFits}
 use mir.Syntax.{w128}
+use Rattle.ta_base.proofs.Integers.{abs_natural, div-one, div_exact, factor_positive, zero_minus}
+use Rattle.ta_base.proofs.Lists.{map-div-one}
 use Rattle.ta_linear.specs.Numbers.{InRange}
 use Rattle.ta_dense.specs.Tableau.{TableauRow, divided, divisor_of, factor_divisor}
-use Rattle.ta_linear.proofs.Divide.{div_exact}
 use Rattle.ta_dense.proofs.Divide.{gcd_with_divides}
 use Rattle.std.specs.Int.{IsGcd}
 use Rattle.ta_linear.proofs.GcdLemmas.{IsGcd-gcd_of, gcd_of_is}
-use Rattle.ta_dense.proofs.MergedRow.{factor_positive}
 use Rattle.ta_dense.proofs.RowFacts.{row_same}
 
 pub divisor_positive : (r : TableauRow) → pos 0 <ℤ r.denominator → 0 < divisor_of r
@@ -17,24 +16,8 @@ divisor_positive r h =
     let divides = gcd_with_divides (r.constant ∷ r.cells) (unsigned_abs r.denominator) in
     (factor_positive (divisor_of r) (int_div r.denominator (pos (divisor_of r))) r.denominator (div_exact (divisor_of r) r.denominator divides.0) h).0
 
-pub div-one : (z : ℤ) → int_div z (pos 1) ≡ z
-div-one (pos a) = ap pos (omega arith)
-div-one (negsuc a) = let e : suc a / 1 ≡ suc a = omega arith in ap (λ (n : ℕ). neg_ℤ (pos n)) e
-
-map-div-one : (cs : List ℤ) → map (λ z. int_div z (pos 1)) cs ≡ cs
-map-div-one [] = refl
-map-div-one (c ∷ cs) = rw (div-one c, map-div-one cs) refl
-
 pub divided-one : (r : TableauRow) → divided 1 r ≡ r
 divided-one r = row_same r.basic (int_div r.denominator (pos 1)) r.denominator (int_div r.constant (pos 1)) r.constant (map (λ z. int_div z (pos 1)) r.cells) r.cells (div-one r.denominator) (div-one r.constant) (map-div-one r.cells)
-
-pub pos_abs : (z : ℤ) → pos 0 <ℤ z → pos (unsigned_abs z) ≡ z
-pos_abs (pos n) h = refl
-pos_abs (negsuc n) h = absurd (omega (arith, ints, h))
-
-abs_natural : (z : ℤ) → pos 0 ≤ℤ z → pos (unsigned_abs z) ≡ z
-abs_natural (pos n) h = refl
-abs_natural (negsuc n) h = absurd (omega (arith, ints, h))
 
 -- what the greatest common divisor of two cells is
 pub factor_divisor-is : (c a r : ℤ) → IsGcd (unsigned_abs c) (unsigned_abs a) (unsigned_abs r) → pos 0 ≤ℤ r → r ≡ pos (factor_divisor c a)
@@ -42,9 +25,6 @@ factor_divisor-is c a r g h = sym (abs_natural r h) ∙ ap pos (gcd_of_is (unsig
 
 pub factors_positive : (c a : ℤ) → pos 0 <ℤ c → (0 < factor_divisor c a) × (pos 0 <ℤ int_div c (pos (factor_divisor c a)))
 factors_positive c a h = factor_positive (factor_divisor c a) (int_div c (pos (factor_divisor c a))) c (div_exact (factor_divisor c a) c (IsGcd-gcd_of (unsigned_abs c) (unsigned_abs a)).0) h
-
-pub zero_minus : (z : ℤ) → pos 0 -ℤ z ≡ neg_ℤ z
-zero_minus z = omega (arith, ints)
 
 pub fits_minus : (z : ℤ) → InRange z → SFits w128 (pos 0 -ℤ z)
 fits_minus (pos zero) h = record { sfits = omega arith }

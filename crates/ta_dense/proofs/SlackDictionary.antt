@@ -4,8 +4,8 @@ use Rattle.std.proofs.lemmas.Bool.{cases_lt, cases_eq}
 use Rattle.std.proofs.lemmas.Int.{ints}
 use Rattle.std.proofs.lemmas.List.{length-map}
 use Rattle.std.proofs.lemmas.List.FromFn.{length-range_with_len, get_or-range_with_len}
-use Rattle.ta_linear.proofs.Integers.{expand}
 use Rattle.std.proofs.Math.Nat.{eq-one_of_dvd-one}
+use Rattle.ta_base.proofs.Integers.{expand, single, single-at, single-elsewhere}
 use Rattle.ta_linear.specs.Terms.{coefficient, IsNormal}
 use Rattle.ta_linear.specs.Values.{terms_value}
 use Rattle.ta_linear.specs.Rows.{AllBelow}
@@ -14,9 +14,8 @@ use Rattle.ta_linear.specs.declared.row.Row.{Row}
 use Rattle.ta_linear.specs.declared.row.System.{System}
 use Rattle.std.specs.Prelude.{unsigned_abs}
 use Rattle.std.specs.Int.{◌∣◌}
-use Rattle.ta_dense.proofs.Single.{single, single-at, single-elsewhere}
 use Rattle.ta_dense.specs.Tableau.{TableauRow, no_row}
-use Rattle.ta_dense.specs.Valid.{IsPrimitive, dot, IsDictionary, Holds}
+use Rattle.ta_dense.specs.Valid.{IsPrimitive, dot, IsDictionary, EquationHolds}
 use Rattle.ta_dense.specs.Slack.{slack_tableau, slack_rows, coefficients, variables, IsAssignment, SlacksFollow, slack_at}
 
 dot-map-add : (f g : ℕ → ℤ) (us : List ℕ) (value : ℕ → ℤ) → dot (map (λ v. f v +ℤ g v) us) us value ≡ dot (map f us) us value +ℤ dot (map g us) us value
@@ -46,7 +45,7 @@ dot-coefficients low n (t ∷ ts) value normal =
     let first = dot-single t.0 t.1 0 n value (omega arith) (let h = IsNormal-le (t.0 + 1) n ts normal.2 in omega arith) in
     dot-map-add (single t.0 t.1) (coefficient ts) (range_with_len 0 n) value ∙ (rw (first, dot-coefficients (t.0 + 1) n ts value normal.2) refl)
 
-length-slack_rows : (n v : ℕ) (rs : List Row) → length (slack_rows n v rs) ≡ length rs
+pub length-slack_rows : (n v : ℕ) (rs : List Row) → length (slack_rows n v rs) ≡ length rs
 length-slack_rows n v [] = refl
 length-slack_rows n v (r ∷ rs) = ap suc (length-slack_rows n (suc v) rs)
 
@@ -58,7 +57,7 @@ slack_row n v (r ∷ rs) zero h = (omega arith, refl, length-map (range_with_len
 slack_row n v (r ∷ rs) (suc i) h = let k = slack_row n (suc v) rs i (omega arith) in (k.0 ∙ omega arith, k.1, k.2)
 
 slack_holds : (n v : ℕ) (rs : List Row) (scale : ℤ) (value : ℕ → ℤ) → AllBelow n rs → SlacksFollow rs v scale value → (i : ℕ) → i < length rs →
-    Holds (range_with_len 0 n) (get_or (slack_rows n v rs) i no_row) scale value
+    EquationHolds (range_with_len 0 n) (get_or (slack_rows n v rs) i no_row) scale value
 slack_holds n v [] scale value below a i h = absurd (omega arith)
 slack_holds n v (r ∷ rs) scale value below a zero h =
     let e = dot-coefficients 0 n r.form.terms value below.0 in

@@ -1,4 +1,4 @@
-use Rattle.std.proofs.Common.{◌≡◌, inl, inr, ℕ, zero, suc, ◌+◌, ◌<◌, List, [], ◌∷◌, ◌++◌, length, get_or, take, arith, ap, ◌∙◌}
+use Rattle.std.proofs.Common.{◌≡◌, inl, inr, ℕ, suc, ◌+◌, ◌<◌, List, [], ◌∷◌, ◌++◌, length, get_or, take, arith, ap, ◌∙◌}
 use Rattle.std.proofs.lemmas.Bool.{cases_lt}
 use Rattle.std.proofs.lemmas.List.{map-append, length-append, length-map, get_or_append_left, get_or_push, take_more, length-take-le}
 use Rattle.std.specs.List.{range_with_len}
@@ -9,10 +9,6 @@ use Rattle.ta_dense.specs.Merge.{IsProper}
 use Rattle.ta_dense.specs.Slack.{slack_row_of, slack_rows, slack_tableau}
 use Rattle.ta_dense.specs.Rows.{row_view, views, AreProper}
 use Rattle.ta_dense.specs.declared.rows.DenseRow.{DenseRow}
-
-pub range_more : (a n : ℕ) → range_with_len a (suc n) ≡ range_with_len a n ++ (a + n) ∷ []
-range_more a zero = ap (λ (x : ℕ). x ∷ []) (omega arith)
-range_more a (suc n) = ap (λ (xs : List ℕ). a ∷ xs) (range_more (a + 1) n ∙ ap (λ (x : ℕ). range_with_len (a + 1) n ++ x ∷ []) (omega arith))
 
 pub slack_rows-push : (n v : ℕ) (rs : List Row) (r : Row) → slack_rows n v (rs ++ r ∷ []) ≡ slack_rows n v rs ++ slack_row_of n (v + length rs) r ∷ []
 slack_rows-push n v [] r = ap (λ (x : ℕ). slack_row_of n x r ∷ []) (omega arith)

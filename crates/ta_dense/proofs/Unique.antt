@@ -1,19 +1,17 @@
-use Rattle.std.proofs.Common.{◌≡◌, ◌≢◌, ℕ, zero, suc, ◌+◌, ◌*◌, ◌/◌, ◌%◌, ◌<◌, List, [], ◌∷◌, length, get_or, arith, refl, sym, ap, ◌∙◌, subst, ℤ, pos, negsuc, ◌+ℤ◌, ◌*ℤ◌, ◌<ℤ◌}
+use Rattle.std.proofs.Common.{◌≡◌, ◌≢◌, ℕ, zero, suc, ◌+◌, ◌*◌, ◌/◌, ◌%◌, ◌<◌, List, [], ◌∷◌, length, get_or, arith, refl, sym, ap, ◌∙◌, subst, ℤ, pos, ◌+ℤ◌, ◌*ℤ◌}
 use Rattle.std.specs.Prelude.{unsigned_abs}
 use Rattle.std.specs.Int.{◌∣◌}
-use Rattle.std.proofs.lemmas.Int.{ints, unsigned_abs-mul}
+use Rattle.std.proofs.lemmas.Int.{ints}
 use Rattle.std.proofs.lemmas.List.{ext_get_or}
 use Rattle.std.proofs.lemmas.Nat.{div-add-mod'}
 use Rattle.std.proofs.lemmas.Nat.Gcd.{dvd_antisymm}
-use Rattle.std.proofs.Math.Nat.{dvd-mul_right, dvd-mul_right_of_dvd, dvd-add_iff_right}
-use Rattle.ta_linear.proofs.Integers.{expand, mul_comm}
+use Rattle.std.proofs.Math.Nat.{dvd-mul_right_of_dvd, dvd-add_iff_right}
+use Rattle.std.proofs.Math.IntN.{*ℤ_comm}
+use Rattle.ta_base.proofs.Integers.{cancel_positive, cross_arith, dvd_cross, mul_cancel, same_positive, single, single-at, single-elsewhere}
 use Rattle.ta_dense.specs.Tableau.{TableauRow, Tableau, non_basic_of, gcd_with}
 use Rattle.ta_dense.specs.Valid.{IsDictionaryRow, dot, IsDictionary}
-use Rattle.ta_dense.proofs.Single.{single, single-at, single-elsewhere}
 use Rattle.ta_dense.proofs.Dot.{dot-change, dot-scaled}
 use Rattle.ta_dense.proofs.Primitive.{primitive_divisor}
-use Rattle.ta_linear.proofs.Divide.{mul_cancel}
-use Rattle.ta_dense.proofs.Divide.{cancel_positive}
 use Rattle.ta_dense.proofs.RowFacts.{record_same}
 use Rattle.ta_linear.specs.Gcd.{gcd_within, gcd_of}
 
@@ -32,12 +30,6 @@ dvd-gcd_of k x a b p q = dvd-gcd_within k x (suc b) a b p q
 dvd-gcd_with : (k x g : ℕ) (zs : List ℤ) → k ∣ x * g → ((i : ℕ) → i < length zs → k ∣ x * unsigned_abs (get_or zs i (pos 0))) → k ∣ x * gcd_with g zs
 dvd-gcd_with k x g [] p all = p
 dvd-gcd_with k x g (z ∷ zs) p all = dvd-gcd_with k x (gcd_of g (unsigned_abs z)) zs (dvd-gcd_of k x g (unsigned_abs z) p (all 0 (omega arith))) (λ i h. all (suc i) (omega arith))
-
-cross_arith : (d d' v m q b b' s s' : ℤ) → d *ℤ v ≡ (m *ℤ q) *ℤ b +ℤ m *ℤ s → d' *ℤ v ≡ (m *ℤ q) *ℤ b' +ℤ m *ℤ s' → m *ℤ (d' *ℤ (q *ℤ b +ℤ s)) ≡ m *ℤ (d *ℤ (q *ℤ b' +ℤ s'))
-cross_arith d d' v m q b b' s s' h k =
-    let x = simp expand at (ap (λ (z : ℤ). d' *ℤ z) h) in
-    let y = simp expand at (ap (λ (z : ℤ). d *ℤ z) k) in
-    simp expand (omega (arith, ints, x, y))
 
 -- two rows of one basic variable agree after multiplication by the other's denominator
 cross : (A : ℤ → (ℕ → ℤ) → Type 0) (n : ℕ) (t : Tableau) (r r' : TableauRow) → IsDictionary A n t → IsDictionaryRow A t.non_basic r → IsDictionaryRow A t.non_basic r' → r.basic ≡ r'.basic → (q : ℤ) (want : ℕ → ℤ) →
@@ -79,11 +71,6 @@ cell_cross A n t r r' d p p' same j h =
     nought : (b z : ℤ) → z ≡ pos 0 *ℤ b +ℤ z
     nought b z = omega (arith, ints)
 
-dvd_cross : (d d' x x' : ℤ) → d' *ℤ x ≡ d *ℤ x' → unsigned_abs d ∣ unsigned_abs d' * unsigned_abs x
-dvd_cross d d' x x' e =
-    let k : unsigned_abs d * unsigned_abs x' ≡ unsigned_abs d' * unsigned_abs x = sym (unsigned_abs-mul d x') ∙ ap unsigned_abs (sym e) ∙ unsigned_abs-mul d' x in
-    subst (λ (m : ℕ). unsigned_abs d ∣ m) k (dvd-mul_right (unsigned_abs d) (unsigned_abs x'))
-
 dvd_denominator : (A : ℤ → (ℕ → ℤ) → Type 0) (n : ℕ) (t : Tableau) (r r' : TableauRow) → IsDictionary A n t → IsDictionaryRow A t.non_basic r → IsDictionaryRow A t.non_basic r' → r.basic ≡ r'.basic →
     unsigned_abs r.denominator ∣ unsigned_abs r'.denominator
 dvd_denominator A n t r r' d p p' same =
@@ -96,17 +83,12 @@ dvd_denominator A n t r r' d p p' same =
     subst (λ (m : ℕ). unsigned_abs r.denominator ∣ m) e one
   where
     swapped : (a b : ℤ) → a *ℤ b ≡ b *ℤ a
-    swapped a b = mul_comm a b
+    swapped a b = *ℤ_comm a b
 
     each : r'.denominator *ℤ r.constant ≡ r.denominator *ℤ r'.constant → ((j : ℕ) → j < length r.cells → r'.denominator *ℤ get_or r.cells j (pos 0) ≡ r.denominator *ℤ get_or r'.cells j (pos 0)) →
         (i : ℕ) → i < length (r.constant ∷ r.cells) → unsigned_abs r.denominator ∣ unsigned_abs r'.denominator * unsigned_abs (get_or (r.constant ∷ r.cells) i (pos 0))
     each first cells zero h = dvd_cross r.denominator r'.denominator r.constant r'.constant first
     each first cells (suc i) h = dvd_cross r.denominator r'.denominator (get_or r.cells i (pos 0)) (get_or r'.cells i (pos 0)) (cells i (omega arith))
-
-same_positive : (a b : ℤ) → pos 0 <ℤ a → pos 0 <ℤ b → unsigned_abs a ≡ unsigned_abs b → a ≡ b
-same_positive (pos a) (pos b) h k e = ap pos e
-same_positive (pos a) (negsuc b) h k e = absurd (omega (arith, ints, k))
-same_positive (negsuc a) b h k e = absurd (omega (arith, ints, h))
 
 -- for a basis that pivots reach, the numbers of a basic variable's row are unique
 pub unique_row : (A : ℤ → (ℕ → ℤ) → Type 0) (n : ℕ) (t : Tableau) (r r' : TableauRow) → IsDictionary A n t → IsDictionaryRow A t.non_basic r → IsDictionaryRow A t.non_basic r' → r.basic ≡ r'.basic → r ≡ r'

@@ -11,6 +11,7 @@ pub mod Rows
 pub mod Dense
 pub mod Bounds
 pub mod Narrow
+pub mod Shared
 pub mod Small
 pub mod KeptRows
 pub mod KeptCells

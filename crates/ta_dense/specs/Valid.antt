@@ -10,8 +10,8 @@ dot (c ∷ cs) [] value = pos 0
 dot (c ∷ cs) (u ∷ us) value = c *ℤ value u +ℤ dot cs us value
 
 -- the row's equation, at a scale and values of the variables
-abbrev pub Holds : List ℕ → TableauRow → ℤ → (ℕ → ℤ) → Type 0
-Holds us r scale value = r.denominator *ℤ value r.basic ≡ scale *ℤ r.constant +ℤ dot r.cells us value
+abbrev pub EquationHolds : List ℕ → TableauRow → ℤ → (ℕ → ℤ) → Type 0
+EquationHolds us r scale value = r.denominator *ℤ value r.basic ≡ scale *ℤ r.constant +ℤ dot r.cells us value
 
 -- a number divides each of a list
 abbrev pub AllDivided : ℕ → List ℤ → Type 0
@@ -33,7 +33,7 @@ pub record IsDictionaryRow (Assignment : ℤ → (ℕ → ℤ) → Type 0) (us :
   pub positive : pos 0 <ℤ r.denominator
   pub long : length r.cells ≡ length us
   pub primitive : IsPrimitive r
-  pub holds : (scale : ℤ) (value : ℕ → ℤ) → Assignment scale value → Holds us r scale value
+  pub holds : (scale : ℤ) (value : ℕ → ℤ) → Assignment scale value → EquationHolds us r scale value
 
 -- each of n variables is basic in one row or belongs to one column
 pub record IsBasis (n : ℕ) (t : Tableau) : Type 0 where
@@ -45,11 +45,11 @@ pub record IsBasis (n : ℕ) (t : Tableau) : Type 0 where
   pub non_basic_once : (i j : ℕ) → i < length t.non_basic → j < length t.non_basic → non_basic_of t i ≡ non_basic_of t j → i ≡ j
 
 -- some positive multiple of each choice of a scale and of the non-basic variables is that of an assignment
-abbrev pub IsFree : (ℤ → (ℕ → ℤ) → Type 0) → Tableau → Type 0
-IsFree Assignment t = (scale : ℤ) (want : ℕ → ℤ) → (m : ℕ) × (value : (ℕ → ℤ)) × (0 < m) × Assignment (pos m *ℤ scale) value × ((j : ℕ) → j < length t.non_basic → value (non_basic_of t j) ≡ pos m *ℤ want (non_basic_of t j))
+abbrev pub HasFreeValues : (ℤ → (ℕ → ℤ) → Type 0) → Tableau → Type 0
+HasFreeValues Assignment t = (scale : ℤ) (want : ℕ → ℤ) → (m : ℕ) × (value : (ℕ → ℤ)) × (0 < m) × Assignment (pos m *ℤ scale) value × ((j : ℕ) → j < length t.non_basic → value (non_basic_of t j) ≡ pos m *ℤ want (non_basic_of t j))
 
 -- a dictionary of assignments of n variables
 pub record IsDictionary (Assignment : ℤ → (ℕ → ℤ) → Type 0) (n : ℕ) (t : Tableau) : Type 0 where
   pub rows : (i : ℕ) → i < length t.rows → IsDictionaryRow Assignment t.non_basic (row_of t i)
   pub basis : IsBasis n t
-  pub free : IsFree Assignment t
+  pub free : HasFreeValues Assignment t

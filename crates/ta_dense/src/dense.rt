@@ -131,6 +131,10 @@ impl Dictionary for DenseDictionary {
             .saturating_mul(16)
     }
 
+    fn is_wide(&self) -> bool {
+        true
+    }
+
     fn leaving(&self) -> Option<u32> {
         let mut least = None;
         for row in 0..self.rows() {

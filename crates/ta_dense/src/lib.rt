@@ -14,6 +14,7 @@ mod narrow_extending;
 mod narrow_rows;
 mod narrow_slack;
 mod rows;
+mod shared;
 mod small;
 mod small_pivot;
 

@@ -30,13 +30,6 @@ pub(crate) enum Form {
     Wide(DenseDictionary),
 }
 
-impl NarrowDictionary {
-    /// Whether its numbers are of 128 bits.
-    pub fn is_wide(&self) -> bool {
-        matches!(&self.form, Form::Wide(_))
-    }
-}
-
 // The pivot in 32 bits, or in 128 where bounds don't show that it fits.
 fn pivot_small(
     alloc: Global,
@@ -51,7 +44,7 @@ fn pivot_small(
     ensures in_range { IfOk result (λ d. AllMergeInRange small row column) }
     ensures fault { IfErr result (IsPivotFault small row column) }
 {
-    match small.pivot(row, column) {
+    match small.pivot(alloc, row, column) {
         Ok(next) => Ok(NarrowDictionary {
             form: Form::Narrow(next),
         }),
@@ -191,9 +184,14 @@ impl Dictionary for NarrowDictionary {
     }
 
     fn bytes(&self) -> usize {
-        let cells = (self.rows() as usize).saturating_mul(self.columns() as usize + 6);
-        let width = if self.is_wide() { 16 } else { 4 };
-        cells.saturating_mul(width)
+        match &self.form {
+            Form::Narrow(d) => d.bytes(),
+            Form::Wide(d) => d.bytes(),
+        }
+    }
+
+    fn is_wide(&self) -> bool {
+        matches!(&self.form, Form::Wide(_))
     }
 
     fn leaving(&self) -> Option<u32> {

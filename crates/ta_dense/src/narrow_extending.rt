@@ -1,37 +1,34 @@
 //! Rows of 32-bit numbers of a longer system.
 
-ghost use Rattle.std.specs.Prelude.{◌≡◌, ◌<◌, ◌+◌, ◌^◌, ℕ, length, map, get_or, IfOk};
+ghost use Rattle.std.specs.Prelude.{◌≡◌, ◌<◌, ◌+◌, ◌^◌, length, map, IfOk};
 ghost use Rattle.std.specs.Bool.{OnTrue};
-ghost use Rattle.ta_dense.specs.Tableau.{merged, no_row};
+ghost use Rattle.ta_dense.specs.Tableau.{merged};
 ghost use Rattle.ta_dense.specs.Merge.{RowsMergeBelow};
 ghost use Rattle.ta_dense.specs.Narrow.{narrow_views, AreNarrow};
 ghost use Rattle.ta_dense.specs.Kept.{AreKept, IsKept, StayInRange, carried, chosen_row};
-ghost use Rattle.ta_dense.specs.Extending.{widened};
+ghost use Rattle.ta_dense.specs.Inside.Padded.{zero_filled};
 ghost use Rattle.ta_dense.specs.GrownPivots.{pivot_in_either, pivots_of};
 
-use crate::extending::raised_variable;
 use crate::narrow_rows::{NarrowRow, all_merge, merge_all_narrow};
 use crate::small::padded_narrow;
 use crate::small_pivot::{NarrowPivot, PivotForm};
 use std::alloc::{AllocError, Global};
 
-// Copies of the rows where there are more unknowns.
-pub(crate) fn widened_narrow_rows(
+// Copies of the rows with so many more columns.
+pub(crate) fn filled_rows(
     alloc: Global,
     rows: &[NarrowRow],
     unknowns: u32,
     new: u32,
 ) -> Result<Vec<NarrowRow>, AllocError>
     requires narrow { AreNarrow unknowns rows.now }
-    requires room { (i : ℕ) → i < length rows.now → (get_or (narrow_views rows.now) i no_row).basic + new < 2 ^ 32 }
     requires few { unknowns + new < 2 ^ 32 }
-    ensures value { IfOk result (λ v. narrow_views v.items ≡ map (widened unknowns new) (narrow_views rows.now)) }
+    ensures value { IfOk result (λ v. narrow_views v.items ≡ map (zero_filled new) (narrow_views rows.now)) }
     ensures narrow { IfOk result (λ v. AreNarrow (unknowns + new) v.items) }
 {
     let mut wide = Vec::with_capacity(alloc, rows.len())?;
     for row in rows {
-        let basic = raised_variable(row.basic, unknowns, new);
-        wide.push(padded_narrow(alloc, row, basic, (unknowns + new) as usize)?)?;
+        wide.push(padded_narrow(alloc, row, row.basic, (unknowns + new) as usize)?)?;
     }
     Ok(wide)
 }

@@ -12,7 +12,8 @@ use crate::narrow_cells::{
 };
 
 /// The row `denominator * basic = constant + sum of cells * non-basic`. A bound is a number that
-/// no absolute value of the row's numbers is above; it need not be one of them.
+/// no absolute value of the row's numbers is above; it need not be one of them. The sum is of the row
+/// as it was new: a hint, of which nothing depends, that two rows may be equal.
 #[derive(Drop)]
 pub(crate) struct NarrowRow {
     pub(crate) basic: u32,
@@ -20,6 +21,7 @@ pub(crate) struct NarrowRow {
     pub(crate) constant: i32,
     pub(crate) cells: Vec<i32>,
     pub(crate) bound: u32,
+    pub(crate) sum: u32,
 }
 
 // Takes the row's bound anew: the greatest absolute value of its numbers.

@@ -28,6 +28,15 @@ fn fill_narrow(cells: &mut [i32], terms: &[(u32, i128)]) -> bool
     true
 }
 
+// A sum by which most rows that differ are told apart.
+fn sum_of(constant: i32, terms: &[(u32, i128)]) -> u32 {
+    let mut sum = constant.unsigned_abs();
+    for &(unknown, _) in terms {
+        sum = sum.wrapping_mul(31).wrapping_add(unknown);
+    }
+    sum
+}
+
 // The row solved for its slack, where its numbers fit 32 bits.
 fn narrow_slack_row(
     alloc: Global,
@@ -53,6 +62,7 @@ fn narrow_slack_row(
         constant,
         cells,
         bound,
+        sum: sum_of(constant, row.form.terms.as_slice()),
     }))
 }
 

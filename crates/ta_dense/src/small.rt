@@ -12,15 +12,19 @@ ghost use Rattle.ta_dense.specs.Inside.Padded.{padded};
 ghost use Rattle.ta_dense.specs.GrownPivots.{pivots_of};
 ghost use Rattle.ta_dense.specs.Rows.{row_view, views, AreProper};
 ghost use Rattle.ta_dense.specs.Bounds.{AreSmall};
-ghost use Rattle.ta_dense.specs.Narrow.{narrow_view, narrow_views, IsNarrow, AreNarrow};
+ghost use Rattle.ta_dense.specs.Narrow.{narrow_view, IsNarrow};
+ghost use Rattle.ta_dense.specs.Shared.{AreShared, row_at_place, shared_views};
 
 use crate::dense::DenseDictionary;
 use crate::dictionary::Dictionary;
 use crate::extending::{first_columns, raised_columns};
-use crate::narrow_extending::{carry_narrow_rows, widened_narrow_rows};
-use crate::narrow_rows::{NarrowRow, pivot_narrow_rows};
+use crate::narrow_extending::carry_narrow_rows;
+use crate::narrow_rows::NarrowRow;
 use crate::narrow_slack::narrow_slack_rows;
 use crate::rows::DenseRow;
+use crate::shared::{
+    Place, SharedRows, no_rows, pivot_shared, place_of, push_rows, stored, widened_shared,
+};
 use crate::small_pivot::{NarrowPivot, SmallPivot};
 use std::alloc::{AllocError, Global};
 use std::marker::Model;
@@ -30,7 +34,7 @@ use ta_linear::System;
 #[derive(Drop)]
 pub(crate) struct SmallDictionary {
     non_basic: Vec<u32>,
-    rows: Vec<NarrowRow>,
+    rows: SharedRows,
 }
 
 impl Model for SmallDictionary {
@@ -68,6 +72,34 @@ pub(crate) fn widened_row(alloc: Global, row: &NarrowRow) -> Result<DenseRow, Al
     })
 }
 
+// The row of a place in 128 bits.
+fn widened_at(alloc: Global, shared: &SharedRows, place: &Place) -> Result<DenseRow, AllocError>
+    requires { place.now.at < length shared.now.rows.items }
+    ensures { IfOk result (λ r. row_view r ≡ row_at_place shared.now.rows.items place.now) }
+{
+    let mut row = widened_row(alloc, stored(&shared.rows, place.at))?;
+    row.basic = place.basic;
+    Ok(row)
+}
+
+// The rows in 128 bits.
+fn widened_all(
+    alloc: Global,
+    shared: &SharedRows,
+    columns: usize,
+) -> Result<Vec<DenseRow>, AllocError>
+    requires { AreShared columns shared.now }
+    ensures value { IfOk result (λ v. views v.items ≡ shared_views shared.now) }
+    ensures proper { IfOk result (λ v. AreProper columns v.items) }
+{
+    let _columns = columns;
+    let mut rows = Vec::with_capacity(alloc, shared.places.len())?;
+    for place in shared.places.as_slice() {
+        rows.push(widened_at(alloc, shared, place)?)?;
+    }
+    Ok(rows)
+}
+
 // The cells with zeros up to a number of columns.
 pub(crate) fn padded_narrow_cells(
     alloc: Global,
@@ -101,6 +133,7 @@ pub(crate) fn padded_narrow(
         constant: row.constant,
         cells: padded_narrow_cells(alloc, &row.cells, columns)?,
         bound: row.bound,
+        sum: row.sum,
     })
 }
 
@@ -117,17 +150,20 @@ impl SmallDictionary {
             return Ok(None);
         };
         let non_basic = first_columns(alloc, system.unknowns)?;
-        Ok(Some(SmallDictionary { non_basic, rows }))
+        let columns = system.unknowns as usize;
+        let mut shared = no_rows(alloc, columns);
+        push_rows(&mut shared, rows, columns)?;
+        Ok(Some(SmallDictionary {
+            non_basic,
+            rows: shared,
+        }))
     }
 
     /// The dictionary in 128 bits.
     pub(crate) fn widened(&self, alloc: Global) -> Result<DenseDictionary, AllocError>
         ensures { IfOk result (λ d. d ≡ self.now) }
     {
-        let mut rows = Vec::with_capacity(alloc, self.rows.len())?;
-        for row in self.rows.as_slice() {
-            rows.push(widened_row(alloc, row)?)?;
-        }
+        let rows = widened_all(alloc, &self.rows, self.non_basic.len())?;
         let non_basic = Vec::from_slice(alloc, &self.non_basic)?;
         Ok(DenseDictionary::from_rows(non_basic, rows))
     }
@@ -135,7 +171,7 @@ impl SmallDictionary {
     pub(crate) fn rows(&self) -> u32
         ensures { result ≡ length self.now.rows }
     {
-        self.rows.len() as u32
+        self.rows.places.len() as u32
     }
 
     pub(crate) fn columns(&self) -> u32
@@ -144,19 +180,32 @@ impl SmallDictionary {
         self.non_basic.len() as u32
     }
 
+    /// About how many bytes it holds: four for a cell, and some for each row and its place.
+    pub(crate) fn bytes(&self) -> usize {
+        let stored = self.rows.rows.len();
+        stored
+            .saturating_mul(self.non_basic.len() + 16)
+            .saturating_mul(4)
+    }
+
     pub(crate) fn row_at(&self, row: u32) -> &NarrowRow
         requires { row < length self.now.rows }
-        ensures view { narrow_view result.now ≡ row_of self.now row }
+        ensures denominator { result.now.denominator ≡ (row_of self.now row).denominator }
+        ensures constant { result.now.constant ≡ (row_of self.now row).constant }
+        ensures cells { result.now.cells.items ≡ (row_of self.now row).cells }
         ensures narrow { IsNarrow (length self.now.non_basic) result.now }
     {
-        &self.rows[row as usize]
+        stored(
+            &self.rows.rows,
+            place_of(&self.rows.places, row as usize).at,
+        )
     }
 
     pub(crate) fn basic(&self, row: u32) -> u32
         requires { row < length self.now.rows }
         ensures { result ≡ basic_of self.now row }
     {
-        self.row_at(row).basic
+        place_of(&self.rows.places, row as usize).basic
     }
 
     pub(crate) fn non_basic(&self, column: u32) -> u32
@@ -258,15 +307,20 @@ impl SmallDictionary {
             return Ok(None);
         }
         let new = longer.unknowns - columns;
-        let mut rows = widened_narrow_rows(alloc, &self.rows, columns, new)?;
-        rows.append(&mut carried)?;
+        let mut rows = widened_shared(alloc, &self.rows, columns, new)?;
+        push_rows(&mut rows, carried, longer.unknowns as usize)?;
         let non_basic = raised_columns(alloc, &self.non_basic, columns, new)?;
         Ok(Some(SmallDictionary { non_basic, rows }))
     }
 
     /// The dictionary after the pivot, or the same dictionary where bounds don't show that all of
-    /// the pivot fits 32 bits.
-    pub(crate) fn pivot(self, row: u32, column: u32) -> Result<SmallDictionary, SmallDictionary>
+    /// the pivot fits 32 bits, or where memory runs out.
+    pub(crate) fn pivot(
+        self,
+        alloc: Global,
+        row: u32,
+        column: u32,
+    ) -> Result<SmallDictionary, SmallDictionary>
         requires row { row < length self.rows }
         requires column { column < length self.non_basic }
         requires positive { pos 0 <ℤ cell_of (row_of self row) column }
@@ -278,9 +332,9 @@ impl SmallDictionary {
             mut non_basic,
             mut rows,
         } = self;
-        let leaving = rows[row as usize].basic;
+        let leaving = place_of(&rows.places, row as usize).basic;
         let entering = non_basic[column as usize];
-        if !pivot_narrow_rows(&mut rows, row as usize, column as usize, entering) {
+        if !pivot_shared(alloc, &mut rows, row as usize, column as usize, entering) {
             return Err(SmallDictionary { non_basic, rows });
         }
         non_basic[column as usize] = leaving;

@@ -73,6 +73,7 @@ impl SmallPivot {
             constant: self.constant,
             cells: self.cells.padded(alloc, columns as usize)?,
             bound: self.bound,
+            sum: 0,
         })
     }
 
@@ -86,6 +87,7 @@ impl SmallPivot {
             constant: self.constant,
             cells: self.cells.padded(alloc, self.cells.count())?,
             bound: self.bound,
+            sum: 0,
         })
     }
 

@@ -1,24 +1,13 @@
 -- steps behind steps, and lists behind lists
-use Rattle.std.proofs.Common.{◌≡◌, ◌⊎◌, inl, inr, ℕ, zero, suc, ◌+◌, List, [], ◌∷◌, ◌++◌, length, arith, refl, sym, ap, ◌∙◌, subst, slice_get, Some, length-append}
+use Rattle.std.proofs.Common.{◌≡◌, inl, inr, ℕ, zero, suc, ◌+◌, List, [], ◌∷◌, ◌++◌, length, arith, refl, sym, ◌∙◌, subst, slice_get, Some, length-append}
+use Rattle.std.proofs.lemmas.Option.{same_Some}
+use Rattle.ta_base.proofs.Lists.{get_parts, get_right, slice_get_left}
 use Rattle.ta_automaton.specs.declared.automaton.Automaton.{Automaton}
 use Rattle.ta_automaton.specs.Runs.{Config, Steps}
-use Rattle.ta_automaton.proofs.Trails.{Trail, Grows, get_left, run_length}
-
--- an item of a list behind another is in one of the two
-pub get_parts : {X : Type 0} (xs ys : List X) (j : ℕ) (c : X) → slice_get (xs ++ ys) j ≡ Some c → (slice_get xs j ≡ Some c) ⊎ ((k : ℕ) × (j ≡ length xs + k) × (slice_get ys k ≡ Some c))
-get_parts [] ys j c e = inr (j, omega arith, e)
-get_parts (x ∷ xs) ys zero c e = inl e
-get_parts (x ∷ xs) ys (suc j) c e = elim (get_parts xs ys j c e) [ inl h ↦ inl h | inr w ↦ inr (w.0, (let q = w.1 in omega arith), w.2) ]
-
-pub get_right : {X : Type 0} (xs ys : List X) (k : ℕ) (c : X) → slice_get ys k ≡ Some c → slice_get (xs ++ ys) (length xs + k) ≡ Some c
-get_right [] ys k c e = subst (λ (j : ℕ). slice_get ys j ≡ Some c) (let q : k ≡ 0 + k = omega arith in q) e
-get_right (x ∷ xs) ys k c e = subst (λ (j : ℕ). slice_get (x ∷ (xs ++ ys)) j ≡ Some c) (let q : suc (length xs + k) ≡ suc (length xs) + k = omega arith in q) (get_right xs ys k c e)
-
-same_config : (x y : Config) → Some x ≡ Some y → x ≡ y
-same_config x y e = cc
+use Rattle.ta_automaton.proofs.Trails.{Trail, Grows, run_length}
 
 steps_append : (a : Automaton) (c : Config) (rules : List ℕ) (later : List Config) (d : Config) (more : List ℕ) (latest : List Config) → Steps a c rules later → slice_get (c ∷ later) (length rules) ≡ Some d → Steps a d more latest → Steps a c (rules ++ more) (later ++ latest)
-steps_append a c [] [] d more latest run last steps = subst (λ (x : Config). Steps a x more latest) (sym (same_config c d last)) steps
+steps_append a c [] [] d more latest run last steps = subst (λ (x : Config). Steps a x more latest) (sym (same_Some c d last)) steps
 steps_append a c [] (e ∷ es) d more latest run last steps = absurd run
 steps_append a c (q ∷ qs) [] d more latest run last steps = absurd run
 steps_append a c (q ∷ qs) (e ∷ es) d more latest run last steps = (run.0, steps_append a e qs es d more latest run.1 last steps)
@@ -26,7 +15,7 @@ steps_append a c (q ∷ qs) (e ∷ es) d more latest run last steps = (run.0, st
 -- the configuration after k of the later steps
 get_on : (first : Config) (later : List Config) (d : Config) (latest : List Config) (n : ℕ) → length later ≡ n → slice_get (first ∷ later) n ≡ Some d → (k : ℕ) (c : Config) → slice_get (d ∷ latest) k ≡ Some c → slice_get (first ∷ (later ++ latest)) (n + k) ≡ Some c
 get_on first later d latest n many last zero c at =
-    subst (λ (j : ℕ). slice_get (first ∷ (later ++ latest)) j ≡ Some c) (let q : n ≡ n + 0 = omega arith in q) (get_left (first ∷ later) latest n c (last ∙ at))
+    subst (λ (j : ℕ). slice_get (first ∷ (later ++ latest)) j ≡ Some c) (let q : n ≡ n + 0 = omega arith in q) (slice_get_left (first ∷ later) latest n c (last ∙ at))
 get_on first later d latest n many last (suc k) c at =
     subst (λ (j : ℕ). slice_get (first ∷ (later ++ latest)) j ≡ Some c) (let q : suc (length later) + k ≡ n + suc k = omega arith in q) (get_right (first ∷ later) latest k c at)
 
@@ -50,7 +39,7 @@ trail_append a good first d t more latest e steps last all =
     record {
       trail = new;
       is = refl;
-      grows = record { kept = λ j c at. get_left (first ∷ t.later) latest j c at; longer = omega (arith, long) };
+      grows = record { kept = λ j c at. slice_get_left (first ∷ t.later) latest j c at; longer = omega (arith, long) };
     }
 
 -- the run without steps
@@ -61,5 +50,5 @@ pub record Begun (a : Automaton) (good : Config → Type 0) (first : Config) : T
 pub trail_begun : (a : Automaton) (good : Config → Type 0) (first : Config) → good first → Begun a good first
 trail_begun a good first g = record { trail = record { rules = []; later = []; run = tt; last = refl; all_good = only }; is = refl } where
   only : (j : ℕ) (c : Config) → slice_get (first ∷ []) j ≡ Some c → good c
-  only zero c e = subst good (same_config first c e) g
+  only zero c e = subst good (same_Some first c e) g
   only (suc j) c e = absurd (cc)

@@ -1,82 +1,60 @@
 -- the first configuration of a solution is initial, and its values are those of the empty word
-use Rattle.std.proofs.Common.{◌≡◌, ◌≢◌, ◌⊎◌, inl, inr, ℕ, zero, suc, ◌+◌, ◌<◌, ℤ, pos, ◌*ℤ◌, ◌≤ℤ◌, List, [], ◌∷◌, ◌++◌, map, length, cond, Bool, true, false, not, arith, sym, ap, ◌∙◌, refl, subst, get_or, Contains, sum}
-use Rattle.std.specs.List.{filter}
+use Rattle.std.proofs.Common.{◌≡◌, ◌≢◌, ◌⊎◌, inl, inr, ℕ, ◌+◌, ◌<◌, ℤ, pos, ◌*ℤ◌, ◌≤ℤ◌, List, [], ◌∷◌, ◌++◌, map, length, not, arith, sym, ap, ◌∙◌, refl, subst, get_or, sum}
 use Rattle.std.proofs.lemmas.List.{length-map}
 use Rattle.std.proofs.lemmas.Int.{ints}
-use Rattle.std.proofs.lemmas.Bool.{false≢true, cases_lt}
+use Rattle.std.proofs.lemmas.Bool.{false≢true, cases_lt, not-true}
 use Rattle.std.proofs.lemmas.Bool.Decides.{eqb_tells}
 use Rattle.std.proofs.Math.IntN.{zero-*ℤ}
-use Rattle.ta_linear.proofs.Signs.{mul-ge-zero}
+use Rattle.ta_base.proofs.Integers.{by_one, mul-ge-zero, natural, pos_natural}
+use Rattle.ta_base.proofs.Members.{contains_of, filter_passes, in_all, in_append, in_map}
+use Rattle.ta_base.proofs.Ranges.{at_index, in_numbers, length_numbers, past_numbers, rises_below}
 use Rattle.ta_linear.specs.Values.{terms_value}
 use Rattle.ta_automaton.specs.declared.automaton.Automaton.{Automaton}
 use Rattle.ta_automaton.specs.declared.pattern.Pattern.{Pattern}
 use Rattle.ta_automaton.specs.Runs.{Config, value_at, Initial}
-use Rattle.ta_automaton.specs.Lists.{Rises}
-use Rattle.ta_automaton.specs.Masks.{has_bit, numbers_from, In}
-use Rattle.ta_implied.proofs.Members.{in_append, in_map, in_numbers}
+use Rattle.ta_base.specs.Masks.{has_bit, numbers_from, In}
 use Rattle.ta_words.specs.declared.element.Element.{Element}
 use Rattle.ta_words.specs.Words.{has_event, has_rise}
 use Rattle.ta_encode.specs.Unknowns.{Meaning, Parameter, Start, start_locations, start_meanings, meanings, place_coefficient}
 use Rattle.ta_automaton.specs.Places.{one_if, location_place}
-use Rattle.ta_encode.specs.System.{opposite, processes_row, start_coefficient, condition_rows, start_guard_rows, start_rows, word_rows, combine, AllHold}
+use Rattle.ta_encode.specs.System.{opposite, processes_row, start_coefficient, condition_rows, start_guard_rows, start_rows, word_rows, sum_of_products, AllHold}
 use Rattle.ta_automaton.specs.Sums.{total}
 use Rattle.ta_automaton.proofs.Sums.{total-zero, total-same, one_inside, terms_value-same}
 use Rattle.ta_encode.proofs.Combine.{combine-zero, combine-add, combine-minus, combine-terms}
-use Rattle.ta_automaton.proofs.Fired.{times_one}
-use Rattle.ta_encode.proofs.Moments.{opposite_value}
+use Rattle.ta_encode.proofs.Moments.{opposite_value, AllHold-left}
 use Rattle.ta_automaton.proofs.Moves.{place_cases, value_at-parameter, value_at-shared, value_at-location, one_if-ne, one_if-shift}
-use Rattle.ta_automaton.proofs.MaskTests.{true_not}
 use Rattle.ta_encode.proofs.Start.{sum_total, one_if_comm, start_rises}
 use Rattle.ta_encode.proofs.Switch.{KeptEmpty}
-use Rattle.ta_automaton.proofs.Fire.{natural, pos_natural, length_numbers, at_index, past_numbers, Whole}
+use Rattle.ta_automaton.proofs.Fire.{Whole}
 use Rattle.ta_automaton.proofs.Thresholds.{processes_value as processes_at, resilience_at}
 use Rattle.ta_encode.proofs.Appending.{trail_begun}
 use Rattle.ta_encode.proofs.Segment.{fits_whole}
-use Rattle.ta_encode.proofs.Values.{place_value, AllHold-right, left_part, condition_back, in_filter}
+use Rattle.ta_encode.proofs.Values.{place_value, AllHold-right, condition_back}
 use Rattle.ta_encode.proofs.Safety.{prefix_rows, take_apart}
 use Rattle.ta_encode.proofs.Unwind.{At}
 
-pub combine-on_zero : {X : Type 0} (g : X → ℤ) (ms : List X) (vs : List ℕ) → ((m : X) → In m ms → g m ≡ pos 0) → combine (map g ms) vs ≡ pos 0
-unfolding combine
+pub combine-on_zero : {X : Type 0} (g : X → ℤ) (ms : List X) (vs : List ℕ) → ((m : X) → In m ms → g m ≡ pos 0) → sum_of_products (map g ms) vs ≡ pos 0
+unfolding sum_of_products
 combine-on_zero g [] vs h = refl
 combine-on_zero g (m ∷ ms) [] h = refl
 combine-on_zero g (m ∷ ms) (v ∷ vs) h = omega (arith, ints, ap (λ z. z *ℤ pos v) (h m (inl refl)), zero-*ℤ (pos v), combine-on_zero g ms vs (λ x i. h x (inr i)))
 
-combine-on_natural : {X : Type 0} (g : X → ℤ) (ms : List X) (vs : List ℕ) → ((m : X) → In m ms → pos 0 ≤ℤ g m) → pos 0 ≤ℤ combine (map g ms) vs
-unfolding combine
+combine-on_natural : {X : Type 0} (g : X → ℤ) (ms : List X) (vs : List ℕ) → ((m : X) → In m ms → pos 0 ≤ℤ g m) → pos 0 ≤ℤ sum_of_products (map g ms) vs
+unfolding sum_of_products
 combine-on_natural g [] vs h = omega (arith, ints)
 combine-on_natural g (m ∷ ms) [] h = omega (arith, ints)
 combine-on_natural g (m ∷ ms) (v ∷ vs) h = omega (arith, ints, mul-ge-zero (g m) (pos v) (h m (inl refl)) (let z : pos 0 ≤ℤ pos v = omega (arith, ints) in z), combine-on_natural g ms vs (λ x i. h x (inr i)))
 
-pub combine-on_same : {X : Type 0} (f g : X → ℤ) (ms : List X) (vs : List ℕ) → ((m : X) → In m ms → f m ≡ g m) → combine (map f ms) vs ≡ combine (map g ms) vs
-unfolding combine
+pub combine-on_same : {X : Type 0} (f g : X → ℤ) (ms : List X) (vs : List ℕ) → ((m : X) → In m ms → f m ≡ g m) → sum_of_products (map f ms) vs ≡ sum_of_products (map g ms) vs
+unfolding sum_of_products
 combine-on_same f g [] vs h = refl
 combine-on_same f g (m ∷ ms) [] h = refl
 combine-on_same f g (m ∷ ms) (v ∷ vs) h = omega (arith, ints, ap (λ z. z *ℤ pos v) (h m (inl refl)), combine-on_same f g ms vs (λ x i. h x (inr i)))
 
-total-combine : {X : Type 0} (f : X → ℕ → ℤ) (ls : List ℕ) (ms : List X) (vs : List ℕ) → total (λ l. combine (map (λ m. f m l) ms) vs) ls ≡ combine (map (λ m. total (λ l. f m l) ls) ms) vs
+total-combine : {X : Type 0} (f : X → ℕ → ℤ) (ls : List ℕ) (ms : List X) (vs : List ℕ) → total (λ l. sum_of_products (map (λ m. f m l) ms) vs) ls ≡ sum_of_products (map (λ m. total (λ l. f m l) ls) ms) vs
 unfolding total
 total-combine f [] ms vs = sym (combine-zero ms vs)
 total-combine f (l ∷ ls) ms vs = omega (arith, ints, total-combine f ls ms vs, combine-add (λ m. f m l) (λ m. total (λ k. f m k) ls) ms vs)
-
-rises_below : (low high : ℕ) (xs : List ℕ) (l : ℕ) → Rises low high xs → In l xs → l < high
-rises_below low high [] l r h = absurd h
-rises_below low high (x ∷ xs) l r (inl e) = (let b : x < high = r.1 in omega arith)
-rises_below low high (x ∷ xs) l r (inr h) = rises_below (x + 1) high xs l r.2 h
-
-in_cond : (x y : ℕ) (b : Bool) (xs ys : List ℕ) → (In x xs → In x ys) → In x (cond b (y ∷ xs) xs) → In x (y ∷ ys)
-in_cond x y true xs ys h (inl e) = inl e
-in_cond x y true xs ys h (inr i) = inr (h i)
-in_cond x y false xs ys h i = inr (h i)
-
-in_all : (ok : ℕ → Bool) (x : ℕ) (xs : List ℕ) → In x (filter ok xs) → In x xs
-in_all ok x [] h = absurd h
-in_all ok x (y ∷ xs) h = in_cond x y (ok y) (filter ok xs) xs (in_all ok x xs) h
-
-contains_of : (xs : List ℕ) (l : ℕ) → In l xs → Contains xs l
-contains_of [] l h = absurd h
-contains_of (x ∷ xs) l (inl e) = (0, omega arith, sym e)
-contains_of (x ∷ xs) l (inr h) = let w = contains_of xs l h in (suc w.0, (let b = w.1 in omega arith), w.2)
 
 -- an unknown at the start
 in_start : (a : Automaton) (p : Pattern) (m : Meaning) → In m (start_meanings a p) → ((i : ℕ) × (i < length a.parameters) × (m ≡ Parameter i)) ⊎ ((l : ℕ) × In l (start_locations a p) × (m ≡ Start l))
@@ -150,20 +128,20 @@ counter_none a p vs l h =
     let none = zero_place a p vs (location_place a l) (λ j b e. omega arith) (λ k i e. let same : k ≡ l = omega arith in h (subst (λ (x : ℕ). In x (start_locations a p)) same i)) in
     omega (arith, ints, value_at-location a c l fits, first_values a p vs (location_place a l), none)
 
-counters_sum : (a : Automaton) (p : Pattern) (vs : List ℕ) → pos (sum (first_of a p vs).counters) ≡ combine (map start_coefficient (start_meanings a p)) vs
+counters_sum : (a : Automaton) (p : Pattern) (vs : List ℕ) → pos (sum (first_of a p vs).counters) ≡ sum_of_products (map start_coefficient (start_meanings a p)) vs
 counters_sum a p vs =
     let c = first_of a p vs in
     let fits = fits_whole a c (first_whole a p vs) in
     let sm = start_meanings a p in
     let nums = numbers_from 0 (length a.locations) in
     let all = subst (λ (k : ℕ). total (λ l. pos (get_or c.counters l 0)) (numbers_from 0 k) ≡ pos (sum c.counters)) (first_whole a p vs).counters (sum_total c.counters) in
-    let each = total-same (λ l. pos (get_or c.counters l 0)) (λ l. combine (map (λ m. place_coefficient a m (location_place a l)) sm) vs) nums (λ l. sym (value_at-location a c l fits) ∙ first_values a p vs (location_place a l)) in
+    let each = total-same (λ l. pos (get_or c.counters l 0)) (λ l. sum_of_products (map (λ m. place_coefficient a m (location_place a l)) sm) vs) nums (λ l. sym (value_at-location a c l fits) ∙ first_values a p vs (location_place a l)) in
     let swap = total-combine (λ m l. place_coefficient a m (location_place a l)) nums sm vs in
     let n = length a.parameters + length a.shared in
     let same = combine-on_same (λ m. total (λ l. place_coefficient a m (location_place a l)) nums) start_coefficient sm vs (λ m h. elim (in_start a p m h) [
       | inl w ↦ (let b = w.1 in subst (λ (k : Meaning). total (λ l. place_coefficient a k (location_place a l)) nums ≡ start_coefficient k) (sym w.2) (total-zero (λ l. one_if w.0 (location_place a l)) nums (λ l. one_if-ne w.0 (location_place a l) (omega arith))))
       | inr w ↦ subst (λ (k : Meaning). total (λ l. place_coefficient a k (location_place a l)) nums ≡ start_coefficient k) (sym w.2)
-          (total-same (λ l. one_if (location_place a w.0) (location_place a l)) (λ l. one_if l w.0 *ℤ pos 1) nums (λ l. one_if-shift n w.0 l ∙ one_if_comm w.0 l ∙ sym (times_one (one_if l w.0)))
+          (total-same (λ l. one_if (location_place a w.0) (location_place a l)) (λ l. one_if l w.0 *ℤ pos 1) nums (λ l. one_if-shift n w.0 l ∙ one_if_comm w.0 l ∙ sym (by_one (one_if l w.0)))
           ∙ one_inside (λ _. pos 1) 0 (length a.locations) w.0 (omega arith) (omega (arith, start_below a p w.0 w.1)))
     ]) in
     omega (arith, ints, all, each, swap, same)
@@ -183,7 +161,7 @@ first_rows_of a p start vs h =
     let three = condition_rows a ms p.start.comparisons in
     let four = start_guard_rows a ms start 0 a.fall in
     let rest = AllHold-right vs one (two ++ (three ++ four)) h in
-    record { resilience = left_part vs one (two ++ (three ++ four)) h; processes = left_part vs two (three ++ four) rest; start = left_part vs three four (AllHold-right vs two (three ++ four) rest) }
+    record { resilience = AllHold-left vs one (two ++ (three ++ four)) h; processes = AllHold-left vs two (three ++ four) rest; start = AllHold-left vs three four (AllHold-right vs two (three ++ four) rest) }
 
 pub first_initial : (a : Automaton) (p : Pattern) (vs : List ℕ) → FirstRows a p vs → Initial a (first_of a p vs)
 first_initial a p vs h =
@@ -204,7 +182,7 @@ first_initial a p vs h =
 pub begin_at : (a : Automaton) (p : Pattern) (start : ℕ) (vs : List ℕ) → At a p start [] vs (meanings a p start []) (first_of a p vs) [] (λ e. 0)
 unfolding meanings has_event has_rise
 begin_at a p start vs =
-    let begun = trail_begun a (KeptEmpty p) (first_of a p vs) (λ l t. counter_none a p vs l (λ i. false≢true (sym (true_not _ (in_filter (λ k. not (has_bit p.empty k)) l a.initial i)) ∙ t))) in
+    let begun = trail_begun a (KeptEmpty p) (first_of a p vs) (λ l t. counter_none a p vs l (λ i. false≢true (sym (not-true _ (filter_passes (λ k. not (has_bit p.empty k)) l a.initial i)) ∙ t))) in
     record {
       config = first_of a p vs;
       trail = begun.trail;

@@ -3,14 +3,15 @@ use Rattle.std.proofs.Common.{◌≡◌, ◌≢◌, ℕ, ℤ, pos, ◌+◌, ◌-
 use Rattle.std.specs.Int.{w128}
 use Rattle.std.specs.Prelude.{◌==◌, if◌then◌else◌}
 use Rattle.std.proofs.lemmas.Int.{ints}
+use Rattle.std.specs.List.{AllByRecursion}
+use Rattle.ta_base.proofs.Integers.{abs_minus, to_z_abs}
 use Rattle.ta_linear.specs.Terms.{coefficient}
 use Rattle.ta_automaton.specs.declared.automaton.Automaton.{Automaton}
 use Rattle.ta_automaton.specs.declared.rule.Rule.{Rule}
-use Rattle.ta_automaton.specs.Lists.{Each}
 use Rattle.ta_automaton.specs.Places.{one_if, location_place, shared_change, rule_change}
 use Rattle.ta_automaton.specs.Shape.{Update}
 use Rattle.ta_automaton.proofs.Moves.{one_if-shift, one_if-ne, shared_change-parameter, shared_change-shared, shared_change-location}
-use Rattle.ta_encode.proofs.Running.{Small, clean, abs_minus}
+use Rattle.ta_encode.proofs.Running.{Small}
 
 moved : (a : Automaton) (rule : Rule) (place : ℕ) → place < length a.parameters + length a.shared → (one_if (location_place a rule.to) place -ℤ one_if (location_place a rule.from) place) ≡ pos 0
 moved a rule place b =
@@ -35,11 +36,11 @@ change_location a rule place first is low =
     subst (λ k. (one_if rule.to l -ℤ one_if rule.from l) ≡ rule_change a (Some rule) k) at
     (omega (arith, ints, shared_change-location a rule l, one_if-shift (length a.parameters + length a.shared) rule.to l, one_if-shift (length a.parameters + length a.shared) rule.from l))
 
-pub small_updates : (shared : ℕ) (updates : List (ℕ × ℤ)) → Each (Update shared) updates → Each Small updates
+pub small_updates : (shared : ℕ) (updates : List (ℕ × ℤ)) → AllByRecursion (Update shared) updates → AllByRecursion Small updates
 small_updates shared [] h = tt
 small_updates shared (u ∷ us) h = ((let low = h.0.least in let high = h.0.most in omega (arith, ints)), small_updates shared us h.1)
 
-one_if-small : (x y : ℕ) → unsigned_abs (one_if x y) ≤ 1
+pub one_if-small : (x y : ℕ) → unsigned_abs (one_if x y) ≤ 1
 one_if-small x y = choose (x == y)
   where
     choose : (b : Bool) → unsigned_abs (if b then pos 1 else pos 0) ≤ 1
@@ -50,6 +51,6 @@ pub clean_move : (x y z n : ℕ) (a b : ℤ) → a ≡ one_if x z → b ≡ one_
 clean_move x y z n a b e f =
     let first = one_if-small x z in
     let second = one_if-small y n in
-    let plain_a : to_z w128 (of_z w128 a) ≡ one_if x z = ap (λ k. to_z w128 (of_z w128 k)) e ∙ clean (one_if x z) 1 first (omega arith) in
-    let plain_b : to_z w128 (of_z w128 b) ≡ one_if y n = ap (λ k. to_z w128 (of_z w128 k)) f ∙ clean (one_if y n) 1 second (omega arith) in
-    ap (λ k. to_z w128 (of_z w128 (k -ℤ to_z w128 (of_z w128 b)))) plain_a ∙ ap (λ k. to_z w128 (of_z w128 (one_if x z -ℤ k))) plain_b ∙ clean (one_if x z -ℤ one_if y n) 2 (abs_minus (one_if x z) (one_if y n) 1 1 first second) (omega arith)
+    let plain_a : to_z w128 (of_z w128 a) ≡ one_if x z = ap (λ k. to_z w128 (of_z w128 k)) e ∙ to_z_abs (one_if x z) 1 first (omega arith) in
+    let plain_b : to_z w128 (of_z w128 b) ≡ one_if y n = ap (λ k. to_z w128 (of_z w128 k)) f ∙ to_z_abs (one_if y n) 1 second (omega arith) in
+    ap (λ k. to_z w128 (of_z w128 (k -ℤ to_z w128 (of_z w128 b)))) plain_a ∙ ap (λ k. to_z w128 (of_z w128 (one_if x z -ℤ k))) plain_b ∙ to_z_abs (one_if x z -ℤ one_if y n) 2 (abs_minus (one_if x z) (one_if y n) 1 1 first second) (omega arith)

@@ -2,39 +2,40 @@
 use Rattle.std.proofs.Common.{◌≡◌, ℕ, zero, suc, ℤ, pos, ◌*ℤ◌, ◌≤ℤ◌, ◌<ℤ◌, List, [], ◌∷◌, map, length, slice_get, get_or, Option, None, Some, arith, sym, ap, ◌∙◌, refl, subst}
 use Rattle.std.specs.List.{All}
 use Rattle.std.proofs.lemmas.Int.{ints}
+use Rattle.ta_base.proofs.Sums.{range_sum-same}
 use Rattle.ta_linear.specs.Terms.{coefficient, IsNormal}
 use Rattle.ta_linear.specs.Rows.{AllBelow}
 use Rattle.ta_linear.specs.Values.{value_of, RowHolds, Solves}
 use Rattle.ta_linear.specs.Leaf.{weighted, AreMultipliers, LeafOf, coefficient_in as code_coefficient, constant_in as code_constant}
 use Rattle.ta_linear.specs.declared.row.Row.{Row}
 use Rattle.ta_linear.specs.declared.row.System.{System}
-use Rattle.ta_linear.proofs.RangeSum.{range_sum-same, terms_value-sum}
+use Rattle.ta_linear.proofs.RangeSum.{terms_value-sum}
 use Rattle.ta_automaton.specs.declared.automaton.Automaton.{Automaton}
 use Rattle.ta_automaton.specs.declared.pattern.Pattern.{Pattern}
 use Rattle.ta_encode.specs.System.{LinearRow, bound_row, word_rows, row_value, AllHold, SolvesWord}
-use Rattle.ta_encode.specs.Search.{Pending, Search, SolvesAt, rows_of}
+use Rattle.ta_encode.specs.Search.{Pending, Search, SolvesAt, bounded_rows}
 use Rattle.ta_encode.specs.PatternSearch.{pattern_search}
-use Rattle.ta_encode.specs.Refutes.{coefficient_in, constant_in, IsLeaf}
-use Rattle.ta_encode.specs.Code.{RowOf, RowsOf, SystemAt}
+use Rattle.ta_encode.specs.Refutes.{linear_coefficient_in, linear_constant_in, IsLeaf}
+use Rattle.ta_encode.specs.Code.{IsRowOf, AreRowsOf, SystemAt}
 use Rattle.ta_encode.proofs.Moments.{AllHold-append, AllHold-left}
 use Rattle.ta_encode.proofs.RowSums.{value_at, combine-range}
 
 -- what two rows have in common, the rows of the code and of the word have at each number
-rows_same : (code : Option Row → ℤ) (word : Option LinearRow → ℤ) → code None ≡ word None → ((l : LinearRow) (r : Row) → RowOf l r → code (Some r) ≡ word (Some l)) → (ls : List LinearRow) (rs : List Row) (k : ℕ) → RowsOf ls rs → code (slice_get rs k) ≡ word (slice_get ls k)
+rows_same : (code : Option Row → ℤ) (word : Option LinearRow → ℤ) → code None ≡ word None → ((l : LinearRow) (r : Row) → IsRowOf l r → code (Some r) ≡ word (Some l)) → (ls : List LinearRow) (rs : List Row) (k : ℕ) → AreRowsOf ls rs → code (slice_get rs k) ≡ word (slice_get ls k)
 rows_same code word none some [] [] k h = none
 rows_same code word none some (l ∷ ls) (r ∷ rs) zero h = some l r h.0
 rows_same code word none some (l ∷ ls) (r ∷ rs) (suc k) h = rows_same code word none some ls rs k h.1
 rows_same code word none some [] (r ∷ rs) k h = absurd h
 rows_same code word none some (l ∷ ls) [] k h = absurd h
 
-pub coefficient_same : (u : ℕ) (ls : List LinearRow) (rs : List Row) (k : ℕ) → RowsOf ls rs → code_coefficient u (slice_get rs k) ≡ coefficient_in u (slice_get ls k)
-coefficient_same u = rows_same (code_coefficient u) (coefficient_in u) refl (λ l r is. is.coefficients u)
+pub coefficient_same : (u : ℕ) (ls : List LinearRow) (rs : List Row) (k : ℕ) → AreRowsOf ls rs → code_coefficient u (slice_get rs k) ≡ linear_coefficient_in u (slice_get ls k)
+coefficient_same u = rows_same (code_coefficient u) (linear_coefficient_in u) refl (λ l r is. is.coefficients u)
 
-pub constant_same : (ls : List LinearRow) (rs : List Row) (k : ℕ) → RowsOf ls rs → code_constant (slice_get rs k) ≡ constant_in (slice_get ls k)
-constant_same = rows_same code_constant constant_in refl (λ l r is. is.constant)
+pub constant_same : (ls : List LinearRow) (rs : List Row) (k : ℕ) → AreRowsOf ls rs → code_constant (slice_get rs k) ≡ linear_constant_in (slice_get ls k)
+constant_same = rows_same code_constant linear_constant_in refl (λ l r is. is.constant)
 
 -- as many rows
-pub rows_count : (ls : List LinearRow) (rs : List Row) → RowsOf ls rs → length rs ≡ length ls
+pub rows_count : (ls : List LinearRow) (rs : List Row) → AreRowsOf ls rs → length rs ≡ length ls
 rows_count [] [] h = refl
 rows_count (l ∷ ls) (r ∷ rs) h = ap suc (rows_count ls rs h.1)
 rows_count [] (r ∷ rs) h = absurd h
@@ -48,29 +49,29 @@ weighted_same f g rs ls (t ∷ ts) h = omega (arith, ints, ap (λ z. t.1 *ℤ z)
 -- a leaf of the code's system is one of the word's rows
 pub leaf_of : (s : Search) (w : Pending) (system : System) (ts : List (ℕ × ℤ)) → SystemAt s w system → LeafOf system ts → IsLeaf s w ts
 leaf_of s w system ts is leaf =
-    let ls = rows_of s w in
+    let ls = bounded_rows s w in
     record {
       multipliers = subst (λ (n : ℕ). AreMultipliers 0 n ts) (rows_count ls system.rows is.rows) leaf.multipliers;
-      none_positive = λ u. subst (λ (z : ℤ). z ≤ℤ pos 0) (weighted_same (code_coefficient u) (coefficient_in u) system.rows ls ts (λ k. coefficient_same u ls system.rows k is.rows)) (leaf.none_positive u);
-      negative = subst (λ (z : ℤ). z <ℤ pos 0) (weighted_same code_constant constant_in system.rows ls ts (λ k. constant_same ls system.rows k is.rows)) leaf.negative;
+      none_positive = λ u. subst (λ (z : ℤ). z ≤ℤ pos 0) (weighted_same (code_coefficient u) (linear_coefficient_in u) system.rows ls ts (λ k. coefficient_same u ls system.rows k is.rows)) (leaf.none_positive u);
+      negative = subst (λ (z : ℤ). z <ℤ pos 0) (weighted_same code_constant linear_constant_in system.rows ls ts (λ k. constant_same ls system.rows k is.rows)) leaf.negative;
     }
 
 -- a leaf of the word's rows is one of the code's system
 pub leaf_back : (s : Search) (w : Pending) (system : System) (ts : List (ℕ × ℤ)) → SystemAt s w system → IsLeaf s w ts → LeafOf system ts
 leaf_back s w system ts is leaf =
-    let ls = rows_of s w in
+    let ls = bounded_rows s w in
     record {
       multipliers = subst (λ (n : ℕ). AreMultipliers 0 n ts) (sym (rows_count ls system.rows is.rows)) leaf.multipliers;
-      none_positive = λ u. subst (λ (z : ℤ). z ≤ℤ pos 0) (sym (weighted_same (code_coefficient u) (coefficient_in u) system.rows ls ts (λ k. coefficient_same u ls system.rows k is.rows))) (leaf.none_positive u);
-      negative = subst (λ (z : ℤ). z <ℤ pos 0) (sym (weighted_same code_constant constant_in system.rows ls ts (λ k. constant_same ls system.rows k is.rows))) leaf.negative;
+      none_positive = λ u. subst (λ (z : ℤ). z ≤ℤ pos 0) (sym (weighted_same (code_coefficient u) (linear_coefficient_in u) system.rows ls ts (λ k. coefficient_same u ls system.rows k is.rows))) (leaf.none_positive u);
+      negative = subst (λ (z : ℤ). z <ℤ pos 0) (sym (weighted_same code_constant linear_constant_in system.rows ls ts (λ k. constant_same ls system.rows k is.rows))) leaf.negative;
     }
 
-row_same : (vs : List ℕ) (l : LinearRow) (r : Row) → IsNormal 0 (length vs) r.form.terms → RowOf l r → row_value vs l ≡ value_of (value_at vs) r.form
+row_same : (vs : List ℕ) (l : LinearRow) (r : Row) → IsNormal 0 (length vs) r.form.terms → IsRowOf l r → row_value vs l ≡ value_of (value_at vs) r.form
 row_same vs l r n is =
     let each = range_sum-same (λ u. get_or l.coefficients u (pos 0) *ℤ value_at vs u) (λ u. coefficient r.form.terms u *ℤ value_at vs u) (length vs) (λ u b. ap (λ z. z *ℤ value_at vs u) (sym (is.coefficients u))) in
     omega (arith, ints, combine-range l.coefficients vs, each, terms_value-sum (value_at vs) 0 (length vs) r.form.terms n, is.constant)
 
-rows_hold : (vs : List ℕ) (n : ℕ) (ls : List LinearRow) (rs : List Row) → n ≡ length vs → AllBelow n rs → RowsOf ls rs → All (RowHolds (value_at vs)) rs → AllHold vs ls
+rows_hold : (vs : List ℕ) (n : ℕ) (ls : List LinearRow) (rs : List Row) → n ≡ length vs → AllBelow n rs → AreRowsOf ls rs → All (RowHolds (value_at vs)) rs → AllHold vs ls
 rows_hold vs n [] [] e b is h = tt
 rows_hold vs n (l ∷ ls) (r ∷ rs) e b is h =
     let first : pos 0 ≤ℤ value_of (value_at vs) r.form = h 0 r (omega arith) in
@@ -79,7 +80,7 @@ rows_hold vs n (l ∷ ls) (r ∷ rs) e b is h =
 rows_hold vs n [] (r ∷ rs) e b is h = absurd is
 rows_hold vs n (l ∷ ls) [] e b is h = absurd is
 
-rows_back : (vs : List ℕ) (n : ℕ) (ls : List LinearRow) (rs : List Row) → n ≡ length vs → AllBelow n rs → RowsOf ls rs → AllHold vs ls → All (RowHolds (value_at vs)) rs
+rows_back : (vs : List ℕ) (n : ℕ) (ls : List LinearRow) (rs : List Row) → n ≡ length vs → AllBelow n rs → AreRowsOf ls rs → AllHold vs ls → All (RowHolds (value_at vs)) rs
 rows_back vs n [] [] e b is h k d c = absurd (omega arith)
 rows_back vs n (l ∷ ls) (r ∷ rs) e b is h zero d c =
     let first : pos 0 ≤ℤ row_value vs l = h.0 in
@@ -93,14 +94,14 @@ rows_back vs n (l ∷ ls) [] e b is h k d c = absurd is
 pub solution_of : (s : Search) (w : Pending) (system : System) (vs : List ℕ) → SystemAt s w system → Solves system vs → SolvesAt s w vs
 solution_of s w system vs is solves = record {
   count = solves.count ∙ is.unknowns;
-  rows_hold = rows_hold vs system.unknowns (rows_of s w) system.rows (sym solves.count) system.within is.rows solves.rows_hold;
+  rows_hold = rows_hold vs system.unknowns (bounded_rows s w) system.rows (sym solves.count) system.within is.rows solves.rows_hold;
 }
 
 -- a solution of the word is one of the code's system
 pub solution_back : (s : Search) (w : Pending) (system : System) (vs : List ℕ) → SystemAt s w system → SolvesAt s w vs → Solves system vs
 solution_back s w system vs is solves = record {
   count = solves.count ∙ sym is.unknowns;
-  rows_hold = rows_back vs system.unknowns (rows_of s w) system.rows (sym (solves.count ∙ sym is.unknowns)) system.within is.rows solves.rows_hold;
+  rows_hold = rows_back vs system.unknowns (bounded_rows s w) system.rows (sym (solves.count ∙ sym is.unknowns)) system.within is.rows solves.rows_hold;
 }
 
 -- a solution with bounds is one without

@@ -1,40 +1,16 @@
 -- how many unknowns a word has
-use Rattle.std.proofs.Common.{◌≡◌, ℕ, ◌+◌, ◌*◌, ◌<◌, ◌≤◌, List, [], ◌∷◌, ◌++◌, length, map, take, get_or, Bool, true, false, not, slice_get, arith, ap, ◌∙◌, length-append}
+use Rattle.std.proofs.Common.{◌≡◌, ℕ, ◌+◌, ◌*◌, List, ◌∷◌, ◌++◌, length, map, not, slice_get, arith, ap, ◌∙◌, length-append}
 use Rattle.std.specs.Prelude.{filter}
 use Rattle.std.proofs.lemmas.List.{length-map}
-use Rattle.ta_automaton.specs.Masks.{has_bit, numbers_from}
+use Rattle.ta_base.specs.Masks.{has_bit, numbers_from}
+use Rattle.ta_base.proofs.Lists.{filter_same}
+use Rattle.ta_base.proofs.Ranges.{length_numbers}
 use Rattle.ta_automaton.specs.declared.automaton.Automaton.{Automaton}
 use Rattle.ta_automaton.specs.declared.pattern.Pattern.{Pattern}
-use Rattle.ta_automaton.proofs.Fire.{length_numbers}
 use Rattle.ta_words.specs.declared.element.Element.{Element}
 use Rattle.ta_words.specs.declared.element.Element.TheVariants.{Event, Rise, Fall}
 use Rattle.ta_words.specs.Words.{may_fire, allowed_rules}
 use Rattle.ta_encode.specs.Unknowns.{Parameter, Start, Count, Single, meanings, start_meanings, start_locations, counts_after, singles_after}
-use Rattle.ta_encode.proofs.Masked.{passed_one, passed_none, item_one, item_none}
-use Rattle.ta_encode.proofs.Drafts.{filter_same, filter_shorter}
-
-pub count_one : (test : ℕ → Bool) (n : ℕ) → test n ≡ true → length (filter test (numbers_from 0 (n + 1))) ≡ length (filter test (numbers_from 0 n)) + 1
-count_one test n t =
-    let f : ℕ → ℕ = λ k. k in
-    omega (arith, ap length (passed_one f test n t), length-append (map f (filter test (numbers_from 0 n))) (n ∷ []), length-map (filter test (numbers_from 0 n)) f, length-map (filter test (numbers_from 0 (n + 1))) f)
-
-pub count_none : (test : ℕ → Bool) (n : ℕ) → test n ≡ false → length (filter test (numbers_from 0 (n + 1))) ≡ length (filter test (numbers_from 0 n))
-count_none test n t =
-    let f : ℕ → ℕ = λ k. k in
-    omega (arith, ap length (passed_none f test n t), length-map (filter test (numbers_from 0 n)) f, length-map (filter test (numbers_from 0 (n + 1))) f)
-
-pub count_few : (test : ℕ → Bool) (n : ℕ) → length (filter test (numbers_from 0 n)) ≤ n
-count_few test n = omega (arith, filter_shorter test (numbers_from 0 n), length_numbers 0 n)
-
-pub items_one : (test : ℕ → Bool) (xs : List ℕ) (i d : ℕ) → i < length xs → test (get_or xs i d) ≡ true → length (filter test (take (i + 1) xs)) ≡ length (filter test (take i xs)) + 1
-items_one test xs i d b t =
-    let f : ℕ → ℕ = λ k. k in
-    omega (arith, ap length (item_one f test xs i d b t), length-append (map f (filter test (take i xs))) (get_or xs i d ∷ []), length-map (filter test (take i xs)) f, length-map (filter test (take (i + 1) xs)) f)
-
-pub items_none : (test : ℕ → Bool) (xs : List ℕ) (i d : ℕ) → i < length xs → test (get_or xs i d) ≡ false → length (filter test (take (i + 1) xs)) ≡ length (filter test (take i xs))
-items_none test xs i d b t =
-    let f : ℕ → ℕ = λ k. k in
-    omega (arith, ap length (item_none f test xs i d b t), length-map (filter test (take i xs)) f, length-map (filter test (take (i + 1) xs)) f)
 
 pub start_length : (a : Automaton) (p : Pattern) → length (start_meanings a p) ≡ length a.parameters + length (filter (λ l. not (has_bit p.empty l)) a.initial)
 unfolding start_meanings

@@ -1,11 +1,11 @@
 -- guards that have fallen fail at a word's end, since shared variables never fall
-use Rattle.std.proofs.Common.{◌≡◌, inl, inr, ℕ, zero, suc, ◌+◌, ℤ, pos, ◌+ℤ◌, ◌≤ℤ◌, List, [], ◌∷◌, ◌++◌, map, length, drop, cond, Bool, true, false, arith, sym, ap, ◌∙◌, refl, subst, slice_get, Some, zero-add}
+use Rattle.std.proofs.Common.{◌≡◌, inl, inr, ℕ, zero, suc, ◌+◌, pos, ◌+ℤ◌, ◌≤ℤ◌, List, [], ◌∷◌, ◌++◌, map, length, drop, cond, Bool, true, false, arith, sym, ap, ◌∙◌, refl, subst, slice_get, Some, zero-add}
 use Rattle.std.proofs.lemmas.Int.{ints}
 use Rattle.std.proofs.lemmas.Bool.{or_cases}
 use Rattle.ta_linear.specs.declared.row.Row.{Row}
 use Rattle.ta_automaton.specs.declared.automaton.Automaton.{Automaton}
 use Rattle.ta_automaton.specs.declared.pattern.Pattern.{Pattern}
-use Rattle.ta_automaton.specs.Masks.{has_bit}
+use Rattle.ta_base.specs.Masks.{has_bit}
 use Rattle.ta_automaton.specs.Sums.{total}
 use Rattle.ta_automaton.proofs.Onward.{change_of, later_after}
 use Rattle.ta_automaton.proofs.Sums.{total-same}
@@ -15,9 +15,9 @@ use Rattle.ta_words.specs.declared.element.Element.TheVariants.{Event, Rise, Fal
 use Rattle.ta_words.specs.Words.{allowed_rules, has_fallen}
 use Rattle.ta_encode.specs.Unknowns.{Meaning, Count, Single, meanings, counts_after, singles_after, place_coefficient, start_meanings}
 use Rattle.ta_encode.specs.System.{AllHold, condition_rows, counter_rows, fall_rows, form_row, guard_rows, negated, opposite, processes_row, row_value, singles_row, standing_rows, start_guard_rows, start_rows, word_rows}
-use Rattle.ta_encode.proofs.Moments.{RowFails, negated_value}
+use Rattle.ta_encode.proofs.Moments.{RowFails, negated_value, AllHold-left}
 use Rattle.ta_encode.proofs.Segment.{may_rules}
-use Rattle.ta_encode.proofs.Values.{AllHold-right, allowed_may, combine-split, form_at, left_part, place_value, unfolded, unfolded-may, unfolded-total}
+use Rattle.ta_encode.proofs.Values.{AllHold-right, allowed_may, combine-split, form_at, place_value, unfolded, unfolded-may, unfolded-total}
 
 -- a guard whose negated row holds at a moment fails there
 pub guard_fails : (a : Automaton) (ms : List Meaning) (vs : List ℕ) (test : ℕ → Bool) (k : ℕ) (rows : List Row) → AllHold vs (map negated (guard_rows a ms test k rows)) → (j : ℕ) (row : Row) → slice_get rows j ≡ Some row → test (k + j) ≡ true → RowFails (place_value a ms vs) row
@@ -84,7 +84,7 @@ fallen_now a p start past before end mask vs h j row at t =
     let r1 = AllHold-right vs (counter_rows a p before) (chosen ++ (pair ++ (e ++ (n ++ s)))) h in
     let r2 = AllHold-right vs chosen (pair ++ (e ++ (n ++ s))) r1 in
     let r3 = AllHold-right vs pair (e ++ (n ++ s)) r2 in
-    let fails = left_part vs n s (AllHold-right vs e (n ++ s) r3) in
+    let fails = AllHold-left vs n s (AllHold-right vs e (n ++ s) r3) in
     guard_fails a end vs (has_bit mask) 0 a.fall fails j row at (ap (has_bit mask) (zero-add j) ∙ t)
 
 -- fall guards that are in the start set or have fallen fail at the end of the word
@@ -93,15 +93,15 @@ unfolding word_rows meanings has_fallen
 fallen_fail a p start [] vs h j row at t = fallen_start a p start vs h j row at t
 fallen_fail a p start (Event e ∷ past) vs h j row at t =
     let ms = meanings a p start past in
-    stays_below a (place_value a ms vs) (place_value a (ms ++ counts_after a p start past) vs) (later_firings a p start past vs ms (Count (length past)) (λ r i. refl)) j row at (fallen_fail a p start past vs (left_part vs (word_rows a p start past) _ h) j row at t)
+    stays_below a (place_value a ms vs) (place_value a (ms ++ counts_after a p start past) vs) (later_firings a p start past vs ms (Count (length past)) (λ r i. refl)) j row at (fallen_fail a p start past vs (AllHold-left vs (word_rows a p start past) _ h) j row at t)
 fallen_fail a p start (Rise i ∷ past) vs h j row at t =
     let ms = meanings a p start past in
-    stays_below a (place_value a ms vs) (place_value a (ms ++ counts_after a p start past) vs) (later_firings a p start past vs ms (Count (length past)) (λ r i. refl)) j row at (fallen_fail a p start past vs (left_part vs (word_rows a p start past) _ h) j row at t)
+    stays_below a (place_value a ms vs) (place_value a (ms ++ counts_after a p start past) vs) (later_firings a p start past vs ms (Count (length past)) (λ r i. refl)) j row at (fallen_fail a p start past vs (AllHold-left vs (word_rows a p start past) _ h) j row at t)
 fallen_fail a p start (Fall mask ∷ past) vs h j row at t = elim (or_cases (has_bit mask j) (has_fallen start past j) t) [
   | inl now ↦ fallen_now a p start past (meanings a p start past ++ counts_after a p start past) (meanings a p start (Fall mask ∷ past)) mask vs (AllHold-right vs (word_rows a p start past) _ h) j row at now
   | inr before ↦ (
       let ms = meanings a p start past in
       let ns = ms ++ counts_after a p start past in
-      let then = stays_below a (place_value a ms vs) (place_value a ns vs) (later_firings a p start past vs ms (Count (length past)) (λ r i. refl)) j row at (fallen_fail a p start past vs (left_part vs (word_rows a p start past) _ h) j row at before) in
+      let then = stays_below a (place_value a ms vs) (place_value a ns vs) (later_firings a p start past vs ms (Count (length past)) (λ r i. refl)) j row at (fallen_fail a p start past vs (AllHold-left vs (word_rows a p start past) _ h) j row at before) in
       stays_below a (place_value a ns vs) (place_value a (ns ++ singles_after a p start past) vs) (later_firings a p start past vs ns (Single (length past)) (λ r i. refl)) j row at then)
 ]

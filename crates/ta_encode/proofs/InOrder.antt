@@ -4,7 +4,7 @@ use Rattle.std.proofs.lemmas.List.{reverse-append, take-append-drop}
 use Rattle.ta_automaton.specs.declared.automaton.Automaton.{Automaton}
 use Rattle.ta_automaton.specs.declared.pattern.Pattern.{Pattern}
 use Rattle.ta_words.specs.declared.element.Element.{Element}
-use Rattle.ta_words.specs.Words.{Legal}
+use Rattle.ta_words.specs.Words.{LegalWord}
 use Rattle.ta_encode.specs.System.{word_rows, AllHold}
 use Rattle.ta_encode.proofs.Safety.{extend, prefix_rows, prefix_legal}
 
@@ -24,5 +24,5 @@ pub prefix_solved : (a : Automaton) (p : Pattern) (start : ℕ) (word : List Ele
 prefix_solved a p start word vs h k = prefix_rows a p start (reverse (take k word)) (drop k word) vs (subst (λ (q : List Element). AllHold vs (word_rows a p start q)) (sym (cut_at word k)) h)
 
 -- each prefix of a legal word is legal
-pub prefix_is_legal : (a : Automaton) (p : Pattern) (start : ℕ) (word : List Element) → Legal a p start (reverse word) → (k : ℕ) → Legal a p start (reverse (take k word))
-prefix_is_legal a p start word h k = prefix_legal a p [] start (reverse (take k word)) (drop k word) (subst (Legal a p start) (sym (cut_at word k)) h)
+pub prefix_is_legal : (a : Automaton) (p : Pattern) (start : ℕ) (word : List Element) → LegalWord a p start (reverse word) → (k : ℕ) → LegalWord a p start (reverse (take k word))
+prefix_is_legal a p start word h k = prefix_legal a p [] start (reverse (take k word)) (drop k word) (subst (LegalWord a p start) (sym (cut_at word k)) h)

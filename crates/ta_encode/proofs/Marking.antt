@@ -1,15 +1,15 @@
 -- marks: one more, and fewer
-use Rattle.std.proofs.Common.{◌≡◌, inl, inr, ℕ, zero, suc, ◌+◌, ◌<◌, ◌≤◌, List, [], ◌∷◌, ◌++◌, length, reverse, take, arith, refl, sym, ap, ◌∙◌, subst}
-use Rattle.std.specs.Prelude.{slice_get, Some, Result, Ok, Err, IfOk}
+use Rattle.std.proofs.Common.{◌≡◌, inl, inr, ℕ, ◌+◌, ◌<◌, ◌≤◌, List, [], ◌∷◌, ◌++◌, length, reverse, take, arith, refl, sym, ap, ◌∙◌, subst}
 use Rattle.std.proofs.Math.Seq.{take-length}
 use Rattle.std.proofs.lemmas.Bool.{cases_lt}
 use Rattle.std.proofs.lemmas.List.{append-nil, length-append, length-take-le, get_or_append_left, get_or_push, get_or-take, take-append-le}
+use Rattle.ta_base.proofs.Lists.{take_take}
 use Rattle.ta_linear.specs.declared.row.Row.{Row}
 use Rattle.ta_automaton.specs.declared.automaton.Automaton.{Automaton}
 use Rattle.ta_automaton.specs.declared.pattern.Pattern.{Pattern}
 use Rattle.ta_words.specs.declared.element.Element.{Element}
 use Rattle.ta_encode.specs.Unknowns.{Meaning}
-use Rattle.ta_encode.specs.Inside.Draft.{Drafted}
+use Rattle.ta_encode.specs.Inside.Draft.{IsDraftOf}
 use Rattle.ta_encode.specs.Inside.Lines.{IsBehind}
 use Rattle.ta_encode.specs.Marks.{AreMarks, IsPart, MarkHolds, SameRows, mark_at, no_mark}
 use Rattle.ta_encode.specs.declared.growing.Mark.{Mark}
@@ -32,23 +32,23 @@ holds_on a p start elements ms ns rows qs i mark b c h =
       unknowns_within = omega arith;
       rows_within = omega arith;
       drafted =
-          subst (λ (xs : List Meaning). Drafted a p start (reverse (take i elements)) xs (take mark.rows qs)) (sym (behind_take mark.unknowns ms ns b u))
-          (subst (λ (xs : List Row). Drafted a p start (reverse (take i elements)) (take mark.unknowns ms) xs) (sym (behind_take mark.rows rows qs c r)) h.drafted);
+          subst (λ (xs : List Meaning). IsDraftOf a p start (reverse (take i elements)) xs (take mark.rows qs)) (sym (behind_take mark.unknowns ms ns b u))
+          (subst (λ (xs : List Row). IsDraftOf a p start (reverse (take i elements)) (take mark.unknowns ms) xs) (sym (behind_take mark.rows rows qs c r)) h.drafted);
     }
 
 -- a mark at the end
-holds_last : (a : Automaton) (p : Pattern) (start : ℕ) (elements : List Element) (ms : List Meaning) (rows : List Row) (i : ℕ) (mark : Mark) → mark.unknowns ≡ length ms → mark.rows ≡ length rows → Drafted a p start (reverse (take i elements)) ms rows → MarkHolds a p start elements ms rows i mark
+holds_last : (a : Automaton) (p : Pattern) (start : ℕ) (elements : List Element) (ms : List Meaning) (rows : List Row) (i : ℕ) (mark : Mark) → mark.unknowns ≡ length ms → mark.rows ≡ length rows → IsDraftOf a p start (reverse (take i elements)) ms rows → MarkHolds a p start elements ms rows i mark
 holds_last a p start elements ms rows i mark e f d = record {
   unknowns_within = omega arith;
   rows_within = omega arith;
   drafted =
-      subst (λ (xs : List Meaning). Drafted a p start (reverse (take i elements)) xs (take mark.rows rows)) (sym (ap (λ (n : ℕ). take n ms) e ∙ take-length ms))
-      (subst (λ (xs : List Row). Drafted a p start (reverse (take i elements)) ms xs) (sym (ap (λ (n : ℕ). take n rows) f ∙ take-length rows)) d);
+      subst (λ (xs : List Meaning). IsDraftOf a p start (reverse (take i elements)) xs (take mark.rows rows)) (sym (ap (λ (n : ℕ). take n ms) e ∙ take-length ms))
+      (subst (λ (xs : List Row). IsDraftOf a p start (reverse (take i elements)) ms xs) (sym (ap (λ (n : ℕ). take n rows) f ∙ take-length rows)) d);
 }
 
 -- one mark more
 pub marks_push : (a : Automaton) (p : Pattern) (start : ℕ) (elements : List Element) (ms ns : List Meaning) (rows qs : List Row) (marks more : List Mark) (mark : Mark) → AreMarks a p start elements ms rows marks →
-    IsBehind ms ns → IsBehind rows qs → more ≡ marks ++ mark ∷ [] → mark.unknowns ≡ length ns → mark.rows ≡ length qs → Drafted a p start (reverse (take (length marks) elements)) ns qs → AreMarks a p start elements ns qs more
+    IsBehind ms ns → IsBehind rows qs → more ≡ marks ++ mark ∷ [] → mark.unknowns ≡ length ns → mark.rows ≡ length qs → IsDraftOf a p start (reverse (take (length marks) elements)) ns qs → AreMarks a p start elements ns qs more
 marks_push a p start elements ms ns rows qs marks more mark are b c e f g d =
     subst (λ (all : List Mark). AreMarks a p start elements ns qs all) (sym e)
     (let l = length-append marks (mark ∷ []) in
@@ -84,12 +84,6 @@ marks_push a p start elements ms ns rows qs marks more mark are b c e f g d =
       ];
     })
 
-take_take : {X : Type 0} (n m : ℕ) (xs : List X) → n ≤ m → take n (take m xs) ≡ take n xs
-take_take zero m xs h = refl
-take_take (suc n) zero xs h = absurd (omega arith)
-take_take (suc n) (suc m) [] h = refl
-take_take {X = X} (suc n) (suc m) (x ∷ xs) h = ap (λ (ys : List X). x ∷ ys) (take_take n m xs (omega arith))
-
 -- fewer marks, and the unknowns and rows cut behind the last of them
 holds_cut : (a : Automaton) (p : Pattern) (start : ℕ) (elements others : List Element) (ms : List Meaning) (rows : List Row) (i n r : ℕ) (mark : Mark) → take i elements ≡ take i others → mark.unknowns ≤ n → n ≤ length ms → mark.rows ≤ r → r ≤ length rows →
     MarkHolds a p start elements ms rows i mark → MarkHolds a p start others (take n ms) (take r rows) i mark
@@ -100,9 +94,9 @@ holds_cut a p start elements others ms rows i n r mark e h k x y holds =
       unknowns_within = omega arith;
       rows_within = omega arith;
       drafted =
-          subst (λ (w : List Element). Drafted a p start (reverse w) (take mark.unknowns (take n ms)) (take mark.rows (take r rows))) e
-          (subst (λ (xs : List Meaning). Drafted a p start (reverse (take i elements)) xs (take mark.rows (take r rows))) (sym (take_take mark.unknowns n ms h))
-          (subst (λ (xs : List Row). Drafted a p start (reverse (take i elements)) (take mark.unknowns ms) xs) (sym (take_take mark.rows r rows x)) holds.drafted));
+          subst (λ (w : List Element). IsDraftOf a p start (reverse w) (take mark.unknowns (take n ms)) (take mark.rows (take r rows))) e
+          (subst (λ (xs : List Meaning). IsDraftOf a p start (reverse (take i elements)) xs (take mark.rows (take r rows))) (sym (take_take mark.unknowns n ms h))
+          (subst (λ (xs : List Row). IsDraftOf a p start (reverse (take i elements)) (take mark.unknowns ms) xs) (sym (take_take mark.rows r rows x)) holds.drafted));
     }
 
 take_fewer : (elements others : List Element) (i n : ℕ) → i ≤ n → take n elements ≡ take n others → take i elements ≡ take i others
@@ -110,7 +104,7 @@ take_fewer elements others i n h e = sym (take_take i n elements h) ∙ ap (take
 
 pub marks_cut : (a : Automaton) (p : Pattern) (start : ℕ) (elements others : List Element) (ms : List Meaning) (rows : List Row) (marks : List Mark) (shared : ℕ) → AreMarks a p start elements ms rows marks → shared < length marks → take shared elements ≡ take shared others →
     AreMarks a p start others (take (mark_at marks shared).unknowns ms) (take (mark_at marks shared).rows rows) (take (shared + 1) marks)
-    × Drafted a p start (reverse (take shared others)) (take (mark_at marks shared).unknowns ms) (take (mark_at marks shared).rows rows)
+    × IsDraftOf a p start (reverse (take shared others)) (take (mark_at marks shared).unknowns ms) (take (mark_at marks shared).rows rows)
 marks_cut a p start elements others ms rows marks shared are h e =
     let last = mark_at marks shared in
     let here = are.holds shared h in
@@ -125,14 +119,14 @@ marks_cut a p start elements others ms rows marks shared are h e =
             subst (λ (m : Mark). (m.unknowns ≤ (mark_at (take (shared + 1) marks) j).unknowns) × (m.rows ≤ (mark_at (take (shared + 1) marks) j).rows)) (sym (at i (omega arith)))
             (subst (λ (m : Mark). ((mark_at marks i).unknowns ≤ m.unknowns) × ((mark_at marks i).rows ≤ m.rows)) (sym (at j (omega arith))) (are.rise i j low (omega arith)));
       },
-      subst (λ (w : List Element). Drafted a p start (reverse w) (take last.unknowns ms) (take last.rows rows)) e here.drafted,
+      subst (λ (w : List Element). IsDraftOf a p start (reverse w) (take last.unknowns ms) (take last.rows rows)) e here.drafted,
     )
 
 behind_none : {X : Type 0} (xs : List X) → IsBehind xs xs
 behind_none xs = record { more = []; is = sym (append-nil xs) }
 
 -- the mark of the start alone
-pub marks_first : (a : Automaton) (p : Pattern) (start : ℕ) (elements : List Element) (ms : List Meaning) (rows : List Row) (none marks : List Mark) (mark : Mark) → none ≡ [] → marks ≡ none ++ mark ∷ [] → mark.unknowns ≡ length ms → mark.rows ≡ length rows → Drafted a p start [] ms rows →
+pub marks_first : (a : Automaton) (p : Pattern) (start : ℕ) (elements : List Element) (ms : List Meaning) (rows : List Row) (none marks : List Mark) (mark : Mark) → none ≡ [] → marks ≡ none ++ mark ∷ [] → mark.unknowns ≡ length ms → mark.rows ≡ length rows → IsDraftOf a p start [] ms rows →
     AreMarks a p start elements ms rows marks
 marks_first a p start elements ms rows none marks mark empty e f g d =
     marks_push a p start elements ms ms rows rows [] marks mark record { holds = λ i h. absurd (omega arith); rise = λ i j low h. absurd (omega arith) } (behind_none ms) (behind_none rows) (e ∙ ap (λ (xs : List Mark). xs ++ mark ∷ []) empty) f g d
@@ -157,9 +151,9 @@ part_kept a p start drafted elements ms rows marks part shared are h k e marks_a
           (subst (λ (xs : List Meaning). AreMarks a p start elements xs part.rows.items (take (shared + 1) marks)) (sym ms_are)
           (subst (λ (xs : List Row). AreMarks a p start elements (take (mark_at marks shared).unknowns ms) xs (take (shared + 1) marks)) (sym rows_are) cut.0));
       drafted =
-          subst (λ (i : ℕ). Drafted a p start (reverse (take i elements)) part.meanings.items part.rows.items) (sym from)
-          (subst (λ (xs : List Meaning). Drafted a p start (reverse (take shared elements)) xs part.rows.items) (sym ms_are)
-          (subst (λ (xs : List Row). Drafted a p start (reverse (take shared elements)) (take (mark_at marks shared).unknowns ms) xs) (sym rows_are) cut.1));
+          subst (λ (i : ℕ). IsDraftOf a p start (reverse (take i elements)) part.meanings.items part.rows.items) (sym from)
+          (subst (λ (xs : List Meaning). IsDraftOf a p start (reverse (take shared elements)) xs part.rows.items) (sym ms_are)
+          (subst (λ (xs : List Row). IsDraftOf a p start (reverse (take shared elements)) (take (mark_at marks shared).unknowns ms) xs) (sym rows_are) cut.1));
       same = omega arith;
       rows_are = ap (λ (i : ℕ). take i rows) count ∙ sym rows_are ∙ sym (ap (λ (i : ℕ). take i part.rows.items) same ∙ take-length part.rows.items);
     }
@@ -176,15 +170,6 @@ pub same_on : (before rows after : List Row) (same : ℕ) → same ≤ length ro
 same_on before rows after same h e b =
     let l = behind_long rows after b in
     record { within = omega arith; rows_are = e ∙ sym (behind_take same rows after b h) }
-
-pub named_pattern : (ps : List Pattern) (i : ℕ) → i < length ps → (p : Pattern) × (slice_get ps i ≡ Some p)
-named_pattern [] i h = absurd (omega arith)
-named_pattern (p ∷ ps) zero h = (p, refl)
-named_pattern (p ∷ ps) (suc i) h = named_pattern ps i (omega arith)
-
-pub on_ok : {T E : Type 0} (r : Result T E) (P Q : T → Type 0) → ((x : T) → P x → Q x) → IfOk r P → IfOk r Q
-on_ok (Ok x) P Q f h = f x h
-on_ok (Err e) P Q f h = tt
 
 pub same_on_part : (before rows after : List Row) (same other : ℕ) → other ≡ same → same ≤ length rows → take same before ≡ take same rows → IsBehind rows after → SameRows before other after
 same_on_part before rows after same other e h f b = subst (λ (n : ℕ). SameRows before n after) (sym e) (same_on before rows after same h f b)

@@ -9,20 +9,20 @@ use Rattle.ta_automaton.specs.declared.condition.Comparison.{Comparison}
 use Rattle.ta_automaton.specs.declared.automaton.Automaton.{Automaton}
 use Rattle.ta_automaton.proofs.Sums.{terms_value-same}
 use Rattle.ta_automaton.specs.Runs.{Config, value_at}
-use Rattle.ta_automaton.specs.Masks.{has_bit}
+use Rattle.ta_base.specs.Masks.{has_bit}
 use Rattle.ta_encode.specs.Unknowns.{Meaning, place_coefficient}
 use Rattle.ta_automaton.specs.Places.{location_place}
-use Rattle.ta_encode.specs.System.{LinearRow, opposite, negated, form_row, counter_row, condition_rows, guard_rows, start_guard_rows, combine, row_value, AllHold}
+use Rattle.ta_encode.specs.System.{LinearRow, opposite, negated, form_row, counter_row, condition_rows, guard_rows, start_guard_rows, sum_of_products, row_value, AllHold}
 use Rattle.ta_encode.proofs.Combine.{combine-extra, combine-terms, combine-opposite}
 
 -- the values so far give each place its value in a configuration
 pub record Moment (a : Automaton) (ms : List Meaning) (vs : List ℕ) (d : Config) : Type 0 where
   pub count : length vs ≡ length ms
-  pub places : (i : ℕ) → combine (map (λ m. place_coefficient a m i) ms) vs ≡ value_at d i
+  pub places : (i : ℕ) → sum_of_products (map (λ m. place_coefficient a m i) ms) vs ≡ value_at d i
 
 pub form_value : (a : Automaton) (ms : List Meaning) (vs : List ℕ) (d : Config) → Moment a ms vs d → (more : List ℕ) (f : Form) → row_value (vs ++ more) (form_row a ms f) ≡ value_of (value_at d) f
 form_value a ms vs d m more f =
-    omega (arith, ints, combine-extra (λ k. terms_value (place_coefficient a k) f.terms) ms vs more m.count, combine-terms (place_coefficient a) ms vs f.terms, terms_value-same f.terms (λ i. combine (map (λ k. place_coefficient a k i) ms) vs) (value_at d) m.places)
+    omega (arith, ints, combine-extra (λ k. terms_value (place_coefficient a k) f.terms) ms vs more m.count, combine-terms (place_coefficient a) ms vs f.terms, terms_value-same f.terms (λ i. sum_of_products (map (λ k. place_coefficient a k i) ms) vs) (value_at d) m.places)
 
 pub AllHold-append : (vs : List ℕ) (xs ys : List LinearRow) → AllHold vs xs → AllHold vs ys → AllHold vs (xs ++ ys)
 AllHold-append vs [] ys h g = g

@@ -1,21 +1,22 @@
 -- the rows of a system that a list of row numbers names
-use Rattle.std.proofs.Common.{◌≡◌, ℕ, zero, suc, ◌+◌, ◌-◌, ◌<◌, ◌≤◌, ℤ, pos, List, [], ◌∷◌, ◌++◌, length, map, take, get_or, slice_get, Option, Some, None, arith, sym, ap, ◌∙◌, refl, subst, length-append, inl, inr}
+use Rattle.std.proofs.Common.{◌≡◌, ℕ, zero, suc, ◌+◌, ◌-◌, ◌<◌, ◌≤◌, ℤ, pos, List, [], ◌∷◌, ◌++◌, length, map, take, slice_get, Some, arith, sym, ap, ◌∙◌, refl, subst, length-append, inl, inr}
 use Rattle.std.proofs.lemmas.Bool.{cases_lt}
 use Rattle.std.proofs.Math.Seq.{take-length}
+use Rattle.ta_encode.proofs.CodeRows.{rows_count}
 use Rattle.ta_linear.specs.Terms.{IsNormal, coefficient}
 use Rattle.ta_linear.specs.Rows.{AllBelow}
 use Rattle.ta_linear.specs.declared.row.Row.{Row}
 use Rattle.ta_encode.specs.System.{LinearRow, Bound, bound_row}
-use Rattle.ta_encode.specs.Code.{RowOf, RowsOf}
+use Rattle.ta_encode.specs.Code.{IsRowOf, AreRowsOf}
 use Rattle.ta_encode.specs.declared.named.Named.TheVariants.{Absent}
-use Rattle.ta_encode.specs.Named.{row_numbered, rows_named, number_at, AreThere, FirstAbsent, Names}
-use Rattle.ta_encode.specs.Inside.Lines.{Written, Adds}
+use Rattle.ta_encode.specs.Named.{row_numbered, rows_named, row_number_at, AreThere, NamesRows}
+use Rattle.ta_encode.specs.Inside.Lines.{AreWritten, AddsRows}
 use Rattle.ta_encode.proofs.Adding.{adds_one, map_more}
 
 -- the row of a number is that of the word, and is there
-row_there : (ls ms : List LinearRow) (rs : List Row) (n : ℕ) (r : Row) → RowsOf ls rs → slice_get rs n ≡ Some r → (n < length (ls ++ ms)) × RowOf (row_numbered (ls ++ ms) n) r
+row_there : (ls ms : List LinearRow) (rs : List Row) (n : ℕ) (r : Row) → AreRowsOf ls rs → slice_get rs n ≡ Some r → (n < length (ls ++ ms)) × IsRowOf (row_numbered (ls ++ ms) n) r
 row_there [] ms [] n r is e = absurd (cc)
-row_there (l ∷ ls) ms (x ∷ rs) zero r is e = let same : x ≡ r = cc in (omega arith, subst (RowOf l) same is.0)
+row_there (l ∷ ls) ms (x ∷ rs) zero r is e = let same : x ≡ r = cc in (omega arith, subst (IsRowOf l) same is.0)
 row_there (l ∷ ls) ms (x ∷ rs) (suc n) r is e = let rest = row_there ls ms rs n r is.1 e in (let below = rest.0 in omega arith, rest.1)
 row_there [] ms (x ∷ rs) n r is e = absurd is
 row_there (l ∷ ls) ms [] n r is e = absurd is
@@ -26,11 +27,11 @@ below_there n (x ∷ rs) zero r below e = let same : x ≡ r = cc in subst (λ (
 below_there n (x ∷ rs) (suc k) r below e = below_there n rs k r below.1 e
 
 -- a copy of a row of the word is written
-pub adds_copy : (ls ms : List LinearRow) (rs : List Row) (n unknowns : ℕ) (r copy : Row) (before after : List Row) → RowsOf ls rs → AllBelow unknowns rs → slice_get rs n ≡ Some r → copy.form.constant ≡ r.form.constant → copy.form.terms ≡ r.form.terms → after ≡ before ++ copy ∷ []
-    → (n < length (ls ++ ms)) × Adds (row_numbered (ls ++ ms) n ∷ []) unknowns before after
+pub adds_copy : (ls ms : List LinearRow) (rs : List Row) (n unknowns : ℕ) (r copy : Row) (before after : List Row) → AreRowsOf ls rs → AllBelow unknowns rs → slice_get rs n ≡ Some r → copy.form.constant ≡ r.form.constant → copy.form.terms ≡ r.form.terms → after ≡ before ++ copy ∷ []
+    → (n < length (ls ++ ms)) × AddsRows (row_numbered (ls ++ ms) n ∷ []) unknowns before after
 adds_copy ls ms rs n unknowns r copy before after is below at constant terms e =
     let there = row_there ls ms rs n r is at in
-    let of : RowOf (row_numbered (ls ++ ms) n) copy = record {
+    let of : IsRowOf (row_numbered (ls ++ ms) n) copy = record {
       constant = constant ∙ there.1.constant;
       coefficients = λ u. ap (λ ts. coefficient ts u) terms ∙ there.1.coefficients u;
     } in
@@ -52,23 +53,16 @@ behind_word (l ∷ ls) bs (suc n) at b e is =
     let rest = behind_word ls bs n at b (omega arith) is in
     (let below = rest.0 in omega arith, rest.1)
 
--- as many rows as linear rows
-rows_count : (ls : List LinearRow) (rs : List Row) → RowsOf ls rs → length rs ≡ length ls
-rows_count [] [] h = refl
-rows_count (l ∷ ls) (r ∷ rs) h = ap suc (rows_count ls rs h.1)
-rows_count [] (r ∷ rs) h = absurd h
-rows_count (l ∷ ls) [] h = absurd h
-
 -- the row of a bound is written
-pub adds_bound : (ls : List LinearRow) (bs : List Bound) (rs : List Row) (n unknowns : ℕ) (b : Bound) (before after : List Row) → RowsOf ls rs → length rs ≤ n → slice_get bs (n - length rs) ≡ Some b → Adds (bound_row b ∷ []) unknowns before after
-    → (n < length (ls ++ map bound_row bs)) × Adds (row_numbered (ls ++ map bound_row bs) n ∷ []) unknowns before after
+pub adds_bound : (ls : List LinearRow) (bs : List Bound) (rs : List Row) (n unknowns : ℕ) (b : Bound) (before after : List Row) → AreRowsOf ls rs → length rs ≤ n → slice_get bs (n - length rs) ≡ Some b → AddsRows (bound_row b ∷ []) unknowns before after
+    → (n < length (ls ++ map bound_row bs)) × AddsRows (row_numbered (ls ++ map bound_row bs) n ∷ []) unknowns before after
 adds_bound ls bs rs n unknowns b before after is past at added =
     let count = rows_count ls rs is in
     let there = behind_word ls bs n (n - length rs) b (omega arith) at in
-    (there.0, subst (λ (l : LinearRow). Adds (l ∷ []) unknowns before after) (sym there.1) added)
+    (there.0, subst (λ (l : LinearRow). AddsRows (l ∷ []) unknowns before after) (sym there.1) added)
 
 -- there is no row of a number
-pub no_row : (ls : List LinearRow) (bs : List Bound) (rs : List Row) (n : ℕ) → RowsOf ls rs → length rs ≤ n → length bs ≤ n - length rs → length (ls ++ map bound_row bs) ≤ n
+pub no_row : (ls : List LinearRow) (bs : List Bound) (rs : List Row) (n : ℕ) → AreRowsOf ls rs → length rs ≤ n → length bs ≤ n - length rs → length (ls ++ map bound_row bs) ≤ n
 no_row ls bs rs n is past none = omega (arith, rows_count ls rs is, length-append ls (map bound_row bs), mapped bs)
   where
     mapped : (bs : List Bound) → length (map bound_row bs) ≡ length bs
@@ -77,32 +71,32 @@ no_row ls bs rs n is past none = omega (arith, rows_count ls rs is, length-appen
 
 -- the rows that the front of a list names were written
 pub record NamedSoFar (rows : List LinearRow) (unknowns : ℕ) (ts : List (ℕ × ℤ)) (i : ℕ) (written : List Row) : Type 0 where
-  pub are : Written (rows_named rows (take i ts)) unknowns written
-  pub there : (j : ℕ) → j < i → number_at ts j < length rows
+  pub are : AreWritten (rows_named rows (take i ts)) unknowns written
+  pub there : (j : ℕ) → j < i → row_number_at ts j < length rows
 
 pub names_none : (rows : List LinearRow) (unknowns : ℕ) (ts : List (ℕ × ℤ)) (written : List Row) → written ≡ [] → NamedSoFar rows unknowns ts 0 written
 names_none rows unknowns ts written none = record {
-  are = subst (Written [] unknowns) (sym none) (record { rows_of = tt; below = tt });
+  are = subst (AreWritten [] unknowns) (sym none) (record { rows_of = tt; below = tt });
   there = λ j below. absurd (omega arith);
 }
 
-pub names_more : (rows : List LinearRow) (unknowns : ℕ) (ts : List (ℕ × ℤ)) (i : ℕ) (before after : List Row) → i < length ts → NamedSoFar rows unknowns ts i before → (number_at ts i < length rows) × Adds (row_numbered rows (number_at ts i) ∷ []) unknowns before after → NamedSoFar rows unknowns ts (i + 1) after
+pub names_more : (rows : List LinearRow) (unknowns : ℕ) (ts : List (ℕ × ℤ)) (i : ℕ) (before after : List Row) → i < length ts → NamedSoFar rows unknowns ts i before → (row_number_at ts i < length rows) × AddsRows (row_numbered rows (row_number_at ts i) ∷ []) unknowns before after → NamedSoFar rows unknowns ts (i + 1) after
 names_more rows unknowns ts i before after within so added = record {
-  are = subst (λ ls. Written ls unknowns after) (map_more (λ (t : ℕ × ℤ). row_numbered rows t.0) ts i (0, pos 0) within) (added.1.rows (rows_named rows (take i ts)) so.are);
+  are = subst (λ ls. AreWritten ls unknowns after) (map_more (λ (t : ℕ × ℤ). row_numbered rows t.0) ts i (0, pos 0) within) (added.1.rows (rows_named rows (take i ts)) so.are);
   there = λ j below. elim (cases_lt j i) [
     | inl before ↦ so.there j before
-    | inr from ↦ let same : i ≡ j = omega arith in subst (λ k. number_at ts k < length rows) same added.0
+    | inr from ↦ let same : i ≡ j = omega arith in subst (λ k. row_number_at ts k < length rows) same added.0
   ];
 }
 
 -- all that a list names was written
-pub names_all : (rows : List LinearRow) (unknowns : ℕ) (ts : List (ℕ × ℤ)) (i : ℕ) (written given : List Row) → NamedSoFar rows unknowns ts i written → i ≡ length ts → given ≡ written → RowsOf (rows_named rows ts) given × AreThere (length rows) ts
+pub names_all : (rows : List LinearRow) (unknowns : ℕ) (ts : List (ℕ × ℤ)) (i : ℕ) (written given : List Row) → NamedSoFar rows unknowns ts i written → i ≡ length ts → given ≡ written → AreRowsOf (rows_named rows ts) given × AreThere (length rows) ts
 names_all rows unknowns ts i written given so end same =
     let whole : take i ts ≡ ts = ap (λ k. take k ts) end ∙ take-length ts in (
-      subst (RowsOf (rows_named rows ts)) (sym same) (subst (λ (us : List (ℕ × ℤ)). RowsOf (rows_named rows us) written) whole so.are.rows_of),
+      subst (AreRowsOf (rows_named rows ts)) (sym same) (subst (λ (us : List (ℕ × ℤ)). AreRowsOf (rows_named rows us) written) whole so.are.rows_of),
       λ j below. so.there j (omega arith),
     )
 
 -- the next number has no row
-pub names_absent : (rows : List LinearRow) (unknowns : ℕ) (ts : List (ℕ × ℤ)) (i number : ℕ) (written : List Row) → NamedSoFar rows unknowns ts i written → i < length ts → number_at ts i ≡ number → length rows ≤ number → Names rows unknowns ts (Absent number)
+pub names_absent : (rows : List LinearRow) (unknowns : ℕ) (ts : List (ℕ × ℤ)) (i number : ℕ) (written : List Row) → NamedSoFar rows unknowns ts i written → i < length ts → row_number_at ts i ≡ number → length rows ≤ number → NamesRows rows unknowns ts (Absent number)
 names_absent rows unknowns ts i number written so below is absent = record { at = i; below = below; is = is; absent = absent; first = so.there }

@@ -9,13 +9,13 @@ use Rattle.ta_automaton.specs.declared.condition.Comparison.{Comparison}
 use Rattle.ta_automaton.specs.declared.automaton.Automaton.{Automaton}
 use Rattle.ta_automaton.specs.declared.pattern.Event.{Event as PatternEvent}
 use Rattle.ta_automaton.specs.declared.pattern.Pattern.{Pattern}
-use Rattle.ta_automaton.specs.Masks.{has_bit, numbers_from}
+use Rattle.ta_base.specs.Masks.{has_bit, numbers_from}
 use Rattle.ta_automaton.specs.Places.{location_place}
 use Rattle.ta_words.specs.declared.element.Element.{Element}
 use Rattle.ta_words.specs.declared.element.Element.TheVariants.{Event, Rise, Fall}
 use Rattle.ta_words.specs.Words.{allowed_rules, has_fallen}
 use Rattle.ta_encode.specs.Unknowns.{Meaning, Single, place_coefficient, start_meanings, meanings, counts_after, singles_after}
-use Rattle.ta_encode.specs.System.{LinearRow, opposite, negated, form_row, counter_row, counter_rows, condition_rows, guard_rows, start_guard_rows, start_coefficient, processes_row, singles_row, event_rows, standing_rows, start_rows, rise_rows, happening_rows, fall_rows, word_rows, combine, AllHold, SolvesWord}
+use Rattle.ta_encode.specs.System.{LinearRow, opposite, negated, form_row, counter_row, counter_rows, condition_rows, guard_rows, start_guard_rows, start_coefficient, processes_row, singles_row, event_rows, standing_rows, start_rows, rise_rows, happening_rows, fall_rows, word_rows, sum_of_products, AllHold, SolvesWord}
 use Rattle.ta_encode.specs.Laws.{values_of_prefix}
 use Rattle.ta_encode.proofs.Moments.{AllHold-append, AllHold-left}
 use Rattle.ta_encode.proofs.Safety.{extend}
@@ -147,8 +147,8 @@ word_within a p start (Fall mask ∷ past) =
     let end = before ++ singles_after a p start past in
     Within-append (length end) (word_rows a p start past) (fall_rows a p start past before end mask) (Within-more (length ms) (length end) (word_rows a p start past) (omega (arith, length-append ms (counts_after a p start past), length-append before (singles_after a p start past))) (word_within a p start past)) (fall_within a p start past before mask)
 
-combine-take : (n : ℕ) (cs : List ℤ) (vs : List ℕ) → length cs ≤ n → combine cs (take n vs) ≡ combine cs vs
-unfolding combine
+combine-take : (n : ℕ) (cs : List ℤ) (vs : List ℕ) → length cs ≤ n → sum_of_products cs (take n vs) ≡ sum_of_products cs vs
+unfolding sum_of_products
 combine-take n [] vs h = refl
 combine-take zero (c ∷ cs) vs h = absurd (omega arith)
 combine-take (suc n) (c ∷ cs) [] h = refl

@@ -2,24 +2,27 @@
 use Rattle.std.proofs.Common.{◌≡◌, ℕ, ◌<◌, ◌≤◌, List, [], ◌∷◌, ◌++◌, map, length, drop, true, arith, refl, sym, ap, ◌∙◌, subst, slice_get, get_or, Some}
 use Rattle.std.proofs.lemmas.List.{length-map}
 use Rattle.std.proofs.lemmas.Option.{slice_get_within, slice_get-get_or}
+use Rattle.ta_base.proofs.Bits.{all_below-at, bit_true}
+use Rattle.ta_base.proofs.Lists.{only_item}
+use Rattle.ta_base.proofs.Ranges.{at_index, length_numbers}
+use Rattle.ta_encode.proofs.Moments.{AllHold-left}
 use Rattle.ta_linear.specs.Values.{RowHolds}
 use Rattle.ta_linear.specs.declared.row.Row.{Row}
 use Rattle.ta_automaton.specs.declared.automaton.Automaton.{Automaton}
 use Rattle.ta_automaton.specs.declared.pattern.Pattern.{Pattern}
-use Rattle.ta_automaton.specs.Masks.{numbers_from}
+use Rattle.ta_base.specs.Masks.{numbers_from}
 use Rattle.ta_automaton.specs.Runs.{Config, InScope, Steps, value_at}
 use Rattle.ta_automaton.proofs.Rearranged.{rearrange}
 use Rattle.ta_words.specs.declared.element.Element.{Element}
 use Rattle.ta_words.specs.declared.element.Element.TheVariants.{Event, Rise, Fall}
-use Rattle.ta_words.specs.Words.{Legal, allowed_rules, is_complete, has_event, has_rise}
+use Rattle.ta_words.specs.Words.{LegalWord, allowed_rules, is_complete, has_event, has_rise}
 use Rattle.ta_encode.specs.Unknowns.{Count, start_meanings, meanings, counts_after, place_coefficient}
 use Rattle.ta_encode.specs.System.{word_rows, fall_rows, AllHold}
-use Rattle.ta_encode.specs.Laws.{Fires, FiresFall, WordFires, RunsThrough, position_in, steps_of}
-use Rattle.ta_automaton.proofs.MaskTests.{all_below-at, bit_true}
-use Rattle.ta_automaton.proofs.Fire.{Whole, length_numbers, at_index}
-use Rattle.ta_encode.proofs.Values.{place_value, condition_back, AllHold-right, left_part, unfolded, unfolded-total, unfolded-may, allowed_may}
+use Rattle.ta_encode.specs.Laws.{FiresBefore, FiresFall, WordFires, RunsThrough, position_in, steps_of}
+use Rattle.ta_automaton.proofs.Fire.{Whole}
+use Rattle.ta_encode.proofs.Values.{place_value, condition_back, AllHold-right, unfolded, unfolded-total, unfolded-may, allowed_may}
 use Rattle.ta_encode.proofs.Forward.{forward_of}
-use Rattle.ta_encode.proofs.Singles.{only_item, one_single, single_one, singles_hold}
+use Rattle.ta_encode.proofs.Singles.{one_single, single_one, singles_hold}
 use Rattle.ta_encode.proofs.Segment.{EachMay, may_at, may_from, may_rules}
 use Rattle.ta_encode.proofs.Reorder.{AfterEarlier}
 use Rattle.ta_encode.proofs.Switch.{KeptEmpty}
@@ -28,7 +31,7 @@ use Rattle.ta_encode.proofs.Begin.{first_of, first_rows_of, first_initial, first
 use Rattle.ta_encode.proofs.Starts.{first_starts}
 
 -- an element's firings in an order that goes forward
-some_fires : (a : Automaton) (p : Pattern) (start : ℕ) (past : List Element) (vs : List ℕ) → InScope a → (rules : List ℕ) × Fires a p start past vs rules
+some_fires : (a : Automaton) (p : Pattern) (start : ℕ) (past : List Element) (vs : List ℕ) → InScope a → (rules : List ℕ) × FiresBefore a p start past vs rules
 some_fires a p start past vs scope =
     let al = allowed_rules a p start past in
     let ws = drop (length (meanings a p start past)) vs in
@@ -60,18 +63,18 @@ unfolding word_rows
 some_firings a p start [] vs scope h = ([], tt)
 some_firings a p start (Event e ∷ past) vs scope h =
     let one = some_fires a p start past vs scope in
-    let rest = some_firings a p start past vs scope (left_part vs (word_rows a p start past) _ h) in
+    let rest = some_firings a p start past vs scope (AllHold-left vs (word_rows a p start past) _ h) in
     (one.0 ∷ rest.0, (one.1, rest.1))
 some_firings a p start (Rise i ∷ past) vs scope h =
     let one = some_fires a p start past vs scope in
-    let rest = some_firings a p start past vs scope (left_part vs (word_rows a p start past) _ h) in
+    let rest = some_firings a p start past vs scope (AllHold-left vs (word_rows a p start past) _ h) in
     (one.0 ∷ rest.0, (one.1, rest.1))
 some_firings a p start (Fall mask ∷ past) vs scope h =
     let one = some_fall a p start past mask vs scope (AllHold-right vs (word_rows a p start past) _ h) in
-    let rest = some_firings a p start past vs scope (left_part vs (word_rows a p start past) _ h) in
+    let rest = some_firings a p start past vs scope (AllHold-left vs (word_rows a p start past) _ h) in
     (one.0 ∷ rest.0, (one.1, rest.1))
 
-pub solution_runs : (a : Automaton) (p : Pattern) → AfterEarlier p → (start : ℕ) (past : List Element) (vs : List ℕ) (firings : List (List ℕ)) → WordFires a p start past vs firings → Legal a p start past → is_complete p past ≡ true → AllHold vs (word_rows a p start past) → length (start_meanings a p) ≤ length vs → RunsThrough a p past vs firings
+pub solution_runs : (a : Automaton) (p : Pattern) → AfterEarlier p → (start : ℕ) (past : List Element) (vs : List ℕ) (firings : List (List ℕ)) → WordFires a p start past vs firings → LegalWord a p start past → is_complete p past ≡ true → AllHold vs (word_rows a p start past) → length (start_meanings a p) ≤ length vs → RunsThrough a p past vs firings
 solution_runs a p earlier start past vs firings fires legal complete rows enough =
     let c = first_of a p vs in
     let h = first_rows_of a p start vs (begin_rows a p start past vs rows) in
@@ -117,7 +120,7 @@ pub record RunEnd (a : Automaton) (p : Pattern) (start : ℕ) (past : List Eleme
   pub rises : (i : ℕ) (row : Row) → slice_get a.rise i ≡ Some row → has_rise past i ≡ true → RowHolds (value_at config) row
   pub empty : KeptEmpty p config
 
-pub solution_end : (a : Automaton) (p : Pattern) (earlier : AfterEarlier p) (start : ℕ) (past : List Element) (vs : List ℕ) (firings : List (List ℕ)) (fires : WordFires a p start past vs firings) (legal : Legal a p start past) (complete : is_complete p past ≡ true) (rows : AllHold vs (word_rows a p start past)) (enough : length (start_meanings a p) ≤ length vs) → RunEnd a p start past vs firings (solution_runs a p earlier start past vs firings fires legal complete rows enough)
+pub solution_end : (a : Automaton) (p : Pattern) (earlier : AfterEarlier p) (start : ℕ) (past : List Element) (vs : List ℕ) (firings : List (List ℕ)) (fires : WordFires a p start past vs firings) (legal : LegalWord a p start past) (complete : is_complete p past ≡ true) (rows : AllHold vs (word_rows a p start past)) (enough : length (start_meanings a p) ≤ length vs) → RunEnd a p start past vs firings (solution_runs a p earlier start past vs firings fires legal complete rows enough)
 unfolding solution_runs
 solution_end a p earlier start past vs firings fires legal complete rows enough =
     let c = first_of a p vs in

@@ -2,19 +2,25 @@
 use Rattle.std.proofs.Common.{◌≡◌, ◌⊎◌, inl, inr, ℕ, zero, suc, ◌+◌, ◌-◌, ◌^◌, ◌<◌, ◌≤◌, pos, ◌≤ℤ◌, ◌<ℤ◌, List, [], ◌∷◌, ◌++◌, length, eqb, true, arith, sym, ap, ◌∙◌, refl, subst, slice_get, get_or, Some, IsBitSet}
 use Rattle.std.proofs.lemmas.List.{append-nil}
 use Rattle.std.proofs.lemmas.Int.{ints}
-use Rattle.std.proofs.lemmas.Bool.{false≢true, cases_Bool, and_from, eq-eqb, eqb-true, or_cases, cases_lt}
+use Rattle.std.proofs.lemmas.Bool.{false≢true, cases_Bool, and_from, eq-eqb, eqb-true, or_cases, cases_lt, not_from_false, or_left, or_right}
 use Rattle.std.proofs.lemmas.Bool.Decides.{eqb_tells}
-use Rattle.std.proofs.lemmas.Option.{slice_get_within, slice_get-get_or}
+use Rattle.std.proofs.lemmas.Option.{slice_get_within, slice_get-get_or, same_Some}
+use Rattle.ta_base.proofs.Bits.{all_below-at, all_below-from, bit_set}
+use Rattle.ta_base.proofs.Booleans.{implies-from}
+use Rattle.ta_base.proofs.Each.{each_in}
+use Rattle.ta_base.proofs.Integers.{is_negative, negative_false, negative_true}
+use Rattle.ta_base.proofs.Lists.{some_at}
+use Rattle.ta_base.proofs.Naturals.{mask_of-below}
+use Rattle.ta_base.proofs.Ranges.{In-numbers, in_numbers}
 use Rattle.ta_linear.specs.Values.{value_of, RowHolds}
 use Rattle.ta_automaton.specs.declared.automaton.Automaton.{Automaton}
 use Rattle.ta_automaton.specs.declared.pattern.Event.{Event as PatternEvent}
 use Rattle.ta_automaton.specs.declared.pattern.Pattern.{Pattern}
 use Rattle.ta_automaton.specs.Runs.{Config, value_at, Holds, Steps, LoopsPure, Occurs}
-use Rattle.ta_automaton.specs.Masks.{has_bit, implies, numbers_from, In}
+use Rattle.ta_base.specs.Masks.{has_bit, implies, numbers_from, In}
 use Rattle.ta_implied.specs.Implied.{Good, IsPair, RiseHolds}
-use Rattle.ta_implied.specs.Orders.{InOrder, LeadsSome}
-use Rattle.ta_implied.proofs.Implying.{each_in, guards_come_after}
-use Rattle.ta_implied.proofs.Members.{in_numbers}
+use Rattle.ta_implied.specs.Orders.{GuardsInOrder, LeadsSome}
+use Rattle.ta_implied.proofs.Implying.{guards_come_after}
 use Rattle.ta_implied.proofs.Ordering.{ordered}
 use Rattle.ta_words.specs.declared.element.Element.{Element}
 use Rattle.ta_words.specs.declared.element.Element.TheVariants.{Event, Rise}
@@ -25,10 +31,9 @@ use Rattle.ta_encode.specs.Laws.{EndsAt}
 use Rattle.ta_automaton.specs.Sums.{total}
 use Rattle.ta_encode.proofs.Moments.{AllHold-append}
 use Rattle.ta_automaton.proofs.Moves.{Fits}
-use Rattle.ta_automaton.proofs.MaskTests.{In-numbers, all_below-at, all_below-from, implies-from, not_true, or_left, or_right, bit_set, mask_of-below}
 use Rattle.ta_encode.proofs.State.{State, counts_of, push_rise, push_event}
-use Rattle.ta_encode.proofs.Start.{is_negative, negative_true, negative_false, row_fails, start_state, start_set, parameter_values, start_counts}
-use Rattle.ta_encode.proofs.Switch.{some_at, KeptEmpty, Begins, begins_more, Seen, Stage, after_step}
+use Rattle.ta_encode.proofs.Start.{row_fails, start_state, start_set, parameter_values, start_counts}
+use Rattle.ta_encode.proofs.Switch.{KeptEmpty, Begins, begins_more, Seen, Stage, after_step}
 
 -- events come after earlier ones alone
 abbrev pub AfterEarlier : Pattern → Type 0
@@ -48,12 +53,12 @@ pub record Found (a : Automaton) (p : Pattern) (pairs : List (ℕ × ℕ)) (star
 -- all rise guards, in an order that keeps good pairs
 pub record InTurn (a : Automaton) (pairs : List (ℕ × ℕ)) (all : List ℕ) : Type 0 where
   pub good : Good a pairs
-  pub in_order : InOrder pairs all
+  pub in_order : GuardsInOrder pairs all
   pub each : (i : ℕ) → i < length a.rise → In i all
   pub within : (i : ℕ) → In i all → i < length a.rise
 
 -- where a guard holds and is the next in such an order, those before it are in the word
-next_due : (a : Automaton) (p : Pattern) (pairs : List (ℕ × ℕ)) (start : ℕ) (origin : List ℕ) (done begun : ℕ → Type 0) (d : Config) (x : ℕ) (xs : List ℕ) → Good a pairs → InOrder pairs (x ∷ xs) → (g : Stage a p pairs start origin done begun d (x ∷ xs)) → RiseHolds a d x → is_due pairs g.past x ≡ true
+next_due : (a : Automaton) (p : Pattern) (pairs : List (ℕ × ℕ)) (start : ℕ) (origin : List ℕ) (done begun : ℕ → Type 0) (d : Config) (x : ℕ) (xs : List ℕ) → Good a pairs → GuardsInOrder pairs (x ∷ xs) → (g : Stage a p pairs start origin done begun d (x ∷ xs)) → RiseHolds a d x → is_due pairs g.past x ≡ true
 next_due a p pairs start origin done begun d x xs good in_order g holds = due_from pairs g.past x (λ j m. elim (g.rises j (each_in (IsPair a) pairs (j, x) good.pairs_are m).before) [
   | inl left ↦ absurd (not_left j m left)
   | inr seen ↦ seen (guards_come_after a pairs good d g.admissible g.state.fits.shared zero j x m holds)
@@ -72,7 +77,7 @@ seen_next a past new d x xs seen kept own i b = elim (seen i b) [
 ]
 
 -- one rise guard
-next_rise : (a : Automaton) (p : Pattern) (pairs : List (ℕ × ℕ)) (start : ℕ) (origin : List ℕ) (done begun : ℕ → Type 0) (d : Config) (x : ℕ) (xs : List ℕ) → Good a pairs → InOrder pairs (x ∷ xs) → x < length a.rise → Stage a p pairs start origin done begun d (x ∷ xs) → Stage a p pairs start origin done begun d xs
+next_rise : (a : Automaton) (p : Pattern) (pairs : List (ℕ × ℕ)) (start : ℕ) (origin : List ℕ) (done begun : ℕ → Type 0) (d : Config) (x : ℕ) (xs : List ℕ) → Good a pairs → GuardsInOrder pairs (x ∷ xs) → x < length a.rise → Stage a p pairs start origin done begun d (x ∷ xs) → Stage a p pairs start origin done begun d xs
 unfolding has_event has_rise
 next_rise a p pairs start origin done begun d x xs good in_order b g =
     let w = some_at a.rise x b in
@@ -118,7 +123,7 @@ next_rise a p pairs start origin done begun d x xs good in_order b g =
       ]
     ]
 
-rises_phase : (a : Automaton) (p : Pattern) (pairs : List (ℕ × ℕ)) (start : ℕ) (origin : List ℕ) (done begun : ℕ → Type 0) (d : Config) (left : List ℕ) → Good a pairs → InOrder pairs left → ((i : ℕ) → In i left → i < length a.rise) → Stage a p pairs start origin done begun d left → Stage a p pairs start origin done begun d []
+rises_phase : (a : Automaton) (p : Pattern) (pairs : List (ℕ × ℕ)) (start : ℕ) (origin : List ℕ) (done begun : ℕ → Type 0) (d : Config) (left : List ℕ) → Good a pairs → GuardsInOrder pairs left → ((i : ℕ) → In i left → i < length a.rise) → Stage a p pairs start origin done begun d left → Stage a p pairs start origin done begun d []
 rises_phase a p pairs start origin done begun d [] good in_order within g = g
 rises_phase a p pairs start origin done begun d (x ∷ xs) good in_order within g =
     rises_phase a p pairs start origin done begun d xs good in_order.1 (λ i j. within i (inr j)) (next_rise a p pairs start origin done begun d x xs good in_order (within x (inl refl)) g)
@@ -205,7 +210,7 @@ next_event a p pairs start origin configs positions k d n there ps holds b g =
             let order : get_or positions j 0 ≤ get_or positions n 0 = ps.order n j w.0 w.1 set in
             let here : get_or positions n 0 ≡ k = at.1 in
             g.events j (c, inr (less, omega arith)))) in
-            let ready : is_ready p past n ≡ true = and_from _ _ (not_true _ f) (ap (follows p past) w.1 ∙ follow) in
+            let ready : is_ready p past n ≡ true = and_from _ _ (not_from_false _ f) (ap (follows p past) w.1 ∙ follow) in
             let s = push_event a p pairs start past g.vs g.fired d g.state n w.0 g.more ready w.1 (holds n w.0 w.1 at.1) in
             elim (cases_Bool (is_complete p (Event n ∷ past))) [
               | inl t ↦ inl (record { past = Event n ∷ past; vs = g.vs ++ counts_of a p start past g.fired; begins = begins_more origin g.vs (counts_of a p start past g.fired) g.begins; fired = []; config = d; state = s; complete = t; ends = inr (ends_here a p pairs start configs positions k n past (g.vs ++ counts_of a p start past g.fired) d s t at.1 g.only g.rises g.risen there) })
@@ -253,16 +258,13 @@ rest_later p positions k d ds r = record {
   empty = λ j c at. r.empty (suc j) c at;
 }
 
-some_same : (x y : Config) → Some x ≡ Some y → x ≡ y
-some_same x y e = cc
-
 follow_run : (a : Automaton) (p : Pattern) (pairs : List (ℕ × ℕ)) (start : ℕ) (origin : List ℕ) (configs : List Config) (positions : List ℕ) (all : List ℕ) → InTurn a pairs all → LoopsPure a → Positions p positions → (rules : List ℕ) (k : ℕ) (d : Config) (later : List Config) → Steps a d rules later → ((j : ℕ) → slice_get (d ∷ later) j ≡ slice_get configs (k + j)) → Rest p positions k (d ∷ later) → Stage a p pairs start origin (Done p positions k 0) (Begun positions k) d all → Found a p pairs start origin configs positions
 follow_run a p pairs start origin configs positions all turn loops ps [] k d (next ∷ ds) run whole rest g = absurd run
 follow_run a p pairs start origin configs positions all turn loops ps (r ∷ rs) k d [] run whole rest g = absurd run
 follow_run a p pairs start origin configs positions all turn loops ps [] k d [] run whole rest g =
     let here : (e : ℕ) (event : PatternEvent) → slice_get p.events e ≡ Some event → get_or positions e 0 ≡ k → Holds event.condition d = (λ e event at is.
     let w = rest.holds e event 0 at (is ∙ (let s : k ≡ k + 0 = omega arith in s)) in
-    let same : d ≡ w.0 = some_same d w.0 w.1 in
+    let same : d ≡ w.0 = same_Some d w.0 w.1 in
     subst (Holds event.condition) (sym same) w.2) in
     let there : slice_get configs k ≡ Some d = (let zero_on : k + 0 ≡ k = omega arith in sym (whole 0 ∙ ap (slice_get configs) zero_on)) in
     elim (events_phase a p pairs start origin configs positions k d (length p.events) there ps here (omega arith) (rises_phase a p pairs start origin (Done p positions k 0) (Begun positions k) d all turn.good turn.in_order turn.within g)) [
@@ -280,7 +282,7 @@ follow_run a p pairs start origin configs positions all turn loops ps [] k d [] 
 follow_run a p pairs start origin configs positions all turn loops ps (r ∷ rs) k d (next ∷ ds) run whole rest g =
     let here : (e : ℕ) (event : PatternEvent) → slice_get p.events e ≡ Some event → get_or positions e 0 ≡ k → Holds event.condition d = (λ e event at is.
     let w = rest.holds e event 0 at (is ∙ (let s : k ≡ k + 0 = omega arith in s)) in
-    let same : d ≡ w.0 = some_same d w.0 w.1 in
+    let same : d ≡ w.0 = same_Some d w.0 w.1 in
     subst (Holds event.condition) (sym same) w.2) in
     let there : slice_get configs k ≡ Some d = (let zero_on : k + 0 ≡ k = omega arith in sym (whole 0 ∙ ap (slice_get configs) zero_on)) in
     elim (events_phase a p pairs start origin configs positions k d (length p.events) there ps here (omega arith) (rises_phase a p pairs start origin (Done p positions k 0) (Begun positions k) d all turn.good turn.in_order turn.within g)) [
@@ -344,7 +346,7 @@ describe a p pairs good loops earlier first rules o =
       empty = λ j c at l t.
           let within = slice_get_within (first ∷ o.later) j c at in
           let h = o.kept_empty l (bit_set p.empty l t) j first within in
-          let same : c ≡ get_or (first ∷ o.later) j first = some_same c (get_or (first ∷ o.later) j first) (sym at ∙ slice_get-get_or (first ∷ o.later) j first within) in
+          let same : c ≡ get_or (first ∷ o.later) j first = same_Some c (get_or (first ∷ o.later) j first) (sym at ∙ slice_get-get_or (first ∷ o.later) j first within) in
           subst (λ (x : Config). get_or x.counters l 0 ≡ 0) (sym same) h;
     } in
     let start = start_set a first in

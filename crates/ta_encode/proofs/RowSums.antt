@@ -2,17 +2,18 @@
 use Rattle.std.proofs.Common.{◌≡◌, ℕ, zero, suc, ℤ, pos, ◌+ℤ◌, ◌*ℤ◌, ◌≤ℤ◌, List, [], ◌∷◌, length, slice_get, get_or, Some, None, Option, arith, sym, ap, refl}
 use Rattle.std.proofs.lemmas.Int.{ints}
 use Rattle.std.proofs.Math.IntN.{zero-*ℤ}
+use Rattle.ta_base.proofs.Integers.{range_sum}
+use Rattle.ta_base.proofs.Sums.{range_sum-front, range_sum-zero}
 use Rattle.ta_linear.proofs.Farkas.{leaf_refutes}
-use Rattle.ta_linear.proofs.RangeSum.{range_sum, range_sum-zero, range_sum-front}
-use Rattle.ta_encode.specs.System.{LinearRow, combine, row_value, AllHold}
-use Rattle.ta_encode.specs.Refutes.{coefficient_in, constant_in, LeafOfRows}
+use Rattle.ta_encode.specs.System.{LinearRow, sum_of_products, row_value, AllHold}
+use Rattle.ta_encode.specs.Refutes.{linear_coefficient_in, linear_constant_in, LeafOfRows}
 
 -- the values of a list, 0 past its end
 abbrev pub value_at : List ℕ → ℕ → ℤ
 value_at vs u = pos (get_or vs u 0)
 
-pub combine-range : (cs : List ℤ) (vs : List ℕ) → combine cs vs ≡ range_sum (λ u. get_or cs u (pos 0) *ℤ value_at vs u) (length vs)
-unfolding combine range_sum
+pub combine-range : (cs : List ℤ) (vs : List ℕ) → sum_of_products cs vs ≡ range_sum (λ u. get_or cs u (pos 0) *ℤ value_at vs u) (length vs)
+unfolding sum_of_products range_sum
 combine-range [] vs = sym (range_sum-zero (λ u. pos 0 *ℤ value_at vs u) (length vs) (λ u _. zero-*ℤ (value_at vs u)))
 combine-range (c ∷ cs) [] = refl
 combine-range (c ∷ cs) (v ∷ vs) =
@@ -22,7 +23,7 @@ value_in : List ℕ → Option LinearRow → ℤ
 value_in vs None = pos 0
 value_in vs (Some row) = row_value vs row
 
-value_in-sum : (vs : List ℕ) (o : Option LinearRow) → value_in vs o ≡ (constant_in o +ℤ range_sum (λ u. coefficient_in u o *ℤ value_at vs u) (length vs))
+value_in-sum : (vs : List ℕ) (o : Option LinearRow) → value_in vs o ≡ (linear_constant_in o +ℤ range_sum (λ u. linear_coefficient_in u o *ℤ value_at vs u) (length vs))
 unfolding value_in
 value_in-sum vs None = omega (arith, ints, range_sum-zero (λ u. pos 0 *ℤ value_at vs u) (length vs) (λ u _. zero-*ℤ (value_at vs u)))
 value_in-sum vs (Some row) = ap (λ z. row.constant +ℤ z) (combine-range row.coefficients vs)
@@ -36,7 +37,7 @@ value_in-nonnegative vs (r ∷ rs) (suc k) h = value_in-nonnegative vs rs k h.1
 -- rows that have a leaf don't all hold
 pub leaf_contradicts : (rows : List LinearRow) (ts : List (ℕ × ℤ)) (vs : List ℕ) → LeafOfRows rows ts → AllHold vs rows → ⊥
 leaf_contradicts rows ts vs leaf h =
-    leaf_refutes coefficient_in constant_in rows ts leaf (value_in vs) (value_at vs) (length vs) (record {
+    leaf_refutes linear_coefficient_in linear_constant_in rows ts leaf (value_in vs) (value_at vs) (length vs) (record {
       natural = λ u. omega (arith, ints);
       sums = λ k. value_in-sum vs (slice_get rows k);
       hold = λ k. value_in-nonnegative vs rows k h;

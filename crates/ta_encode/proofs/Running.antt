@@ -1,24 +1,19 @@
 -- sums over the first terms of a list
-use Rattle.std.proofs.Common.{◌≡◌, ◌≢◌, inl, inr, ℕ, ℤ, pos, zero, suc, ◌+◌, ◌*◌, ◌<◌, ◌≤◌, ◌+ℤ◌, ◌-ℤ◌, ◌*ℤ◌, unsigned_abs, List, [], ◌∷◌, ◌++◌, length, take, get_or, Bool, true, false, arith, sym, ap, ◌∙◌, refl, subst}
+use Rattle.std.proofs.Common.{◌≡◌, ◌≢◌, inl, inr, ℕ, ℤ, pos, ◌+◌, ◌*◌, ◌<◌, ◌≤◌, ◌+ℤ◌, ◌*ℤ◌, unsigned_abs, List, [], ◌∷◌, ◌++◌, length, take, get_or, Bool, true, false, arith, sym, ap, ◌∙◌, refl, subst}
 use Rattle.std.specs.Prelude.{◌==◌, if◌then◌else◌}
-use Rattle.std.proofs.Common.{FitsSigned, to_z, of_z, ◌^◌}
+use Rattle.std.proofs.Common.{FitsSigned, to_z, of_z}
 use Rattle.std.specs.Int.{w128}
-use Rattle.std.proofs.Math.Facts.{to_z-of_z}
-use Rattle.std.proofs.lemmas.Int.{ints, unsigned_abs-mul, fits_signed_from_abs, fits_signed_mul}
+use Rattle.std.proofs.lemmas.Int.{ints, fits_signed_mul}
 use Rattle.std.proofs.lemmas.Bool.{false≢true, true≢false, eq-eqb}
 use Rattle.std.proofs.lemmas.Bool.Decides.{eqb_tells}
 use Rattle.std.proofs.lemmas.List.{take_more}
 use Rattle.std.proofs.Math.Seq.{take-length}
-use Rattle.std.proofs.Math.Nat.{mul-le-mul}
+use Rattle.std.specs.List.{AllByRecursion}
+use Rattle.ta_base.proofs.Each.{each_get_or}
+use Rattle.ta_base.proofs.Integers.{abs_product, abs_sum, fits_sum, to_z_abs}
 use Rattle.ta_linear.specs.Terms.{coefficient}
 use Rattle.ta_linear.specs.Values.{terms_value}
 use Rattle.ta_linear.proofs.TermLemmas.{coefficient-append}
-use Rattle.ta_automaton.specs.Lists.{Each}
-
-pub each_get : {X : Type 0} (P : X → Type 0) (xs : List X) (i : ℕ) (d : X) → Each P xs → i < length xs → P (get_or xs i d)
-each_get P [] i d h b = absurd (omega arith)
-each_get P (x ∷ xs) zero d h b = h.0
-each_get P (x ∷ xs) (suc i) d h b = each_get P xs i d h.1 (omega arith)
 
 abbrev pub at_variable : (ℕ × ℤ) → ℕ → ℤ
 at_variable t x = if t.0 == x then t.1 else pos 0
@@ -38,18 +33,6 @@ terms_value_more f ts i d b = ap (terms_value f) (take_more ts i d b) ∙ terms_
   where
     last : (a b : ℤ) → (a +ℤ (b +ℤ pos 0)) ≡ (a +ℤ b)
     last a b = omega (arith, ints)
-
-pub abs_sum : (a b : ℤ) (m n : ℕ) → unsigned_abs a ≤ m → unsigned_abs b ≤ n → unsigned_abs (a +ℤ b) ≤ m + n
-abs_sum a b m n h g = omega (arith, ints)
-
-pub abs_minus : (a b : ℤ) (m n : ℕ) → unsigned_abs a ≤ m → unsigned_abs b ≤ n → unsigned_abs (a -ℤ b) ≤ m + n
-abs_minus a b m n h g = omega (arith, ints)
-
-pub clean : (z : ℤ) (m : ℕ) → unsigned_abs z ≤ m → m < 2 ^ 127 → to_z w128 (of_z w128 z) ≡ z
-clean z m h g = let few : unsigned_abs z < 2 ^ 127 = omega arith in let fits : FitsSigned w128 z = fits_signed_from_abs w128 z few in to_z-of_z fits
-
-pub fits_sum : (a b : ℤ) (m n : ℕ) → unsigned_abs a ≤ m → unsigned_abs b ≤ n → m + n < 2 ^ 127 → FitsSigned w128 (a +ℤ b)
-fits_sum a b m n h g k = let sum = abs_sum a b m n h g in let few : unsigned_abs (a +ℤ b) < 2 ^ 127 = omega arith in fits_signed_from_abs w128 (a +ℤ b) few
 
 pub if_same : (t : ℕ × ℤ) (x : ℕ) → t.0 ≡ x → at_variable t x ≡ t.1
 if_same t x e = choose (t.0 == x) (eq-eqb t.0 x e)
@@ -73,20 +56,20 @@ pub record Counted (ts : List (ℕ × ℤ)) (i x : ℕ) (sum : ℤ) : Type 0 whe
   pub value : sum ≡ coefficient (take i ts) x
   pub small : unsigned_abs sum ≤ i * 1000000000
 
-pub count_fits : (ts : List (ℕ × ℤ)) (i x : ℕ) (sum : ℤ) → Each Small ts → length ts ≤ 16 → i < length ts → Counted ts i x sum → FitsSigned w128 (sum +ℤ to_z w128 (of_z w128 (get_or ts i (0, pos 0)).1))
+pub count_fits : (ts : List (ℕ × ℤ)) (i x : ℕ) (sum : ℤ) → AllByRecursion Small ts → length ts ≤ 16 → i < length ts → Counted ts i x sum → FitsSigned w128 (sum +ℤ to_z w128 (of_z w128 (get_or ts i (0, pos 0)).1))
 count_fits ts i x sum each few b h =
     let item = get_or ts i (0, pos 0) in
-    let small : unsigned_abs item.1 ≤ 1000000000 = each_get Small ts i (0, pos 0) each b in
-    let same = clean item.1 1000000000 small (omega arith) in
+    let small : unsigned_abs item.1 ≤ 1000000000 = each_get_or Small ts i (0, pos 0) each b in
+    let same = to_z_abs item.1 1000000000 small (omega arith) in
     subst (λ z. FitsSigned w128 (sum +ℤ z)) (sym same) (fits_sum sum item.1 (i * 1000000000) 1000000000 h.small small (omega arith))
 
-pub count_more : (ts : List (ℕ × ℤ)) (i x : ℕ) (sum next : ℤ) → Each Small ts → length ts ≤ 16 → i < length ts → Counted ts i x sum → (get_or ts i (0, pos 0)).0 ≡ x → next ≡ to_z w128 (of_z w128 (sum +ℤ to_z w128 (of_z w128 (get_or ts i (0, pos 0)).1))) → Counted ts (i + 1) x next
+pub count_more : (ts : List (ℕ × ℤ)) (i x : ℕ) (sum next : ℤ) → AllByRecursion Small ts → length ts ≤ 16 → i < length ts → Counted ts i x sum → (get_or ts i (0, pos 0)).0 ≡ x → next ≡ to_z w128 (of_z w128 (sum +ℤ to_z w128 (of_z w128 (get_or ts i (0, pos 0)).1))) → Counted ts (i + 1) x next
 count_more ts i x sum next each few b h same e =
     let item = get_or ts i (0, pos 0) in
-    let small : unsigned_abs item.1 ≤ 1000000000 = each_get Small ts i (0, pos 0) each b in
-    let plain : to_z w128 (of_z w128 item.1) ≡ item.1 = clean item.1 1000000000 small (omega arith) in
+    let small : unsigned_abs item.1 ≤ 1000000000 = each_get_or Small ts i (0, pos 0) each b in
+    let plain : to_z w128 (of_z w128 item.1) ≡ item.1 = to_z_abs item.1 1000000000 small (omega arith) in
     let most = abs_sum sum item.1 (i * 1000000000) 1000000000 h.small small in
-    let is : next ≡ (sum +ℤ item.1) = e ∙ ap (λ z. to_z w128 (of_z w128 (sum +ℤ z))) plain ∙ clean (sum +ℤ item.1) (i * 1000000000 + 1000000000) most (omega arith) in
+    let is : next ≡ (sum +ℤ item.1) = e ∙ ap (λ z. to_z w128 (of_z w128 (sum +ℤ z))) plain ∙ to_z_abs (sum +ℤ item.1) (i * 1000000000 + 1000000000) most (omega arith) in
     record {
       value = is ∙ ap (λ z. z +ℤ item.1) h.value ∙ ap (λ z. coefficient (take i ts) x +ℤ z) (sym (if_same item x same)) ∙ sym (coefficient_more ts i x (0, pos 0) b);
       small = subst (λ z. unsigned_abs z ≤ (i + 1) * 1000000000) (sym is) (omega arith);
@@ -114,37 +97,34 @@ pub record Valued (f : ℕ → ℤ) (ts : List (ℕ × ℤ)) (i : ℕ) (sum : �
 abbrev pub product : List (ℕ × ℤ) → ℕ → ℤ → ℤ
 product ts i r = to_z w128 (of_z w128 (get_or ts i (0, pos 0)).1) *ℤ to_z w128 (of_z w128 r)
 
-product_is : (ts : List (ℕ × ℤ)) (i : ℕ) (r : ℤ) → Each Small ts → i < length ts → unsigned_abs r ≤ 17000000000 → product ts i r ≡ ((get_or ts i (0, pos 0)).1 *ℤ r)
+product_is : (ts : List (ℕ × ℤ)) (i : ℕ) (r : ℤ) → AllByRecursion Small ts → i < length ts → unsigned_abs r ≤ 17000000000 → product ts i r ≡ ((get_or ts i (0, pos 0)).1 *ℤ r)
 product_is ts i r each b h =
     let item = get_or ts i (0, pos 0) in
-    let small : unsigned_abs item.1 ≤ 1000000000 = each_get Small ts i (0, pos 0) each b in
-    ap (λ z. z *ℤ to_z w128 (of_z w128 r)) (clean item.1 1000000000 small (omega arith)) ∙ ap (λ z. item.1 *ℤ z) (clean r 17000000000 h (omega arith))
+    let small : unsigned_abs item.1 ≤ 1000000000 = each_get_or Small ts i (0, pos 0) each b in
+    ap (λ z. z *ℤ to_z w128 (of_z w128 r)) (to_z_abs item.1 1000000000 small (omega arith)) ∙ ap (λ z. item.1 *ℤ z) (to_z_abs r 17000000000 h (omega arith))
 
-abs_product : (a b : ℤ) → unsigned_abs a ≤ 1000000000 → unsigned_abs b ≤ 17000000000 → unsigned_abs (a *ℤ b) ≤ 17000000000000000000
-abs_product a b h g = subst (λ n. n ≤ 17000000000000000000) (sym (unsigned_abs-mul a b)) (mul-le-mul h g)
-
-pub product_fits : (ts : List (ℕ × ℤ)) (i : ℕ) (r : ℤ) → Each Small ts → i < length ts → unsigned_abs r ≤ 17000000000 → FitsSigned w128 (product ts i r)
+pub product_fits : (ts : List (ℕ × ℤ)) (i : ℕ) (r : ℤ) → AllByRecursion Small ts → i < length ts → unsigned_abs r ≤ 17000000000 → FitsSigned w128 (product ts i r)
 product_fits ts i r each b h =
     let item = get_or ts i (0, pos 0) in
-    let small : unsigned_abs item.1 ≤ 1000000000 = each_get Small ts i (0, pos 0) each b in
+    let small : unsigned_abs item.1 ≤ 1000000000 = each_get_or Small ts i (0, pos 0) each b in
     subst (FitsSigned w128) (sym (product_is ts i r each b h)) (fits_signed_mul w128 item.1 r 1000000000 17000000000 small h (omega arith))
 
-pub value_fits : (f : ℕ → ℤ) (ts : List (ℕ × ℤ)) (i : ℕ) (sum r : ℤ) → Each Small ts → length ts ≤ 64 → i < length ts → Valued f ts i sum → unsigned_abs r ≤ 17000000000 → FitsSigned w128 (sum +ℤ to_z w128 (of_z w128 (product ts i r)))
+pub value_fits : (f : ℕ → ℤ) (ts : List (ℕ × ℤ)) (i : ℕ) (sum r : ℤ) → AllByRecursion Small ts → length ts ≤ 64 → i < length ts → Valued f ts i sum → unsigned_abs r ≤ 17000000000 → FitsSigned w128 (sum +ℤ to_z w128 (of_z w128 (product ts i r)))
 value_fits f ts i sum r each few b h g =
     let item = get_or ts i (0, pos 0) in
-    let small : unsigned_abs item.1 ≤ 1000000000 = each_get Small ts i (0, pos 0) each b in
+    let small : unsigned_abs item.1 ≤ 1000000000 = each_get_or Small ts i (0, pos 0) each b in
     let most = abs_product item.1 r small g in
-    let is = ap (λ z. to_z w128 (of_z w128 z)) (product_is ts i r each b g) ∙ clean (item.1 *ℤ r) 17000000000000000000 most (omega arith) in
+    let is = ap (λ z. to_z w128 (of_z w128 z)) (product_is ts i r each b g) ∙ to_z_abs (item.1 *ℤ r) 17000000000000000000 most (omega arith) in
     subst (λ z. FitsSigned w128 (sum +ℤ z)) (sym is) (fits_sum sum (item.1 *ℤ r) (i * 17000000000000000000) 17000000000000000000 h.small most (omega arith))
 
-pub value_more : (f : ℕ → ℤ) (ts : List (ℕ × ℤ)) (i : ℕ) (sum r next : ℤ) → Each Small ts → length ts ≤ 64 → i < length ts → Valued f ts i sum → r ≡ f (get_or ts i (0, pos 0)).0 → unsigned_abs r ≤ 17000000000 → next ≡ to_z w128 (of_z w128 (sum +ℤ to_z w128 (of_z w128 (product ts i r)))) → Valued f ts (i + 1) next
+pub value_more : (f : ℕ → ℤ) (ts : List (ℕ × ℤ)) (i : ℕ) (sum r next : ℤ) → AllByRecursion Small ts → length ts ≤ 64 → i < length ts → Valued f ts i sum → r ≡ f (get_or ts i (0, pos 0)).0 → unsigned_abs r ≤ 17000000000 → next ≡ to_z w128 (of_z w128 (sum +ℤ to_z w128 (of_z w128 (product ts i r)))) → Valued f ts (i + 1) next
 value_more f ts i sum r next each few b h same g e =
     let item = get_or ts i (0, pos 0) in
-    let small : unsigned_abs item.1 ≤ 1000000000 = each_get Small ts i (0, pos 0) each b in
+    let small : unsigned_abs item.1 ≤ 1000000000 = each_get_or Small ts i (0, pos 0) each b in
     let most = abs_product item.1 r small g in
-    let plain = ap (λ z. to_z w128 (of_z w128 z)) (product_is ts i r each b g) ∙ clean (item.1 *ℤ r) 17000000000000000000 most (omega arith) in
+    let plain = ap (λ z. to_z w128 (of_z w128 z)) (product_is ts i r each b g) ∙ to_z_abs (item.1 *ℤ r) 17000000000000000000 most (omega arith) in
     let whole = abs_sum sum (item.1 *ℤ r) (i * 17000000000000000000) 17000000000000000000 h.small most in
-    let is : next ≡ (sum +ℤ (item.1 *ℤ r)) = e ∙ ap (λ z. to_z w128 (of_z w128 (sum +ℤ z))) plain ∙ clean (sum +ℤ (item.1 *ℤ r)) (i * 17000000000000000000 + 17000000000000000000) whole (omega arith) in
+    let is : next ≡ (sum +ℤ (item.1 *ℤ r)) = e ∙ ap (λ z. to_z w128 (of_z w128 (sum +ℤ z))) plain ∙ to_z_abs (sum +ℤ (item.1 *ℤ r)) (i * 17000000000000000000 + 17000000000000000000) whole (omega arith) in
     record {
       value = is ∙ ap (λ z. z +ℤ (item.1 *ℤ r)) h.value ∙ ap (λ z. terms_value f (take i ts) +ℤ (item.1 *ℤ z)) same ∙ sym (terms_value_more f ts i (0, pos 0) b);
       small = subst (λ z. unsigned_abs z ≤ (i + 1) * 17000000000000000000) (sym is) (omega arith);
@@ -152,16 +132,3 @@ value_more f ts i sum r next each few b h same g e =
 
 pub valued_all : (f : ℕ → ℤ) (ts : List (ℕ × ℤ)) (i : ℕ) (sum : ℤ) → i ≡ length ts → Valued f ts i sum → sum ≡ terms_value f ts
 valued_all f ts i sum e h = h.value ∙ ap (λ n. terms_value f (take n ts)) e ∙ ap (terms_value f) (take-length ts)
-
-pub clean_range : (z : ℤ) → unsigned_abs z < 2 ^ 127 → to_z w128 (of_z w128 z) ≡ z
-clean_range z h = let fits : FitsSigned w128 z = fits_signed_from_abs w128 z h in to_z-of_z fits
-
-pub clean_minus : (a b : ℤ) (m n : ℕ) → unsigned_abs a ≤ m → unsigned_abs b ≤ n → m + n < 2 ^ 127 → to_z w128 (of_z w128 (to_z w128 (of_z w128 a) -ℤ to_z w128 (of_z w128 b))) ≡ (a -ℤ b)
-clean_minus a b m n h g k =
-    ap (λ z. to_z w128 (of_z w128 (z -ℤ to_z w128 (of_z w128 b)))) (clean a m h (omega arith)) ∙ ap (λ z. to_z w128 (of_z w128 (a -ℤ z))) (clean b n g (omega arith)) ∙ clean (a -ℤ b) (m + n) (abs_minus a b m n h g) k
-
-pub not_none : (z : ℤ) → (of_z w128 z ≡ 0 → ⊥) → z ≡ pos 0 → ⊥
-not_none z h e = h (ap (of_z w128) e)
-
-pub is_none : (z : ℤ) → unsigned_abs z < 2 ^ 127 → of_z w128 z ≡ 0 → z ≡ pos 0
-is_none z b e = sym (clean_range z b) ∙ ap (to_z w128) e

@@ -2,24 +2,23 @@
 use Rattle.std.proofs.Common.{◌≡◌, ◌⊎◌, inl, inr, ℕ, zero, suc, ◌+◌, ◌<◌, ◌≤◌, ◌^◌, ℤ, pos, negsuc, ◌-ℤ◌, ◌≤ℤ◌, ◌<ℤ◌, List, [], ◌∷◌, ◌++◌, map, length, get_or, true, arith, sym, ap, ◌∙◌, refl, subst}
 use Rattle.std.proofs.lemmas.Int.{ints}
 use Rattle.std.proofs.lemmas.Bool.{false≢true, cases_Bool}
-use Rattle.std.proofs.lemmas.Bool.Decides.{eqb_tells}
 use Rattle.std.proofs.Math.IntN.{zero-*ℤ}
+use Rattle.ta_base.proofs.Integers.{is_negative, negative_false, negative_true, one_times}
+use Rattle.ta_base.proofs.Naturals.{cases_start}
 use Rattle.ta_automaton.specs.declared.automaton.Automaton.{Automaton}
 use Rattle.ta_automaton.specs.declared.pattern.Pattern.{Pattern}
 use Rattle.ta_automaton.specs.Runs.{LoopsPure, Safe}
-use Rattle.ta_automaton.specs.Masks.{In, numbers_from}
+use Rattle.ta_base.specs.Masks.{In, numbers_from}
 use Rattle.ta_implied.specs.Implied.{Good}
 use Rattle.ta_words.specs.declared.element.Element.{Element}
 use Rattle.ta_words.specs.declared.element.Element.TheVariants.{Event, Rise, Fall}
 use Rattle.ta_words.specs.Words.{LegalUnder, is_complete}
-use Rattle.ta_encode.specs.System.{Bound, Low, High, only_at, side_row, bound_row, word_rows, combine, row_value, AllHold}
+use Rattle.ta_encode.specs.System.{Bound, Low, High, only_at, side_row, bound_row, word_rows, sum_of_products, row_value, AllHold}
 use Rattle.ta_cert.specs.Tree.{Tree, Forest, Leaf, Extend, Split, Done, More}
-use Rattle.ta_encode.specs.Search.{Pending, Search, bound_at, bounded, longer, rows_of}
+use Rattle.ta_encode.specs.Search.{Pending, Search, bound_at, bounded, longer, bounded_rows}
 use Rattle.ta_encode.specs.PatternSearch.{empty_word, pattern_search}
 use Rattle.ta_encode.specs.Refutes.{IsLeaf, RefutesBy, RefuteEach, RefuteAll, ProofOf}
-use Rattle.ta_automaton.proofs.Sums.{one_times}
 use Rattle.ta_encode.proofs.Moments.{AllHold-append, AllHold-left}
-use Rattle.ta_encode.proofs.Start.{is_negative, negative_true, negative_false}
 use Rattle.ta_encode.proofs.RowSums.{leaf_contradicts}
 use Rattle.ta_encode.proofs.Reorder.{AfterEarlier, describe}
 
@@ -28,7 +27,7 @@ abbrev pub extend : List Element → List Element → List Element
 extend past [] = past
 extend past (e ∷ future) = extend (e ∷ past) future
 
-first_rows : (a : Automaton) (p : Pattern) (start : ℕ) (e : Element) (past : List Element) (vs : List ℕ) → AllHold vs (word_rows a p start (e ∷ past)) → AllHold vs (word_rows a p start past)
+pub first_rows : (a : Automaton) (p : Pattern) (start : ℕ) (e : Element) (past : List Element) (vs : List ℕ) → AllHold vs (word_rows a p start (e ∷ past)) → AllHold vs (word_rows a p start past)
 unfolding word_rows
 first_rows a p start (Event e) past vs h = AllHold-left vs (word_rows a p start past) _ h
 first_rows a p start (Rise i) past vs h = AllHold-left vs (word_rows a p start past) _ h
@@ -47,15 +46,15 @@ pub take_apart : (past acc : List Element) → (future : List Element) × (exten
 take_apart [] acc = (acc, refl)
 take_apart (e ∷ past) acc = take_apart past (e ∷ acc)
 
-minus_at : (x : ℕ) (vs : List ℕ) → combine (only_at x (negsuc 0)) vs ≡ (pos 0 -ℤ pos (get_or vs x 0))
-unfolding combine
+minus_at : (x : ℕ) (vs : List ℕ) → sum_of_products (only_at x (negsuc 0)) vs ≡ (pos 0 -ℤ pos (get_or vs x 0))
+unfolding sum_of_products
 minus_at zero [] = refl
 minus_at zero (v ∷ vs) = omega (arith, ints)
 minus_at (suc x) [] = refl
 minus_at (suc x) (v ∷ vs) = omega (arith, ints, minus_at x vs, zero-*ℤ (pos v))
 
-plus_at : (x : ℕ) (vs : List ℕ) → combine (only_at x (pos 1)) vs ≡ pos (get_or vs x 0)
-unfolding combine
+plus_at : (x : ℕ) (vs : List ℕ) → sum_of_products (only_at x (pos 1)) vs ≡ pos (get_or vs x 0)
+unfolding sum_of_products
 plus_at zero [] = refl
 plus_at zero (v ∷ vs) = omega (arith, ints, one_times (pos v))
 plus_at (suc x) [] = refl
@@ -86,7 +85,7 @@ mutual
 
   no_tree : (tree : Tree) (s : Search) (w : Pending) (future : List Element) (vs : List ℕ) → SolvesAlong s w.start vs w.past future → AllHold vs (map bound_row w.bounds) → RefutesBy s (IsLeaf s) w tree → ⊥
   no_tree (Leaf ts) s w future vs along held h =
-      leaf_contradicts (rows_of s w) ts vs h (AllHold-append vs (s.rows w.start w.past) (map bound_row w.bounds) (rows_here s w.start vs w.past future along) held)
+      leaf_contradicts (bounded_rows s w) ts vs h (AllHold-append vs (s.rows w.start w.past) (map bound_row w.bounds) (rows_here s w.start vs w.past future along) held)
   no_tree (Extend trees) s w [] vs along held h = false≢true (sym h.0 ∙ along.1)
   no_tree (Extend trees) s w (e ∷ future) vs along held h =
       no_forest trees s w e future vs along.2 held (s.following w.start w.past) along.1 h.1
@@ -104,9 +103,6 @@ mutual
       no_tree tree s (longer w e) future vs along held (subst (λ (y : Element). RefutesBy s (IsLeaf s) (longer w y) tree) (sym same) h.0)
   no_forest (More tree trees) s w e future vs along held (x ∷ es) (inr i) h =
       no_forest trees s w e future vs along held es i h.1
-
-cases_start : (first start : ℕ) → first ≤ start → (first ≡ start) ⊎ (first + 1 ≤ start)
-cases_start first start h = elim (eqb_tells first start) [ inl e ↦ inl e.1 | inr ne ↦ inr (let q = ne.1 in omega arith) ]
 
 pick_tree : (s : Search) (first start count : ℕ) (trees : List Tree) → RefuteAll s (IsLeaf s) (map empty_word (numbers_from first count)) trees → first ≤ start → start < first + count → (tree : Tree) × RefutesBy s (IsLeaf s) (empty_word start) tree
 pick_tree s first start zero trees h low high = absurd (omega arith)

@@ -1,47 +1,38 @@
 -- the sample system is what stands at the start of a pattern that asks for nothing
-use Rattle.std.proofs.Common.{◌≡◌, inl, inr, ℕ, ℤ, ◌+◌, ◌≤◌, List, [], ◌∷◌, ◌++◌, map, take, length, Bool, true, not, arith, sym, ap, ◌∙◌, refl, subst, append-nil, length-append, get_or}
-use Rattle.std.specs.Prelude.{filter, slice_index}
+use Rattle.std.proofs.Common.{◌≡◌, inl, inr, ℕ, ℤ, ◌+◌, ◌≤◌, List, [], ◌∷◌, ◌++◌, map, length, arith, sym, ap, ◌∙◌, refl, subst, append-nil, length-append, get_or}
+use Rattle.std.specs.Prelude.{slice_index}
 use Rattle.std.proofs.lemmas.Bool.{false≢true, true≢false}
 use Rattle.std.proofs.lemmas.Int.{ints}
 use Rattle.std.proofs.lemmas.List.{length-map}
+use Rattle.ta_base.proofs.Bits.{has_none, none_kept_empty}
+use Rattle.ta_base.proofs.Ranges.{each_index, length_numbers}
 use Rattle.ta_linear.specs.declared.row.Row.{Row}
 use Rattle.ta_automaton.specs.declared.automaton.Automaton.{Automaton}
 use Rattle.ta_automaton.specs.declared.pattern.Pattern.{Pattern}
-use Rattle.ta_automaton.specs.Masks.{In, has_bit, numbers_from}
+use Rattle.ta_base.specs.Masks.{In, numbers_from}
 use Rattle.ta_automaton.specs.Runs.{Config, Initial}
-use Rattle.ta_automaton.proofs.Fire.{length_numbers}
 use Rattle.ta_automaton.proofs.Moves.{Fits}
 use Rattle.ta_automaton.proofs.Thresholds.{resilience_holds}
 use Rattle.ta_cert.specs.declared.line.Node.{Node}
 use Rattle.ta_cert.specs.declared.line.Node.TheVariants as node
-use Rattle.ta_implied.proofs.Bits.{has_none}
 use Rattle.ta_encode.specs.Unknowns.{Meaning, Parameter, Start, start_locations, start_meanings}
 use Rattle.ta_encode.specs.System.{AllHold, Bound, High, LinearRow, Low, bound_row, condition_rows, opposite, processes_row}
 use Rattle.ta_encode.specs.InPreorder.{RefutedInOrder}
 use Rattle.ta_encode.specs.Refutes.{IsLeaf, LeafTest}
 use Rattle.ta_encode.specs.Sample.{HasStart, SamplesStart, StartsAreSampled, sample_meanings, sample_rows, sample_search, sampled}
-use Rattle.ta_encode.specs.Search.{Pending, bound_at, bounded, rows_of}
-use Rattle.ta_encode.specs.Inside.Lines.{Adds, Written}
+use Rattle.ta_encode.specs.Search.{Pending, bound_at, bounded, bounded_rows}
+use Rattle.ta_encode.specs.Inside.Lines.{AddsRows, AreWritten}
 use Rattle.ta_encode.proofs.Begin.{FirstRows, first_initial, first_of}
-use Rattle.ta_encode.proofs.Drafts.{filter_same, start_few}
+use Rattle.ta_encode.proofs.Drafts.{start_few}
 use Rattle.ta_encode.proofs.Moments.{AllHold-append, AllHold-left, condition_holds, opposite_value}
 use Rattle.ta_encode.proofs.RowSums.{leaf_contradicts}
 use Rattle.ta_encode.proofs.Safety.{bounds_more, sides}
 use Rattle.ta_encode.proofs.Start.{StartsEmpty, parameter_values, processes_value, start_counts, start_moment}
 use Rattle.ta_encode.proofs.Starts.{parameter_picks}
-use Rattle.ta_encode.proofs.Theorems.{each_index}
-use Rattle.ta_encode.proofs.Values.{AllHold-right, left_part}
+use Rattle.ta_encode.proofs.Values.{AllHold-right}
 
 abbrev plain : Pattern
 plain = record { name = []; start = record { comparisons = []; limit = omega arith }; empty = 0; events = [] }
-
-filter_all : (xs : List ℕ) → filter (λ x. true) xs ≡ xs
-filter_all [] = refl
-filter_all (x ∷ xs) = ap (λ ys. x ∷ ys) (filter_all xs)
-
--- no location is kept empty
-pub none_kept_empty : (ls : List ℕ) → filter (λ l. not (has_bit 0 l)) ls ≡ ls
-none_kept_empty ls = filter_same (λ l. not (has_bit 0 l)) (λ l. true) ls (λ l. ap not (has_none l)) ∙ filter_all ls
 
 plain_locations : (a : Automaton) → start_locations a plain ≡ a.initial
 plain_locations a = none_kept_empty a.initial
@@ -73,7 +64,7 @@ samples_start a vs s =
     let rows = subst (AllHold vs) (sym (plain_rows a)) (AllHold-left vs (sample_rows a) [] s.rows_hold) in
     let resilience = condition_rows a ms a.resilience.comparisons in
     let processes = processes_row a ms ∷ opposite (processes_row a ms) ∷ [] in
-    let first : FirstRows a plain vs = record { resilience = left_part vs resilience processes rows; processes = AllHold-right vs resilience processes rows; start = tt } in
+    let first : FirstRows a plain vs = record { resilience = AllHold-left vs resilience processes rows; processes = AllHold-right vs resilience processes rows; start = tt } in
     record { first = first_of a plain vs; initial = first_initial a plain vs first; are = parameter_picks a plain vs (omega (arith, s.count, sample_count a)) }
 
 none_empty : (c : Config) → StartsEmpty plain c
@@ -100,35 +91,35 @@ starts_sampled a c start =
     let values : v ≡ c.parameters ++ map (slice_index c.counters) a.initial = append-nil vs ∙ start_sample a c start in
     record {
       count = ap (λ (xs : List ℕ). length xs) (sym (start_sample a c start)) ∙ moment.count ∙ ap (λ (us : List Meaning). length us) (plain_meanings a);
-      rows_hold = subst (λ (xs : List ℕ). AllHold xs (rows_of (sample_search a) (sampled []))) values (subst (λ (ls : List LinearRow). AllHold v (ls ++ [])) (plain_rows a) (subst (AllHold v) (sym (append-nil (rows_over a ms))) rows));
+      rows_hold = subst (λ (xs : List ℕ). AllHold xs (bounded_rows (sample_search a) (sampled []))) values (subst (λ (ls : List LinearRow). AllHold v (ls ++ [])) (plain_rows a) (subst (AllHold v) (sym (append-nil (rows_over a ms))) rows));
     }
 
 -- the rows of code
 pub sample_written : (a : Automaton) (bounds : List Bound) (ms : List Meaning) (n : ℕ) (before first second third : List Row) → ms ≡ sample_meanings a → n ≡ length ms → before ≡ []
-    → Adds (condition_rows a ms a.resilience.comparisons) (length ms) before first
-    → Adds (processes_row a ms ∷ opposite (processes_row a ms) ∷ []) (length ms) first second
-    → Adds (map bound_row bounds) n second third
-    → Written (rows_of (sample_search a) (sampled bounds)) n third
+    → AddsRows (condition_rows a ms a.resilience.comparisons) (length ms) before first
+    → AddsRows (processes_row a ms ∷ opposite (processes_row a ms) ∷ []) (length ms) first second
+    → AddsRows (map bound_row bounds) n second third
+    → AreWritten (bounded_rows (sample_search a) (sampled bounds)) n third
 unfolding sample_rows
 sample_written a bounds ms n before first second third e count none one two three =
     let resilience = condition_rows a ms a.resilience.comparisons in
-    let nothing : Written [] (length ms) before = subst (Written [] (length ms)) (sym none) (record { rows_of = tt; below = tt }) in
+    let nothing : AreWritten [] (length ms) before = subst (AreWritten [] (length ms)) (sym none) (record { rows_of = tt; below = tt }) in
     let rows = two.rows resilience (one.rows [] nothing) in
-    let here : Written (sample_rows a) n second = subst (λ (k : ℕ). Written (sample_rows a) k second) (sym count) (subst (λ (us : List Meaning). Written (rows_over a us) (length ms) second) e rows) in
+    let here : AreWritten (sample_rows a) n second = subst (λ (k : ℕ). AreWritten (sample_rows a) k second) (sym count) (subst (λ (us : List Meaning). AreWritten (rows_over a us) (length ms) second) e rows) in
     three.rows (sample_rows a) here
 
 -- where nodes refute words of the search for a sample, no natural values solve one of them
-pub none_solved : (a : Automaton) (test : LeafTest) → ((w : Pending) (ts : List (ℕ × ℤ)) → test w ts → IsLeaf (sample_search a) w ts) → (ws : List Pending) (nodes : List Node) → RefutedInOrder (sample_search a) test ws nodes → (w : Pending) → In w ws → (vs : List ℕ) → AllHold vs (rows_of (sample_search a) w) → ⊥
+pub none_solved : (a : Automaton) (test : LeafTest) → ((w : Pending) (ts : List (ℕ × ℤ)) → test w ts → IsLeaf (sample_search a) w ts) → (ws : List Pending) (nodes : List Node) → RefutedInOrder (sample_search a) test ws nodes → (w : Pending) → In w ws → (vs : List ℕ) → AllHold vs (bounded_rows (sample_search a) w) → ⊥
 none_solved a test leaf ws [] h w i vs holds = subst (In w) h i
 none_solved a test leaf [] (n ∷ nodes) h w i vs holds = h
 none_solved a test leaf (v ∷ ws) (node.Leaf ts ∷ nodes) h w (inl same) vs holds =
-    leaf_contradicts (rows_of (sample_search a) v) ts vs (leaf v ts h.0) (subst (λ (x : Pending). AllHold vs (rows_of (sample_search a) x)) same holds)
+    leaf_contradicts (bounded_rows (sample_search a) v) ts vs (leaf v ts h.0) (subst (λ (x : Pending). AllHold vs (bounded_rows (sample_search a) x)) same holds)
 none_solved a test leaf (v ∷ ws) (node.Leaf ts ∷ nodes) h w (inr i) vs holds = none_solved a test leaf ws nodes h.1 w i vs holds
 none_solved a test leaf (v ∷ ws) (node.Extend ∷ nodes) h w i vs holds = absurd (true≢false h.0)
 none_solved a test leaf (v ∷ ws) (node.Split unknown floor ∷ nodes) h w (inl same) vs holds =
     let low = bounded v (bound_at unknown floor Low) in
     let high = bounded v (bound_at unknown floor High) in
-    let here = subst (λ (x : Pending). AllHold vs (rows_of (sample_search a) x)) same holds in
+    let here = subst (λ (x : Pending). AllHold vs (bounded_rows (sample_search a) x)) same holds in
     let rows = AllHold-left vs (sample_rows a) (map bound_row v.bounds) here in
     let bounds = AllHold-right vs (sample_rows a) (map bound_row v.bounds) here in
     elim (sides unknown floor vs) [

@@ -1,24 +1,24 @@
 -- the firings of an element, in an order that goes forward, are legal where their end is natural
-use Rattle.std.proofs.Common.{IsBitSet, ◌≡◌, ◌≢◌, inl, inr, ℕ, zero, suc, ◌+◌, ◌<◌, ◌≤◌, pos, ◌+ℤ◌, ◌≤ℤ◌, List, [], ◌∷◌, ◌++◌, length, eqb, cond, true, false, not, arith, sym, ap, ◌∙◌, refl, subst, slice_get, get_or, Some, None, Option}
+use Rattle.std.proofs.Common.{IsBitSet, ◌≡◌, ◌≢◌, inl, inr, ℕ, zero, suc, ◌<◌, ◌≤◌, pos, ◌+ℤ◌, ◌≤ℤ◌, List, [], ◌∷◌, ◌++◌, length, true, false, not, arith, sym, ap, ◌∙◌, refl, subst, slice_get, get_or, Some, None, Option}
 use Rattle.std.proofs.lemmas.Int.{ints}
-use Rattle.std.proofs.lemmas.Bool.{cases_Bool, and_parts, false≢true, eqb-false}
-use Rattle.std.proofs.lemmas.Bool.Decides.{nat_tests}
+use Rattle.std.proofs.lemmas.Bool.{cases_Bool, and_parts, false≢true, eqb-false, not-true}
 use Rattle.std.proofs.lemmas.Option.{slice_get_within}
+use Rattle.std.specs.List.{AllByRecursion}
+use Rattle.ta_base.proofs.Bits.{all_below-at, bit_true}
+use Rattle.ta_base.proofs.Booleans.{implies-at}
+use Rattle.ta_base.proofs.Naturals.{untouched}
 use Rattle.ta_linear.specs.Values.{value_of, RowHolds}
 use Rattle.ta_linear.specs.declared.row.Row.{Row}
 use Rattle.ta_automaton.specs.declared.rule.Rule.{Rule}
 use Rattle.ta_automaton.specs.declared.automaton.Automaton.{Automaton}
-use Rattle.ta_automaton.proofs.Sums.{terms_value-same}
 use Rattle.ta_automaton.specs.declared.pattern.Pattern.{Pattern}
-use Rattle.ta_automaton.specs.Runs.{Config, value_at, Step, Steps, MaskedHold, InScope}
-use Rattle.ta_automaton.specs.Lists.{Each}
-use Rattle.ta_automaton.specs.Masks.{has_bit, all_below, implies, In}
+use Rattle.ta_automaton.specs.Runs.{Config, value_at, Step, Steps, MaskedHold}
+use Rattle.ta_base.specs.Masks.{has_bit, all_below, implies, In}
 use Rattle.ta_words.specs.declared.element.Element.{Element}
 use Rattle.ta_words.specs.Words.{has_rise, has_fallen, may_fire}
 use Rattle.ta_automaton.specs.Places.{one_if, location_place}
 use Rattle.ta_automaton.specs.Sums.{total}
 use Rattle.ta_automaton.proofs.Moves.{Fits, move_at, value_at-location, one_if-ne}
-use Rattle.ta_automaton.proofs.MaskTests.{all_below-at, implies-at, true_not, bit_true}
 use Rattle.ta_encode.proofs.Switch.{KeptEmpty}
 use Rattle.ta_automaton.proofs.Onward.{change_of, change_location, EachRule, Onward, Piece, holds_before_last, fire_in_order}
 use Rattle.ta_automaton.proofs.Fire.{Whole, fire, fire_whole, fire_step}
@@ -31,7 +31,7 @@ Exists a r = (rule : Rule) × (slice_get a.rules r ≡ Some rule)
 
 -- each fired rule may fire after the word
 abbrev pub EachMay : Automaton → Pattern → ℕ → List Element → List ℕ → Type 0
-EachMay a p start past os = Each (λ o. may_fire a p start past (slice_get a.rules o) ≡ true) os
+EachMay a p start past os = AllByRecursion (λ o. may_fire a p start past (slice_get a.rules o) ≡ true) os
 
 pub may_at : (a : Automaton) (p : Pattern) (start : ℕ) (past : List Element) (os : List ℕ) (o : ℕ) → EachMay a p start past os → In o os → may_fire a p start past (slice_get a.rules o) ≡ true
 may_at a p start past [] o h i = absurd i
@@ -59,7 +59,7 @@ may_parts a p start past rule h =
     let two = and_parts _ _ one.1 in
     let three = and_parts _ _ two.1 in
     let four = and_parts _ _ three.1 in
-    record { apart = eqb-false rule.from rule.to (true_not _ one.0); from = true_not _ two.0; to = true_not _ three.0; rise = four.0; fall = four.1 }
+    record { apart = eqb-false rule.from rule.to (not-true _ one.0); from = not-true _ two.0; to = not-true _ three.0; rise = four.0; fall = four.1 }
 
 pub may_rules : (a : Automaton) (p : Pattern) (start : ℕ) (past : List Element) (os : List ℕ) → EachMay a p start past os → EachRule a os
 may_rules a p start past [] h = tt
@@ -82,9 +82,6 @@ pub record Segment (a : Automaton) (p : Pattern) (start : ℕ) (past : List Elem
 pub fits_whole : (a : Automaton) (d : Config) → Whole a d → Fits a d
 fits_whole a d w = record { parameters = w.parameters; shared = w.shared }
 
-untouched : (l from to x y : ℕ) → l ≢ from → l ≢ to → x + cond (eqb l from) 1 0 ≡ y + cond (eqb l to) 1 0 → x ≡ y
-untouched l from to x y n m e = grind (arith, nat_tests)
-
 kept_after : (a : Automaton) (p : Pattern) (start : ℕ) (past : List Element) (d next : Config) (r : ℕ) → (step : Step a r d next) → may_fire a p start past (slice_get a.rules r) ≡ true → KeptEmpty p d → KeptEmpty p next
 kept_after a p start past d next r step may empty l t =
     let m = may_parts a p start past step.rule (ap (may_fire a p start past) (sym step.named) ∙ may) in
@@ -97,7 +94,7 @@ may_rise : (a : Automaton) (p : Pattern) (start : ℕ) (past : List Element) (ru
 may_rise a p start past rule m i row at set = implies-at _ _ (all_below-at (length a.rise) (λ k. implies (has_bit rule.rise k) (has_rise past k)) m.rise i (slice_get_within _ _ _ at)) (bit_true rule.rise i set)
 
 may_fall : (a : Automaton) (p : Pattern) (start : ℕ) (past : List Element) (rule : Rule) → May a p start past rule → (j : ℕ) (row : Row) → slice_get a.fall j ≡ Some row → IsBitSet rule.fall j → has_fallen start past j ≡ false
-may_fall a p start past rule m j row at set = true_not _ (implies-at _ _ (all_below-at (length a.fall) (λ k. implies (has_bit rule.fall k) (not (has_fallen start past k))) m.fall j (slice_get_within _ _ _ at)) (bit_true rule.fall j set))
+may_fall a p start past rule m j row at set = not-true _ (implies-at _ _ (all_below-at (length a.fall) (λ k. implies (has_bit rule.fall k) (not (has_fallen start past k))) m.fall j (slice_get_within _ _ _ at)) (bit_true rule.fall j set))
 
 -- one firing at which the guards hold and a process is there
 fire_one : (a : Automaton) (p : Pattern) (start : ℕ) (past : List Element) (d : Config) (r : ℕ) → Whole a d → may_fire a p start past (slice_get a.rules r) ≡ true → ((i : ℕ) (row : Row) → slice_get a.rise i ≡ Some row → has_rise past i ≡ true → RowHolds (value_at d) row) → ((j : ℕ) (row : Row) → slice_get a.fall j ≡ Some row → has_fallen start past j ≡ false → RowHolds (value_at d) row) → KeptEmpty p d → ((rule : Rule) → slice_get a.rules r ≡ Some rule → 1 ≤ get_or d.counters rule.from 0) → (next : Config) × Step a r d next × Whole a next × KeptEmpty p next

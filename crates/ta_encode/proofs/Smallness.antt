@@ -1,5 +1,6 @@
 -- the forms of a file have few terms and small numbers
 use Rattle.std.proofs.Common.{ℕ, ℤ, ◌+◌, ◌≤◌, List, [], ◌∷◌, length, arith}
+use Rattle.std.specs.List.{AllByRecursion}
 use Rattle.ta_linear.specs.Terms.{IsNormal}
 use Rattle.ta_linear.specs.declared.form.Form.{Form}
 use Rattle.ta_linear.specs.declared.row.Row.{Row}
@@ -7,7 +8,6 @@ use Rattle.ta_automaton.specs.declared.automaton.Automaton.{Automaton}
 use Rattle.ta_automaton.specs.declared.condition.Comparison.{Comparison}
 use Rattle.ta_automaton.specs.declared.condition.Condition.{Condition}
 use Rattle.ta_automaton.specs.Forms.{FormOver, RowOver, ConditionOver, RiseRow, FallRow}
-use Rattle.ta_automaton.specs.Lists.{Each}
 use Rattle.ta_encode.specs.Inside.Lines.{SmallForm, SmallRows, SmallCondition}
 
 normal_length : (low high : ℕ) (ts : List (ℕ × ℤ)) → IsNormal low high ts → low + length ts ≤ high
@@ -20,22 +20,22 @@ small_form places f few h = record {
   constant = h.small.constant;
 }
 
-small_rows : (places : ℕ) (rows : List Row) → places ≤ 64 → Each (RowOver places) rows → SmallRows rows
+small_rows : (places : ℕ) (rows : List Row) → places ≤ 64 → AllByRecursion (RowOver places) rows → SmallRows rows
 small_rows places [] few h = tt
 small_rows places (r ∷ rs) few h = (small_form places r.form few h.0, small_rows places rs few h.1)
 
-small_comparisons : (places : ℕ) (ks : List Comparison) → places ≤ 64 → Each (λ (k : Comparison). Each (RowOver places) k.rows) ks → Each (λ (k : Comparison). SmallRows k.rows) ks
+small_comparisons : (places : ℕ) (ks : List Comparison) → places ≤ 64 → AllByRecursion (λ (k : Comparison). AllByRecursion (RowOver places) k.rows) ks → AllByRecursion (λ (k : Comparison). SmallRows k.rows) ks
 small_comparisons places [] few h = tt
 small_comparisons places (k ∷ ks) few h = (small_rows places k.rows few h.0, small_comparisons places ks few h.1)
 
 pub small_condition : (places : ℕ) (c : Condition) → places ≤ 64 → ConditionOver places c → SmallCondition c
 small_condition places c few h = small_comparisons places c.comparisons few h
 
-small_rises : (parameters shared : ℕ) (rows : List Row) → parameters + shared ≤ 64 → Each (RiseRow parameters shared) rows → SmallRows rows
+small_rises : (parameters shared : ℕ) (rows : List Row) → parameters + shared ≤ 64 → AllByRecursion (RiseRow parameters shared) rows → SmallRows rows
 small_rises parameters shared [] few h = tt
 small_rises parameters shared (r ∷ rs) few h = (small_form (parameters + shared) r.form few h.0.over, small_rises parameters shared rs few h.1)
 
-small_falls : (parameters shared : ℕ) (rows : List Row) → parameters + shared ≤ 64 → Each (FallRow parameters shared) rows → SmallRows rows
+small_falls : (parameters shared : ℕ) (rows : List Row) → parameters + shared ≤ 64 → AllByRecursion (FallRow parameters shared) rows → SmallRows rows
 small_falls parameters shared [] few h = tt
 small_falls parameters shared (r ∷ rs) few h = (small_form (parameters + shared) r.form few h.0.over, small_falls parameters shared rs few h.1)
 

@@ -1,7 +1,9 @@
 -- a row's terms, unknown by unknown
-use Rattle.std.proofs.Common.{◌≡◌, ◌≢◌, ◌⊎◌, inl, inr, ℕ, zero, suc, ℤ, pos, ◌+◌, ◌<◌, ◌≤◌, List, [], ◌∷◌, ◌++◌, length, map, get_or, arith, sym, ap, ◌∙◌, refl, subst}
+use Rattle.std.proofs.Common.{◌≡◌, ◌≢◌, ◌⊎◌, inl, inr, ℕ, zero, suc, ℤ, pos, ◌+◌, ◌<◌, ◌≤◌, List, [], ◌∷◌, ◌++◌, length, map, get_or, arith, sym, ap, ◌∙◌, subst}
 use Rattle.std.proofs.lemmas.Int.{ints}
 use Rattle.std.proofs.lemmas.Bool.Decides.{eqb_tells}
+use Rattle.ta_base.proofs.Lists.{get_or_map, get_past}
+use Rattle.ta_base.proofs.Naturals.{below_or_last}
 use Rattle.ta_linear.specs.Numbers.{InRange}
 use Rattle.ta_linear.specs.Terms.{coefficient, IsNormal}
 use Rattle.ta_linear.proofs.TermLemmas.{IsNormal-push, IsNormal-higher, coefficient-append, coefficient-above}
@@ -12,28 +14,12 @@ pub record Sparse {M : Type 0} (f : M → ℤ) (ms : List M) (n : ℕ) (ts : Lis
   pub normal : IsNormal 0 n ts
   pub coefficients : (u : ℕ) → u < n → coefficient ts u ≡ get_or (map f ms) u (pos 0)
 
-pub none_sparse : {M : Type 0} (f : M → ℤ) (ms : List M) → Sparse f ms 0 []
-none_sparse f ms = record { normal = omega arith; coefficients = λ u b. absurd (omega arith) }
-
-get_map : {M : Type 0} (f : M → ℤ) (ms : List M) (n : ℕ) (d : M) → n < length ms → get_or (map f ms) n (pos 0) ≡ f (get_or ms n d)
-get_map f [] n d b = absurd (omega arith)
-get_map f (m ∷ ms) zero d b = refl
-get_map f (m ∷ ms) (suc n) d b = get_map f ms n d (omega arith)
-
-get_past : {M : Type 0} (f : M → ℤ) (ms : List M) (n : ℕ) → length ms ≤ n → get_or (map f ms) n (pos 0) ≡ pos 0
-get_past f [] n b = refl
-get_past f (m ∷ ms) zero b = absurd (omega arith)
-get_past f (m ∷ ms) (suc n) b = get_past f ms n (omega arith)
-
-split : (u n : ℕ) → u < n + 1 → (u < n) ⊎ (u ≡ n)
-split u n b = elim (eqb_tells u n) [ inl e ↦ inr e.1 | inr ne ↦ inl (let q = ne.1 in omega arith) ]
-
 pub sparse_push : {M : Type 0} (f : M → ℤ) (ms : List M) (n : ℕ) (ts next : List (ℕ × ℤ)) (d : M) (z : ℤ) → Sparse f ms n ts → n < length ms → z ≡ f (get_or ms n d) → z ≢ pos 0 → InRange z → next ≡ ts ++ (n, z) ∷ [] → Sparse f ms (n + 1) next
 sparse_push f ms n ts next d z h b same some fits e = record {
   normal = subst (IsNormal 0 (n + 1)) (sym e) (IsNormal-push 0 n ts (n, z) h.normal (omega arith) (record { not_zero = some; in_range = fits }));
-  coefficients = λ u c. ap (λ us. coefficient us u) e ∙ coefficient-append ts ((n, z) ∷ []) u ∙ elim (split u n c) [
+  coefficients = λ u c. ap (λ us. coefficient us u) e ∙ coefficient-append ts ((n, z) ∷ []) u ∙ elim (below_or_last u n c) [
     | inl below ↦ (let other : n ≢ u = (λ q. absurd (let w = q in omega arith)) in omega (arith, ints, if_other (n, z) u other, h.coefficients u below))
-    | inr here ↦ (let value : get_or (map f ms) u (pos 0) ≡ z = ap (λ k. get_or (map f ms) k (pos 0)) here ∙ get_map f ms n d b ∙ sym same in
+    | inr here ↦ (let value : get_or (map f ms) u (pos 0) ≡ z = ap (λ k. get_or (map f ms) k (pos 0)) here ∙ get_or_map f ms n d b ∙ sym same in
         omega (arith, ints, if_same (n, z) u (sym here), coefficient-above 0 n ts u h.normal (omega arith), value))
   ];
 }
@@ -41,9 +27,9 @@ sparse_push f ms n ts next d z h b same some fits e = record {
 pub sparse_skip : {M : Type 0} (f : M → ℤ) (ms : List M) (n : ℕ) (ts : List (ℕ × ℤ)) (d : M) (z : ℤ) → Sparse f ms n ts → n < length ms → z ≡ f (get_or ms n d) → z ≡ pos 0 → Sparse f ms (n + 1) ts
 sparse_skip f ms n ts d z h b same none = record {
   normal = IsNormal-higher 0 n (n + 1) ts (omega arith) h.normal;
-  coefficients = λ u c. elim (split u n c) [
+  coefficients = λ u c. elim (below_or_last u n c) [
     | inl below ↦ h.coefficients u below
-    | inr here ↦ coefficient-above 0 n ts u h.normal (omega arith) ∙ sym none ∙ same ∙ sym (get_map f ms n d b) ∙ ap (λ k. get_or (map f ms) k (pos 0)) (sym here)
+    | inr here ↦ coefficient-above 0 n ts u h.normal (omega arith) ∙ sym none ∙ same ∙ sym (get_or_map f ms n d b) ∙ ap (λ k. get_or (map f ms) k (pos 0)) (sym here)
   ];
 }
 

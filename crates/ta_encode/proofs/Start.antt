@@ -1,67 +1,40 @@
 -- the empty word at the start of a run
-use Rattle.std.proofs.Common.{◌≡◌, inl, inr, ℕ, zero, suc, ◌+◌, ◌<◌, ◌≤◌, ℤ, pos, negsuc, ◌+ℤ◌, ◌-ℤ◌, ◌*ℤ◌, ◌≤ℤ◌, ◌<ℤ◌, List, [], ◌∷◌, ◌++◌, map, length, cond, Bool, true, false, not, arith, sym, ap, ◌∙◌, refl, subst, slice_get, get_or, Some, None, Option, Contains, length-append, zero-add, sum}
-use Rattle.std.specs.List.{filter}
-use Rattle.std.proofs.lemmas.List.{length-map}
+use Rattle.std.proofs.Common.{◌≡◌, inl, inr, ℕ, zero, suc, ◌+◌, ◌<◌, ◌≤◌, ℤ, pos, ◌+ℤ◌, ◌-ℤ◌, ◌*ℤ◌, List, [], ◌∷◌, ◌++◌, map, length, Bool, true, false, not, arith, sym, ap, ◌∙◌, refl, subst, slice_get, get_or, Some, None, Option, length-append, zero-add, sum}
 use Rattle.std.proofs.lemmas.List.Sums.{sum_by-cons}
 use Rattle.std.proofs.lemmas.Int.{ints}
-use Rattle.std.proofs.lemmas.Bool.{false≢true, true≢false, cases_Bool}
+use Rattle.std.proofs.lemmas.Bool.{cases_Bool, not_from_false}
 use Rattle.std.proofs.lemmas.Bool.Decides.{nat_tests, eqb_tells}
 use Rattle.std.proofs.lemmas.Option.{slice_get_within}
 use Rattle.std.proofs.Math.IntN.{zero-*ℤ}
+use Rattle.ta_base.proofs.Bits.{mask_of-bit}
+use Rattle.ta_base.proofs.Integers.{is_negative, negative_false, negative_true, one_times}
+use Rattle.ta_base.proofs.Lists.{maps_length}
+use Rattle.ta_base.proofs.Members.{In-filter, in_of}
+use Rattle.ta_base.proofs.Naturals.{mask_of}
+use Rattle.ta_base.proofs.Ranges.{rises_filter}
 use Rattle.ta_linear.specs.Values.{terms_value, value_of, RowHolds}
 use Rattle.ta_linear.specs.declared.row.Row.{Row}
 use Rattle.ta_automaton.specs.declared.automaton.Automaton.{Automaton}
 use Rattle.ta_automaton.specs.declared.pattern.Pattern.{Pattern}
 use Rattle.ta_automaton.specs.Runs.{Config, value_at, Holds, Initial}
-use Rattle.ta_automaton.specs.Lists.{Rises}
-use Rattle.ta_automaton.specs.Masks.{has_bit, numbers_from, In}
+use Rattle.ta_base.specs.Lists.{Rises}
+use Rattle.ta_base.specs.Masks.{has_bit, numbers_from, In}
 use Rattle.ta_words.specs.Words.{has_fallen}
 use Rattle.ta_encode.specs.Unknowns.{Meaning, Parameter, Start, start_locations, start_meanings, meanings, place_coefficient}
 use Rattle.ta_automaton.specs.Places.{one_if, location_place}
-use Rattle.ta_encode.specs.System.{opposite, processes_row, start_coefficient, condition_rows, start_guard_rows, start_rows, word_rows, combine, row_value, AllHold}
+use Rattle.ta_encode.specs.System.{opposite, processes_row, start_coefficient, condition_rows, start_guard_rows, start_rows, word_rows, sum_of_products, row_value, AllHold}
 use Rattle.ta_automaton.specs.Sums.{total}
-use Rattle.ta_automaton.proofs.Sums.{total-zero, total-same, total-swap, one_times, one_inside, one_outside, one_if-same, one_if-other, terms_value-same}
+use Rattle.ta_automaton.proofs.Sums.{total-zero, total-same, total-swap, one_inside, one_outside, one_if-same, one_if-other, terms_value-same}
 use Rattle.ta_encode.proofs.Combine.{combine-append, combine-extra, combine-map, combine-minus, combine-terms}
 use Rattle.ta_encode.proofs.Moments.{Moment, RowFails, AllHold-append, condition_holds, start_guards, opposite_value}
 use Rattle.ta_automaton.proofs.Moves.{Fits, place_cases, value_at-parameter, value_at-shared, value_at-location, one_if-ne, one_if-shift}
-use Rattle.ta_automaton.proofs.MaskTests.{In-filter, not_true, mask_of, mask_of-bit}
 use Rattle.ta_automaton.proofs.Thresholds.{processes_value as processes_at, resilience_holds}
 use Rattle.ta_encode.proofs.State.{State}
-
--- whether a number is negative
-abbrev pub is_negative : ℤ → Bool
-is_negative (pos n) = false
-is_negative (negsuc n) = true
-
-pub negative_true : (z : ℤ) → is_negative z ≡ true → z <ℤ pos 0
-negative_true (pos n) e = absurd (false≢true e)
-negative_true (negsuc n) e = omega (arith, ints)
-
-pub negative_false : (z : ℤ) → is_negative z ≡ false → pos 0 ≤ℤ z
-negative_false (pos n) e = omega (arith, ints)
-negative_false (negsuc n) e = absurd (true≢false e)
 
 -- whether a guard fails in a configuration
 abbrev pub row_fails : Config → Option Row → Bool
 row_fails c None = false
 row_fails c (Some row) = is_negative (value_of (value_at c) row.form)
-
-rises_lower : (low low' high : ℕ) (xs : List ℕ) → low' ≤ low → Rises low high xs → Rises low' high xs
-rises_lower low low' high [] h r = tt
-rises_lower low low' high (x ∷ xs) h r = (let q = r.0 in omega arith, r.1, r.2)
-
-cond_rises : (b : Bool) (low high x : ℕ) (xs : List ℕ) → low ≤ x → x < high → Rises (x + 1) high xs → Rises low high (cond b (x ∷ xs) xs)
-cond_rises true low high x xs h g r = (h, g, r)
-cond_rises false low high x xs h g r = rises_lower (x + 1) low high xs (omega arith) r
-
-rises_filter : (ok : ℕ → Bool) (low high : ℕ) (xs : List ℕ) → Rises low high xs → Rises low high (filter ok xs)
-rises_filter ok low high [] r = tt
-rises_filter ok low high (x ∷ xs) r = cond_rises (ok x) low high x (filter ok xs) r.0 r.1 (rises_filter ok (x + 1) high xs r.2)
-
-in_of : (xs : List ℕ) (l : ℕ) → Contains xs l → In l xs
-in_of [] l w = absurd (let b = w.1 in omega arith)
-in_of (x ∷ xs) l (zero, b, e) = inl (sym e)
-in_of (x ∷ xs) l (suc k, b, e) = inr (in_of xs l (k, omega arith, e))
 
 sum_above : (f : ℕ → ℤ) (low high : ℕ) (xs : List ℕ) (l : ℕ) → Rises low high xs → l < low → total (λ j. one_if j l *ℤ f j) xs ≡ pos 0
 unfolding total
@@ -112,7 +85,7 @@ start_rises a p = rises_filter (λ l. not (has_bit p.empty l)) 0 (length a.locat
 out_of_start : (a : Automaton) (p : Pattern) (c : Config) → Initial a c → StartsEmpty p c → (l : ℕ) → (In l (start_locations a p) → ⊥) → pos (get_or c.counters l 0) ≡ pos 0
 out_of_start a p c start empty l out = elim (cases_Bool (has_bit p.empty l)) [
   | inl t ↦ ap pos (empty l t)
-  | inr f ↦ ap pos (start.others_empty l (λ w. out (In-filter (λ k. not (has_bit p.empty k)) l a.initial (not_true _ f) (in_of a.initial l w))))
+  | inr f ↦ ap pos (start.others_empty l (λ w. out (In-filter (λ k. not (has_bit p.empty k)) l a.initial (not_from_false _ f) (in_of a.initial l w))))
 ]
 
 -- the start counts add up to all counters
@@ -132,16 +105,13 @@ parameter_values a c = map (λ j. get_or c.parameters j 0) (numbers_from 0 (leng
 abbrev pub start_counts : Automaton → Pattern → Config → List ℕ
 start_counts a p c = map (λ l. get_or c.counters l 0) (start_locations a p)
 
-same_length : {X Y Z : Type 0} (f : X → Y) (g : X → Z) (xs : List X) → length (map f xs) ≡ length (map g xs)
-same_length f g xs = omega (arith, length-map xs f, length-map xs g)
-
 pub start_moment : (a : Automaton) (p : Pattern) (c : Config) → Fits a c → Initial a c → StartsEmpty p c → Moment a (start_meanings a p) (parameter_values a c ++ start_counts a p c) c
 unfolding start_meanings
 start_moment a p c fits start empty =
     let nums = numbers_from 0 (length a.parameters) in
     let locs = start_locations a p in
-    let first : length (parameter_values a c) ≡ length (map Parameter nums) = same_length (λ j. get_or c.parameters j 0) Parameter nums in
-    let second : length (start_counts a p c) ≡ length (map Start locs) = same_length (λ l. get_or c.counters l 0) Start locs in
+    let first : length (parameter_values a c) ≡ length (map Parameter nums) = maps_length (λ j. get_or c.parameters j 0) Parameter nums in
+    let second : length (start_counts a p c) ≡ length (map Start locs) = maps_length (λ l. get_or c.counters l 0) Start locs in
     record {
       count = omega (arith, first, second, length-append (parameter_values a c) (start_counts a p c), length-append (map Parameter nums) (map Start locs));
       places = λ i.
@@ -181,8 +151,8 @@ processes_value a p c fits start empty more =
     let extra = combine-extra (λ k. terms_value (place_coefficient a k) ts -ℤ start_coefficient k) ms vs more m.count in
     let minus = combine-minus (λ k. terms_value (place_coefficient a k) ts) start_coefficient ms vs in
     let terms = combine-terms (place_coefficient a) ms vs ts in
-    let same = terms_value-same ts (λ i. combine (map (λ k. place_coefficient a k i) ms) vs) (value_at c) m.places in
-    let first : length (parameter_values a c) ≡ length (map Parameter nums) = same_length (λ j. get_or c.parameters j 0) Parameter nums in
+    let same = terms_value-same ts (λ i. sum_of_products (map (λ k. place_coefficient a k i) ms) vs) (value_at c) m.places in
+    let first : length (parameter_values a c) ≡ length (map Parameter nums) = maps_length (λ j. get_or c.parameters j 0) Parameter nums in
     let both = combine-append start_coefficient (map Parameter nums) (map Start locs) (parameter_values a c) (start_counts a p c) first in
     let ps = combine-map start_coefficient Parameter (λ j. get_or c.parameters j 0) nums in
     let ls = combine-map start_coefficient Start (λ l. get_or c.counters l 0) locs in

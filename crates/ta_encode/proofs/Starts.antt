@@ -1,63 +1,52 @@
 -- the first configuration of a solution has the solution's parameters and start counts
-use Rattle.std.proofs.Common.{◌≡◌, ℕ, zero, suc, ◌+◌, ◌<◌, ◌≤◌, ℤ, pos, ◌+ℤ◌, ◌*ℤ◌, List, [], ◌∷◌, ◌++◌, map, take, drop, length, get_or, arith, sym, ap, ◌∙◌, refl, subst, length-append}
+use Rattle.std.proofs.Common.{◌≡◌, ℕ, ◌+◌, ◌<◌, ◌≤◌, ℤ, pos, ◌+ℤ◌, ◌*ℤ◌, List, [], ◌∷◌, ◌++◌, map, take, drop, length, get_or, arith, sym, ap, ◌∙◌, refl, subst, length-append}
 use Rattle.std.proofs.lemmas.Simd.{map-map}
 use Rattle.std.proofs.lemmas.List.{length-map, length-drop}
 use Rattle.std.proofs.lemmas.Int.{ints}
 use Rattle.std.proofs.Math.IntN.{zero-*ℤ}
 use Rattle.std.proofs.Math.Seq.{take-add}
+use Rattle.ta_base.proofs.Integers.{natural}
+use Rattle.ta_base.proofs.Ranges.{at_index, in_numbers, length_numbers, map_rising, numbers_rise}
 use Rattle.ta_automaton.specs.declared.automaton.Automaton.{Automaton}
 use Rattle.ta_automaton.specs.declared.pattern.Pattern.{Pattern}
-use Rattle.ta_automaton.specs.Lists.{Rises}
-use Rattle.ta_automaton.specs.Masks.{numbers_from}
+use Rattle.ta_base.specs.Lists.{Rises}
+use Rattle.ta_base.specs.Masks.{numbers_from}
 use Rattle.ta_automaton.specs.Places.{one_if, location_place}
 use Rattle.ta_automaton.proofs.Moves.{one_if-ne, one_if-shift}
 use Rattle.ta_automaton.proofs.Sums.{one_if-same}
-use Rattle.ta_automaton.proofs.Fire.{natural, length_numbers, at_index}
 use Rattle.ta_encode.specs.Unknowns.{Meaning, Parameter, Start, start_locations, start_meanings, place_coefficient}
-use Rattle.ta_encode.specs.System.{combine}
+use Rattle.ta_encode.specs.System.{sum_of_products}
 use Rattle.ta_encode.specs.Laws.{start_values}
 use Rattle.ta_encode.proofs.Start.{start_rises}
 use Rattle.ta_encode.proofs.Values.{place_value, combine-split}
-use Rattle.ta_implied.proofs.Members.{in_numbers}
 use Rattle.ta_encode.proofs.Begin.{combine-on_zero, combine-on_same, first_of}
 
-map_rising : (f g : ℕ → ℕ) (low high : ℕ) (xs : List ℕ) → Rises low high xs → ((x : ℕ) → low ≤ x → x < high → f x ≡ g x) → map f xs ≡ map g xs
-map_rising f g low high [] r h = refl
-map_rising f g low high (x ∷ xs) r h =
-    let first = h x r.0 r.1 in
-    let rest = map_rising f g (x + 1) high xs r.2 (λ y b c. h y (let q = r.0 in omega arith) c) in
-    cc
-
-numbers_rise : (k n : ℕ) → Rises k (k + n) (numbers_from k n)
-numbers_rise k zero = tt
-numbers_rise k (suc n) = (omega arith, omega arith, (let e : k + 1 + n ≡ k + suc n = omega arith in subst (λ (h : ℕ). Rises (k + 1) h (numbers_from (k + 1) n)) e (numbers_rise (k + 1) n)))
-
-none_above : (low high x : ℕ) (xs vs : List ℕ) → Rises low high xs → x < low → combine (map (λ j. one_if j x) xs) vs ≡ pos 0
-unfolding combine
+none_above : (low high x : ℕ) (xs vs : List ℕ) → Rises low high xs → x < low → sum_of_products (map (λ j. one_if j x) xs) vs ≡ pos 0
+unfolding sum_of_products
 none_above low high x [] vs r b = refl
 none_above low high x (y ∷ ys) [] r b = refl
 none_above low high x (y ∷ ys) (v ∷ vs) r b =
     omega (arith, ints, ap (λ z. z *ℤ pos v) (one_if-ne y x (λ e. let q = r.0 in omega arith)), zero-*ℤ (pos v), none_above (y + 1) high x ys vs r.2 (let q = r.0 in omega arith))
 
 -- a sum in which each number picks its own value
-picks : (low high : ℕ) (xs vs : List ℕ) → Rises low high xs → length xs ≤ length vs → map (λ x. natural (combine (map (λ j. one_if j x) xs) vs)) xs ≡ take (length xs) vs
-unfolding combine
+picks : (low high : ℕ) (xs vs : List ℕ) → Rises low high xs → length xs ≤ length vs → map (λ x. natural (sum_of_products (map (λ j. one_if j x) xs) vs)) xs ≡ take (length xs) vs
+unfolding sum_of_products
 picks low high [] vs r b = refl
 picks low high (y ∷ ys) [] r b = absurd (omega arith)
 picks low high (y ∷ ys) (v ∷ vs) r b =
-    let value : ((one_if y y *ℤ pos v) +ℤ combine (map (λ j. one_if j y) ys) vs) ≡ pos v = omega (arith, ints, one_if-same y (pos v), none_above (y + 1) high y ys vs r.2 (omega arith)) in
+    let value : ((one_if y y *ℤ pos v) +ℤ sum_of_products (map (λ j. one_if j y) ys) vs) ≡ pos v = omega (arith, ints, one_if-same y (pos v), none_above (y + 1) high y ys vs r.2 (omega arith)) in
     let first = ap natural value in
-    let rest = map_rising (λ x. natural (combine (map (λ j. one_if j x) (y ∷ ys)) (v ∷ vs))) (λ x. natural (combine (map (λ j. one_if j x) ys) vs)) (y + 1) high ys r.2 (λ x low _.
-    let same : ((one_if y x *ℤ pos v) +ℤ combine (map (λ j. one_if j x) ys) vs) ≡ combine (map (λ j. one_if j x) ys) vs = omega (arith, ints, ap (λ z. z *ℤ pos v) (one_if-ne y x (λ e. omega arith)), zero-*ℤ (pos v)) in
+    let rest = map_rising (λ x. natural (sum_of_products (map (λ j. one_if j x) (y ∷ ys)) (v ∷ vs))) (λ x. natural (sum_of_products (map (λ j. one_if j x) ys) vs)) (y + 1) high ys r.2 (λ x low _.
+    let same : ((one_if y x *ℤ pos v) +ℤ sum_of_products (map (λ j. one_if j x) ys) vs) ≡ sum_of_products (map (λ j. one_if j x) ys) vs = omega (arith, ints, ap (λ z. z *ℤ pos v) (one_if-ne y x (λ e. omega arith)), zero-*ℤ (pos v)) in
     ap natural same) in
     let more = rest ∙ picks (y + 1) high ys vs r.2 (omega arith) in
     cc
 
-through : {X : Type 0} (g : X → ℤ) (k : ℕ → X) (xs vs : List ℕ) → combine (map g (map k xs)) vs ≡ combine (map (λ x. g (k x)) xs) vs
-through g k xs vs = ap (λ (cs : List ℤ). combine cs vs) (map-map g k xs)
+through : {X : Type 0} (g : X → ℤ) (k : ℕ → X) (xs vs : List ℕ) → sum_of_products (map g (map k xs)) vs ≡ sum_of_products (map (λ x. g (k x)) xs) vs
+through g k xs vs = ap (λ (cs : List ℤ). sum_of_products cs vs) (map-map g k xs)
 
 -- a place's value at the start: the parameters' part, and the start counts'
-parts : (a : Automaton) (p : Pattern) (vs : List ℕ) (i : ℕ) → place_value a (start_meanings a p) vs i ≡ (combine (map (λ j. one_if j i) (numbers_from 0 (length a.parameters))) vs +ℤ combine (map (λ l. one_if (location_place a l) i) (start_locations a p)) (drop (length a.parameters) vs))
+parts : (a : Automaton) (p : Pattern) (vs : List ℕ) (i : ℕ) → place_value a (start_meanings a p) vs i ≡ (sum_of_products (map (λ j. one_if j i) (numbers_from 0 (length a.parameters))) vs +ℤ sum_of_products (map (λ l. one_if (location_place a l) i) (start_locations a p)) (drop (length a.parameters) vs))
 unfolding start_meanings
 parts a p vs i =
     let nums = numbers_from 0 (length a.parameters) in
@@ -65,7 +54,7 @@ parts a p vs i =
     let g : Meaning → ℤ = λ m. place_coefficient a m i in
     let split = combine-split g (map Parameter nums) (map Start locs) vs in
     let many : length (map Parameter nums) ≡ length a.parameters = length-map nums Parameter ∙ length_numbers 0 (length a.parameters) in
-    let cut = ap (λ n. combine (map g (map Start locs)) (drop n vs)) many in
+    let cut = ap (λ n. sum_of_products (map g (map Start locs)) (drop n vs)) many in
     omega (arith, ints, split, cut, through g Parameter nums vs, through g Start locs (drop (length a.parameters) vs))
 
 pub parameter_picks : (a : Automaton) (p : Pattern) (vs : List ℕ) → length a.parameters ≤ length vs → (first_of a p vs).parameters ≡ take (length a.parameters) vs
@@ -75,9 +64,9 @@ parameter_picks a p vs b =
     let locs = start_locations a p in
     let e : 0 + n ≡ n = omega arith in
     let rises : Rises 0 n nums = subst (λ (h : ℕ). Rises 0 h nums) e (numbers_rise 0 n) in
-    let same = map_rising (λ i. natural (place_value a (start_meanings a p) vs i)) (λ i. natural (combine (map (λ j. one_if j i) nums) vs)) 0 n nums rises (λ i _ c.
+    let same = map_rising (λ i. natural (place_value a (start_meanings a p) vs i)) (λ i. natural (sum_of_products (map (λ j. one_if j i) nums) vs)) 0 n nums rises (λ i _ c.
     let none = combine-on_zero (λ l. one_if (location_place a l) i) locs (drop n vs) (λ l _. one_if-ne (location_place a l) i (λ e. omega arith)) in
-    let here : place_value a (start_meanings a p) vs i ≡ combine (map (λ j. one_if j i) nums) vs = omega (arith, ints, parts a p vs i, none) in
+    let here : place_value a (start_meanings a p) vs i ≡ sum_of_products (map (λ j. one_if j i) nums) vs = omega (arith, ints, parts a p vs i, none) in
     ap natural here) in
     same ∙ picks 0 n nums vs rises (omega (arith, length_numbers 0 n)) ∙ ap (λ (k : ℕ). take k vs) (length_numbers 0 n)
 
@@ -88,10 +77,10 @@ count_picks a p vs b =
     let locs = start_locations a p in
     let rest = drop n vs in
     let rises = start_rises a p in
-    let same = map_rising (λ l. get_or (first_of a p vs).counters l 0) (λ l. natural (combine (map (λ k. one_if k l) locs) rest)) 0 (length a.locations) locs rises (λ l _ c.
+    let same = map_rising (λ l. get_or (first_of a p vs).counters l 0) (λ l. natural (sum_of_products (map (λ k. one_if k l) locs) rest)) 0 (length a.locations) locs rises (λ l _ c.
     let none = combine-on_zero (λ j. one_if j (location_place a l)) nums vs (λ j h. one_if-ne j (location_place a l) (λ e. let q = (in_numbers j 0 n h).1 in omega arith)) in
     let shifted = combine-on_same (λ k. one_if (location_place a k) (location_place a l)) (λ k. one_if k l) locs rest (λ k _. one_if-shift (length a.parameters + length a.shared) k l) in
-    let here : place_value a (start_meanings a p) vs (location_place a l) ≡ combine (map (λ k. one_if k l) locs) rest = omega (arith, ints, parts a p vs (location_place a l), none, shifted) in
+    let here : place_value a (start_meanings a p) vs (location_place a l) ≡ sum_of_products (map (λ k. one_if k l) locs) rest = omega (arith, ints, parts a p vs (location_place a l), none, shifted) in
     at_index (λ k. natural (place_value a (start_meanings a p) vs (location_place a k))) (length a.locations) l c ∙ ap natural here) in
     same ∙ picks 0 (length a.locations) locs rest rises (omega (arith, length-drop n vs))
 

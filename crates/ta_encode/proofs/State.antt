@@ -1,10 +1,12 @@
 -- a word that describes the first steps of a run, and the steps since its last element
-use Rattle.std.proofs.Common.{◌≡◌, inl, inr, ℕ, ◌+◌, ◌^◌, ◌<◌, ◌≤◌, pos, ◌+ℤ◌, ◌≤ℤ◌, ◌<ℤ◌, List, [], ◌∷◌, ◌++◌, map, length, eqb, Bool, true, false, not, ◌||◌, arith, sym, ap, ◌∙◌, refl, subst, slice_get, Some, Option, append_assoc, length-append, zero-add}
+use Rattle.std.proofs.Common.{◌≡◌, inl, inr, ℕ, ◌+◌, ◌^◌, ◌<◌, ◌≤◌, pos, ◌+ℤ◌, ◌≤ℤ◌, ◌<ℤ◌, List, [], ◌∷◌, ◌++◌, map, length, eqb, true, false, not, arith, sym, ap, ◌∙◌, refl, subst, slice_get, Some, Option, append_assoc, length-append, zero-add}
 use Rattle.std.proofs.lemmas.List.{length-map}
 use Rattle.std.specs.List.{filter}
 use Rattle.std.proofs.lemmas.Int.{ints}
-use Rattle.std.proofs.lemmas.Bool.{true≢false, eqb-true, or_cases, and_from}
+use Rattle.std.proofs.lemmas.Bool.{eqb-true, or_cases, and_from, not-true, not_from_false, or_parts}
 use Rattle.std.proofs.lemmas.Option.{slice_get_within}
+use Rattle.ta_base.proofs.Bits.{all_below-at}
+use Rattle.ta_base.proofs.Booleans.{implies-at}
 use Rattle.ta_linear.specs.Values.{value_of, RowHolds}
 use Rattle.ta_linear.specs.declared.row.Row.{Row}
 use Rattle.ta_automaton.specs.declared.automaton.Automaton.{Automaton}
@@ -13,25 +15,24 @@ use Rattle.ta_automaton.proofs.Sums.{terms_value-same}
 use Rattle.ta_automaton.specs.declared.pattern.Event.{Event as PatternEvent}
 use Rattle.ta_automaton.specs.declared.pattern.Pattern.{Pattern}
 use Rattle.ta_automaton.specs.Runs.{Config, value_at, Holds}
-use Rattle.ta_automaton.specs.Masks.{has_bit, implies, numbers_from}
+use Rattle.ta_base.specs.Masks.{has_bit, implies, numbers_from}
 use Rattle.ta_words.specs.declared.element.Element.{Element}
 use Rattle.ta_words.specs.declared.element.Element.TheVariants.{Event, Rise, Fall}
 use Rattle.ta_words.specs.Words.{has_rise, has_fallen, is_complete, is_due, is_ready, is_standing, LegalUnder, allowed_rules}
 use Rattle.ta_encode.specs.Unknowns.{Meaning, Count, Single, meanings, counts_after, singles_after, place_coefficient}
-use Rattle.ta_encode.specs.System.{LinearRow, opposite, negated, counter_rows, guard_rows, standing_rows, singles_row, event_rows, rise_rows, happening_rows, fall_rows, word_rows, combine, row_value, AllHold}
+use Rattle.ta_encode.specs.System.{LinearRow, opposite, negated, counter_rows, guard_rows, standing_rows, singles_row, event_rows, rise_rows, happening_rows, fall_rows, word_rows, sum_of_products, row_value, AllHold}
 use Rattle.ta_automaton.specs.Sums.{total, times_in}
 use Rattle.ta_encode.proofs.Combine.{combine-append, combine-extra, combine-map, combine-zero, combine-concat, combine-own}
 use Rattle.ta_automaton.proofs.Fired.{EachOnce, firings}
 use Rattle.ta_encode.proofs.Moments.{Moment, RowFails, AllHold-append, counters_hold, condition_holds, guards_hold, guards_fail, opposite_value}
 use Rattle.ta_automaton.proofs.Moves.{Fits}
-use Rattle.ta_automaton.proofs.MaskTests.{true_not, not_true, implies-at, all_below-at}
 use Rattle.ta_words.proofs.Listed.{event_child, rise_child, fall_child}
 
 pub record State (a : Automaton) (p : Pattern) (pairs : List (ℕ × ℕ)) (start : ℕ) (past : List Element) (vs : List ℕ) (fired : List ℕ) (d : Config) : Type 0 where
   pub legal : LegalUnder a p pairs start past
   pub fits : Fits a d
   pub count : length vs ≡ length (meanings a p start past)
-  pub places : (i : ℕ) → (combine (map (λ m. place_coefficient a m i) (meanings a p start past)) vs +ℤ total (change_of a i) fired) ≡ value_at d i
+  pub places : (i : ℕ) → (sum_of_products (map (λ m. place_coefficient a m i) (meanings a p start past)) vs +ℤ total (change_of a i) fired) ≡ value_at d i
   pub once : EachOnce fired (allowed_rules a p start past)
   pub solved : (more : List ℕ) → AllHold (vs ++ more) (word_rows a p start past)
   pub fallen : (j : ℕ) (row : Row) → slice_get a.fall j ≡ Some row → has_fallen start past j ≡ true → RowFails (value_at d) row
@@ -55,7 +56,7 @@ old_rows vs new more rows h = subst (λ (v : List ℕ). AllHold v rows) (sym (ap
 
 standing_hold : (a : Automaton) (start : ℕ) (past : List Element) (ms : List Meaning) (vs : List ℕ) (d : Config) → Moment a ms vs d → (more : List ℕ) → ((j : ℕ) (row : Row) → slice_get a.fall j ≡ Some row → has_fallen start past j ≡ false → RowHolds (value_at d) row) → AllHold (vs ++ more) (standing_rows a start past ms)
 standing_hold a start past ms vs d m more h =
-    guards_hold a ms vs d m more (λ j. not (has_fallen start past j)) 0 a.fall (λ j row at t. h j row at (ap (has_fallen start past) (sym (zero-add j)) ∙ true_not _ t))
+    guards_hold a ms vs d m more (λ j. not (has_fallen start past j)) 0 a.fall (λ j row at t. h j row at (ap (has_fallen start past) (sym (zero-add j)) ∙ not-true _ t))
 
 pub push_rise : (a : Automaton) (p : Pattern) (pairs : List (ℕ × ℕ)) (start : ℕ) (past : List Element) (vs fired : List ℕ) (d : Config) → State a p pairs start past vs fired d → (i : ℕ) (row : Row) → is_complete p past ≡ false → is_due pairs past i ≡ true → has_rise past i ≡ false → slice_get a.rise i ≡ Some row → RowHolds (value_at d) row → State a p pairs start (Rise i ∷ past) (vs ++ counts_of a p start past fired) [] d
 unfolding meanings total word_rows rise_rows has_fallen
@@ -63,7 +64,7 @@ push_rise a p pairs start past vs fired d s i row more due new named holds =
     let m = closed a p pairs start past vs fired d s in
     let some : Some row ≡ Some row = refl in
     record {
-      legal = (rise_child a p pairs start past i more (slice_get_within _ _ _ named) (and_from (is_due pairs past i) (not (has_rise past i)) due (not_true (has_rise past i) new)), s.legal);
+      legal = (rise_child a p pairs start past i more (slice_get_within _ _ _ named) (and_from (is_due pairs past i) (not (has_rise past i)) due (not_from_false (has_rise past i) new)), s.legal);
       fits = s.fits;
       count = m.count;
       places = λ k. omega (arith, ints, m.places k);
@@ -107,10 +108,6 @@ pub record Falls (a : Automaton) (start : ℕ) (past : List Element) (mask : ℕ
   pub stays : (j : ℕ) (row : Row) → slice_get a.fall j ≡ Some row → has_fallen start past j ≡ true → RowFails (value_at d) row
   pub rest : (j : ℕ) (row : Row) → slice_get a.fall j ≡ Some row → has_bit mask j ≡ false → has_fallen start past j ≡ false → RowHolds (value_at d) row
 
-or_false : (x y : Bool) → (x || y) ≡ false → (x ≡ false) × (y ≡ false)
-or_false true y e = absurd (true≢false e)
-or_false false y e = (refl, e)
-
 single_sum : (before : List Meaning) (al : List ℕ) (vs extra : List ℕ) (r : ℕ) → length vs ≡ length before → times_in r al ≡ 1 → row_value ((vs ++ map (λ x. times_in x (r ∷ [])) al) ++ extra) (singles_row before al) ≡ pos 0
 unfolding total
 single_sum before al vs extra r e one =
@@ -133,7 +130,7 @@ push_fall a p pairs start past vs fired d s r next mask more low high stands one
       count = omega (arith, m.count, length-append ws (counts_of a p start past (r ∷ [])), length-append before (singles_after a p start past), length-map al (λ x. times_in x (r ∷ [])), length-map al (Single n));
       places = λ i. omega (arith, ints, combine-append (λ k. place_coefficient a k i) before (singles_after a p start past) ws (counts_of a p start past (r ∷ [])) m.count, combine-map (λ k. place_coefficient a k i) (Single n) (λ x. times_in x (r ∷ [])) al, firings (change_of a i) al (r ∷ []) (one, tt), m.places i, moved i);
     } in
-    let stand : (j : ℕ) (row : Row) → slice_get a.fall j ≡ Some row → has_fallen start (Fall mask ∷ past) j ≡ false → RowHolds (value_at next) row = (λ j row at f. let q = or_false (has_bit mask j) (has_fallen start past j) f in falls.rest j row at q.0 q.1) in
+    let stand : (j : ℕ) (row : Row) → slice_get a.fall j ≡ Some row → has_fallen start (Fall mask ∷ past) j ≡ false → RowHolds (value_at next) row = (λ j row at f. let q = or_parts (has_bit mask j) (has_fallen start past j) f in falls.rest j row at q.0 q.1) in
     record {
       legal = (fall_child a p pairs start past mask more low high stands, s.legal);
       fits = fits;
@@ -147,7 +144,7 @@ push_fall a p pairs start past vs fired d s r next mask more low high stands one
           let ends = before ++ singles_after a p start past in
           let v = (ws ++ counts_of a p start past (r ∷ [])) ++ extra in
           let early : AllHold v (counter_rows a p before) = at_before (counter_rows a p before) (λ e. counters_hold a before ws d m e (filter (λ l. not (has_bit p.empty l)) (numbers_from 0 (length a.locations)))) in
-          let chosen : AllHold v (guard_rows a before (has_bit mask) 0 a.fall) = at_before (guard_rows a before (has_bit mask) 0 a.fall) (λ e. guards_hold a before ws d m e (has_bit mask) 0 a.fall (λ j row at t. s.standing j row at (true_not (has_fallen start past j) (implies-at (has_bit mask j) (not (has_fallen start past j)) (all_below-at (length a.fall) (λ k. implies (has_bit mask k) (not (has_fallen start past k))) stands j (slice_get_within a.fall j row at)) (ap (has_bit mask) (sym (zero-add j)) ∙ t))))) in
+          let chosen : AllHold v (guard_rows a before (has_bit mask) 0 a.fall) = at_before (guard_rows a before (has_bit mask) 0 a.fall) (λ e. guards_hold a before ws d m e (has_bit mask) 0 a.fall (λ j row at t. s.standing j row at (not-true (has_fallen start past j) (implies-at (has_bit mask j) (not (has_fallen start past j)) (all_below-at (length a.fall) (λ k. implies (has_bit mask k) (not (has_fallen start past k))) stands j (slice_get_within a.fall j row at)) (ap (has_bit mask) (sym (zero-add j)) ∙ t))))) in
           let late : AllHold v (counter_rows a p ends) = counters_hold a ends (ws ++ counts_of a p start past (r ∷ [])) next end extra (filter (λ l. not (has_bit p.empty l)) (numbers_from 0 (length a.locations))) in
           let gone : AllHold v (map negated (guard_rows a ends (has_bit mask) 0 a.fall)) = guards_fail a ends (ws ++ counts_of a p start past (r ∷ [])) next end extra (has_bit mask) 0 a.fall (λ j row at t. falls.fails j row at (ap (has_bit mask) (sym (zero-add j)) ∙ t)) in
           let left : AllHold v (standing_rows a start (Fall mask ∷ past) ends) = standing_hold a start (Fall mask ∷ past) ends (ws ++ counts_of a p start past (r ∷ [])) next end extra stand in

@@ -1,15 +1,20 @@
 -- one step of a run: a self-loop, a step that switches no fall guard, or one that does
-use Rattle.std.proofs.Common.{◌≡◌, ◌≢◌, inl, inr, ℕ, zero, suc, ◌+◌, ◌<◌, ◌≤◌, pos, ◌≤ℤ◌, ◌<ℤ◌, List, [], ◌∷◌, ◌++◌, map, length, eqb, cond, Bool, true, false, not, ◌&&◌, arith, sym, ap, ◌∙◌, refl, subst, slice_get, get_or, Some, append_assoc, ◌⊎◌}
+use Rattle.std.proofs.Common.{◌≡◌, ◌≢◌, inl, inr, ℕ, ◌<◌, ◌≤◌, pos, ◌≤ℤ◌, ◌<ℤ◌, List, [], ◌∷◌, ◌++◌, map, length, Bool, true, false, not, ◌&&◌, arith, sym, ap, ◌∙◌, subst, slice_get, get_or, Some, append_assoc, ◌⊎◌}
 use Rattle.std.proofs.lemmas.Int.{ints}
-use Rattle.std.proofs.lemmas.Bool.{false≢true, true≢false, cases_Bool, and_parts, and_from, and_cases, ne_eqb}
-use Rattle.std.proofs.lemmas.Bool.Decides.{nat_tests, eqb_tells}
+use Rattle.std.proofs.lemmas.Bool.{cases_Bool, and_parts, and_from, ne_eqb, not-false, not-true, not_from_false}
+use Rattle.std.proofs.lemmas.Bool.Decides.{eqb_tells}
 use Rattle.std.proofs.lemmas.Option.{slice_get_within}
+use Rattle.ta_base.proofs.Bits.{all_below-at, all_below-false, all_below-from, bit_set, mask_of-bit}
+use Rattle.ta_base.proofs.Booleans.{and_false, implies-from}
+use Rattle.ta_base.proofs.Integers.{negative_false, negative_true}
+use Rattle.ta_base.proofs.Lists.{some_at}
+use Rattle.ta_base.proofs.Naturals.{arrives, mask_of, mask_of-below, mask_of-some}
 use Rattle.ta_linear.specs.Values.{value_of}
 use Rattle.ta_linear.specs.declared.row.Row.{Row}
 use Rattle.ta_automaton.specs.declared.automaton.Automaton.{Automaton}
 use Rattle.ta_automaton.specs.declared.pattern.Pattern.{Pattern}
 use Rattle.ta_automaton.specs.Runs.{Admissible, Config, value_at, Step, LoopsPure}
-use Rattle.ta_automaton.specs.Masks.{has_bit, all_below, implies, In}
+use Rattle.ta_base.specs.Masks.{has_bit, all_below, implies, In}
 use Rattle.ta_implied.specs.Implied.{RiseHolds}
 use Rattle.ta_words.specs.declared.element.Element.{Element}
 use Rattle.ta_words.specs.declared.element.Element.TheVariants.{Fall}
@@ -19,14 +24,8 @@ use Rattle.ta_automaton.proofs.Fired.{once}
 use Rattle.ta_encode.proofs.Moments.{RowFails}
 use Rattle.ta_automaton.proofs.Moves.{Fits, move_at, fits_after, loop_at, step_later}
 use Rattle.ta_automaton.proofs.Thresholds.{stays_below, stays_true}
-use Rattle.ta_automaton.proofs.MaskTests.{all_below-from, all_below-at, implies-from, true_not, not_true, bit_set, mask_of, mask_of-bit, mask_of-below, mask_of-some}
 use Rattle.ta_encode.proofs.State.{State, add_step, skip_step, push_fall}
-use Rattle.ta_encode.proofs.Start.{negative_true, negative_false, row_fails}
-
-pub some_at : {X : Type 0} (xs : List X) (i : ℕ) → i < length xs → (x : X) × (slice_get xs i ≡ Some x)
-some_at [] i h = absurd (omega arith)
-some_at (x ∷ xs) zero h = (x, refl)
-some_at (x ∷ xs) (suc i) h = some_at xs i (omega arith)
+use Rattle.ta_encode.proofs.Start.{row_fails}
 
 pub stays_false : (a : Automaton) (r : ℕ) (before after : Config) → Fits a before → Fits a after → Step a r before after → (j : ℕ) (row : Row) → slice_get a.fall j ≡ Some row → RowFails (value_at before) row → RowFails (value_at after) row
 stays_false a r before after f g step j row at h = stays_below a (value_at before) (value_at after) (step_later a r before after f g step) j row at h
@@ -41,9 +40,6 @@ KeptEmpty p d = (l : ℕ) → has_bit p.empty l ≡ true → get_or d.counters l
 from_free : (p : Pattern) (d : Config) (l : ℕ) → KeptEmpty p d → 1 ≤ get_or d.counters l 0 → has_bit p.empty l ≡ false
 from_free p d l empty some = elim (cases_Bool (has_bit p.empty l)) [ inl t ↦ absurd (omega (arith, empty l t)) | inr f ↦ f ]
 
-arrives : (from to b c : ℕ) → from ≢ to → b + cond (eqb to from) 1 0 ≡ c + cond (eqb to to) 1 0 → 1 ≤ b
-arrives from to b c ne e = grind (arith, nat_tests)
-
 -- a step between two locations is allowed
 pub step_allowed : (a : Automaton) (p : Pattern) (pairs : List (ℕ × ℕ)) (start : ℕ) (past : List Element) (vs fired : List ℕ) (d next : Config) (r : ℕ) → State a p pairs start past vs fired d → Seen a past d [] → KeptEmpty p d → KeptEmpty p next → (step : Step a r d next) → step.rule.from ≢ step.rule.to → times_in r (allowed_rules a p start past) ≡ 1
 unfolding allowed_rules
@@ -55,8 +51,8 @@ step_allowed a p pairs start past vs fired d next r s seen empty later step ne =
     let falls = all_below-from (length a.fall) (λ j. implies (has_bit rule.fall j) (not (has_fallen start past j))) (λ j b. implies-from _ _ (λ t.
     let w = some_at a.fall j b in
     let holds : pos 0 ≤ℤ value_of (value_at d) (w.0).form = step.move.fall j w.0 w.1 (bit_set rule.fall j t) in
-    not_true _ (elim (cases_Bool (has_fallen start past j)) [ inl y ↦ absurd (let fails : value_of (value_at d) (w.0).form <ℤ pos 0 = s.fallen j w.0 w.1 y in omega (arith, ints)) | inr f ↦ f ]))) in
-    let may : may_fire a p start past (Some rule) ≡ true = and_from _ _ (not_true _ (ne_eqb rule.from rule.to ne)) (and_from _ _ (not_true _ from) (and_from _ _ (not_true _ to) (and_from _ _ rises falls))) in
+    not_from_false _ (elim (cases_Bool (has_fallen start past j)) [ inl y ↦ absurd (let fails : value_of (value_at d) (w.0).form <ℤ pos 0 = s.fallen j w.0 w.1 y in omega (arith, ints)) | inr f ↦ f ]))) in
+    let may : may_fire a p start past (Some rule) ≡ true = and_from _ _ (not_from_false _ (ne_eqb rule.from rule.to ne)) (and_from _ _ (not_from_false _ from) (and_from _ _ (not_from_false _ to) (and_from _ _ rises falls))) in
     once (λ k. may_fire a p start past (slice_get a.rules k)) r 0 (length a.rules) (ap (may_fire a p start past) step.named ∙ may) (omega arith) (omega (arith, slice_get_within a.rules r rule step.named))
 
 -- values that begin with others
@@ -79,25 +75,6 @@ pub record Stage (a : Automaton) (p : Pattern) (pairs : List (ℕ × ℕ)) (star
   pub rises : Seen a past d left
   pub risen : (i : ℕ) → has_rise past i ≡ true → RiseHolds a d i
   pub admissible : Admissible a d.parameters
-
-pub all_below-false : (n : ℕ) (test : ℕ → Bool) → all_below n test ≡ false → (k : ℕ) × (k < n) × (test k ≡ false)
-unfolding all_below
-all_below-false zero test h = absurd (true≢false h)
-all_below-false (suc n) test h = elim (and_cases (all_below n test) (test n) h) [
-  | inl e ↦ (let w = all_below-false n test e in (w.0, (let b = w.1 in omega arith), w.2))
-  | inr e ↦ (n, omega arith, e)
-]
-
-pub false_not : (x : Bool) → not x ≡ false → x ≡ true
-false_not true e = refl
-false_not false e = absurd (true≢false e)
-
-and_false : (x y : Bool) → (x && y) ≡ false → x ≡ true → y ≡ false
-and_false true y e t = e
-and_false false y e t = absurd (false≢true t)
-
-and_true : (x y : Bool) → x ≡ true → y ≡ true → (x && y) ≡ true
-and_true x y = and_from x y
 
 -- whether a guard that stood turns false
 abbrev pub turns : Automaton → ℕ → List Element → Config → ℕ → Bool
@@ -140,8 +117,8 @@ after_step a p pairs start origin done begun d next r all in_all loops g empty l
               state = add_step a p pairs start past g.vs g.fired d s r next one fits moved (λ j row at. (
                 stays j row at,
                 λ f.
-                    let off : test j ≡ false = true_not (test j) (all_below-at n (λ k. not (test k)) none j (slice_get_within _ _ _ at)) in
-                    negative_false _ (sym (ap (row_fails next) at) ∙ and_false _ _ off (not_true _ f)),
+                    let off : test j ≡ false = not-true (test j) (all_below-at n (λ k. not (test k)) none j (slice_get_within _ _ _ at)) in
+                    negative_false _ (sym (ap (row_fails next) at) ∙ and_false _ _ off (not_from_false _ f)),
               ));
               more = g.more;
               events = g.events;
@@ -159,12 +136,12 @@ after_step a p pairs start origin done begun d next r all in_all loops g empty l
                   vs = (g.vs ++ map (λ k. times_in k g.fired) (allowed_rules a p start past)) ++ map (λ k. times_in k (r ∷ [])) (allowed_rules a p start past);
                   begins = begins_more origin (g.vs ++ map (λ k. times_in k g.fired) (allowed_rules a p start past)) (map (λ k. times_in k (r ∷ [])) (allowed_rules a p start past)) (begins_more origin g.vs (map (λ k. times_in k g.fired) (allowed_rules a p start past)) g.begins);
                   fired = [];
-                  state = push_fall a p pairs start past g.vs g.fired d s r next mask g.more (mask_of-some test n w.0 w.1 (false_not (test w.0) w.2)) (mask_of-below test n)
+                  state = push_fall a p pairs start past g.vs g.fired d s r next mask g.more (mask_of-some test n w.0 w.1 (not-false (test w.0) w.2)) (mask_of-below test n)
                       (all_below-from n (λ j. implies (has_bit mask j) (not (has_fallen start past j))) (λ j b. implies-from (has_bit mask j) (not (has_fallen start past j)) (λ t. (and_parts (not (has_fallen start past j)) (row_fails next (slice_get a.fall j)) (sym (mask_of-bit test n j b) ∙ t)).0)))
                       one fits moved (record {
                         fails = λ j row at t. negative_true _ (sym (ap (row_fails next) at) ∙ (and_parts (not (has_fallen start past j)) (row_fails next (slice_get a.fall j)) (sym (bit j row at) ∙ t)).1);
                         stays = stays;
-                        rest = λ j row at t f. negative_false _ (sym (ap (row_fails next) at) ∙ and_false (not (has_fallen start past j)) (row_fails next (slice_get a.fall j)) (sym (bit j row at) ∙ t) (not_true _ f));
+                        rest = λ j row at t f. negative_false _ (sym (ap (row_fails next) at) ∙ and_false (not (has_fallen start past j)) (row_fails next (slice_get a.fall j)) (sym (bit j row at) ∙ t) (not_from_false _ f));
                       });
                   more = g.more;
                   events = g.events;

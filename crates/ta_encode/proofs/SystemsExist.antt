@@ -1,10 +1,11 @@
 -- The numbers of a word's rows are in range, so each word has a system.
-use Rattle.std.proofs.Common.{◌≡◌, ◌≢◌, ◌⊎◌, inl, inr, ⊎_elim, ℕ, zero, suc, ℤ, pos, negsuc, ◌+◌, ◌-◌, ◌*◌, ◌^◌, ◌<◌, ◌≤◌, ◌+ℤ◌, ◌-ℤ◌, ◌*ℤ◌, ◌≤ℤ◌, ◌<ℤ◌, unsigned_abs, Bool, true, false, not, eqb, cond, List, [], ◌∷◌, ◌++◌, length, length-append, map, get_or, slice_get, Option, Some, None, arith, refl, sym, ap, subst, ◌∙◌}
-use Rattle.std.specs.List.{filter}
+use Rattle.std.proofs.Common.{◌≡◌, ◌≢◌, ⊎_elim, ℕ, zero, suc, ℤ, pos, negsuc, ◌+◌, ◌-◌, ◌*◌, ◌^◌, ◌<◌, ◌≤◌, ◌+ℤ◌, ◌-ℤ◌, ◌*ℤ◌, ◌≤ℤ◌, ◌<ℤ◌, unsigned_abs, Bool, true, false, not, eqb, cond, List, [], ◌∷◌, ◌++◌, length, length-append, map, get_or, slice_get, Option, Some, None, arith, refl, sym, ap, subst, ◌∙◌}
+use Rattle.std.specs.List.{filter, AllByRecursion}
 use Rattle.std.specs.Prelude.{◌==◌, if◌then◌else◌, nat_lt}
-use Rattle.std.proofs.lemmas.Int.{ints, unsigned_abs-mul}
+use Rattle.std.proofs.lemmas.Int.{ints}
 use Rattle.std.proofs.lemmas.List.{length-map}
-use Rattle.std.proofs.Math.Nat.{mul-le-mul}
+use Rattle.ta_base.proofs.Each.{coefficients_turned, each_append, each_cond, each_map_all, each_turned, each_weaker}
+use Rattle.ta_base.proofs.Integers.{abs_minus, abs_product, abs_sum, choose_small, less_small, zero_or_not}
 use Rattle.ta_linear.specs.Numbers.{InRange}
 use Rattle.ta_linear.specs.Rows.{AllBelow}
 use Rattle.ta_linear.specs.Terms.{coefficient, IsNormal}
@@ -19,44 +20,34 @@ use Rattle.ta_automaton.specs.declared.file.File.{File}
 use Rattle.ta_automaton.specs.declared.pattern.Event.{Event as PatternEvent}
 use Rattle.ta_automaton.specs.declared.pattern.Pattern.{Pattern}
 use Rattle.ta_automaton.specs.declared.rule.Rule.{Rule}
-use Rattle.ta_automaton.specs.Lists.{Each}
-use Rattle.ta_automaton.specs.Masks.{has_bit, numbers_from}
+use Rattle.ta_base.specs.Masks.{has_bit, numbers_from}
 use Rattle.ta_automaton.specs.Places.{one_if, location_place, shared_change, rule_change}
 use Rattle.ta_automaton.proofs.Thresholds.{pattern_within, rule_within}
 use Rattle.ta_words.specs.declared.element.Element.{Element}
 use Rattle.ta_words.specs.declared.element.Element.TheVariants.{Event, Rise, Fall}
 use Rattle.ta_words.specs.Words.{allowed_rules, has_fallen}
-use Rattle.ta_encode.specs.Code.{RowOf, RowsOf, SystemAt}
+use Rattle.ta_encode.specs.Code.{IsRowOf, AreRowsOf, SystemAt}
 use Rattle.ta_encode.specs.Lines.{BoundsWithin}
 use Rattle.ta_encode.specs.PatternSearch.{pattern_search}
 use Rattle.ta_encode.specs.Sample.{sample_meanings, sample_rows, sample_search}
-use Rattle.ta_encode.specs.Search.{Pending, Search, rows_of}
+use Rattle.ta_encode.specs.Search.{Pending, Search, bounded_rows}
 use Rattle.ta_encode.specs.Unknowns.{Meaning, Parameter, Start, Count, Single, place_coefficient, start_meanings, meanings, counts_after, singles_after}
 use Rattle.ta_encode.specs.System.{LinearRow, Bound, Side, Low, High, bound_row, only_at, side_row, opposite, negated, form_row, counter_row, counter_rows, condition_rows, guard_rows, start_guard_rows, start_coefficient, processes_row, singles_row, event_rows, standing_rows, start_rows, rise_rows, happening_rows, fall_rows, word_rows}
 use Rattle.ta_encode.specs.Inside.Lines.{SmallForm, SmallRows, SmallCondition, SmallEvents}
-use Rattle.ta_encode.proofs.Changes.{small_updates}
+use Rattle.ta_encode.proofs.Changes.{small_updates, one_if-small}
 use Rattle.ta_encode.proofs.Drafts.{events_small}
-use Rattle.ta_encode.proofs.Running.{Small, abs_minus, abs_sum, if_other, if_same}
+use Rattle.ta_encode.proofs.Running.{Small, if_other, if_same}
 use Rattle.ta_encode.proofs.Samples.{sample_few}
 use Rattle.ta_encode.proofs.Smallness.{fall_rows_small, places_most, processes_small, resilience_small, rise_rows_small, small_condition}
 
--- ---- numbers
-
-choose_small : (b : Bool) (x y : ℤ) (n : ℕ) → unsigned_abs x ≤ n → unsigned_abs y ≤ n → unsigned_abs (if b then x else y) ≤ n
-choose_small true x y n h g = h
-choose_small false x y n h g = g
-
-one_small : (x y : ℕ) → unsigned_abs (one_if x y) ≤ 1
-one_small x y = choose_small (x == y) (pos 1) (pos 0) 1 (omega arith) (omega arith)
-
-updates_small : (ts : List (ℕ × ℤ)) (x : ℕ) → Each Small ts → unsigned_abs (coefficient ts x) ≤ length ts * 1000000000
+updates_small : (ts : List (ℕ × ℤ)) (x : ℕ) → AllByRecursion Small ts → unsigned_abs (coefficient ts x) ≤ length ts * 1000000000
 updates_small [] x h = omega arith
 updates_small (t ∷ ts) x h =
     let first = choose_small (t.0 == x) t.1 (pos 0) 1000000000 h.0 (omega arith) in
     let whole = abs_sum (if t.0 == x then t.1 else pos 0) (coefficient ts x) 1000000000 (length ts * 1000000000) first (updates_small ts x h.1) in
     omega (arith, whole)
 
-shared_small : (a : Automaton) (rule : Rule) (place : ℕ) → length rule.updates ≤ 16 → Each Small rule.updates → unsigned_abs (shared_change a rule place) ≤ 16000000000
+shared_small : (a : Automaton) (rule : Rule) (place : ℕ) → length rule.updates ≤ 16 → AllByRecursion Small rule.updates → unsigned_abs (shared_change a rule place) ≤ 16000000000
 unfolding shared_change
 shared_small a rule place few small =
     let there : unsigned_abs (coefficient rule.updates (place - length a.parameters)) ≤ 16000000000 = omega (arith, updates_small rule.updates (place - length a.parameters) small) in
@@ -69,66 +60,36 @@ change_small a r (Some rule) place at =
     let shared = shared_small a rule place within.updates_limit (small_updates (length a.shared) rule.updates within.updates) in
     let to = one_if (location_place a rule.to) place in
     let from = one_if (location_place a rule.from) place in
-    let move = abs_minus to from 1 1 (one_small (location_place a rule.to) place) (one_small (location_place a rule.from) place) in
+    let move = abs_minus to from 1 1 (one_if-small (location_place a rule.to) place) (one_if-small (location_place a rule.from) place) in
     omega (arith, abs_sum (shared_change a rule place) (to -ℤ from) 16000000000 2 shared move)
 
 place_small : (a : Automaton) (m : Meaning) (place : ℕ) → unsigned_abs (place_coefficient a m place) ≤ 17000000000
-place_small a (Parameter i) place = omega (arith, one_small i place)
-place_small a (Start l) place = omega (arith, one_small (location_place a l) place)
+place_small a (Parameter i) place = omega (arith, one_if-small i place)
+place_small a (Start l) place = omega (arith, one_if-small (location_place a l) place)
 place_small a (Count k r) place = change_small a r (slice_get a.rules r) place refl
 place_small a (Single k r) place = change_small a r (slice_get a.rules r) place refl
 
-product_small : (a b : ℤ) → unsigned_abs a ≤ 1000000000 → unsigned_abs b ≤ 17000000000 → unsigned_abs (a *ℤ b) ≤ 17000000000000000000
-product_small a b h g = subst (λ n. n ≤ 17000000000000000000) (sym (unsigned_abs-mul a b)) (mul-le-mul h g)
-
-value_small : (a : Automaton) (m : Meaning) (ts : List (ℕ × ℤ)) → Each Small ts → unsigned_abs (terms_value (place_coefficient a m) ts) ≤ length ts * 17000000000000000000
+value_small : (a : Automaton) (m : Meaning) (ts : List (ℕ × ℤ)) → AllByRecursion Small ts → unsigned_abs (terms_value (place_coefficient a m) ts) ≤ length ts * 17000000000000000000
 value_small a m [] h = omega arith
 value_small a m (t ∷ ts) h =
     let z = place_coefficient a m t.0 in
-    let whole = abs_sum (t.1 *ℤ z) (terms_value (place_coefficient a m) ts) 17000000000000000000 (length ts * 17000000000000000000) (product_small t.1 z h.0 (place_small a m t.0)) (value_small a m ts h.1) in
+    let whole = abs_sum (t.1 *ℤ z) (terms_value (place_coefficient a m) ts) 17000000000000000000 (length ts * 17000000000000000000) (abs_product t.1 z h.0 (place_small a m t.0)) (value_small a m ts h.1) in
     omega (arith, whole)
 
 form_small : (a : Automaton) (m : Meaning) (f : Form) → SmallForm f → unsigned_abs (terms_value (place_coefficient a m) f.terms) ≤ 2 ^ 72
 form_small a m f small = omega (arith, value_small a m f.terms small.terms.small, small.terms.few)
 
 -- ---- rows whose numbers are small: a constant up to some number, and no more coefficients than unknowns
-
 record Mild (most n : ℕ) (l : LinearRow) : Type 0 where
   constant : unsigned_abs l.constant ≤ most
-  coefficients : Each (λ (c : ℤ). unsigned_abs c ≤ 2 ^ 73) l.coefficients
+  coefficients : AllByRecursion (λ (c : ℤ). unsigned_abs c ≤ 2 ^ 73) l.coefficients
   count : length l.coefficients ≤ n
 
 abbrev AllMild : ℕ → ℕ → List LinearRow → Type 0
-AllMild most n ls = Each (Mild most n) ls
-
-each_map : {X Y : Type 0} (P : Y → Type 0) (f : X → Y) (xs : List X) → ((x : X) → P (f x)) → Each P (map f xs)
-each_map P f [] h = tt
-each_map P f (x ∷ xs) h = (h x, each_map P f xs h)
-
-each_turned : {X : Type 0} (P Q : X → Type 0) (f : X → X) (xs : List X) → ((x : X) → P x → Q (f x)) → Each P xs → Each Q (map f xs)
-each_turned P Q f [] h all = tt
-each_turned P Q f (x ∷ xs) h all = (h x all.0, each_turned P Q f xs h all.1)
-
-each_weaker : {X : Type 0} (P Q : X → Type 0) (xs : List X) → ((x : X) → P x → Q x) → Each P xs → Each Q xs
-each_weaker P Q [] h all = tt
-each_weaker P Q (x ∷ xs) h all = (h x all.0, each_weaker P Q xs h all.1)
-
-each_append : {X : Type 0} (P : X → Type 0) (xs ys : List X) → Each P xs → Each P ys → Each P (xs ++ ys)
-each_append P [] ys h g = g
-each_append P (x ∷ xs) ys h g = (h.0, each_append P xs ys h.1 g)
-
-each_cond : {X : Type 0} (P : X → Type 0) (b : Bool) (xs ys : List X) → Each P xs → Each P ys → Each P (cond b xs ys)
-each_cond P true xs ys h g = h
-each_cond P false xs ys h g = g
+AllMild most n ls = AllByRecursion (Mild most n) ls
 
 more : (most most' n n' : ℕ) (ls : List LinearRow) → most ≤ most' → n ≤ n' → AllMild most n ls → AllMild most' n' ls
 more most most' n n' ls low few all = each_weaker (Mild most n) (Mild most' n') ls (λ l mild. record { constant = (let h = mild.constant in omega arith); coefficients = mild.coefficients; count = (let h = mild.count in omega arith) }) all
-
-less_small : (c : ℤ) (n : ℕ) → unsigned_abs c ≤ n → unsigned_abs (pos 0 -ℤ c) ≤ n
-less_small c n h = omega (arith, ints)
-
-coefficients_turned : (cs : List ℤ) → Each (λ (c : ℤ). unsigned_abs c ≤ 2 ^ 73) cs → Each (λ (c : ℤ). unsigned_abs c ≤ 2 ^ 73) (map (λ c. pos 0 -ℤ c) cs)
-coefficients_turned cs h = each_turned (λ (c : ℤ). unsigned_abs c ≤ 2 ^ 73) (λ (c : ℤ). unsigned_abs c ≤ 2 ^ 73) (λ c. pos 0 -ℤ c) cs (λ c small. less_small c (2 ^ 73) small) h
 
 opposite_mild : (most n : ℕ) (l : LinearRow) → Mild most n l → Mild most n (opposite l)
 opposite_mild most n l h = record { constant = less_small l.constant most h.constant; coefficients = coefficients_turned l.coefficients h.coefficients; count = (let few = h.count in omega (arith, length-map l.coefficients (λ c. pos 0 -ℤ c))) }
@@ -142,14 +103,14 @@ one_more n l mild = record { constant = (let h = mild.constant in omega arith); 
 form_mild : (a : Automaton) (ms : List Meaning) (f : Form) → SmallForm f → Mild 1000000000 (length ms) (form_row a ms f)
 form_mild a ms f small = record {
   constant = small.constant;
-  coefficients = each_map (λ (c : ℤ). unsigned_abs c ≤ 2 ^ 73) (λ m. terms_value (place_coefficient a m) f.terms) ms (λ m. omega (arith, form_small a m f small));
+  coefficients = each_map_all (λ (c : ℤ). unsigned_abs c ≤ 2 ^ 73) (λ m. terms_value (place_coefficient a m) f.terms) ms (λ m. omega (arith, form_small a m f small));
   count = omega (arith, length-map ms (λ m. terms_value (place_coefficient a m) f.terms));
 }
 
 counters_mild : (a : Automaton) (ms : List Meaning) (ls : List ℕ) → AllMild 1000000001 (length ms) (map (counter_row a ms) ls)
-counters_mild a ms ls = each_map (Mild 1000000001 (length ms)) (counter_row a ms) ls (λ l. record {
+counters_mild a ms ls = each_map_all (Mild 1000000001 (length ms)) (counter_row a ms) ls (λ l. record {
   constant = omega arith;
-  coefficients = each_map (λ (c : ℤ). unsigned_abs c ≤ 2 ^ 73) (λ m. place_coefficient a m (location_place a l)) ms (λ m. omega (arith, place_small a m (location_place a l)));
+  coefficients = each_map_all (λ (c : ℤ). unsigned_abs c ≤ 2 ^ 73) (λ m. place_coefficient a m (location_place a l)) ms (λ m. omega (arith, place_small a m (location_place a l)));
   count = omega (arith, length-map ms (λ m. place_coefficient a m (location_place a l)));
 })
 
@@ -157,7 +118,7 @@ forms_mild : (a : Automaton) (ms : List Meaning) (rows : List Row) → SmallRows
 forms_mild a ms [] small = tt
 forms_mild a ms (r ∷ rs) small = (one_more (length ms) (form_row a ms r.form) (form_mild a ms r.form small.0), forms_mild a ms rs small.1)
 
-condition_mild : (a : Automaton) (ms : List Meaning) (ks : List Comparison) → Each (λ (k : Comparison). SmallRows k.rows) ks → AllMild 1000000001 (length ms) (condition_rows a ms ks)
+condition_mild : (a : Automaton) (ms : List Meaning) (ks : List Comparison) → AllByRecursion (λ (k : Comparison). SmallRows k.rows) ks → AllMild 1000000001 (length ms) (condition_rows a ms ks)
 condition_mild a ms [] small = tt
 condition_mild a ms (k ∷ ks) small = each_append (Mild 1000000001 (length ms)) (map (λ (r : Row). form_row a ms r.form) k.rows) (condition_rows a ms ks) (forms_mild a ms k.rows small.0) (condition_mild a ms ks small.1)
 
@@ -192,7 +153,7 @@ processes_mild a ms =
     let small = processes_small a in
     let mild : Mild 1000000001 (length ms) (processes_row a ms) = record {
       constant = (let h = small.constant in omega arith);
-      coefficients = each_map (λ (c : ℤ). unsigned_abs c ≤ 2 ^ 73) (λ m. terms_value (place_coefficient a m) a.processes.terms -ℤ start_coefficient m) ms (λ m.
+      coefficients = each_map_all (λ (c : ℤ). unsigned_abs c ≤ 2 ^ 73) (λ m. terms_value (place_coefficient a m) a.processes.terms -ℤ start_coefficient m) ms (λ m.
           omega (arith, abs_minus (terms_value (place_coefficient a m) a.processes.terms) (start_coefficient m) (2 ^ 72) 1 (form_small a m a.processes small) (start_coefficient-small m)));
       count = omega (arith, length-map ms (λ m. terms_value (place_coefficient a m) a.processes.terms -ℤ start_coefficient m));
     } in
@@ -204,7 +165,7 @@ singles_mild before rules n few =
     let ones = map (λ (r : ℕ). pos 1) rules in
     let mild : Mild 1000000001 n (singles_row before rules) = record {
       constant = omega arith;
-      coefficients = each_append (λ (c : ℤ). unsigned_abs c ≤ 2 ^ 73) zeros ones (each_map (λ (c : ℤ). unsigned_abs c ≤ 2 ^ 73) (λ (m : Meaning). pos 0) before (λ m. omega arith)) (each_map (λ (c : ℤ). unsigned_abs c ≤ 2 ^ 73) (λ (r : ℕ). pos 1) rules (λ r. omega arith));
+      coefficients = each_append (λ (c : ℤ). unsigned_abs c ≤ 2 ^ 73) zeros ones (each_map_all (λ (c : ℤ). unsigned_abs c ≤ 2 ^ 73) (λ (m : Meaning). pos 0) before (λ m. omega arith)) (each_map_all (λ (c : ℤ). unsigned_abs c ≤ 2 ^ 73) (λ (r : ℕ). pos 1) rules (λ r. omega arith));
       count = omega (arith, length-append zeros ones, length-map before (λ (m : Meaning). pos 0), length-map rules (λ (r : ℕ). pos 1));
     } in
     (mild, (opposite_mild 1000000001 n (singles_row before rules) mild, tt))
@@ -214,7 +175,6 @@ event_mild a p ms e events None at = tt
 event_mild a p ms e events (Some event) at = condition_mild a ms event.condition.comparisons (events.small e event at)
 
 -- ---- the rows of a word
-
 module _ (a : Automaton) (p : Pattern) (start_small : SmallCondition p.start) (events : SmallEvents p) where
   falls_mild : (ms : List Meaning) (test : ℕ → Bool) → AllMild 1000000001 (length ms) (guard_rows a ms test 0 a.fall)
   falls_mild ms test = guards_more a ms test a.fall (fall_rows_small a)
@@ -284,7 +244,6 @@ module _ (a : Automaton) (p : Pattern) (start_small : SmallCondition p.start) (e
       each_append (Mild 1000000001 (length end)) (word_rows a p start past) (fall_rows a p start past before end mask) (more 1000000001 1000000001 (length ms) (length end) (word_rows a p start past) (omega arith) (omega (arith, length-append ms (counts_after a p start past), length-append before (singles_after a p start past))) (word_mild start past)) (fall_mild start past before mask)
 
 -- ---- the rows of the search for a sample
-
 sample_mild : (a : Automaton) → AllMild 1000000001 (length (sample_meanings a)) (sample_rows a)
 unfolding sample_rows
 sample_mild a =
@@ -296,7 +255,7 @@ sample_mild a =
 -- numbers in range, and no more coefficients than unknowns
 record Fitting (n : ℕ) (l : LinearRow) : Type 0 where
   constant : InRange l.constant
-  coefficients : Each InRange l.coefficients
+  coefficients : AllByRecursion InRange l.coefficients
   count : length l.coefficients ≤ n
 
 mild_fits : (n : ℕ) (l : LinearRow) → Mild 1000000001 n l → Fitting n l
@@ -307,7 +266,7 @@ mild_fits n l mild = record {
 }
 
 -- a bound
-only_fits : (u : ℕ) (z : ℤ) → InRange z → Each InRange (only_at u z)
+only_fits : (u : ℕ) (z : ℤ) → InRange z → AllByRecursion InRange (only_at u z)
 only_fits zero z fits = (fits, tt)
 only_fits (suc u) z fits = (omega arith, only_fits u z fits)
 
@@ -319,7 +278,7 @@ side_fits : (n u : ℕ) (floor : ℤ) (side : Side) → u < n → pos 0 ≤ℤ f
 side_fits n u floor Low below low high = record { constant = omega (arith, ints); coefficients = only_fits u (negsuc 0) (omega arith); count = omega (arith, only_count u (negsuc 0)) }
 side_fits n u floor High below low high = record { constant = omega (arith, ints); coefficients = only_fits u (pos 1) (omega arith); count = omega (arith, only_count u (pos 1)) }
 
-bounds_fit : (n : ℕ) (bs : List Bound) → BoundsWithin n bs → Each (Fitting n) (map bound_row bs)
+bounds_fit : (n : ℕ) (bs : List Bound) → BoundsWithin n bs → AllByRecursion (Fitting n) (map bound_row bs)
 bounds_fit n [] within = tt
 bounds_fit n (b ∷ bs) within = (let h = within.0 in side_fits n b.unknown b.floor b.side h.exists h.least h.most, bounds_fit n bs within.1)
 
@@ -328,11 +287,6 @@ record Terms (k : ℕ) (cs : List ℤ) : Type 0 where
   terms : List (ℕ × ℤ)
   normal : IsNormal k (k + length cs) terms
   there : (i : ℕ) → coefficient terms (k + i) ≡ get_or cs i (pos 0)
-
-zero_or_not : (z : ℤ) → (z ≡ pos 0) ⊎ (z ≢ pos 0)
-zero_or_not (pos zero) = inl refl
-zero_or_not (pos (suc n)) = inr (λ e. absurd (omega (arith, ints)))
-zero_or_not (negsuc n) = inr (λ e. absurd (omega (arith, ints)))
 
 at_own : (k : ℕ) (c : ℤ) (ts : List (ℕ × ℤ)) → coefficient ((k, c) ∷ ts) k ≡ (c +ℤ coefficient ts k)
 at_own k c ts = ap (λ z. z +ℤ coefficient ts k) (if_same (k, c) k refl)
@@ -374,14 +328,14 @@ module _ (k : ℕ) (c : ℤ) (cs : List ℤ) (fits : InRange c) (rest : Terms (k
   terms_more : Terms k (c ∷ cs)
   terms_more = ⊎_elim without with_it (zero_or_not c)
 
-terms_exist : (k : ℕ) (cs : List ℤ) → Each InRange cs → Terms k cs
+terms_exist : (k : ℕ) (cs : List ℤ) → AllByRecursion InRange cs → Terms k cs
 terms_exist k [] fits = record { terms = []; normal = omega arith; there = λ i. refl }
 terms_exist k (c ∷ cs) fits = terms_more k c cs fits.0 (terms_exist (k + 1) cs fits.1)
 
 -- a row of the code
 record CodeRow (n : ℕ) (l : LinearRow) : Type 0 where
   row : Row
-  is : RowOf l row
+  is : IsRowOf l row
   below : IsNormal 0 n row.form.terms
 
 row_exists : (n : ℕ) (l : LinearRow) → n ≤ 2 ^ 32 → Fitting n l → CodeRow n l
@@ -397,10 +351,10 @@ row_exists n l few fits =
 
 record CodeRows (n : ℕ) (ls : List LinearRow) : Type 0 where
   rows : List Row
-  are : RowsOf ls rows
+  are : AreRowsOf ls rows
   below : AllBelow n rows
 
-rows_exist : (n : ℕ) (ls : List LinearRow) → n ≤ 2 ^ 32 → Each (Fitting n) ls → CodeRows n ls
+rows_exist : (n : ℕ) (ls : List LinearRow) → n ≤ 2 ^ 32 → AllByRecursion (Fitting n) ls → CodeRows n ls
 rows_exist n [] few fits = record { rows = []; are = tt; below = tt }
 rows_exist n (l ∷ ls) few fits =
     let first = row_exists n l few fits.0 in
@@ -412,7 +366,7 @@ system_exists : (s : Search) (w : Pending) → s.unknowns w.start w.past ≤ 2 ^
 system_exists s w few mild bounds =
     let n = s.unknowns w.start w.past in
     let own = each_weaker (Mild 1000000001 n) (Fitting n) (s.rows w.start w.past) (mild_fits n) mild in
-    let r = rows_exist n (rows_of s w) few (each_append (Fitting n) (s.rows w.start w.past) (map bound_row w.bounds) own (bounds_fit n w.bounds bounds)) in
+    let r = rows_exist n (bounded_rows s w) few (each_append (Fitting n) (s.rows w.start w.past) (map bound_row w.bounds) own (bounds_fit n w.bounds bounds)) in
     (record { unknowns = n; rows = r.rows; within = r.below }, record { unknowns = refl; rows = r.are })
 
 -- each word of a pattern of a file, whatever the pairs of rise guards, with few enough unknowns, has a system

@@ -1,20 +1,22 @@
 -- the laws of words, systems, refutations and runs
-use Rattle.std.proofs.Common.{◌≡◌, ◌≤◌, inl, inr, true, ℕ, zero, suc, ◌<◌, ◌+◌, List, [], ◌∷◌, ◌++◌, map, get_or, take, length, length-append, arith, refl, reverse, sym, ap, ◌∙◌, subst, slice_get, Some}
+use Rattle.std.proofs.Common.{◌≡◌, ◌≤◌, inl, inr, true, ℕ, ◌<◌, ◌+◌, List, [], ◌∷◌, ◌++◌, map, get_or, take, length, length-append, arith, reverse, sym, ap, ◌∙◌, subst, slice_get, Some}
 use Rattle.std.proofs.lemmas.List.{reverse-reverse, length-map}
 use Rattle.std.proofs.lemmas.Bool.{false≢true}
+use Rattle.ta_base.proofs.Bits.{all_below-at}
+use Rattle.ta_base.proofs.Lists.{take_first}
+use Rattle.ta_base.proofs.Ranges.{each_index}
 use Rattle.ta_automaton.specs.declared.automaton.Automaton.{Automaton}
-use Rattle.ta_automaton.proofs.MaskTests.{all_below-at}
 use Rattle.ta_automaton.specs.declared.pattern.Pattern.{Pattern}
 use Rattle.ta_automaton.specs.declared.file.File.{File}
 use Rattle.ta_automaton.specs.Runs.{Config, LoopsPure, Occurs}
-use Rattle.ta_automaton.specs.Masks.{numbers_from}
+use Rattle.ta_base.specs.Masks.{numbers_from}
 use Rattle.ta_automaton.proofs.Thresholds.{pattern_within, after_earlier}
 use Rattle.ta_implied.specs.Implied.{Good}
 use Rattle.ta_words.specs.declared.element.Element.{Element}
 use Rattle.ta_words.specs.Words.{LegalUnder, has_event, is_complete}
 use Rattle.ta_encode.specs.Unknowns.{Parameter, Start, start_locations, start_meanings, meanings}
 use Rattle.ta_encode.specs.System.{word_rows, SolvesWord}
-use Rattle.ta_encode.specs.Laws.{EndsAt, Reordered, ReorderedTo, RunsReorderTo, start_values, steps_of, RunsReorder, ProofsShowSafety, ProofsLeaveNoSolution, SolutionsBecomeRuns, StepsOfSolutionsRun}
+use Rattle.ta_encode.specs.Laws.{EndsAt, IsReordered, ReorderedTo, RunsReorderTo, start_values, steps_of, RunsReorder, ProofsShowSafety, ProofsLeaveNoSolution, SolutionsBecomeRuns, StepsOfSolutionsRun}
 use Rattle.ta_encode.proofs.Moments.{AllHold-left}
 use Rattle.ta_encode.proofs.Start.{parameter_values, start_counts}
 use Rattle.ta_encode.proofs.Switch.{Begins}
@@ -25,25 +27,6 @@ use Rattle.ta_encode.proofs.Realize.{some_firings, solution_runs}
 
 earlier : (file : File) (n : ℕ) (p : Pattern) → slice_get file.patterns n ≡ Some p → AfterEarlier p
 earlier file n p at = after_earlier (length file.automaton.parameters + length file.automaton.shared + length file.automaton.locations) (length file.automaton.locations) p (pattern_within file n p at)
-
-shift : (f : ℕ → ℕ) (k n : ℕ) → map f (numbers_from (k + 1) n) ≡ map (λ x. f (x + 1)) (numbers_from k n)
-shift f k zero = refl
-shift f k (suc n) = ap (λ (xs : List ℕ). f (k + 1) ∷ xs) (shift f (k + 1) n)
-
-map_same : (f g : ℕ → ℕ) (xs : List ℕ) → ((x : ℕ) → f x ≡ g x) → map f xs ≡ map g xs
-map_same f g [] h = refl
-map_same f g (x ∷ xs) h = let first = h x in let rest = map_same f g xs h in cc
-
-pub each_index : (xs : List ℕ) → map (λ j. get_or xs j 0) (numbers_from 0 (length xs)) ≡ xs
-each_index [] = refl
-each_index (x ∷ xs) =
-    ap (λ (ys : List ℕ). x ∷ ys) (shift (λ j. get_or (x ∷ xs) j 0) 0 (length xs) ∙ map_same (λ j. get_or (x ∷ xs) (j + 1) 0) (λ j. get_or xs j 0) (numbers_from 0 (length xs)) (λ j. grind arith) ∙ each_index xs)
-
-take_first : (xs ys : List ℕ) (n : ℕ) → length xs ≡ n → take n (xs ++ ys) ≡ xs
-take_first [] ys zero e = refl
-take_first [] ys (suc n) e = absurd (omega arith)
-take_first (x ∷ xs) ys zero e = absurd (omega arith)
-take_first (x ∷ xs) ys (suc n) e = ap (λ (zs : List ℕ). x ∷ zs) (take_first xs ys n (omega arith))
 
 begins_with : (a : Automaton) (p : Pattern) (first : Config) (vs : List ℕ) → length first.parameters ≡ length a.parameters → Begins (parameter_values a first ++ start_counts a p first) vs → start_values a p first ≡ take (length (start_meanings a p)) vs
 unfolding start_meanings
@@ -56,7 +39,7 @@ begins_with a p first vs count b =
     sym (ap (λ (xs : List ℕ). take (length (start_meanings a p)) xs) b.1 ∙ take_first origin b.0 (length (start_meanings a p)) many ∙ ap (λ (xs : List ℕ). xs ++ start_counts a p first) parameters)
 
 -- the word of a run in which a pattern occurs whose events come after earlier ones alone
-pub reordered_by : (a : Automaton) (p : Pattern) → AfterEarlier p → LoopsPure a → (pairs : List (ℕ × ℕ)) → Good a pairs → (first : Config) (rules : List ℕ) → Occurs a p first rules → Reordered a p pairs first
+pub reordered_by : (a : Automaton) (p : Pattern) → AfterEarlier p → LoopsPure a → (pairs : List (ℕ × ℕ)) → Good a pairs → (first : Config) (rules : List ℕ) → Occurs a p first rules → IsReordered a p pairs first
 reordered_by a p early loops pairs good first rules occurs =
     let d = describe a p pairs good loops early first rules occurs in
     let word = reverse d.past in

@@ -1,9 +1,12 @@
 -- the run of a word's solution, element by element
-use Rattle.std.proofs.Common.{◌≡◌, ◌≢◌, ◌⊎◌, inl, inr, ℕ, ◌+◌, ◌<◌, ◌≤◌, ℤ, pos, ◌+ℤ◌, ◌≤ℤ◌, List, [], ◌∷◌, ◌++◌, map, length, drop, eqb, cond, true, false, not, ◌||◌, arith, sym, ap, ◌∙◌, refl, subst, slice_get, get_or, Some, Option, IsBitSet, zero-add, append_assoc}
-use Rattle.std.proofs.lemmas.List.{length-map}
+use Rattle.std.proofs.Common.{◌≡◌, ◌≢◌, ◌⊎◌, inl, inr, ℕ, ◌+◌, ◌<◌, ◌≤◌, pos, ◌+ℤ◌, ◌≤ℤ◌, List, [], ◌∷◌, ◌++◌, map, length, drop, eqb, cond, true, false, not, ◌||◌, arith, sym, ap, ◌∙◌, refl, subst, slice_get, get_or, Some, Option, IsBitSet, zero-add, append_assoc}
 use Rattle.std.proofs.lemmas.Int.{ints}
-use Rattle.std.proofs.lemmas.Bool.{false≢true, cases_Bool, and_parts, eqb-true, or_cases}
+use Rattle.std.proofs.lemmas.Bool.{false≢true, cases_Bool, and_parts, eqb-true, or_cases, not-true, not_from_false, or_right}
 use Rattle.std.proofs.lemmas.Bool.Decides.{nat_tests, eqb_tells}
+use Rattle.ta_base.proofs.Bits.{all_below-at, bit_true}
+use Rattle.ta_base.proofs.Booleans.{implies-at}
+use Rattle.ta_base.proofs.Naturals.{position_here, position_other}
+use Rattle.ta_encode.proofs.Moments.{AllHold-left}
 use Rattle.ta_linear.specs.Values.{value_of, RowHolds}
 use Rattle.ta_linear.specs.declared.row.Row.{Row}
 use Rattle.ta_automaton.specs.declared.rule.Rule.{Rule}
@@ -12,30 +15,27 @@ use Rattle.ta_automaton.proofs.Sums.{terms_value-same}
 use Rattle.ta_automaton.specs.declared.pattern.Event.{Event as PatternEvent}
 use Rattle.ta_automaton.specs.declared.pattern.Pattern.{Pattern}
 use Rattle.ta_automaton.specs.Runs.{Config, value_at, Holds}
-use Rattle.ta_automaton.specs.Masks.{has_bit, implies, In}
+use Rattle.ta_base.specs.Masks.{has_bit, implies, In}
 use Rattle.ta_words.specs.declared.element.Element.{Element}
 use Rattle.ta_words.specs.declared.element.Element.TheVariants.{Event, Rise, Fall}
-use Rattle.ta_words.specs.Words.{has_event, has_rise, has_fallen, follows, children, Legal, allowed_rules, may_fire}
+use Rattle.ta_words.specs.Words.{has_event, has_rise, has_fallen, follows, children, LegalWord, allowed_rules, may_fire}
 use Rattle.ta_automaton.specs.Places.{one_if, location_place}
-use Rattle.ta_encode.specs.Unknowns.{Meaning, Count, Single, meanings, counts_after, singles_after, place_coefficient}
-use Rattle.ta_encode.specs.System.{opposite, negated, counter_rows, guard_rows, standing_rows, singles_row, event_rows, rise_rows, happening_rows, fall_rows, word_rows, combine, AllHold}
+use Rattle.ta_encode.specs.Unknowns.{Meaning, Single, meanings, counts_after, singles_after, place_coefficient}
+use Rattle.ta_encode.specs.System.{opposite, negated, counter_rows, guard_rows, standing_rows, singles_row, event_rows, rise_rows, happening_rows, fall_rows, word_rows, AllHold}
 use Rattle.ta_automaton.specs.Sums.{total}
-use Rattle.ta_encode.proofs.Combine.{combine-zero}
-use Rattle.ta_encode.proofs.Moments.{opposite_value}
 use Rattle.ta_automaton.proofs.Moves.{value_at-location, one_if-ne}
-use Rattle.ta_automaton.proofs.MaskTests.{all_below-at, implies-at, not_true, true_not, or_right, bit_true}
 use Rattle.ta_encode.proofs.State.{change_of}
 use Rattle.ta_encode.proofs.Switch.{KeptEmpty}
 use Rattle.ta_automaton.proofs.Thresholds.{falls as falls_rows, rises as rises_rows, from_within}
 use Rattle.ta_automaton.proofs.Fire.{Whole}
 use Rattle.ta_automaton.proofs.Trails.{Trail}
-use Rattle.ta_encode.specs.Laws.{Fires, FiresFall, WordFires, steps_of, position_in}
+use Rattle.ta_encode.specs.Laws.{FiresBefore, FiresFall, WordFires, steps_of, position_in}
 use Rattle.ta_encode.proofs.Forward.{onward_of}
 use Rattle.ta_encode.proofs.Singles.{one_single, only_single}
 use Rattle.ta_encode.proofs.Segment.{Segment, Fired, EachMay, may_rules, fire_all, fire_last, fits_whole, may_parts}
 use Rattle.ta_automaton.proofs.Onward.{later_after, change_location}
 use Rattle.ta_automaton.proofs.Thresholds.{fall_back, rise_on}
-use Rattle.ta_encode.proofs.Values.{place_value, counter_natural, guard_holds, condition_back, AllHold-right, left_part, combine-split, unfolded, unfolded-total, unfolded-may, allowed_may, event_ready}
+use Rattle.ta_encode.proofs.Values.{place_value, counter_natural, guard_holds, condition_back, AllHold-right, combine-split, unfolded, unfolded-total, unfolded-may, allowed_may, event_ready}
 
 -- the run of some firings for a word, whose end has the values of a moment, and the events' positions in it
 pub record At (a : Automaton) (p : Pattern) (start : ℕ) (past : List Element) (vs : List ℕ) (ms : List Meaning) (first : Config) (rules : List ℕ) (position : ℕ → ℕ) : Type 0 where
@@ -65,7 +65,7 @@ go_on a p start past vs ms first rules position t os may f ns same = record {
   ordered = t.ordered;
 }
 
-counts_move : (a : Automaton) (p : Pattern) (start : ℕ) (past : List Element) (vs os : List ℕ) → Fires a p start past vs os → (i : ℕ) → (place_value a (meanings a p start past) vs i +ℤ total (change_of a i) os) ≡ place_value a (meanings a p start past ++ counts_after a p start past) vs i
+counts_move : (a : Automaton) (p : Pattern) (start : ℕ) (past : List Element) (vs os : List ℕ) → FiresBefore a p start past vs os → (i : ℕ) → (place_value a (meanings a p start past) vs i +ℤ total (change_of a i) os) ≡ place_value a (meanings a p start past ++ counts_after a p start past) vs i
 counts_move a p start past vs os w i =
     omega (arith, ints, combine-split (λ m. place_coefficient a m i) (meanings a p start past) (counts_after a p start past) vs, w.adds i)
 
@@ -77,7 +77,7 @@ trail_empty : (a : Automaton) (p : Pattern) (first d : Config) (t : Trail a (Kep
 trail_empty a p first d t = t.all_good (length t.rules) d t.last
 
 -- the Counts of an element
-do_counts : (a : Automaton) (p : Pattern) (start : ℕ) (past : List Element) (vs : List ℕ) (first : Config) (rules : List ℕ) (position : ℕ → ℕ) (os : List ℕ) → Fires a p start past vs os → At a p start past vs (meanings a p start past) first rules position → AllHold vs (counter_rows a p (meanings a p start past ++ counts_after a p start past)) → ((j : ℕ) (row : Row) → slice_get a.fall j ≡ Some row → has_fallen start past j ≡ false → pos 0 ≤ℤ value_of (place_value a (meanings a p start past ++ counts_after a p start past) vs) row.form) → At a p start past vs (meanings a p start past ++ counts_after a p start past) first (rules ++ os) position
+do_counts : (a : Automaton) (p : Pattern) (start : ℕ) (past : List Element) (vs : List ℕ) (first : Config) (rules : List ℕ) (position : ℕ → ℕ) (os : List ℕ) → FiresBefore a p start past vs os → At a p start past vs (meanings a p start past) first rules position → AllHold vs (counter_rows a p (meanings a p start past ++ counts_after a p start past)) → ((j : ℕ) (row : Row) → slice_get a.fall j ≡ Some row → has_fallen start past j ≡ false → pos 0 ≤ℤ value_of (place_value a (meanings a p start past ++ counts_after a p start past) vs) row.form) → At a p start past vs (meanings a p start past ++ counts_after a p start past) first (rules ++ os) position
 do_counts a p start past vs first rules position os w t counters falls =
     let ms = meanings a p start past in
     let moves = counts_move a p start past vs os w in
@@ -95,15 +95,15 @@ do_counts a p start past vs first rules position os w t counters falls =
 
 stand : (a : Automaton) (start : ℕ) (past : List Element) (ms : List Meaning) (vs : List ℕ) → AllHold vs (standing_rows a start past ms) → (j : ℕ) (row : Row) → slice_get a.fall j ≡ Some row → has_fallen start past j ≡ false → pos 0 ≤ℤ value_of (place_value a ms vs) row.form
 stand a start past ms vs h j row at f =
-    guard_holds a ms vs (λ k. not (has_fallen start past k)) 0 a.fall h j row at (not_true _ (ap (has_fallen start past) (zero-add j) ∙ f))
+    guard_holds a ms vs (λ k. not (has_fallen start past k)) 0 a.fall h j row at (not_from_false _ (ap (has_fallen start past) (zero-add j) ∙ f))
 
-do_rise : (a : Automaton) (p : Pattern) (start : ℕ) (past : List Element) (vs : List ℕ) (first : Config) (rules : List ℕ) (position : ℕ → ℕ) (os : List ℕ) (i : ℕ) → Fires a p start past vs os → At a p start past vs (meanings a p start past) first rules position → AllHold vs (rise_rows a p start past (meanings a p start (Rise i ∷ past)) i) → At a p start (Rise i ∷ past) vs (meanings a p start (Rise i ∷ past)) first (rules ++ os) position
+do_rise : (a : Automaton) (p : Pattern) (start : ℕ) (past : List Element) (vs : List ℕ) (first : Config) (rules : List ℕ) (position : ℕ → ℕ) (os : List ℕ) (i : ℕ) → FiresBefore a p start past vs os → At a p start past vs (meanings a p start past) first rules position → AllHold vs (rise_rows a p start past (meanings a p start (Rise i ∷ past)) i) → At a p start (Rise i ∷ past) vs (meanings a p start (Rise i ∷ past)) first (rules ++ os) position
 unfolding meanings rise_rows has_rise has_event
 do_rise a p start past vs first earlier position os i w t h =
     let ms = meanings a p start past ++ counts_after a p start past in
-    let counters = left_part vs (counter_rows a p ms) (guard_rows a ms (λ k. eqb k i) 0 a.rise ++ standing_rows a start past ms) h in
+    let counters = AllHold-left vs (counter_rows a p ms) (guard_rows a ms (λ k. eqb k i) 0 a.rise ++ standing_rows a start past ms) h in
     let others = AllHold-right vs (counter_rows a p ms) (guard_rows a ms (λ k. eqb k i) 0 a.rise ++ standing_rows a start past ms) h in
-    let guard = left_part vs (guard_rows a ms (λ k. eqb k i) 0 a.rise) (standing_rows a start past ms) others in
+    let guard = AllHold-left vs (guard_rows a ms (λ k. eqb k i) 0 a.rise) (standing_rows a start past ms) others in
     let standing = AllHold-right vs (guard_rows a ms (λ k. eqb k i) 0 a.rise) (standing_rows a start past ms) others in
     let u = do_counts a p start past vs first earlier position os w t counters (stand a start past ms vs standing) in
     record {
@@ -123,26 +123,20 @@ do_rise a p start past vs first earlier position os i w t h =
       ordered = u.ordered;
     }
 
-position_here : (x e n m : ℕ) → x ≡ e → cond (eqb x e) n m ≡ n
-position_here x e n m q = let s : eqb x e ≡ true = grind (arith, nat_tests) in rw s refl
-
-position_other : (x e n m : ℕ) → x ≢ e → cond (eqb x e) n m ≡ m
-position_other x e n m q = let s : eqb x e ≡ false = grind (arith, nat_tests) in rw s refl
-
-do_event : (a : Automaton) (p : Pattern) (start : ℕ) (past : List Element) (vs : List ℕ) (first : Config) (earlier : List ℕ) (position : ℕ → ℕ) (os : List ℕ) (e : ℕ) → Fires a p start past vs os → In (Event e) (children a p [] start past) → At a p start past vs (meanings a p start past) first earlier position → AllHold vs (happening_rows a p start past (meanings a p start (Event e ∷ past)) e) → At a p start (Event e ∷ past) vs (meanings a p start (Event e ∷ past)) first (earlier ++ os) (λ x. cond (eqb x e) (length (earlier ++ os)) (position x))
+do_event : (a : Automaton) (p : Pattern) (start : ℕ) (past : List Element) (vs : List ℕ) (first : Config) (earlier : List ℕ) (position : ℕ → ℕ) (os : List ℕ) (e : ℕ) → FiresBefore a p start past vs os → In (Event e) (children a p [] start past) → At a p start past vs (meanings a p start past) first earlier position → AllHold vs (happening_rows a p start past (meanings a p start (Event e ∷ past)) e) → At a p start (Event e ∷ past) vs (meanings a p start (Event e ∷ past)) first (earlier ++ os) (λ x. cond (eqb x e) (length (earlier ++ os)) (position x))
 unfolding meanings happening_rows has_rise has_event
 do_event a p start past vs first earlier position os e w child t h =
     let ms = meanings a p start past ++ counts_after a p start past in
     let rows = event_rows a ms (slice_get p.events e) in
-    let counters = left_part vs (counter_rows a p ms) (rows ++ standing_rows a start past ms) h in
+    let counters = AllHold-left vs (counter_rows a p ms) (rows ++ standing_rows a start past ms) h in
     let others = AllHold-right vs (counter_rows a p ms) (rows ++ standing_rows a start past ms) h in
-    let mine = left_part vs rows (standing_rows a start past ms) others in
+    let mine = AllHold-left vs rows (standing_rows a start past ms) others in
     let standing = AllHold-right vs rows (standing_rows a start past ms) others in
     let u = do_counts a p start past vs first earlier position os w t counters (stand a start past ms vs standing) in
     let n = length (earlier ++ os) in
     let all : length u.trail.rules ≡ n = ap (λ (xs : List ℕ). length xs) u.is in
     let ready = and_parts (not (has_event past e)) (follows p past (slice_get p.events e)) (event_ready a p [] start past e child) in
-    let new = true_not (has_event past e) ready.0 in
+    let new = not-true (has_event past e) ready.0 in
     let place : ℕ → ℕ = (λ x. cond (eqb x e) n (position x)) in
     let old_not : (x : ℕ) → has_event past x ≡ true → x ≢ e = (λ x y q. false≢true (sym new ∙ ap (has_event past) (sym q) ∙ y)) in
     let old_or : (x : ℕ) → has_event (Event e ∷ past) x ≡ true → (x ≡ e) ⊎ (has_event past x ≡ true) = (λ x y. elim (or_cases (eqb e x) (has_event past x) y) [ inl q ↦ inl (sym (eqb-true e x q)) | inr q ↦ inr q ]) in
@@ -186,13 +180,13 @@ do_fall a p start past vs first earlier position both mask w t h =
     let s = standing_rows a start (Fall mask ∷ past) end in
     let pair = singles_row before al ∷ opposite (singles_row before al) ∷ [] in
     let chosen = guard_rows a before (has_bit mask) 0 a.fall in
-    let h1 = left_part vs (counter_rows a p before) (chosen ++ (pair ++ (e ++ (n ++ s)))) h in
+    let h1 = AllHold-left vs (counter_rows a p before) (chosen ++ (pair ++ (e ++ (n ++ s)))) h in
     let r1 = AllHold-right vs (counter_rows a p before) (chosen ++ (pair ++ (e ++ (n ++ s)))) h in
-    let h2 = left_part vs chosen (pair ++ (e ++ (n ++ s))) r1 in
+    let h2 = AllHold-left vs chosen (pair ++ (e ++ (n ++ s))) r1 in
     let r2 = AllHold-right vs chosen (pair ++ (e ++ (n ++ s))) r1 in
-    let h3 = left_part vs pair (e ++ (n ++ s)) r2 in
+    let h3 = AllHold-left vs pair (e ++ (n ++ s)) r2 in
     let r3 = AllHold-right vs pair (e ++ (n ++ s)) r2 in
-    let h4 = left_part vs e (n ++ s) r3 in
+    let h4 = AllHold-left vs e (n ++ s) r3 in
     let h5 = AllHold-right vs n s (AllHold-right vs e (n ++ s) r3) in
     let os = unfolded al (drop (length before) vs) in
     let may : EachMay a p start past os = unfolded-may a p start past al (drop (length before) vs) (allowed_may a p start past) in
@@ -238,14 +232,14 @@ do_fall a p start past vs first earlier position both mask w t h =
     }
 
 -- the run of a legal word with a solution
-pub unwind : (a : Automaton) (p : Pattern) (start : ℕ) (past : List Element) (vs : List ℕ) (first : Config) (firings : List (List ℕ)) → WordFires a p start past vs firings → At a p start [] vs (meanings a p start []) first [] (λ e. 0) → Legal a p start past → AllHold vs (word_rows a p start past) → At a p start past vs (meanings a p start past) first (steps_of firings) (position_in past firings)
+pub unwind : (a : Automaton) (p : Pattern) (start : ℕ) (past : List Element) (vs : List ℕ) (first : Config) (firings : List (List ℕ)) → WordFires a p start past vs firings → At a p start [] vs (meanings a p start []) first [] (λ e. 0) → LegalWord a p start past → AllHold vs (word_rows a p start past) → At a p start past vs (meanings a p start past) first (steps_of firings) (position_in past firings)
 unfolding word_rows
 unwind a p start [] vs first [] w begin legal h = begin
 unwind a p start [] vs first (os ∷ older) w begin legal h = absurd w
 unwind a p start (e ∷ past) vs first [] w begin legal h = absurd w
 unwind a p start (Event e ∷ past) vs first (os ∷ older) w begin legal h =
-    do_event a p start past vs first (steps_of older) (position_in past older) os e w.0 legal.0 (unwind a p start past vs first older w.1 begin legal.1 (left_part vs (word_rows a p start past) _ h)) (AllHold-right vs (word_rows a p start past) _ h)
+    do_event a p start past vs first (steps_of older) (position_in past older) os e w.0 legal.0 (unwind a p start past vs first older w.1 begin legal.1 (AllHold-left vs (word_rows a p start past) _ h)) (AllHold-right vs (word_rows a p start past) _ h)
 unwind a p start (Rise i ∷ past) vs first (os ∷ older) w begin legal h =
-    do_rise a p start past vs first (steps_of older) (position_in past older) os i w.0 (unwind a p start past vs first older w.1 begin legal.1 (left_part vs (word_rows a p start past) _ h)) (AllHold-right vs (word_rows a p start past) _ h)
+    do_rise a p start past vs first (steps_of older) (position_in past older) os i w.0 (unwind a p start past vs first older w.1 begin legal.1 (AllHold-left vs (word_rows a p start past) _ h)) (AllHold-right vs (word_rows a p start past) _ h)
 unwind a p start (Fall mask ∷ past) vs first (os ∷ older) w begin legal h =
-    do_fall a p start past vs first (steps_of older) (position_in past older) os mask w.0 (unwind a p start past vs first older w.1 begin legal.1 (left_part vs (word_rows a p start past) _ h)) (AllHold-right vs (word_rows a p start past) _ h)
+    do_fall a p start past vs first (steps_of older) (position_in past older) os mask w.0 (unwind a p start past vs first older w.1 begin legal.1 (AllHold-left vs (word_rows a p start past) _ h)) (AllHold-right vs (word_rows a p start past) _ h)

@@ -1,10 +1,13 @@
 -- what a solution says at a moment
-use Rattle.std.proofs.Common.{◌≡◌, ◌⊎◌, inl, inr, ℕ, zero, suc, ◌+◌, ◌-◌, ◌^◌, ◌<◌, ℤ, pos, ◌+ℤ◌, ◌*ℤ◌, ◌≤ℤ◌, List, [], ◌∷◌, ◌++◌, map, length, drop, cond, Bool, true, false, not, arith, sym, ap, ◌∙◌, refl, subst, slice_get, Some}
+use Rattle.std.proofs.Common.{◌≡◌, inl, inr, ℕ, zero, suc, ◌+◌, ◌-◌, ◌^◌, ◌<◌, ℤ, pos, ◌+ℤ◌, ◌*ℤ◌, ◌≤ℤ◌, List, [], ◌∷◌, ◌++◌, map, length, drop, cond, Bool, true, false, not, arith, sym, ap, ◌∙◌, refl, subst, slice_get, Some}
 use Rattle.std.specs.List.{All, filter}
 use Rattle.std.proofs.lemmas.Int.{ints}
-use Rattle.std.proofs.lemmas.Bool.{false≢true}
-use Rattle.std.proofs.Math.IntN.{*ℤ-zero, *ℤ-one, one}
-use Rattle.ta_linear.proofs.Integers.{distributes}
+use Rattle.std.proofs.lemmas.Bool.{false≢true, not_from_false}
+use Rattle.std.proofs.Math.IntN.{*ℤ-zero}
+use Rattle.ta_base.proofs.Integers.{one_times, times_next}
+use Rattle.ta_base.proofs.Members.{In-filter, filter_passes, in_append, in_more}
+use Rattle.ta_base.proofs.Ranges.{In-numbers}
+use Rattle.ta_encode.proofs.Moments.{AllHold-left}
 use Rattle.ta_linear.specs.Values.{value_of, RowHolds}
 use Rattle.ta_linear.specs.declared.form.Form.{Form}
 use Rattle.ta_linear.specs.declared.row.Row.{Row}
@@ -12,23 +15,21 @@ use Rattle.ta_automaton.specs.declared.condition.Comparison.{Comparison}
 use Rattle.ta_automaton.specs.declared.automaton.Automaton.{Automaton}
 use Rattle.ta_automaton.specs.declared.pattern.Pattern.{Pattern}
 use Rattle.ta_automaton.specs.Runs.{Config, value_at}
-use Rattle.ta_automaton.specs.Masks.{has_bit, numbers_from, In}
-use Rattle.ta_implied.proofs.Members.{in_append}
+use Rattle.ta_base.specs.Masks.{has_bit, numbers_from, In}
 use Rattle.ta_words.specs.declared.element.Element.{Element}
 use Rattle.ta_words.specs.declared.element.Element.TheVariants.{Event, Rise, Fall}
 use Rattle.ta_words.specs.Words.{may_fire, allowed_rules, children, is_complete, is_ready, is_standing, may_rise}
 use Rattle.ta_encode.specs.Unknowns.{Meaning, place_coefficient}
 use Rattle.ta_automaton.specs.Places.{location_place}
-use Rattle.ta_encode.specs.System.{LinearRow, form_row, counter_row, counter_rows, condition_rows, guard_rows, combine, row_value, AllHold}
+use Rattle.ta_encode.specs.System.{LinearRow, form_row, counter_row, counter_rows, condition_rows, guard_rows, sum_of_products, row_value, AllHold}
 use Rattle.ta_automaton.specs.Sums.{total}
-use Rattle.ta_automaton.proofs.Sums.{one_times, terms_value-same}
+use Rattle.ta_automaton.proofs.Sums.{terms_value-same}
 use Rattle.ta_encode.proofs.Combine.{combine-terms}
-use Rattle.ta_automaton.proofs.MaskTests.{In-filter, In-numbers, not_true}
 use Rattle.ta_encode.proofs.Segment.{EachMay}
 
 -- the value of a place
 abbrev pub place_value : Automaton → List Meaning → List ℕ → ℕ → ℤ
-place_value a ms vs i = combine (map (λ m. place_coefficient a m i) ms) vs
+place_value a ms vs i = sum_of_products (map (λ m. place_coefficient a m i) ms) vs
 
 pub form_at : (a : Automaton) (ms : List Meaning) (vs : List ℕ) (f : Form) → row_value vs (form_row a ms f) ≡ value_of (place_value a ms vs) f
 form_at a ms vs f = ap (λ z. f.constant +ℤ z) (combine-terms (place_coefficient a) ms vs f.terms)
@@ -44,7 +45,7 @@ held_map vs f (y ∷ xs) x h (inr i) = held_map vs f xs x h.1 i
 
 pub counter_natural : (a : Automaton) (p : Pattern) (ms : List Meaning) (vs : List ℕ) → AllHold vs (counter_rows a p ms) → (l : ℕ) → l < length a.locations → has_bit p.empty l ≡ false → pos 0 ≤ℤ place_value a ms vs (location_place a l)
 counter_natural a p ms vs h l b f =
-    let r = held_map vs (counter_row a ms) (filter (λ k. not (has_bit p.empty k)) (numbers_from 0 (length a.locations))) l h (In-filter (λ k. not (has_bit p.empty k)) l (numbers_from 0 (length a.locations)) (not_true _ f) (In-numbers l 0 (length a.locations) (omega arith) (omega arith))) in
+    let r = held_map vs (counter_row a ms) (filter (λ k. not (has_bit p.empty k)) (numbers_from 0 (length a.locations))) l h (In-filter (λ k. not (has_bit p.empty k)) l (numbers_from 0 (length a.locations)) (not_from_false _ f) (In-numbers l 0 (length a.locations) (omega arith) (omega arith))) in
     omega (arith, ints, r)
 
 held_true : (vs : List ℕ) (b : Bool) (x : LinearRow) (xs : List LinearRow) → b ≡ true → AllHold vs (cond b (x ∷ xs) xs) → pos 0 ≤ℤ row_value vs x
@@ -72,17 +73,13 @@ rows_back a ms vs d same (r ∷ rs) h zero e b =
     omega (arith, ints, first, form_at a ms vs r.form, terms_value-same r.form.terms (value_at d) (place_value a ms vs) same)
 rows_back a ms vs d same (r ∷ rs) h (suc k) e b = rows_back a ms vs d same rs h.1 k e (omega arith)
 
-pub left_part : (vs : List ℕ) (xs ys : List LinearRow) → AllHold vs (xs ++ ys) → AllHold vs xs
-left_part vs [] ys h = tt
-left_part vs (x ∷ xs) ys h = (h.0, left_part vs xs ys h.1)
-
 pub condition_back : (a : Automaton) (ms : List Meaning) (vs : List ℕ) (d : Config) → ((i : ℕ) → value_at d i ≡ place_value a ms vs i) → (ks : List Comparison) → AllHold vs (condition_rows a ms ks) → All (λ (k : Comparison). All (RowHolds (value_at d)) k.rows) ks
 condition_back a ms vs d same [] h k e b = absurd (omega arith)
-condition_back a ms vs d same (c ∷ cs) h zero e b = rows_back a ms vs d same c.rows (left_part vs (map (λ (r : Row). form_row a ms r.form) c.rows) (condition_rows a ms cs) h)
+condition_back a ms vs d same (c ∷ cs) h zero e b = rows_back a ms vs d same c.rows (AllHold-left vs (map (λ (r : Row). form_row a ms r.form) c.rows) (condition_rows a ms cs) h)
 condition_back a ms vs d same (c ∷ cs) h (suc k) e b = condition_back a ms vs d same cs (AllHold-right vs (map (λ (r : Row). form_row a ms r.form) c.rows) (condition_rows a ms cs) h) k e (omega arith)
 
-pub combine-split : {X : Type 0} (g : X → ℤ) (ms ns : List X) (vs : List ℕ) → combine (map g (ms ++ ns)) vs ≡ (combine (map g ms) vs +ℤ combine (map g ns) (drop (length ms) vs))
-unfolding combine
+pub combine-split : {X : Type 0} (g : X → ℤ) (ms ns : List X) (vs : List ℕ) → sum_of_products (map g (ms ++ ns)) vs ≡ (sum_of_products (map g ms) vs +ℤ sum_of_products (map g ns) (drop (length ms) vs))
+unfolding sum_of_products
 combine-split g [] ns vs = omega (arith, ints)
 combine-split g (m ∷ ms) [] [] = omega (arith, ints)
 combine-split g (m ∷ ms) (n ∷ ns) [] = omega (arith, ints)
@@ -98,36 +95,26 @@ unfolded [] vs = []
 unfolded (r ∷ rs) [] = []
 unfolded (r ∷ rs) (v ∷ vs) = repeat v r (unfolded rs vs)
 
-by_one : (z : ℤ) → (z *ℤ pos 1) ≡ z
-unfolding one
-by_one z = *ℤ-one z
-
-one_by : (z : ℤ) → (pos 1 *ℤ z) ≡ z
-one_by z = one_times z
-
 repeat-length : (n r : ℕ) (xs : List ℕ) → length (repeat n r xs) ≡ n + length xs
 repeat-length zero r xs = omega arith
 repeat-length (suc n) r xs = omega (arith, repeat-length n r xs)
-
-times_next : (z : ℤ) (n : ℕ) → (z *ℤ pos (suc n)) ≡ (z +ℤ (z *ℤ pos n))
-times_next z n = omega (arith, ints, ap (λ y. z *ℤ y) (let s : pos (suc n) ≡ (pos n +ℤ pos 1) = omega (arith, ints) in s), distributes z (pos n) (pos 1), by_one z)
 
 repeat-total : (g : ℕ → ℤ) (n r : ℕ) (xs : List ℕ) → total g (repeat n r xs) ≡ ((g r *ℤ pos n) +ℤ total g xs)
 unfolding total
 repeat-total g zero r xs = omega (arith, ints, *ℤ-zero (g r))
 repeat-total g (suc n) r xs = omega (arith, ints, repeat-total g n r xs, times_next (g r) n)
 
-pub unfolded-total : {X : Type 0} (g : X → ℤ) (k : ℕ → X) (rs vs : List ℕ) → total (λ r. g (k r)) (unfolded rs vs) ≡ combine (map g (map k rs)) vs
-unfolding total combine
+pub unfolded-total : {X : Type 0} (g : X → ℤ) (k : ℕ → X) (rs vs : List ℕ) → total (λ r. g (k r)) (unfolded rs vs) ≡ sum_of_products (map g (map k rs)) vs
+unfolding total sum_of_products
 unfolded-total g k [] vs = refl
 unfolded-total g k (r ∷ rs) [] = refl
 unfolded-total g k (r ∷ rs) (v ∷ vs) = omega (arith, ints, repeat-total (λ x. g (k x)) v r (unfolded rs vs), unfolded-total g k rs vs)
 
-pub unfolded-count : (rs vs : List ℕ) → pos (length (unfolded rs vs)) ≡ combine (map (λ r. pos 1) rs) vs
-unfolding total combine
+pub unfolded-count : (rs vs : List ℕ) → pos (length (unfolded rs vs)) ≡ sum_of_products (map (λ r. pos 1) rs) vs
+unfolding total sum_of_products
 unfolded-count [] vs = refl
 unfolded-count (r ∷ rs) [] = refl
-unfolded-count (r ∷ rs) (v ∷ vs) = omega (arith, ints, repeat-length v r (unfolded rs vs), unfolded-count rs vs, one_by (pos v))
+unfolded-count (r ∷ rs) (v ∷ vs) = omega (arith, ints, repeat-length v r (unfolded rs vs), unfolded-count rs vs, one_times (pos v))
 
 repeat-may : (a : Automaton) (p : Pattern) (start : ℕ) (past : List Element) (n r : ℕ) (xs : List ℕ) → may_fire a p start past (slice_get a.rules r) ≡ true → EachMay a p start past xs → EachMay a p start past (repeat n r xs)
 repeat-may a p start past zero r xs h g = g
@@ -150,11 +137,6 @@ pub allowed_may : (a : Automaton) (p : Pattern) (start : ℕ) (past : List Eleme
 unfolding allowed_rules
 allowed_may a p start past = filter_may a p start past (numbers_from 0 (length a.rules))
 
--- what is known of an event that is a child
-cond_in : {X : Type 0} (x : X) (b : Bool) (xs : List X) → In x (cond b [] xs) → In x xs
-cond_in x true xs h = absurd h
-cond_in x false xs h = h
-
 same_event : (e f : ℕ) → Event e ≡ Event f → e ≡ f
 same_event e f q = cc
 
@@ -173,22 +155,13 @@ no_fall e [] h = h
 no_fall e (x ∷ xs) (inl q) = cc
 no_fall e (x ∷ xs) (inr h) = no_fall e xs h
 
-in_kept : (ok : ℕ → Bool) (x y : ℕ) (b : Bool) (xs : List ℕ) → ok y ≡ b → (In x xs → ok x ≡ true) → In x (cond b (y ∷ xs) xs) → ok x ≡ true
-in_kept ok x y true xs e h (inl q) = ap ok q ∙ e
-in_kept ok x y true xs e h (inr i) = h i
-in_kept ok x y false xs e h i = h i
-
-pub in_filter : (ok : ℕ → Bool) (x : ℕ) (xs : List ℕ) → In x (filter ok xs) → ok x ≡ true
-in_filter ok x [] h = absurd h
-in_filter ok x (y ∷ xs) h = in_kept ok x y (ok y) (filter ok xs) refl (in_filter ok x xs) h
-
 pub event_ready : (a : Automaton) (p : Pattern) (pairs : List (ℕ × ℕ)) (start : ℕ) (past : List Element) (e : ℕ) → In (Event e) (children a p pairs start past) → is_ready p past e ≡ true
 unfolding children
 event_ready a p pairs start past e h =
     let es = map Event (filter (is_ready p past) (numbers_from 0 (length p.events))) in
     let rs = map Rise (filter (may_rise pairs past) (numbers_from 0 (length a.rise))) in
     let fs = map Fall (filter (is_standing a start past) (numbers_from 1 (2 ^ length a.fall - 1))) in
-    elim (in_append (Event e) es (rs ++ fs) (cond_in (Event e) (is_complete p past) (es ++ (rs ++ fs)) h)) [
-      | inl i ↦ in_filter (is_ready p past) e (numbers_from 0 (length p.events)) (in_events e _ i)
+    elim (in_append (Event e) es (rs ++ fs) (in_more (Event e) (is_complete p past) (es ++ (rs ++ fs)) h)) [
+      | inl i ↦ filter_passes (is_ready p past) e (numbers_from 0 (length p.events)) (in_events e _ i)
       | inr i ↦ elim (in_append (Event e) rs fs i) [ inl j ↦ absurd (no_rise e _ j) | inr j ↦ absurd (no_fall e _ j) ]
     ]

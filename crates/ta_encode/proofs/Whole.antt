@@ -1,20 +1,21 @@
 -- the system of a word with bounds, from that without
-use Rattle.std.proofs.Common.{◌≡◌, ◌≢◌, ℕ, zero, suc, ◌+◌, ◌<◌, ◌≤◌, ◌^◌, ℤ, pos, negsuc, ◌+ℤ◌, ◌-ℤ◌, List, [], ◌∷◌, ◌++◌, length, map, get_or, arith, sym, ap, ◌∙◌, refl, subst, append-nil, inl, inr}
+use Rattle.std.proofs.Common.{◌≡◌, ◌≢◌, ℕ, zero, suc, ◌<◌, ◌≤◌, ◌^◌, ℤ, pos, negsuc, ◌+ℤ◌, ◌-ℤ◌, List, [], ◌∷◌, ◌++◌, map, get_or, arith, sym, ap, ◌∙◌, refl, subst, append-nil, inl, inr}
 use Rattle.std.proofs.lemmas.Bool.{cases_lt}
 use Rattle.std.proofs.lemmas.Int.{ints}
+use Rattle.ta_implied.proofs.Copying.{below_append}
 use Rattle.ta_linear.specs.Numbers.{InRange}
-use Rattle.ta_linear.specs.Terms.{IsNormal, IsTerm, coefficient}
+use Rattle.ta_linear.specs.Terms.{IsNormal, coefficient}
 use Rattle.ta_linear.specs.Rows.{AllBelow}
 use Rattle.ta_linear.specs.declared.form.Form.{Form}
 use Rattle.ta_linear.specs.declared.row.Row.{Row}
 use Rattle.ta_linear.specs.declared.row.System.{System}
 use Rattle.ta_words.specs.declared.element.Element.{Element}
-use Rattle.ta_encode.specs.System.{LinearRow, Bound, Side, Low, High, only_at, side_row, bound_row}
-use Rattle.ta_encode.specs.Code.{RowOf, RowsOf, SystemAt}
+use Rattle.ta_encode.specs.System.{LinearRow, Bound, Side, Low, High, only_at, bound_row}
+use Rattle.ta_encode.specs.Code.{IsRowOf, AreRowsOf, SystemAt}
 use Rattle.ta_encode.specs.Search.{Search}
 use Rattle.ta_encode.specs.Lines.{BoundWithin, BoundsWithin}
 use Rattle.ta_encode.proofs.Running.{at_variable, if_same, if_other}
-use Rattle.ta_encode.proofs.Adding.{AllBelow-append, RowsOf-append}
+use Rattle.ta_encode.proofs.Adding.{RowsOf-append}
 
 -- the coefficient of an unknown alone
 only_here : (x : ℕ) (z : ℤ) → get_or (only_at x z) x (pos 0) ≡ z
@@ -43,7 +44,7 @@ same_or_not x u z =
 -- a row of the code for a bound
 record BoundRow (n : ℕ) (b : Bound) : Type 0 where
   row : Row
-  of : RowOf (bound_row b) row
+  of : IsRowOf (bound_row b) row
   below : IsNormal 0 n row.form.terms
 
 one_term : (n x : ℕ) (z : ℤ) → x < n → z ≢ pos 0 → InRange z → IsNormal 0 n ((x, z) ∷ [])
@@ -70,7 +71,7 @@ side_code n x floor High most within =
 -- rows of the code for bounds
 record BoundRows (n : ℕ) (bs : List Bound) : Type 0 where
   rows : List Row
-  of : RowsOf (map bound_row bs) rows
+  of : AreRowsOf (map bound_row bs) rows
   below : AllBelow n rows
 
 bound_rows : (n : ℕ) (bs : List Bound) → n ≤ 2 ^ 32 → BoundsWithin n bs → BoundRows n bs
@@ -81,8 +82,8 @@ bound_rows n (b ∷ bs) most within =
     record { rows = first.row ∷ rest.rows; of = (first.of, rest.of); below = (first.below, rest.below) }
 
 -- the rows of a system without bounds
-pub unbounded_rows : (search : Search) (start : ℕ) (past : List Element) (z : System) → SystemAt search (record { start = start; past = past; bounds = [] }) z → RowsOf (search.rows start past) z.rows
-unbounded_rows search start past z is = subst (λ (ls : List LinearRow). RowsOf ls z.rows) (append-nil (search.rows start past)) is.rows
+pub unbounded_rows : (search : Search) (start : ℕ) (past : List Element) (z : System) → SystemAt search (record { start = start; past = past; bounds = [] }) z → AreRowsOf (search.rows start past) z.rows
+unbounded_rows search start past z is = subst (λ (ls : List LinearRow). AreRowsOf ls z.rows) (append-nil (search.rows start past)) is.rows
 
 -- where a word has a system without bounds, it has one with them
 pub whole_system : (search : Search) (start : ℕ) (past : List Element) (bounds : List Bound) (z : System) → z.unknowns ≤ 2 ^ 32 → SystemAt search (record { start = start; past = past; bounds = [] }) z → BoundsWithin z.unknowns bounds → (s : System) × SystemAt search (record { start = start; past = past; bounds = bounds }) s
@@ -90,5 +91,5 @@ whole_system search start past bounds z most is within =
     let more = bound_rows z.unknowns bounds most within in
     let rows = search.rows start past in
     let plain = unbounded_rows search start past z is in
-    let s : System = record { unknowns = z.unknowns; rows = z.rows ++ more.rows; within = AllBelow-append z.unknowns z.rows more.rows z.within more.below } in
+    let s : System = record { unknowns = z.unknowns; rows = z.rows ++ more.rows; within = below_append z.unknowns z.rows more.rows z.within more.below } in
     (s, record { unknowns = is.unknowns; rows = RowsOf-append rows (map bound_row bounds) z.rows more.rows plain more.of })

@@ -7,25 +7,25 @@ use Rattle.ta_automaton.specs.declared.automaton.Automaton.{Automaton}
 use Rattle.ta_automaton.specs.declared.pattern.Pattern.{Pattern}
 use Rattle.ta_words.specs.declared.element.Element.{Element}
 use Rattle.ta_encode.specs.System.{LinearRow, Bound}
-use Rattle.ta_encode.specs.Search.{Pending, Search, rows_of}
+use Rattle.ta_encode.specs.Search.{Pending, Search, bounded_rows}
 use Rattle.ta_encode.specs.PatternSearch.{pattern_search}
 
 -- the same constant, and the same coefficient of each unknown
-pub record RowOf (linear : LinearRow) (row : Row) : Type 0 where
+pub record IsRowOf (linear : LinearRow) (row : Row) : Type 0 where
   pub constant : row.form.constant ≡ linear.constant
   pub coefficients : (u : ℕ) → coefficient row.form.terms u ≡ slice_index_or linear.coefficients u (pos 0)
 
 -- one row for each, in order
-abbrev pub RowsOf : List LinearRow → List Row → Type 0
-RowsOf [] [] = Unit {0}
-RowsOf (l ∷ ls) (r ∷ rs) = RowOf l r × RowsOf ls rs
-RowsOf [] (r ∷ rs) = ⊥
-RowsOf (l ∷ ls) [] = ⊥
+abbrev pub AreRowsOf : List LinearRow → List Row → Type 0
+AreRowsOf [] [] = Unit {0}
+AreRowsOf (l ∷ ls) (r ∷ rs) = IsRowOf l r × AreRowsOf ls rs
+AreRowsOf [] (r ∷ rs) = ⊥
+AreRowsOf (l ∷ ls) [] = ⊥
 
 -- the unknowns and the rows of a word of a search
 pub record SystemAt (s : Search) (w : Pending) (system : System) : Type 0 where
   pub unknowns : system.unknowns ≡ s.unknowns w.start w.past
-  pub rows : RowsOf (rows_of s w) system.rows
+  pub rows : AreRowsOf (bounded_rows s w) system.rows
 
 -- those of a pattern's word with bounds; pairs of guards change nothing of them
 abbrev pub SystemOf : Automaton → Pattern → ℕ → List Element → List Bound → System → Type 0

@@ -3,11 +3,11 @@ use Rattle.std.specs.Prelude.{ℕ, ◌≡◌, List, [], ◌++◌, length, map, f
 use Rattle.ta_linear.specs.declared.row.System.{System}
 use Rattle.ta_automaton.specs.declared.automaton.Automaton.{Automaton}
 use Rattle.ta_automaton.specs.declared.pattern.Pattern.{Pattern}
-use Rattle.ta_automaton.specs.Masks.{has_bit, numbers_from}
+use Rattle.ta_base.specs.Masks.{has_bit, numbers_from}
 use Rattle.ta_words.specs.declared.element.Element.{Element}
 use Rattle.ta_encode.specs.Unknowns.{Meaning, meanings}
 use Rattle.ta_encode.specs.System.{LinearRow, Bound, bound_row, counter_row, guard_rows, negated, opposite, word_rows}
-use Rattle.ta_encode.specs.Code.{RowsOf}
+use Rattle.ta_encode.specs.Code.{AreRowsOf}
 use Rattle.ta_encode.specs.declared.ending.WordEnd.{WordEnd}
 
 -- the negations at a moment of the rise guards that are to fail, and `-counter` of the locations in which nobody is to be
@@ -20,4 +20,4 @@ ended_rows a ms (Some end) =
 -- the unknowns of a word, and its rows, then those of its end, then those of bounds
 pub record EndedSystem (a : Automaton) (p : Pattern) (start : ℕ) (past : List Element) (end : Option WordEnd) (bounds : List Bound) (system : System) : Type 0 where
   pub unknowns : system.unknowns ≡ length (meanings a p start past)
-  pub rows : RowsOf ((word_rows a p start past ++ ended_rows a (meanings a p start past) end) ++ map bound_row bounds) system.rows
+  pub rows : AreRowsOf ((word_rows a p start past ++ ended_rows a (meanings a p start past) end) ++ map bound_row bounds) system.rows

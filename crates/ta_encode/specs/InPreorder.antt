@@ -1,6 +1,6 @@
 -- Proofs read node by node: the words that are still to be refuted, and a list of nodes that refutes them, one tree
 -- after another
-use Rattle.std.specs.Prelude.{ℕ, ◌<◌, ◌≡◌, ◌↔◌, false, List, [], ◌∷◌, ◌++◌}
+use Rattle.std.specs.Prelude.{◌<◌, ◌≡◌, ◌↔◌, false, List, [], ◌∷◌, ◌++◌}
 use Rattle.ta_cert.specs.declared.line.Node.{Node}
 use Rattle.ta_cert.specs.declared.line.Node.TheVariants as node
 use Rattle.ta_cert.specs.Tree.{Tree, all_preorder}

@@ -1,14 +1,14 @@
 -- What words, their systems and their refutations say of runs (the reordering theorem after POPL 2017, with start sets
 -- and joint falls as this project's own)
 use Rattle.std.specs.Prelude.{ℕ, ℤ, ◌<◌, ◌≤◌, ◌^◌, ◌≡◌, ◌≢◌, ◌==◌, ◌↔◌, false, if◌then◌else◌, true, List, [], ◌∷◌, ◌++◌, length, map, reverse, take, drop, slice_get, slice_index, Some}
+use Rattle.std.specs.List.{AllByRecursion}
 use Rattle.ta_linear.specs.Values.{RowHolds}
 use Rattle.ta_linear.specs.declared.row.Row.{Row}
 use Rattle.ta_automaton.specs.declared.rule.Rule.{Rule}
 use Rattle.ta_automaton.specs.declared.automaton.Automaton.{Automaton}
 use Rattle.ta_automaton.specs.declared.pattern.Pattern.{Pattern}
 use Rattle.ta_automaton.specs.declared.file.File.{File}
-use Rattle.ta_automaton.specs.Lists.{Each}
-use Rattle.ta_automaton.specs.Masks.{numbers_from}
+use Rattle.ta_base.specs.Masks.{numbers_from}
 use Rattle.ta_automaton.specs.Places.{rule_change}
 use Rattle.ta_automaton.specs.Runs.{Config, InScope, LoopsPure, Occurs, Safe, value_at}
 use Rattle.ta_automaton.specs.Sums.{total}
@@ -18,7 +18,7 @@ use Rattle.ta_words.specs.declared.element.Element.{Element}
 use Rattle.ta_words.specs.declared.element.Element.TheVariants.{Event, Rise, Fall}
 use Rattle.ta_words.specs.Words.{LegalUnder, has_fallen, has_rise, is_complete, may_fire}
 use Rattle.ta_encode.specs.Unknowns.{Meaning, Single, meanings, counts_after, place_coefficient, start_locations, start_meanings}
-use Rattle.ta_encode.specs.System.{SolvesWord, combine}
+use Rattle.ta_encode.specs.System.{SolvesWord, sum_of_products}
 use Rattle.ta_encode.specs.Refutes.{ProofOf}
 
 -- a complete word that is legal under pairs, and natural values that solve its system without bounds
@@ -41,7 +41,7 @@ values_of_prefix a p start prefix values = take (length (meanings a p start (rev
 
 -- a set of fall guards, a complete word that is legal under pairs and one assignment of naturals that has the parameters and the
 -- start counts of a configuration, and that solves the system of the word and that of each of its prefixes
-pub record Reordered (a : Automaton) (p : Pattern) (pairs : List (ℕ × ℕ)) (first : Config) : Type 0 where
+pub record IsReordered (a : Automaton) (p : Pattern) (pairs : List (ℕ × ℕ)) (first : Config) : Type 0 where
   pub start : ℕ
   pub is_start : start < 2 ^ length a.fall
   pub word : List Element
@@ -57,7 +57,7 @@ RunsReorder =
     → LoopsPure file.automaton
     → (pairs : List (ℕ × ℕ)) → Good file.automaton pairs
     → (first : Config) (rules : List ℕ) → Occurs file.automaton p first rules
-    → Reordered file.automaton p pairs first
+    → IsReordered file.automaton p pairs first
 
 -- what stands at the end of a word that describes a run of these configurations, in which the events have these positions: its
 -- newest element is an event, and the values are those of the configuration at this event's position, which no other's is behind;
@@ -72,13 +72,13 @@ pub record EndsAt (a : Automaton) (p : Pattern) (start : ℕ) (past : List Eleme
   pub config : Config
   pub there : slice_get configs place ≡ Some config
   pub count : length values ≡ length (meanings a p start past)
-  pub places : (i : ℕ) → combine (map (λ m. place_coefficient a m i) (meanings a p start past)) values ≡ value_at config i
+  pub places : (i : ℕ) → sum_of_products (map (λ m. place_coefficient a m i) (meanings a p start past)) values ≡ value_at config i
   pub risen : (i : ℕ) (row : Row) → slice_get a.rise i ≡ Some row → RowHolds (value_at config) row ↔ (has_rise past i ≡ true)
   pub fallen : (j : ℕ) (row : Row) → slice_get a.fall j ≡ Some row → RowHolds (value_at config) row ↔ (has_fallen start past j ≡ false)
 
 -- a word as in the reordering, and what stands at its end
 pub record ReorderedTo (a : Automaton) (p : Pattern) (pairs : List (ℕ × ℕ)) (first : Config) (configs : List Config) (positions : List ℕ) : Type 0 where
-  pub reordered : Reordered a p pairs first
+  pub reordered : IsReordered a p pairs first
   pub ends : EndsAt a p reordered.start (reverse reordered.word) reordered.values configs positions
 
 -- the word of a run in which a pattern with events occurs ends with the event that happens last, at the configuration at which it happens
@@ -117,12 +117,12 @@ GoesForward a rules =
 -- what the Counts of the element after a word add at a place
 abbrev pub counts_change : Automaton → Pattern → ℕ → List Element → List ℕ → ℕ → ℤ
 counts_change a p start past values place =
-    combine (map (λ m. place_coefficient a m place) (counts_after a p start past)) (drop (length (meanings a p start past)) values)
+    sum_of_products (map (λ m. place_coefficient a m place) (counts_after a p start past)) (drop (length (meanings a p start past)) values)
 
 -- unit steps before the element after a word: each may fire after the word, they go forward, and together they add at each
 -- place what the element's Counts add there
-pub record Fires (a : Automaton) (p : Pattern) (start : ℕ) (past : List Element) (values rules : List ℕ) : Type 0 where
-  pub allowed : Each (λ r. may_fire a p start past (slice_get a.rules r) ≡ true) rules
+pub record FiresBefore (a : Automaton) (p : Pattern) (start : ℕ) (past : List Element) (values rules : List ℕ) : Type 0 where
+  pub allowed : AllByRecursion (λ r. may_fire a p start past (slice_get a.rules r) ≡ true) rules
   pub forward : GoesForward a rules
   pub adds : (place : ℕ) → total (λ r. rule_change a (slice_get a.rules r) place) rules ≡ counts_change a p start past values place
 
@@ -135,7 +135,7 @@ pub record FiresFall (a : Automaton) (p : Pattern) (start : ℕ) (past : List El
   pub front : List ℕ
   pub last : ℕ
   pub cut : rules ≡ front ++ last ∷ []
-  pub fires : Fires a p start past values front
+  pub fires : FiresBefore a p start past values front
   pub single : IsOne (meanings a p start (Fall mask ∷ past)) values (Single (length past) last)
 
 -- unit steps for each element of a word, those of the newest element first
@@ -143,8 +143,8 @@ abbrev pub WordFires : Automaton → Pattern → ℕ → List Element → List �
 WordFires a p start [] values [] = Unit {0}
 WordFires a p start [] values (rules ∷ older) = ⊥
 WordFires a p start (element ∷ past) values [] = ⊥
-WordFires a p start (Event e ∷ past) values (rules ∷ older) = Fires a p start past values rules × WordFires a p start past values older
-WordFires a p start (Rise i ∷ past) values (rules ∷ older) = Fires a p start past values rules × WordFires a p start past values older
+WordFires a p start (Event e ∷ past) values (rules ∷ older) = FiresBefore a p start past values rules × WordFires a p start past values older
+WordFires a p start (Rise i ∷ past) values (rules ∷ older) = FiresBefore a p start past values rules × WordFires a p start past values older
 WordFires a p start (Fall mask ∷ past) values (rules ∷ older) = FiresFall a p start past mask values rules × WordFires a p start past values older
 
 -- all unit steps, in order

@@ -1,34 +1,27 @@
 -- Rows written from terms over places
-use Rattle.std.specs.Prelude.{ℕ, ℤ, pos, ◌-◌, ◌^◌, ◌<◌, ◌≤◌, ◌≤ℤ◌, ◌<ℤ◌, ◌-ℤ◌, unsigned_abs, if◌then◌else◌, Bool, true, false, List, ◌++◌, length, map, filter, not, slice_get, Some, ◌≡◌}
-use Rattle.ta_linear.specs.Rows.{AllBelow}
+use Rattle.std.specs.Prelude.{ℕ, ℤ, pos, ◌^◌, ◌<◌, ◌≤◌, ◌≤ℤ◌, ◌<ℤ◌, ◌-ℤ◌, unsigned_abs, if◌then◌else◌, Bool, List, length, map}
+use Rattle.std.specs.List.{AllByRecursion}
 use Rattle.ta_linear.specs.Values.{terms_value}
-use Rattle.ta_linear.specs.declared.form.Form.{Form}
-use Rattle.ta_linear.specs.declared.row.Row.{Row}
-use Rattle.ta_automaton.specs.Lists.{Each}
-use Rattle.ta_automaton.specs.Masks.{has_bit, numbers_from}
-use Rattle.ta_automaton.specs.declared.pattern.Event.{Event}
-use Rattle.ta_automaton.specs.declared.pattern.Pattern.{Pattern}
 use Rattle.ta_automaton.specs.declared.automaton.Automaton.{Automaton}
-use Rattle.ta_automaton.specs.declared.condition.Comparison.{Comparison}
-use Rattle.ta_automaton.specs.declared.condition.Condition.{Condition}
 use Rattle.ta_encode.specs.Unknowns.{Meaning, place_coefficient}
-use Rattle.ta_encode.specs.System.{LinearRow, Bound, Side, Low, High, counter_row, negated, opposite, start_coefficient}
-use Rattle.ta_encode.specs.Code.{RowsOf}
+use Rattle.ta_encode.specs.System.{LinearRow, Bound, start_coefficient}
 use Rattle.ta_encode.specs.declared.line.Sense.{Sense}
-use Rattle.ta_encode.specs.declared.line.Sense.TheVariants.{Same, Opposite}
+use Rattle.ta_encode.specs.declared.line.Sense.TheVariants.{Plain, Opposite, Negated}
 
 -- at most 64 terms, each coefficient at most 1,000,000,000 in absolute value
 pub record SmallTerms (terms : List (ℕ × ℤ)) : Type 0 where
   pub few : length terms ≤ 64
-  pub small : Each (λ (t : ℕ × ℤ). unsigned_abs t.1 ≤ 1000000000) terms
+  pub small : AllByRecursion (λ (t : ℕ × ℤ). unsigned_abs t.1 ≤ 1000000000) terms
 
-abbrev pub turned : Sense → ℤ → ℤ
-turned Same z = z
-turned Opposite z = pos 0 -ℤ z
+-- a coefficient of a row that is written in a sense
+abbrev pub coefficient_in_sense : Sense → ℤ → ℤ
+coefficient_in_sense Plain z = z
+coefficient_in_sense Opposite z = pos 0 -ℤ z
+coefficient_in_sense Negated z = pos 0 -ℤ z
 
 -- what stands before an unknown in the terms over places, less the start counts if these are wanted
 abbrev pub line_coefficient : Automaton → List (ℕ × ℤ) → Bool → Sense → Meaning → ℤ
-line_coefficient a terms less_starts sense m = turned sense (terms_value (place_coefficient a m) terms -ℤ (if less_starts then start_coefficient m else pos 0))
+line_coefficient a terms less_starts sense m = coefficient_in_sense sense (terms_value (place_coefficient a m) terms -ℤ (if less_starts then start_coefficient m else pos 0))
 
 abbrev pub line_row : Automaton → List Meaning → List (ℕ × ℤ) → Bool → Sense → ℤ → LinearRow
 line_row a ms terms less_starts sense constant = record { constant = constant; coefficients = map (line_coefficient a terms less_starts sense) ms }
@@ -40,4 +33,4 @@ pub record BoundWithin (unknowns : ℕ) (bound : Bound) : Type 0 where
   pub most : bound.floor <ℤ pos (2 ^ 126)
 
 abbrev pub BoundsWithin : ℕ → List Bound → Type 0
-BoundsWithin unknowns bounds = Each (BoundWithin unknowns) bounds
+BoundsWithin unknowns bounds = AllByRecursion (BoundWithin unknowns) bounds

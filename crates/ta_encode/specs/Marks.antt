@@ -5,7 +5,7 @@ use Rattle.ta_automaton.specs.declared.automaton.Automaton.{Automaton}
 use Rattle.ta_automaton.specs.declared.pattern.Pattern.{Pattern}
 use Rattle.ta_words.specs.declared.element.Element.{Element}
 use Rattle.ta_encode.specs.Unknowns.{Meaning}
-use Rattle.ta_encode.specs.Inside.Draft.{Drafted}
+use Rattle.ta_encode.specs.Inside.Draft.{IsDraftOf}
 use Rattle.ta_encode.specs.declared.growing.Mark.{Mark}
 use Rattle.ta_encode.specs.declared.growing.Encoding.{Encoding}
 use Rattle.ta_encode.specs.declared.growing.Part.{Part}
@@ -22,7 +22,7 @@ mark_at marks i = slice_index_or marks i no_mark
 pub record MarkHolds (a : Automaton) (p : Pattern) (start : ℕ) (elements : List Element) (ms : List Meaning) (rows : List Row) (i : ℕ) (mark : Mark) : Type 0 where
   pub unknowns_within : mark.unknowns ≤ length ms
   pub rows_within : mark.rows ≤ length rows
-  pub drafted : Drafted a p start (reverse (take i elements)) (take mark.unknowns ms) (take mark.rows rows)
+  pub drafted : IsDraftOf a p start (reverse (take i elements)) (take mark.unknowns ms) (take mark.rows rows)
 
 -- the marks of a word's elements, from those at the start on; they rise
 pub record AreMarks (a : Automaton) (p : Pattern) (start : ℕ) (elements : List Element) (ms : List Meaning) (rows : List Row) (marks : List Mark) : Type 0 where
@@ -38,7 +38,7 @@ pub record IsPart (a : Automaton) (p : Pattern) (start : ℕ) (elements : List E
   pub within : part.from ≤ length elements
   pub marked : length part.marks.items ≡ part.from + 1
   pub marks : AreMarks a p start elements part.meanings.items part.rows.items part.marks.items
-  pub drafted : Drafted a p start (reverse (take part.from elements)) part.meanings.items part.rows.items
+  pub drafted : IsDraftOf a p start (reverse (take part.from elements)) part.meanings.items part.rows.items
   pub same : part.same ≤ length part.rows.items
   pub rows_are : take part.same before ≡ take part.same part.rows.items
 

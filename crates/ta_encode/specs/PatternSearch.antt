@@ -2,7 +2,7 @@
 use Rattle.std.specs.Prelude.{ℕ, ◌^◌, List, [], length, map}
 use Rattle.ta_automaton.specs.declared.automaton.Automaton.{Automaton}
 use Rattle.ta_automaton.specs.declared.pattern.Pattern.{Pattern}
-use Rattle.ta_automaton.specs.Masks.{numbers_from}
+use Rattle.ta_base.specs.Masks.{numbers_from}
 use Rattle.ta_words.specs.Words.{children, is_complete}
 use Rattle.ta_encode.specs.Unknowns.{meanings}
 use Rattle.ta_encode.specs.System.{word_rows}

@@ -5,26 +5,26 @@ use Rattle.ta_automaton.specs.declared.automaton.Automaton.{Automaton}
 use Rattle.ta_automaton.specs.declared.pattern.Pattern.{Pattern}
 use Rattle.ta_cert.specs.Tree.{Tree, Forest, Leaf, Extend, Split, Done, More}
 use Rattle.ta_encode.specs.System.{LinearRow, Low, High}
-use Rattle.ta_encode.specs.Search.{Pending, Search, bounded, longer, rows_of}
+use Rattle.ta_encode.specs.Search.{Pending, Search, bounded, longer, bounded_rows}
 pub use Rattle.ta_encode.specs.Search.{LeafTest, bound_at}
 use Rattle.ta_encode.specs.PatternSearch.{pattern_search}
 
 -- a row's coefficient of an unknown, and its constant; 0 where there is no row
-abbrev pub coefficient_in : ℕ → Option LinearRow → ℤ
-coefficient_in u None = pos 0
-coefficient_in u (Some row) = slice_index_or row.coefficients u (pos 0)
+abbrev pub linear_coefficient_in : ℕ → Option LinearRow → ℤ
+linear_coefficient_in u None = pos 0
+linear_coefficient_in u (Some row) = slice_index_or row.coefficients u (pos 0)
 
-abbrev pub constant_in : Option LinearRow → ℤ
-constant_in None = pos 0
-constant_in (Some row) = row.constant
+abbrev pub linear_constant_in : Option LinearRow → ℤ
+linear_constant_in None = pos 0
+linear_constant_in (Some row) = row.constant
 
 -- positive multipliers of rows, row numbers rising, whose sum has no positive coefficient and a negative constant (Farkas' lemma)
 abbrev pub LeafOfRows : List LinearRow → List (ℕ × ℤ) → Type 0
-LeafOfRows rows ts = FarkasLeaf coefficient_in constant_in rows ts
+LeafOfRows rows ts = FarkasLeaf linear_coefficient_in linear_constant_in rows ts
 
 -- multipliers of a word's rows are such a leaf
 abbrev pub IsLeaf : Search → Pending → List (ℕ × ℤ) → Type 0
-IsLeaf s w ts = LeafOfRows (rows_of s w) ts
+IsLeaf s w ts = LeafOfRows (bounded_rows s w) ts
 
 unfoldable mutual
   -- a leaf that meets the test; or a tree for each word that is longer than one that isn't complete; or a tree for each side of an unknown of the word's system

@@ -2,7 +2,7 @@
 -- project's profile)
 use Rattle.std.specs.Prelude.{ℕ, ◌≡◌, true, List, [], ◌∷◌, ◌++◌, length, map, slice_index, take}
 use Rattle.ta_automaton.specs.declared.automaton.Automaton.{Automaton}
-use Rattle.ta_automaton.specs.Masks.{numbers_from}
+use Rattle.ta_base.specs.Masks.{numbers_from}
 use Rattle.ta_automaton.specs.Runs.{Config, Initial}
 use Rattle.ta_encode.specs.Unknowns.{Meaning, Parameter, Start}
 use Rattle.ta_encode.specs.System.{Bound, LinearRow, condition_rows, opposite, processes_row}

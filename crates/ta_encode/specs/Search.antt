@@ -1,6 +1,6 @@
 -- What is refuted word by word: a search
 use Rattle.std.specs.Prelude.{ℕ, ℤ, ◌≡◌, ◌⊎◌, Bool, List, [], ◌∷◌, ◌++◌, length, map}
-use Rattle.ta_automaton.specs.Masks.{In}
+use Rattle.ta_base.specs.Masks.{In}
 use Rattle.ta_cert.specs.declared.line.Node.{Node}
 use Rattle.ta_cert.specs.declared.line.Node.TheVariants as node
 use Rattle.ta_words.specs.declared.element.Element.{Element}
@@ -34,13 +34,13 @@ pub record Search : Type 0 where
   pub rows : ℕ → List Element → List LinearRow
 
 -- the rows of a word's system, with those of its bounds
-abbrev pub rows_of : Search → Pending → List LinearRow
-rows_of s w = s.rows w.start w.past ++ map bound_row w.bounds
+abbrev pub bounded_rows : Search → Pending → List LinearRow
+bounded_rows s w = s.rows w.start w.past ++ map bound_row w.bounds
 
 -- a solution of it: one natural value for each unknown, at which each row holds
 pub record SolvesAt (s : Search) (w : Pending) (vs : List ℕ) : Type 0 where
   pub count : length vs ≡ s.unknowns w.start w.past
-  pub rows_hold : AllHold vs (rows_of s w)
+  pub rows_hold : AllHold vs (bounded_rows s w)
 
 -- what a node leaves to be refuted of the word at which it stands
 abbrev pub parts : Search → Pending → Node → List Pending
@@ -49,13 +49,13 @@ parts s w node.Extend = map (longer w) (s.following w.start w.past)
 parts s w (node.Split unknown floor) = bounded w (bound_at unknown floor Low) ∷ bounded w (bound_at unknown floor High) ∷ []
 
 -- a search begins with a word
-abbrev pub BeginsWith : Search → ℕ → List Element → Type 0
-BeginsWith s start past = (w : Pending) × In w s.roots × (w.start ≡ start) × (w.past ≡ past)
+abbrev pub BeginsAtWord : Search → ℕ → List Element → Type 0
+BeginsAtWord s start past = (w : Pending) × In w s.roots × (w.start ≡ start) × (w.past ≡ past)
 
 -- it comes to a word: one with which it begins, or one that is longer by an element that may follow
 abbrev pub Comes : Search → ℕ → List Element → Type 0
-Comes s start [] = BeginsWith s start []
-Comes s start (e ∷ past) = BeginsWith s start (e ∷ past) ⊎ (In e (s.following start past) × Comes s start past)
+Comes s start [] = BeginsAtWord s start []
+Comes s start (e ∷ past) = BeginsAtWord s start (e ∷ past) ⊎ (In e (s.following start past) × Comes s start past)
 
 -- what is asked of the multipliers of a leaf at a word
 abbrev pub LeafTest : Type 1

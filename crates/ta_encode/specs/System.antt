@@ -8,7 +8,7 @@ use Rattle.ta_automaton.specs.declared.condition.Comparison.{Comparison}
 use Rattle.ta_automaton.specs.declared.automaton.Automaton.{Automaton}
 use Rattle.ta_automaton.specs.declared.pattern.Event.{Event as PatternEvent}
 use Rattle.ta_automaton.specs.declared.pattern.Pattern.{Pattern}
-use Rattle.ta_automaton.specs.Masks.{has_bit, numbers_from}
+use Rattle.ta_base.specs.Masks.{has_bit, numbers_from}
 use Rattle.ta_automaton.specs.Places.{location_place}
 use Rattle.ta_words.specs.declared.element.Element.{Element}
 use Rattle.ta_words.specs.declared.element.Element.TheVariants.{Event, Rise, Fall}
@@ -133,14 +133,14 @@ abbrev pub system_rows : Automaton → Pattern → ℕ → List Element → List
 system_rows a p start past bounds = word_rows a p start past ++ map bound_row bounds
 
 -- the sum of the coefficients times the values
-unfoldable pub combine : List ℤ → List ℕ → ℤ
-combine [] vs = pos 0
-combine (c ∷ cs) [] = pos 0
-combine (c ∷ cs) (v ∷ vs) = (c *ℤ pos v) +ℤ combine cs vs
+unfoldable pub sum_of_products : List ℤ → List ℕ → ℤ
+sum_of_products [] vs = pos 0
+sum_of_products (c ∷ cs) [] = pos 0
+sum_of_products (c ∷ cs) (v ∷ vs) = (c *ℤ pos v) +ℤ sum_of_products cs vs
 
 -- a row's value where the unknowns have these values
 abbrev pub row_value : List ℕ → LinearRow → ℤ
-row_value vs row = row.constant +ℤ combine row.coefficients vs
+row_value vs row = row.constant +ℤ sum_of_products row.coefficients vs
 
 -- each row is at least 0
 abbrev pub AllHold : List ℕ → List LinearRow → Type 0

@@ -2,9 +2,9 @@
 #![tactic(auto)]
 
 ghost use Rattle.std.specs.Prelude.{ℕ, ◌+◌, ◌≡◌, ◌≤◌, ◌<◌, ◌∷◌, filter, length, not, reverse};
-ghost use Rattle.ta_automaton.specs.Masks.{has_bit, numbers_from};
+ghost use Rattle.ta_base.specs.Masks.{has_bit, numbers_from};
 ghost use Rattle.ta_words.specs.Calls.{OfPattern};
-ghost use Rattle.ta_words.specs.Words.{Legal};
+ghost use Rattle.ta_words.specs.Words.{LegalWord};
 ghost use Rattle.ta_encode.specs.Unknowns.{meanings, start_meanings};
 
 use ta_automaton::{Automaton, File, Pattern};
@@ -13,7 +13,7 @@ use ta_words::{Element, Word, allowed_after};
 /// How many unknowns the system of a word has. It takes no memory.
 pub fn unknown_count(file: &File, pattern: u32, start_mask: u8, word: &Word) -> u32
     requires exists { pattern < length file.now.patterns }
-    requires legal { OfPattern file.now pattern (λ p. Legal file.now.automaton p start_mask (reverse word.now)) }
+    requires legal { OfPattern file.now pattern (λ p. LegalWord file.now.automaton p start_mask (reverse word.now)) }
     ensures { OfPattern file.now pattern (λ p. result ≡ length (meanings file.now.automaton p start_mask (reverse word.now))) }
 {
     let item = &file.patterns.as_slice()[pattern as usize];

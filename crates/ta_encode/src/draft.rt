@@ -3,7 +3,7 @@
 
 ghost use Rattle.std.specs.Prelude.{ℕ, ◌^◌, ◌≡◌, ◌≤◌, ◌<◌, ◌∷◌, [], OnOk, length, reverse};
 ghost use Rattle.ta_words.specs.Calls.{OfPattern};
-ghost use Rattle.ta_encode.specs.Inside.Draft.{Drafted};
+ghost use Rattle.ta_encode.specs.Inside.Draft.{IsDraftOf};
 ghost use Rattle.ta_encode.specs.Inside.Lines.{IsBehind, SmallCondition};
 ghost use Rattle.ta_encode.specs.Unknowns.{start_meanings};
 
@@ -29,7 +29,7 @@ pub(crate) fn push_start(
     requires small { SmallCondition pattern.now.start }
     requires empty { rows.old.items ≡ [] }
     requires start { meanings.now ≡ start_meanings automaton.now pattern.now }
-    ensures { OnOk result (Drafted automaton.now pattern.now start_mask [] meanings.now rows.new.items) }
+    ensures { OnOk result (IsDraftOf automaton.now pattern.now start_mask [] meanings.now rows.new.items) }
 {
     push_condition(alloc, automaton, meanings, &automaton.resilience, rows)?;
     push_processes(alloc, automaton, meanings, rows)?;
@@ -51,8 +51,8 @@ pub(crate) fn push_element(
 ) -> Result<(), AllocError>
     requires exists { pattern < length file.now.patterns }
     requires few { length before.now < 30 }
-    requires drafted { OfPattern file.now pattern (λ p. Drafted file.now.automaton p start_mask (reverse before.now) meanings.old.items rows.old.items) }
-    ensures drafted { OnOk result (OfPattern file.now pattern (λ p. Drafted file.now.automaton p start_mask (element ∷ reverse before.now) meanings.new.items rows.new.items)) }
+    requires drafted { OfPattern file.now pattern (λ p. IsDraftOf file.now.automaton p start_mask (reverse before.now) meanings.old.items rows.old.items) }
+    ensures drafted { OnOk result (OfPattern file.now pattern (λ p. IsDraftOf file.now.automaton p start_mask (element ∷ reverse before.now) meanings.new.items rows.new.items)) }
     ensures unknowns { OnOk result (IsBehind meanings.old.items meanings.new.items) }
     ensures rows { OnOk result (IsBehind rows.old.items rows.new.items) }
 {
@@ -105,8 +105,8 @@ pub(crate) fn push_elements(
 ) -> Result<(), AllocError>
     requires exists { pattern < length file.now.patterns }
     requires few { length elements.now ≤ 30 }
-    requires drafted { OfPattern file.now pattern (λ p. Drafted file.now.automaton p start_mask [] meanings.old.items rows.old.items) }
-    ensures { OnOk result (OfPattern file.now pattern (λ p. Drafted file.now.automaton p start_mask (reverse elements.now) meanings.new.items rows.new.items)) }
+    requires drafted { OfPattern file.now pattern (λ p. IsDraftOf file.now.automaton p start_mask [] meanings.old.items rows.old.items) }
+    ensures { OnOk result (OfPattern file.now pattern (λ p. IsDraftOf file.now.automaton p start_mask (reverse elements.now) meanings.new.items rows.new.items)) }
 {
     for (number, element) in elements.iter().enumerate() {
         let before = &elements[..number];

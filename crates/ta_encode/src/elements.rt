@@ -2,8 +2,8 @@
 #![tactic(auto)]
 
 ghost use Rattle.std.specs.Prelude.{ℕ, ◌^◌, ◌==◌, ◌≡◌, ◌≤◌, ◌<◌, ◌++◌, OnOk, length, map, not, slice_get};
-ghost use Rattle.ta_automaton.specs.Masks.{has_bit};
-ghost use Rattle.ta_encode.specs.Inside.Lines.{Adds, SmallEvents, counters_outside};
+ghost use Rattle.ta_base.specs.Masks.{has_bit};
+ghost use Rattle.ta_encode.specs.Inside.Lines.{AddsRows, SmallEvents, counters_outside};
 ghost use Rattle.ta_encode.specs.System.{event_rows, guard_rows, negated};
 
 use crate::line::Sense;
@@ -24,19 +24,19 @@ pub(crate) fn push_rise(
     rows: &mut Vec<Row>,
 ) -> Result<(), AllocError>
     requires { length meanings.now < 2 ^ 32 }
-    ensures { OnOk result (Adds (counters_outside automaton.now meanings.now empty
+    ensures { OnOk result (AddsRows (counters_outside automaton.now meanings.now empty
         ++ (guard_rows automaton.now meanings.now (λ k. k == rise) 0 automaton.now.rise
         ++ guard_rows automaton.now meanings.now (λ j. not (has_bit fallen j)) 0 automaton.now.fall)) (length meanings.now) rows.old.items rows.new.items) }
 {
     let guards = automaton.rise.as_slice();
-    push_counters(alloc, automaton, meanings, empty, Sense::Same, rows)?;
+    push_counters(alloc, automaton, meanings, empty, Sense::Plain, rows)?;
     push_guards(
         alloc,
         automaton,
         meanings,
         guards,
         only(rise),
-        Sense::Same,
+        Sense::Plain,
         rows,
     )?;
     push_standing(alloc, automaton, meanings, fallen, rows)?;
@@ -59,7 +59,7 @@ fn push_standing(
     rows: &mut Vec<Row>,
 ) -> Result<(), AllocError>
     requires { length meanings.now < 2 ^ 32 }
-    ensures { OnOk result (Adds (guard_rows automaton.now meanings.now (λ j. not (has_bit fallen j)) 0 automaton.now.fall) (length meanings.now) rows.old.items rows.new.items) }
+    ensures { OnOk result (AddsRows (guard_rows automaton.now meanings.now (λ j. not (has_bit fallen j)) 0 automaton.now.fall) (length meanings.now) rows.old.items rows.new.items) }
 {
     let guards = automaton.fall.as_slice();
     push_guards(
@@ -68,7 +68,7 @@ fn push_standing(
         meanings,
         guards,
         !fallen,
-        Sense::Same,
+        Sense::Plain,
         rows,
     )?;
     Ok(())
@@ -86,11 +86,18 @@ pub(crate) fn push_event(
 ) -> Result<(), AllocError>
     requires numbers { length meanings.now < 2 ^ 32 }
     requires small { SmallEvents pattern.now }
-    ensures { OnOk result (Adds (counters_outside automaton.now meanings.now pattern.now.empty
+    ensures { OnOk result (AddsRows (counters_outside automaton.now meanings.now pattern.now.empty
         ++ (event_rows automaton.now meanings.now (slice_get pattern.now.events event)
         ++ guard_rows automaton.now meanings.now (λ j. not (has_bit fallen j)) 0 automaton.now.fall)) (length meanings.now) rows.old.items rows.new.items) }
 {
-    push_counters(alloc, automaton, meanings, pattern.empty, Sense::Same, rows)?;
+    push_counters(
+        alloc,
+        automaton,
+        meanings,
+        pattern.empty,
+        Sense::Plain,
+        rows,
+    )?;
     push_happening(alloc, automaton, meanings, pattern, event, rows)?;
     push_standing(alloc, automaton, meanings, fallen, rows)?;
     Ok(())
@@ -107,7 +114,7 @@ fn push_happening(
 ) -> Result<(), AllocError>
     requires numbers { length meanings.now < 2 ^ 32 }
     requires small { SmallEvents pattern.now }
-    ensures { OnOk result (Adds (event_rows automaton.now meanings.now (slice_get pattern.now.events event)) (length meanings.now) rows.old.items rows.new.items) }
+    ensures { OnOk result (AddsRows (event_rows automaton.now meanings.now (slice_get pattern.now.events event)) (length meanings.now) rows.old.items rows.new.items) }
 {
     match pattern.events.as_slice().get(event as usize) {
         None => {}
@@ -126,12 +133,12 @@ pub(crate) fn push_falling(
     rows: &mut Vec<Row>,
 ) -> Result<(), AllocError>
     requires { length meanings.now < 2 ^ 32 }
-    ensures { OnOk result (Adds (counters_outside automaton.now meanings.now empty ++ guard_rows automaton.now meanings.now (has_bit falls) 0 automaton.now.fall) (length meanings.now) rows.old.items rows.new.items) }
+    ensures { OnOk result (AddsRows (counters_outside automaton.now meanings.now empty ++ guard_rows automaton.now meanings.now (has_bit falls) 0 automaton.now.fall) (length meanings.now) rows.old.items rows.new.items) }
 {
     let guards = automaton.fall.as_slice();
     let mask = u32::from(falls);
-    push_counters(alloc, automaton, meanings, empty, Sense::Same, rows)?;
-    push_guards(alloc, automaton, meanings, guards, mask, Sense::Same, rows)?;
+    push_counters(alloc, automaton, meanings, empty, Sense::Plain, rows)?;
+    push_guards(alloc, automaton, meanings, guards, mask, Sense::Plain, rows)?;
     Ok(())
 }
 
@@ -146,20 +153,20 @@ pub(crate) fn push_fallen(
     rows: &mut Vec<Row>,
 ) -> Result<(), AllocError>
     requires { length meanings.now < 2 ^ 32 }
-    ensures { OnOk result (Adds (counters_outside automaton.now meanings.now empty
+    ensures { OnOk result (AddsRows (counters_outside automaton.now meanings.now empty
         ++ (map negated (guard_rows automaton.now meanings.now (has_bit falls) 0 automaton.now.fall)
         ++ guard_rows automaton.now meanings.now (λ j. not (has_bit fallen j)) 0 automaton.now.fall)) (length meanings.now) rows.old.items rows.new.items) }
 {
     let guards = automaton.fall.as_slice();
     let mask = u32::from(falls);
-    push_counters(alloc, automaton, meanings, empty, Sense::Same, rows)?;
+    push_counters(alloc, automaton, meanings, empty, Sense::Plain, rows)?;
     push_guards(
         alloc,
         automaton,
         meanings,
         guards,
         mask,
-        Sense::Opposite,
+        Sense::Negated,
         rows,
     )?;
     push_standing(alloc, automaton, meanings, fallen, rows)?;

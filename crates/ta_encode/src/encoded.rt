@@ -3,7 +3,7 @@
 
 ghost use Rattle.std.specs.Prelude.{◌≡◌, ◌<◌, IfOk, length, reverse};
 ghost use Rattle.ta_words.specs.Calls.{OfPattern};
-ghost use Rattle.ta_words.specs.Words.{Legal};
+ghost use Rattle.ta_words.specs.Words.{LegalWord};
 ghost use Rattle.ta_encode.specs.Code.{SystemOf};
 ghost use Rattle.ta_encode.specs.Lines.{BoundsWithin};
 ghost use Rattle.ta_encode.specs.Unknowns.{meanings};
@@ -14,7 +14,8 @@ use crate::rows::push_bounds;
 use crate::unknowns::start_meanings;
 use std::alloc::{AllocError, Global};
 use ta_automaton::File;
-use ta_linear::{List, System};
+use ta_base::List;
+use ta_linear::System;
 use ta_words::Word;
 
 /// The system of a word, and what its unknowns mean.
@@ -44,7 +45,7 @@ pub fn encode(
     bounds: &[Bound],
 ) -> Result<Encoded, AllocError>
     requires exists { pattern < length file.now.patterns }
-    requires legal { OfPattern file.now pattern (λ p. Legal file.now.automaton p start_mask (reverse word.now)) }
+    requires legal { OfPattern file.now pattern (λ p. LegalWord file.now.automaton p start_mask (reverse word.now)) }
     requires bounds { OfPattern file.now pattern (λ p. BoundsWithin (length (meanings file.now.automaton p start_mask (reverse word.now))) bounds.now) }
     ensures system { IfOk result (λ encoded. OfPattern file.now pattern (λ p. SystemOf file.now.automaton p start_mask (reverse word.now) bounds.now encoded.system)) }
     ensures meanings { IfOk result (λ encoded. OfPattern file.now pattern (λ p. encoded.meanings ≡ meanings file.now.automaton p start_mask (reverse word.now))) }

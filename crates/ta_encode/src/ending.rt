@@ -3,7 +3,7 @@
 
 ghost use Rattle.std.specs.Prelude.{◌^◌, ◌≡◌, ◌<◌, OnOk, length};
 ghost use Rattle.ta_encode.specs.Ends.{ended_rows};
-ghost use Rattle.ta_encode.specs.Inside.Lines.{Adds};
+ghost use Rattle.ta_encode.specs.Inside.Lines.{AddsRows};
 
 use crate::line::Sense;
 use crate::meaning::Meaning;
@@ -29,7 +29,7 @@ pub(crate) fn push_end(
     rows: &mut Vec<Row>,
 ) -> Result<(), AllocError>
     requires { length meanings.now < 2 ^ 32 }
-    ensures { OnOk result (Adds (ended_rows automaton.now meanings.now end) (length meanings.now) rows.old.items rows.new.items) }
+    ensures { OnOk result (AddsRows (ended_rows automaton.now meanings.now end) (length meanings.now) rows.old.items rows.new.items) }
 {
     match end {
         None => Ok(()),
@@ -41,7 +41,7 @@ pub(crate) fn push_end(
                 meanings,
                 guards,
                 failing,
-                Sense::Opposite,
+                Sense::Negated,
                 rows,
             )?;
             push_counters(alloc, automaton, meanings, inhabited, Sense::Opposite, rows)

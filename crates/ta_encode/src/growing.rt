@@ -3,10 +3,10 @@
 
 ghost use Rattle.std.specs.Prelude.{ℕ, ◌+◌, ◌-◌, ◌^◌, ◌<◌, ◌≤◌, ◌≡◌, ◌↔◌, [], List, IfOk, IsTrue, OnOk, length, reverse, take};
 ghost use Rattle.ta_words.specs.Calls.{OfPattern};
-ghost use Rattle.ta_words.specs.Words.{Legal};
+ghost use Rattle.ta_words.specs.Words.{LegalWord};
 ghost use Rattle.ta_encode.specs.Code.{SystemOf};
 ghost use Rattle.ta_encode.specs.Ends.{EndedSystem};
-ghost use Rattle.ta_encode.specs.Inside.Draft.{Drafted};
+ghost use Rattle.ta_encode.specs.Inside.Draft.{IsDraftOf};
 ghost use Rattle.ta_encode.specs.Lines.{BoundsWithin};
 ghost use Rattle.ta_encode.specs.Inside.Lines.{IsBehind};
 ghost use Rattle.ta_encode.specs.Unknowns.{meanings};
@@ -23,7 +23,8 @@ use crate::rows::push_bounds;
 use crate::unknowns::start_meanings;
 use std::alloc::{AllocError, Global};
 use ta_automaton::File;
-use ta_linear::{List, Row, System};
+use ta_base::List;
+use ta_linear::{Row, System};
 use ta_words::{Element, Word};
 
 /// How many unknowns and rows there are after some of a word's elements.
@@ -83,9 +84,9 @@ fn push_from(
     requires from { from ≤ length elements.now }
     requires marked { length marks.old.items ≡ from + 1 }
     requires marks { OfPattern file.now pattern (λ p. AreMarks file.now.automaton p start_mask elements.now meanings.old.items rows.old.items marks.old.items) }
-    requires drafted { OfPattern file.now pattern (λ p. Drafted file.now.automaton p start_mask (reverse (take from elements.now)) meanings.old.items rows.old.items) }
+    requires drafted { OfPattern file.now pattern (λ p. IsDraftOf file.now.automaton p start_mask (reverse (take from elements.now)) meanings.old.items rows.old.items) }
     ensures marks { OnOk result (OfPattern file.now pattern (λ p. AreMarks file.now.automaton p start_mask elements.now meanings.new.items rows.new.items marks.new.items)) }
-    ensures drafted { OnOk result (OfPattern file.now pattern (λ p. Drafted file.now.automaton p start_mask (reverse elements.now) meanings.new.items rows.new.items)) }
+    ensures drafted { OnOk result (OfPattern file.now pattern (λ p. IsDraftOf file.now.automaton p start_mask (reverse elements.now) meanings.new.items rows.new.items)) }
     ensures rows { OnOk result (IsBehind rows.old.items rows.new.items) }
 {
     for number in from..elements.len() {
@@ -294,7 +295,7 @@ impl Encoding {
         bounds: &[Bound],
     ) -> Result<Grown, AllocError>
         requires exists { pattern < length file.now.patterns }
-        requires legal { OfPattern file.now pattern (λ p. Legal file.now.automaton p start_mask (reverse word.now)) }
+        requires legal { OfPattern file.now pattern (λ p. LegalWord file.now.automaton p start_mask (reverse word.now)) }
         requires bounds { OfPattern file.now pattern (λ p. BoundsWithin (length (meanings file.now.automaton p start_mask (reverse word.now))) bounds.now) }
         requires encoding { OfPattern file.now pattern (λ p. IsEncoding file.now.automaton p self) }
         ensures encoding { IfOk result (λ grown. OfPattern file.now pattern (λ p. IsEncoding file.now.automaton p grown.encoding)) }
@@ -317,7 +318,7 @@ impl Encoding {
         bounds: &[Bound],
     ) -> Result<Grown, AllocError>
         requires exists { pattern < length file.now.patterns }
-        requires legal { OfPattern file.now pattern (λ p. Legal file.now.automaton p start_mask (reverse word.now)) }
+        requires legal { OfPattern file.now pattern (λ p. LegalWord file.now.automaton p start_mask (reverse word.now)) }
         requires bounds { OfPattern file.now pattern (λ p. BoundsWithin (length (meanings file.now.automaton p start_mask (reverse word.now))) bounds.now) }
         requires encoding { OfPattern file.now pattern (λ p. IsEncoding file.now.automaton p self) }
         ensures encoding { IfOk result (λ grown. OfPattern file.now pattern (λ p. IsEncoding file.now.automaton p grown.encoding)) }

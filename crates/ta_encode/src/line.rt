@@ -5,9 +5,9 @@ ghost use Rattle.std.specs.Prelude.{ℕ, pos, ◌*◌, ◌^◌, ◌≡◌, ◌�
 ghost use Rattle.ta_linear.specs.Numbers.{InRange};
 ghost use Rattle.ta_linear.specs.Terms.{IsNormal};
 ghost use Rattle.ta_linear.specs.Values.{terms_value};
-ghost use Rattle.ta_encode.specs.Code.{RowOf};
+ghost use Rattle.ta_encode.specs.Code.{IsRowOf};
 ghost use Rattle.ta_encode.specs.Inside.Rules.{AreOfRules};
-ghost use Rattle.ta_encode.specs.Lines.{SmallTerms, line_coefficient, line_row, turned};
+ghost use Rattle.ta_encode.specs.Lines.{SmallTerms, coefficient_in_sense, line_coefficient, line_row};
 ghost use Rattle.ta_encode.specs.System.{start_coefficient};
 ghost use Rattle.ta_encode.specs.Unknowns.{place_coefficient};
 
@@ -15,16 +15,21 @@ use crate::meaning::Meaning;
 use crate::place::place_coefficient;
 use std::alloc::{AllocError, Global};
 use ta_automaton::Automaton;
-use ta_linear::{Form, List, Row};
+use ta_base::List;
+use ta_linear::{Form, Row};
 
 /// For how many terms a row has room at first: few rows have more.
 const ROOM: usize = 64;
 
-/// Whether coefficients are written as they are, or their opposites.
+/// How a row is written.
 #[derive(Clone, Copy)]
 pub(crate) enum Sense {
-    Same,
+    /// As it is.
+    Plain,
+    /// As `-row`.
     Opposite,
+    /// As `-row - 1`, which is the negation of `row >= 0`.
+    Negated,
 }
 
 /// The row of `constant` and of terms over places, less the start counts if these are wanted, at
@@ -41,7 +46,7 @@ pub(crate) fn line(
     requires small { SmallTerms terms.now }
     requires fits { InRange constant }
     requires numbers { length meanings.now < 2 ^ 32 }
-    ensures row { IfOk result (RowOf (line_row automaton.now meanings.now terms.now less_starts sense constant)) }
+    ensures row { IfOk result (IsRowOf (line_row automaton.now meanings.now terms.now less_starts sense constant)) }
     ensures below { IfOk result (λ row. IsNormal 0 (length meanings.now) row.form.terms) }
 {
     let of_rules = coefficients_of_rules(alloc, automaton, terms, less_starts, sense)?;
@@ -128,14 +133,15 @@ fn line_coefficient(
     )
 }
 
+/// A coefficient of a row that is written so.
 pub(crate) fn turn(sense: Sense, value: i128) -> i128
     requires { unsigned_abs value ≤ 2 ^ 126 }
-    ensures value { result ≡ turned sense value }
+    ensures value { result ≡ coefficient_in_sense sense value }
     ensures small { unsigned_abs result ≤ 2 ^ 126 }
 {
     match sense {
-        Sense::Same => value,
-        Sense::Opposite => -value,
+        Sense::Plain => value,
+        Sense::Opposite | Sense::Negated => -value,
     }
 }
 

@@ -2,16 +2,17 @@
 #![tactic(auto)]
 
 ghost use Rattle.std.specs.Prelude.{ℕ, ◌≡◌, ◌<◌, ◌≤◌, ◌++◌, ◌∷◌, [], List, IfOk, MatchBool, length, map};
-ghost use Rattle.ta_encode.specs.Code.{RowsOf};
+ghost use Rattle.ta_encode.specs.Code.{AreRowsOf};
 ghost use Rattle.ta_encode.specs.Lines.{BoundsWithin};
-ghost use Rattle.ta_encode.specs.Inside.Lines.{Adds};
-ghost use Rattle.ta_encode.specs.Named.{HasRows, Names, row_numbered};
+ghost use Rattle.ta_encode.specs.Inside.Lines.{AddsRows};
+ghost use Rattle.ta_encode.specs.Named.{HasRows, NamesRows, row_numbered};
 ghost use Rattle.ta_encode.specs.System.{LinearRow, bound_row};
 
 use crate::meaning::Bound;
 use crate::rows::push_bound;
 use std::alloc::{AllocError, Global};
-use ta_linear::{Form, List, Row, System};
+use ta_base::List;
+use ta_linear::{Form, Row, System};
 
 /// What a list of row numbers names in a system.
 #[derive(Drop)]
@@ -32,7 +33,7 @@ pub fn named_rows(
 ) -> Result<Named, AllocError>
     requires rows { HasRows system.now }
     requires bounds { BoundsWithin system.now.unknowns bounds.now }
-    ensures { (ls : List LinearRow) → RowsOf ls system.now.rows → IfOk result (Names (ls ++ map bound_row bounds.now) system.now.unknowns multipliers.now) }
+    ensures { (ls : List LinearRow) → AreRowsOf ls system.now.rows → IfOk result (NamesRows (ls ++ map bound_row bounds.now) system.now.unknowns multipliers.now) }
 {
     let mut rows = Vec::new(alloc);
     for (number, _) in multipliers {
@@ -55,8 +56,8 @@ fn push_named(
     rows: &mut Vec<Row>,
 ) -> Result<bool, AllocError>
     requires { BoundsWithin system.now.unknowns bounds.now }
-    ensures { (ls : List LinearRow) → RowsOf ls system.now.rows → IfOk result (λ there. MatchBool there
-        ((number < length (ls ++ map bound_row bounds.now)) × Adds (row_numbered (ls ++ map bound_row bounds.now) number ∷ []) system.now.unknowns rows.old.items rows.new.items)
+    ensures { (ls : List LinearRow) → AreRowsOf ls system.now.rows → IfOk result (λ there. MatchBool there
+        ((number < length (ls ++ map bound_row bounds.now)) × AddsRows (row_numbered (ls ++ map bound_row bounds.now) number ∷ []) system.now.unknowns rows.old.items rows.new.items)
         (length (ls ++ map bound_row bounds.now) ≤ number)) }
 {
     let written = system.rows.as_slice();

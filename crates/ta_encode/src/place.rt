@@ -2,8 +2,8 @@
 #![tactic(auto)]
 
 ghost use Rattle.std.specs.Prelude.{ℕ, ℤ, ◌+◌, ◌≡◌, ◌≤◌, ◌<◌, Some, length, slice_get, unsigned_abs};
+ghost use Rattle.std.specs.List.{AllByRecursion};
 ghost use Rattle.ta_linear.specs.Terms.{coefficient};
-ghost use Rattle.ta_automaton.specs.Lists.{Each};
 ghost use Rattle.ta_automaton.specs.Places.{one_if, rule_change};
 ghost use Rattle.ta_automaton.specs.Shape.{Update};
 ghost use Rattle.ta_encode.specs.Unknowns.{place_coefficient};
@@ -52,7 +52,7 @@ fn change_of(automaton: &Automaton, rule: u32, place: u32) -> i128
 }
 
 fn rule_change(automaton: &Automaton, rule: &Rule, place: u32) -> i128
-    requires updates { Each (Update (length automaton.now.shared)) rule.now.updates }
+    requires updates { AllByRecursion (Update (length automaton.now.shared)) rule.now.updates }
     requires limit { length rule.now.updates ≤ 16 }
     ensures value { result ≡ rule_change automaton.now (Some rule.now) place }
     ensures small { unsigned_abs result ≤ 17000000000 }
@@ -72,7 +72,7 @@ fn rule_change(automaton: &Automaton, rule: &Rule, place: u32) -> i128
 /// How much a rule adds to a shared variable.
 fn update_of(rule: &Rule, variable: u32) -> i128
     requires limit { length rule.now.updates ≤ 16 }
-    requires small { Each (λ (t : ℕ × ℤ). unsigned_abs t.1 ≤ 1000000000) rule.now.updates }
+    requires small { AllByRecursion (λ (t : ℕ × ℤ). unsigned_abs t.1 ≤ 1000000000) rule.now.updates }
     ensures value { result ≡ coefficient rule.now.updates variable }
     ensures small { unsigned_abs result ≤ 16000000000 }
 {

@@ -3,10 +3,10 @@
 
 ghost use Rattle.std.specs.Prelude.{ℕ, ◌+◌, ◌*◌, ◌^◌, ◌≡◌, ◌≤◌, ◌<◌, ◌≤ℤ◌, ◌<ℤ◌, ◌∷◌, [], OnOk, filter, length, map, negsuc, not, pos, unsigned_abs};
 ghost use Rattle.ta_linear.specs.Numbers.{InRange};
-ghost use Rattle.ta_automaton.specs.Masks.{has_bit, numbers_from};
+ghost use Rattle.ta_base.specs.Masks.{has_bit, numbers_from};
 ghost use Rattle.ta_encode.specs.Lines.{BoundWithin, BoundsWithin};
-ghost use Rattle.ta_encode.specs.Inside.Lines.{Adds, SmallCondition, SmallForm, SmallRows, block_row, bound_constant, bound_sense, constant_in_sense, in_sense, start_sense, turned_row};
-ghost use Rattle.ta_encode.specs.declared.line.Sense.TheVariants.{Opposite, Same};
+ghost use Rattle.ta_encode.specs.Inside.Lines.{AddsRows, SmallCondition, SmallForm, SmallRows, block_row, bound_constant, bound_sense, constant_in_sense, in_sense, start_sense};
+ghost use Rattle.ta_encode.specs.declared.line.Sense.TheVariants.{Opposite, Plain};
 ghost use Rattle.ta_encode.specs.System.{bound_row, condition_rows, counter_row, form_row, guard_rows, opposite, processes_row, start_guard_rows};
 
 use crate::line::{Sense, line, turn};
@@ -14,9 +14,10 @@ use crate::meaning::{Bound, Meaning, Side};
 use crate::place::first_location;
 use std::alloc::{AllocError, Global};
 use ta_automaton::{Automaton, Condition};
-use ta_linear::{Form, List, Row};
+use ta_base::List;
+use ta_linear::{Form, Row};
 
-/// The row of a form, or its negation.
+/// The row of a form, written in a sense.
 fn push_form(
     alloc: Global,
     automaton: &Automaton,
@@ -27,7 +28,7 @@ fn push_form(
 ) -> Result<(), AllocError>
     requires small { SmallForm form.now }
     requires numbers { length meanings.now < 2 ^ 32 }
-    ensures { OnOk result (Adds (in_sense sense (form_row automaton.now meanings.now form.now) ∷ []) (length meanings.now) rows.old.items rows.new.items) }
+    ensures { OnOk result (AddsRows (in_sense sense (form_row automaton.now meanings.now form.now) ∷ []) (length meanings.now) rows.old.items rows.new.items) }
 {
     let constant = constant_in(sense, form.constant);
     let terms = form.terms.as_slice();
@@ -36,14 +37,16 @@ fn push_form(
     Ok(())
 }
 
+/// The constant of a row that is written so.
 fn constant_in(sense: Sense, constant: i128) -> i128
     requires { unsigned_abs constant ≤ 1000000000 }
     ensures value { result ≡ constant_in_sense sense constant }
     ensures fits { InRange result }
 {
     match sense {
-        Sense::Same => constant,
-        Sense::Opposite => -constant - 1,
+        Sense::Plain => constant,
+        Sense::Opposite => -constant,
+        Sense::Negated => -constant - 1,
     }
 }
 
@@ -57,10 +60,10 @@ fn push_rows(
 ) -> Result<(), AllocError>
     requires small { SmallRows some.now }
     requires numbers { length meanings.now < 2 ^ 32 }
-    ensures { OnOk result (Adds (map (λ (r : Row). form_row automaton.now meanings.now r.form) some.now) (length meanings.now) rows.old.items rows.new.items) }
+    ensures { OnOk result (AddsRows (map (λ (r : Row). form_row automaton.now meanings.now r.form) some.now) (length meanings.now) rows.old.items rows.new.items) }
 {
     for row in some {
-        push_form(alloc, automaton, meanings, &row.form, Sense::Same, rows)?;
+        push_form(alloc, automaton, meanings, &row.form, Sense::Plain, rows)?;
     }
     Ok(())
 }
@@ -75,7 +78,7 @@ pub(crate) fn push_condition(
 ) -> Result<(), AllocError>
     requires small { SmallCondition condition.now }
     requires numbers { length meanings.now < 2 ^ 32 }
-    ensures { OnOk result (Adds (condition_rows automaton.now meanings.now condition.now.comparisons) (length meanings.now) rows.old.items rows.new.items) }
+    ensures { OnOk result (AddsRows (condition_rows automaton.now meanings.now condition.now.comparisons) (length meanings.now) rows.old.items rows.new.items) }
 {
     for comparison in condition.comparisons.as_slice() {
         push_rows(alloc, automaton, meanings, comparison.rows.as_slice(), rows)?;
@@ -83,7 +86,7 @@ pub(crate) fn push_condition(
     Ok(())
 }
 
-/// The rows of the guards in a set, or their negations.
+/// The rows of the guards in a set, written in a sense.
 pub(crate) fn push_guards(
     alloc: Global,
     automaton: &Automaton,
@@ -96,7 +99,7 @@ pub(crate) fn push_guards(
     requires small { SmallRows guards.now }
     requires few { length guards.now ≤ 16 }
     requires numbers { length meanings.now < 2 ^ 32 }
-    ensures { OnOk result (Adds (map (in_sense sense) (guard_rows automaton.now meanings.now (has_bit mask) 0 guards.now)) (length meanings.now) rows.old.items rows.new.items) }
+    ensures { OnOk result (AddsRows (map (in_sense sense) (guard_rows automaton.now meanings.now (has_bit mask) 0 guards.now)) (length meanings.now) rows.old.items rows.new.items) }
 {
     for (number, guard) in guards.iter().enumerate() {
         if mask & (1 << number) != 0 {
@@ -115,7 +118,7 @@ pub(crate) fn push_start_guards(
     rows: &mut Vec<Row>,
 ) -> Result<(), AllocError>
     requires { length meanings.now < 2 ^ 32 }
-    ensures { OnOk result (Adds (start_guard_rows automaton.now meanings.now start_mask 0 automaton.now.fall) (length meanings.now) rows.old.items rows.new.items) }
+    ensures { OnOk result (AddsRows (start_guard_rows automaton.now meanings.now start_mask 0 automaton.now.fall) (length meanings.now) rows.old.items rows.new.items) }
 {
     for (number, guard) in automaton.fall.as_slice().iter().enumerate() {
         let sense = sense_at_start(start_mask, number);
@@ -124,19 +127,19 @@ pub(crate) fn push_start_guards(
     Ok(())
 }
 
-/// Opposite for the fall guards of the start set.
+/// Negated for the fall guards of the start set.
 fn sense_at_start(start_mask: u8, number: usize) -> Sense
     requires { number < 8 }
     ensures { result ≡ start_sense (has_bit start_mask number) }
 {
     if start_mask & (1 << number) != 0 {
-        Sense::Opposite
+        Sense::Negated
     } else {
-        Sense::Same
+        Sense::Plain
     }
 }
 
-/// The counters of the locations outside a set, or their opposites.
+/// The counters of the locations outside a set, written in a sense.
 pub(crate) fn push_counters(
     alloc: Global,
     automaton: &Automaton,
@@ -146,7 +149,7 @@ pub(crate) fn push_counters(
     rows: &mut Vec<Row>,
 ) -> Result<(), AllocError>
     requires { length meanings.now < 2 ^ 32 }
-    ensures { OnOk result (Adds (map (λ l. turned_row sense (counter_row automaton.now meanings.now l)) (filter (λ l. not (has_bit empty l)) (numbers_from 0 (length automaton.now.locations)))) (length meanings.now) rows.old.items rows.new.items) }
+    ensures { OnOk result (AddsRows (map (λ l. in_sense sense (counter_row automaton.now meanings.now l)) (filter (λ l. not (has_bit empty l)) (numbers_from 0 (length automaton.now.locations)))) (length meanings.now) rows.old.items rows.new.items) }
 {
     for location in 0..automaton.locations.as_slice().len() {
         if empty & (1 << location) == 0 {
@@ -156,7 +159,7 @@ pub(crate) fn push_counters(
     Ok(())
 }
 
-/// The counter of a location, or its opposite.
+/// The counter of a location, written in a sense.
 fn push_counter(
     alloc: Global,
     automaton: &Automaton,
@@ -167,10 +170,11 @@ fn push_counter(
 ) -> Result<(), AllocError>
     requires exists { location < length automaton.now.locations }
     requires numbers { length meanings.now < 2 ^ 32 }
-    ensures { OnOk result (Adds (turned_row sense (counter_row automaton.now meanings.now location) ∷ []) (length meanings.now) rows.old.items rows.new.items) }
+    ensures { OnOk result (AddsRows (in_sense sense (counter_row automaton.now meanings.now location) ∷ []) (length meanings.now) rows.old.items rows.new.items) }
 {
     let terms = [(first_location(automaton) + location, 1)];
-    let row = line(alloc, automaton, meanings, &terms, false, sense, 0)?;
+    let constant = constant_in(sense, 0);
+    let row = line(alloc, automaton, meanings, &terms, false, sense, constant)?;
     rows.push(row)?;
     Ok(())
 }
@@ -183,9 +187,9 @@ pub(crate) fn push_processes(
     rows: &mut Vec<Row>,
 ) -> Result<(), AllocError>
     requires { length meanings.now < 2 ^ 32 }
-    ensures { OnOk result (Adds (processes_row automaton.now meanings.now ∷ opposite (processes_row automaton.now meanings.now) ∷ []) (length meanings.now) rows.old.items rows.new.items) }
+    ensures { OnOk result (AddsRows (processes_row automaton.now meanings.now ∷ opposite (processes_row automaton.now meanings.now) ∷ []) (length meanings.now) rows.old.items rows.new.items) }
 {
-    push_processes_in(alloc, automaton, meanings, Sense::Same, rows)?;
+    push_processes_in(alloc, automaton, meanings, Sense::Plain, rows)?;
     push_processes_in(alloc, automaton, meanings, Sense::Opposite, rows)
 }
 
@@ -197,9 +201,9 @@ fn push_processes_in(
     rows: &mut Vec<Row>,
 ) -> Result<(), AllocError>
     requires { length meanings.now < 2 ^ 32 }
-    ensures { OnOk result (Adds (turned_row sense (processes_row automaton.now meanings.now) ∷ []) (length meanings.now) rows.old.items rows.new.items) }
+    ensures { OnOk result (AddsRows (in_sense sense (processes_row automaton.now meanings.now) ∷ []) (length meanings.now) rows.old.items rows.new.items) }
 {
-    let constant = turn(sense, automaton.processes.constant);
+    let constant = constant_in(sense, automaton.processes.constant);
     let terms = automaton.processes.terms.as_slice();
     let row = line(alloc, automaton, meanings, terms, true, sense, constant)?;
     rows.push(row)?;
@@ -215,9 +219,9 @@ pub(crate) fn push_singles(
 ) -> Result<(), AllocError>
     requires order { from ≤ to }
     requires numbers { to < 2 ^ 32 }
-    ensures { OnOk result (Adds (block_row (negsuc 0) from to Same ∷ block_row (pos 1) from to Opposite ∷ []) to rows.old.items rows.new.items) }
+    ensures { OnOk result (AddsRows (block_row (negsuc 0) from to Plain ∷ block_row (pos 1) from to Opposite ∷ []) to rows.old.items rows.new.items) }
 {
-    push_block(alloc, -1, from, to, Sense::Same, rows)?;
+    push_block(alloc, -1, from, to, Sense::Plain, rows)?;
     push_block(alloc, 1, from, to, Sense::Opposite, rows)?;
     Ok(())
 }
@@ -235,7 +239,7 @@ fn push_block(
     requires order { from ≤ to }
     requires numbers { to < 2 ^ 32 }
     requires constant { InRange constant }
-    ensures { OnOk result ((n : ℕ) → to ≤ n → Adds (block_row constant from to sense ∷ []) n rows.old.items rows.new.items) }
+    ensures { OnOk result ((n : ℕ) → to ≤ n → AddsRows (block_row constant from to sense ∷ []) n rows.old.items rows.new.items) }
 {
     let coefficient = turn(sense, 1);
     let mut terms = Vec::new(alloc);
@@ -260,7 +264,7 @@ pub(crate) fn push_bounds(
 ) -> Result<(), AllocError>
     requires numbers { unknowns < 2 ^ 32 }
     requires bounds { BoundsWithin unknowns bounds.now }
-    ensures { OnOk result (Adds (map bound_row bounds.now) unknowns rows.old.items rows.new.items) }
+    ensures { OnOk result (AddsRows (map bound_row bounds.now) unknowns rows.old.items rows.new.items) }
 {
     for bound in bounds {
         push_bound(alloc, unknowns, *bound, rows)?;
@@ -277,7 +281,7 @@ pub(crate) fn push_bound(
 ) -> Result<(), AllocError>
     requires numbers { unknowns < 2 ^ 32 }
     requires bound { BoundWithin unknowns bound }
-    ensures { OnOk result (Adds (bound_row bound ∷ []) unknowns rows.old.items rows.new.items) }
+    ensures { OnOk result (AddsRows (bound_row bound ∷ []) unknowns rows.old.items rows.new.items) }
 {
     let unknown = bound.unknown as usize;
     let constant = bound_constant(bound.side, bound.floor);
@@ -303,6 +307,6 @@ fn bound_sense(side: Side) -> Sense
 {
     match side {
         Side::Low => Sense::Opposite,
-        Side::High => Sense::Same,
+        Side::High => Sense::Plain,
     }
 }

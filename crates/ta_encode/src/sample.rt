@@ -13,7 +13,8 @@ use crate::rows::{push_bounds, push_condition, push_processes};
 use crate::unknowns::{push_parameters, push_starts};
 use std::alloc::{AllocError, Global};
 use ta_automaton::{Automaton, File};
-use ta_linear::{List, System};
+use ta_base::List;
+use ta_linear::System;
 
 /// The sample system of a file with bounds. It has no word: its unknowns are the parameters and a
 /// start count for each initial location. Only want of memory is an error: by the limits of automaton

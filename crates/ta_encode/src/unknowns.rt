@@ -2,7 +2,7 @@
 #![tactic(auto)]
 
 ghost use Rattle.std.specs.Prelude.{ℕ, ◌≡◌, ◌≤◌, ◌++◌, IfOk, OnOk, filter, length, map, not};
-ghost use Rattle.ta_automaton.specs.Masks.{has_bit, numbers_from};
+ghost use Rattle.ta_base.specs.Masks.{has_bit, numbers_from};
 ghost use Rattle.ta_encode.specs.Unknowns.{Parameter, Start, start_meanings};
 ghost use Rattle.ta_encode.specs.Inside.Firings.{firing};
 

@@ -10,7 +10,7 @@ use Rattle.ta_linear.specs.declared.row.Row.{Row}
 use Rattle.ta_linear.specs.declared.row.System.{System}
 use Rattle.ta_linear.proofs.TermLemmas.{coefficient-above}
 use Rattle.ta_farkas.specs.Columns.{column_sum, ColumnStays, CheckStays}
-use Rattle.ta_farkas.specs.Faults.{row_at, FineBefore, IsFirstFault}
+use Rattle.ta_farkas.specs.Faults.{row_at, FineBefore, IsFirstFaultOfLeaf}
 use Rattle.ta_farkas.specs.declared.LeafFault.{LeafFault}
 use Rattle.ta_farkas.specs.declared.LeafFault.TheVariants.{RowNumber, Overflow, Positive, NotNegative}
 
@@ -65,7 +65,7 @@ leaf_of s ts m fine last negative = (
 )
 
 -- a leaf whose check stays in range has no fault
-pub no_fault : (s : System) (ts : List (ℕ × ℤ)) (fault : LeafFault) → IsFirstFault s ts fault → LeafOf s ts × CheckStays s ts → ⊥
+pub no_fault : (s : System) (ts : List (ℕ × ℤ)) (fault : LeafFault) → IsFirstFaultOfLeaf s ts fault → LeafOf s ts × CheckStays s ts → ⊥
 no_fault s ts (RowNumber row) f w = let b = multipliers-exist 0 (length s.rows) ts w.0.multipliers f.at f.below in let e = f.is in let m = f.missing in absurd (omega arith)
 no_fault s ts (Overflow column) f w = f.2 (w.1 column f.0)
 no_fault s ts (Positive x) f w = let e = column-unknown s ts x f.0 in let n = w.0.none_positive x in let p = f.3 in absurd (omega (arith, ints))

@@ -28,8 +28,8 @@ pub record FineBefore (s : System) (ts : List (ℕ × ℤ)) (column : ℕ) : Typ
   pub none_positive : (c : ℕ) → c < column → column_sum s ts c ≤ℤ pos 0
 
 -- rows before columns, column by column, and a column's range before its sign
-abbrev pub IsFirstFault : System → List (ℕ × ℤ) → LeafFault → Type 0
-IsFirstFault s ts (RowNumber row) = FirstMissing s ts row
-IsFirstFault s ts (Overflow column) = (column ≤ s.unknowns) × FineBefore s ts column × (¬ (ColumnStays s ts column))
-IsFirstFault s ts (Positive unknown) = (unknown < s.unknowns) × FineBefore s ts unknown × ColumnStays s ts unknown × (pos 0 <ℤ column_sum s ts unknown)
-IsFirstFault s ts NotNegative = FineBefore s ts s.unknowns × ColumnStays s ts s.unknowns × (pos 0 ≤ℤ column_sum s ts s.unknowns)
+abbrev pub IsFirstFaultOfLeaf : System → List (ℕ × ℤ) → LeafFault → Type 0
+IsFirstFaultOfLeaf s ts (RowNumber row) = FirstMissing s ts row
+IsFirstFaultOfLeaf s ts (Overflow column) = (column ≤ s.unknowns) × FineBefore s ts column × (¬ (ColumnStays s ts column))
+IsFirstFaultOfLeaf s ts (Positive unknown) = (unknown < s.unknowns) × FineBefore s ts unknown × ColumnStays s ts unknown × (pos 0 <ℤ column_sum s ts unknown)
+IsFirstFaultOfLeaf s ts NotNegative = FineBefore s ts s.unknowns × ColumnStays s ts s.unknowns × (pos 0 ≤ℤ column_sum s ts s.unknowns)

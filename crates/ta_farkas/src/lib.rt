@@ -7,7 +7,7 @@ ghost use Rattle.ta_linear.specs.Numbers.{InRange};
 ghost use Rattle.ta_linear.specs.Terms.{IsNormal};
 ghost use Rattle.ta_linear.specs.Leaf.{AreMultipliers, LeafOf};
 ghost use Rattle.ta_farkas.specs.Columns.{column_sum, entry, ColumnStays, CheckStays};
-ghost use Rattle.ta_farkas.specs.Faults.{FirstMissing, IsFirstFault, RowsExist};
+ghost use Rattle.ta_farkas.specs.Faults.{FirstMissing, IsFirstFaultOfLeaf, RowsExist};
 
 use ta_linear::{System, plus_product};
 
@@ -31,7 +31,7 @@ pub enum LeafFault {
 pub fn check_leaf(system: &System, multipliers: &[(u32, i128)]) -> Result<(), LeafFault>
     requires { AreMultipliers 0 (2 ^ 32) multipliers.now }
     ensures ok { IsOk result ↔ (LeafOf system.now multipliers.now × CheckStays system.now multipliers.now) }
-    ensures fault { IfErr result (IsFirstFault system.now multipliers.now) }
+    ensures fault { IfErr result (IsFirstFaultOfLeaf system.now multipliers.now) }
 {
     if let Some(row) = missing_row(system, multipliers) {
         return Err(LeafFault::RowNumber(row));

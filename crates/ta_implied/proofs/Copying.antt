@@ -1,11 +1,13 @@
 -- rows with copies of others behind them, and the rows of a pair's system
 use Rattle.std.proofs.lemmas.Bool.{cases_lt}
 use Rattle.std.proofs.lemmas.Bool.Decides.{nat_tests}
-use Rattle.std.proofs.Common.{◌≡◌, inl, inr, ℕ, zero, suc, ◌+◌, ◌<◌, ◌≤◌, ◌^◌, ℤ, pos, negsuc, ◌-ℤ◌, neg_ℤ, unsigned_abs, List, [], ◌∷◌, ◌++◌, length, take, get_or, slice_get, Some, arith, refl, sym, ap, ◌∙◌, subst, append_assoc, lit<}
+use Rattle.std.proofs.Common.{◌≡◌, inl, inr, ℕ, ◌+◌, ◌<◌, ◌≤◌, ◌^◌, ℤ, pos, neg_ℤ, List, [], ◌∷◌, ◌++◌, length, take, get_or, slice_get, Some, arith, refl, sym, ap, ◌∙◌, subst, append_assoc, lit<}
 use Rattle.std.proofs.lemmas.Int.{ints}
 use Rattle.std.proofs.lemmas.List.{append-nil}
+use Rattle.std.specs.List.{AllByRecursion}
+use Rattle.ta_base.proofs.Each.{each_at}
+use Rattle.ta_base.proofs.Lists.{take_next_read}
 use Rattle.ta_linear.specs.Forms.{IsNegation}
-use Rattle.ta_linear.specs.Numbers.{InRange}
 use Rattle.ta_linear.specs.Rows.{AllBelow}
 use Rattle.ta_linear.specs.Terms.{coefficient, IsNormal}
 use Rattle.ta_linear.specs.declared.row.Row.{Row}
@@ -13,9 +15,8 @@ use Rattle.ta_linear.proofs.TermLemmas.{IsNormal-higher, coefficient-above, coef
 use Rattle.ta_automaton.specs.declared.automaton.Automaton.{Automaton}
 use Rattle.ta_automaton.specs.declared.condition.Comparison.{Comparison}
 use Rattle.ta_automaton.specs.Forms.{FormOver, RiseRow}
-use Rattle.ta_automaton.specs.Lists.{Each}
 use Rattle.ta_implied.specs.Implied.{resilience_rows, IsCopy, AreCopies}
-use Rattle.ta_implied.specs.Copies.{Copied, resilience_of}
+use Rattle.ta_implied.specs.Copies.{AreCopied, resilience_of}
 
 copies_append : (rs qs ss ts : List Row) → AreCopies rs qs → AreCopies ss ts → AreCopies (rs ++ ss) (qs ++ ts)
 copies_append [] [] ss ts h g = g
@@ -23,30 +24,20 @@ copies_append [] (q ∷ qs) ss ts h g = absurd h
 copies_append (r ∷ rs) [] ss ts h g = absurd h
 copies_append (r ∷ rs) (q ∷ qs) ss ts h g = (h.0, copies_append rs qs ss ts h.1 g)
 
-pub none_copied : (rows : List Row) → Copied [] rows rows
-none_copied rows = record { added = []; whole = sym (append-nil rows); copies = tt }
-
-pub copied_on : (some more first second third : List Row) → Copied some first second → Copied more second third → Copied (some ++ more) first third
+pub copied_on : (some more first second third : List Row) → AreCopied some first second → AreCopied more second third → AreCopied (some ++ more) first third
 copied_on some more first second third h g = record {
   added = h.added ++ g.added;
   whole = g.whole ∙ ap (λ (rs : List Row). rs ++ g.added) h.whole ∙ append_assoc first h.added g.added;
   copies = copies_append some h.added more g.added h.copies g.copies;
 }
 
-pub one_copied : (r q : Row) (rows after : List Row) → IsCopy r q → after ≡ rows ++ q ∷ [] → Copied (r ∷ []) rows after
+pub one_copied : (r q : Row) (rows after : List Row) → IsCopy r q → after ≡ rows ++ q ∷ [] → AreCopied (r ∷ []) rows after
 one_copied r q rows after is whole = record { added = q ∷ []; whole = whole; copies = (is, tt) }
 
-take_next : {X : Type 0} (k : ℕ) (xs : List X) (x : X) → k < length xs → x ≡ get_or xs k x → take (k + 1) xs ≡ take k xs ++ x ∷ []
-take_next k [] x below is = absurd (omega arith)
-take_next zero (y ∷ ys) x below is = ap (λ z. z ∷ []) (sym is)
-take_next (suc k) (y ∷ ys) x below is =
-    let more : suc k + 1 ≡ suc (k + 1) = omega arith in
-    ap (λ n. take n (y ∷ ys)) more ∙ ap (λ zs. y ∷ zs) (take_next k ys x (omega arith) is)
-
 -- one more row is copied
-pub row_copied : (some : List Row) (k : ℕ) (r q : Row) (old now new : List Row) → k < length some → r ≡ get_or some k r → Copied (take k some) old now → IsCopy r q → new ≡ now ++ q ∷ [] → Copied (take (k + 1) some) old new
+pub row_copied : (some : List Row) (k : ℕ) (r q : Row) (old now new : List Row) → k < length some → r ≡ get_or some k r → AreCopied (take k some) old now → IsCopy r q → new ≡ now ++ q ∷ [] → AreCopied (take (k + 1) some) old new
 row_copied some k r q old now new below is so copy whole =
-    subst (λ (rs : List Row). Copied rs old new) (sym (take_next k some r below is)) (copied_on (take k some) (r ∷ []) old now new so (one_copied r q now new copy whole))
+    subst (λ (rs : List Row). AreCopied rs old new) (sym (take_next_read k some r below is)) (copied_on (take k some) (r ∷ []) old now new so (one_copied r q now new copy whole))
 
 rows_of_append : (ks js : List Comparison) → resilience_of (ks ++ js) ≡ resilience_of ks ++ resilience_of js
 rows_of_append [] js = refl
@@ -56,17 +47,17 @@ rows_of_one : (k : Comparison) → resilience_of (k ∷ []) ≡ k.rows
 rows_of_one k = append-nil k.rows
 
 -- the rows of one more comparison are copied
-pub comparison_copied : (some : List Comparison) (k : ℕ) (c : Comparison) (old now new : List Row) → k < length some → c ≡ get_or some k c → Copied (resilience_of (take k some)) old now → Copied c.rows now new → Copied (resilience_of (take (k + 1) some)) old new
+pub comparison_copied : (some : List Comparison) (k : ℕ) (c : Comparison) (old now new : List Row) → k < length some → c ≡ get_or some k c → AreCopied (resilience_of (take k some)) old now → AreCopied c.rows now new → AreCopied (resilience_of (take (k + 1) some)) old new
 comparison_copied some k c old now new below is so more =
     let rows : resilience_of (take (k + 1) some) ≡ resilience_of (take k some) ++ c.rows =
-    ap resilience_of (take_next k some c below is) ∙ rows_of_append (take k some) (c ∷ []) ∙ ap (λ (rs : List Row). resilience_of (take k some) ++ rs) (rows_of_one c) in
-    subst (λ (rs : List Row). Copied rs old new) (sym rows) (copied_on (resilience_of (take k some)) c.rows old now new so more)
+    ap resilience_of (take_next_read k some c below is) ∙ rows_of_append (take k some) (c ∷ []) ∙ ap (λ (rs : List Row). resilience_of (take k some) ++ rs) (rows_of_one c) in
+    subst (λ (rs : List Row). AreCopied rs old new) (sym rows) (copied_on (resilience_of (take k some)) c.rows old now new so more)
 
 -- the rows of a pair's system
-pub system_copies : (some none first later last : List Row) (second q negation : Row) → none ≡ [] → Copied some none first → IsCopy second q → later ≡ first ++ q ∷ [] → last ≡ later ++ negation ∷ [] → AreCopies (some ++ second ∷ negation ∷ []) last
+pub system_copies : (some none first later last : List Row) (second q negation : Row) → none ≡ [] → AreCopied some none first → IsCopy second q → later ≡ first ++ q ∷ [] → last ≡ later ++ negation ∷ [] → AreCopies (some ++ second ∷ negation ∷ []) last
 system_copies some none first later last second q negation empty h is e f =
     let own : IsCopy negation negation = record { constant = refl; terms = refl } in
-    let two : Copied (second ∷ negation ∷ []) first last = record {
+    let two : AreCopied (second ∷ negation ∷ []) first last = record {
       added = q ∷ negation ∷ [];
       whole = f ∙ ap (λ (rs : List Row). rs ++ negation ∷ []) e ∙ append_assoc first (q ∷ []) (negation ∷ []);
       copies = (is, (own, tt));
@@ -101,22 +92,17 @@ below_copies n [] (q ∷ qs) are below = absurd are
 below_copies n (r ∷ rs) [] are below = absurd are
 below_copies n (r ∷ rs) (q ∷ qs) are below = (subst (IsNormal 0 n) (sym are.0.terms) below.0, below_copies n rs qs are.1 below.1)
 
-below_append : (n : ℕ) (rs qs : List Row) → AllBelow n rs → AllBelow n qs → AllBelow n (rs ++ qs)
+pub below_append : (n : ℕ) (rs qs : List Row) → AllBelow n rs → AllBelow n qs → AllBelow n (rs ++ qs)
 below_append n [] qs h g = g
 below_append n (r ∷ rs) qs h g = (h.0, below_append n rs qs h.1 g)
 
-rows_below : (m n : ℕ) (rs : List Row) → m ≤ n → Each (λ (r : Row). FormOver m r.form) rs → AllBelow n rs
+rows_below : (m n : ℕ) (rs : List Row) → m ≤ n → AllByRecursion (λ (r : Row). FormOver m r.form) rs → AllBelow n rs
 rows_below m n [] le over = tt
 rows_below m n (r ∷ rs) le over = (IsNormal-higher 0 m n r.form.terms le over.0.below, rows_below m n rs le over.1)
 
-conditions_below : (m n : ℕ) (ks : List Comparison) → m ≤ n → Each (λ (k : Comparison). Each (λ (r : Row). FormOver m r.form) k.rows) ks → AllBelow n (resilience_of ks)
+conditions_below : (m n : ℕ) (ks : List Comparison) → m ≤ n → AllByRecursion (λ (k : Comparison). AllByRecursion (λ (r : Row). FormOver m r.form) k.rows) ks → AllBelow n (resilience_of ks)
 conditions_below m n [] le over = tt
 conditions_below m n (k ∷ ks) le over = below_append n k.rows (resilience_of ks) (rows_below m n k.rows le over.0) (conditions_below m n ks le over.1)
-
-each_at : {X : Type 0} (P : X → Type 0) (xs : List X) (k : ℕ) (x : X) → Each P xs → slice_get xs k ≡ Some x → P x
-each_at P [] k x all at = absurd (cc)
-each_at P (y ∷ ys) zero x all at = subst P (let same : y ≡ x = cc in same) all.0
-each_at P (y ∷ ys) (suc k) x all at = each_at P ys k x all.1 at
 
 -- each variable of a pair's system is a parameter or a shared variable
 pub system_below : (a : Automaton) (before after : ℕ) (first second negation : Row) (rows : List Row) → slice_get a.rise before ≡ Some first → slice_get a.rise after ≡ Some second → IsNegation negation.form first.form → AreCopies (resilience_rows a ++ second ∷ negation ∷ []) rows → AllBelow (length a.parameters + length a.shared) rows
@@ -131,20 +117,3 @@ system_below a before after first second negation rows before_is after_is negate
     let other = (each_at (RiseRow (length a.parameters) (length a.shared)) a.rise before first a.shape.rise_rows before_is).over.below in
     let last = negation_below n negation first (omega arith) negated other in
     below_copies n (resilience_rows a ++ second ∷ negation ∷ []) rows are (below_append n (resilience_rows a) (second ∷ negation ∷ []) resilience (guard, (last, tt)))
-
--- a constant of an automaton file is far within the range
-pub negation_fits : (a : Automaton) (k : ℕ) (row : Row) → slice_get a.rise k ≡ Some row → InRange (neg_ℤ row.form.constant -ℤ pos 1)
-negation_fits a k row at =
-    let small = (each_at (RiseRow (length a.parameters) (length a.shared)) a.rise k row a.shape.rise_rows at).over.small.constant in
-    let large : 1000000001 < 2 ^ 127 = lit< tt in
-    of_small row.form.constant small large
-  where
-    of_small : (z : ℤ) → unsigned_abs z ≤ 1000000000 → 1000000001 < 2 ^ 127 → InRange (neg_ℤ z -ℤ pos 1)
-    of_small (pos n) h large = omega (arith, ints)
-    of_small (negsuc n) h large = omega (arith, ints)
-
--- what is read from a list is at its place
-pub read_at : {X : Type 0} (xs : List X) (k : ℕ) (x : X) → k < length xs → x ≡ get_or xs k x → slice_get xs k ≡ Some x
-read_at [] k x below is = absurd (omega arith)
-read_at (y ∷ ys) zero x below is = ap Some (sym is)
-read_at (y ∷ ys) (suc k) x below is = read_at ys k x (omega arith) is

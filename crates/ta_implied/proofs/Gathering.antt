@@ -1,19 +1,19 @@
 -- gathering the guards from which chains of pairs lead to a guard
-use Rattle.std.proofs.Common.{◌≡◌, ◌↔◌, ◌⊎◌, inl, inr, ℕ, zero, suc, ◌+◌, ◌<◌, ◌≤◌, ◌^◌, List, Bool, true, false, ◌||◌, bit_or, arith, sym, ◌∙◌, refl, subst}
+use Rattle.std.proofs.Common.{◌≡◌, ◌↔◌, ◌⊎◌, inl, inr, ℕ, zero, suc, ◌+◌, ◌<◌, ◌≤◌, ◌^◌, List, true, ◌||◌, bit_or, arith, sym, ◌∙◌, subst}
 use Rattle.std.proofs.lemmas.Nat.{le_or_l}
-use Rattle.std.proofs.lemmas.Bool.{false≢true}
+use Rattle.std.proofs.lemmas.Bool.{false≢true, or_cases, or_left, or_right}
 use Rattle.std.proofs.lemmas.Bool.Decides.{eqb_tells}
-use Rattle.ta_automaton.specs.Masks.{has_bit, In}
-use Rattle.ta_automaton.proofs.MaskTests.{or_left, or_right}
-use Rattle.ta_implied.specs.Implied.{Leads}
-use Rattle.ta_implied.specs.Orders.{IsBehind, LeadsSome}
-use Rattle.ta_implied.proofs.Bits.{has_or, has_above, in_or_above}
+use Rattle.ta_base.specs.Masks.{has_bit, In}
+use Rattle.ta_base.proofs.Bits.{has_above, has_or}
+use Rattle.ta_base.proofs.Naturals.{in_or_above}
+use Rattle.ta_implied.specs.Implied.{ChainLeads}
+use Rattle.ta_implied.specs.Orders.{IsBeforeSome, LeadsSome}
 use Rattle.ta_implied.proofs.Chains.{one_more}
 
 -- some guards, with all that come before one of them whose number is below another
 pub record Gathered (pairs : List (ℕ × ℕ)) (found all n : ℕ) : Type 0 where
   pub grown : found ≤ all
-  pub members : (j : ℕ) → (has_bit all j ≡ true) ↔ ((has_bit found j ≡ true) ⊎ IsBehind pairs found n j)
+  pub members : (j : ℕ) → (has_bit all j ≡ true) ↔ ((has_bit found j ≡ true) ⊎ IsBeforeSome pairs found n j)
 
 pub none_gathered : (pairs : List (ℕ × ℕ)) (found : ℕ) → Gathered pairs found found 0
 none_gathered pairs found = record {
@@ -21,21 +21,17 @@ none_gathered pairs found = record {
   members = λ j. (λ h. inl h, λ h. elim h [ inl t ↦ t | inr b ↦ absurd (let w = b.1 in omega arith) ]);
 }
 
-or_cases : (x y : Bool) → (x || y) ≡ true → (x ≡ true) ⊎ (y ≡ true)
-or_cases true y e = inl refl
-or_cases false y e = inr e
-
 pub one_gathered : (pairs : List (ℕ × ℕ)) (found all n part : ℕ) → Gathered pairs found all n → ((j : ℕ) → (has_bit part j ≡ true) ↔ ((has_bit found n ≡ true) × In (j, n) pairs)) → Gathered pairs found (bit_or all part) (n + 1)
 one_gathered pairs found all n part so is = record {
   grown = (let g = so.grown in omega (arith, le_or_l all part));
   members = λ j. (λ h. forth j (or_cases (has_bit part j) (has_bit all j) (sym (has_or all part j) ∙ h)), λ h. has_or all part j ∙ hither j h);
 }
   where
-    forth : (j : ℕ) → (has_bit part j ≡ true) ⊎ (has_bit all j ≡ true) → (has_bit found j ≡ true) ⊎ IsBehind pairs found (n + 1) j
+    forth : (j : ℕ) → (has_bit part j ≡ true) ⊎ (has_bit all j ≡ true) → (has_bit found j ≡ true) ⊎ IsBeforeSome pairs found (n + 1) j
     forth j (inl t) = let w = (is j).0 t in inr (n, omega arith, w.0, w.1)
     forth j (inr t) = elim ((so.members j).0 t) [ inl f ↦ inl f | inr b ↦ inr (b.0, (let w = b.1 in omega arith), b.2, b.3) ]
 
-    hither : (j : ℕ) → (has_bit found j ≡ true) ⊎ IsBehind pairs found (n + 1) j → (has_bit part j || has_bit all j) ≡ true
+    hither : (j : ℕ) → (has_bit found j ≡ true) ⊎ IsBeforeSome pairs found (n + 1) j → (has_bit part j || has_bit all j) ≡ true
     hither j (inl t) = or_right (has_bit part j) (has_bit all j) ((so.members j).1 (inl t))
     hither j (inr b) = elim (eqb_tells b.0 n) [
       | inl e ↦ or_left (has_bit part j) (has_bit all j) ((is j).1 (subst (λ g. has_bit found g ≡ true) e.1 b.2, subst (λ g. In (j, g) pairs) e.1 b.3))
@@ -50,19 +46,19 @@ pub record Searched (pairs : List (ℕ × ℕ)) (guard found : ℕ) : Type 0 whe
 pub first_searched : (pairs : List (ℕ × ℕ)) (guard found : ℕ) → ((j : ℕ) → (has_bit found j ≡ true) ↔ In (j, guard) pairs) → Searched pairs guard found
 first_searched pairs guard found is = record { direct = λ j i. (is j).1 i; lead = λ j t. (zero, (is j).0 t) }
 
-pub more_searched : (pairs : List (ℕ × ℕ)) (guard found more : ℕ) → Searched pairs guard found → ((j : ℕ) → (has_bit more j ≡ true) ↔ ((has_bit found j ≡ true) ⊎ IsBehind pairs found 16 j)) → Searched pairs guard more
+pub more_searched : (pairs : List (ℕ × ℕ)) (guard found more : ℕ) → Searched pairs guard found → ((j : ℕ) → (has_bit more j ≡ true) ↔ ((has_bit found j ≡ true) ⊎ IsBeforeSome pairs found 16 j)) → Searched pairs guard more
 more_searched pairs guard found more so is = record {
   direct = λ j i. (is j).1 (inl (so.direct j i));
   lead = λ j t. elim ((is j).0 t) [ inl f ↦ so.lead j f | inr b ↦ one_more pairs j b.0 guard b.3 (inr (so.lead b.0 b.2)) ];
 }
 
 -- where no more are found, these are all
-pub all_searched : (pairs : List (ℕ × ℕ)) (guard found : ℕ) → found < 2 ^ 16 → Searched pairs guard found → ((j : ℕ) → (has_bit found j ≡ true) ↔ ((has_bit found j ≡ true) ⊎ IsBehind pairs found 16 j)) → (j : ℕ) → (has_bit found j ≡ true) ↔ LeadsSome pairs j guard
+pub all_searched : (pairs : List (ℕ × ℕ)) (guard found : ℕ) → found < 2 ^ 16 → Searched pairs guard found → ((j : ℕ) → (has_bit found j ≡ true) ↔ ((has_bit found j ≡ true) ⊎ IsBeforeSome pairs found 16 j)) → (j : ℕ) → (has_bit found j ≡ true) ↔ LeadsSome pairs j guard
 all_searched pairs guard found fits so is j = (so.lead j, λ l. holds l.0 j l.1)
   where
     below : (k : ℕ) → has_bit found k ≡ true → k < 16
     below k t = elim (in_or_above 16 k) [ inl b ↦ b | inr above ↦ absurd (false≢true (sym (has_above found 16 k fits above) ∙ t)) ]
 
-    holds : (more first : ℕ) → Leads pairs more first guard → has_bit found first ≡ true
+    holds : (more first : ℕ) → ChainLeads pairs more first guard → has_bit found first ≡ true
     holds zero first l = so.direct first l
     holds (suc more) first l = let next = holds more l.0 l.2 in (is first).1 (inr (l.0, below l.0 next, next, l.1))

@@ -1,34 +1,26 @@
 -- what the leaf of a pair's system says of configurations
-use Rattle.std.proofs.Common.{◌≡◌, ◌⊎◌, inl, inr, ℕ, zero, suc, ◌+◌, ◌<◌, ℤ, pos, negsuc, ◌+ℤ◌, ◌*ℤ◌, ◌≤ℤ◌, List, [], ◌∷◌, ◌++◌, length, Some, arith, sym, ap, ◌∙◌, refl, subst, length-append}
+use Rattle.std.proofs.Common.{◌≡◌, inl, inr, ℕ, zero, suc, ◌<◌, ℤ, pos, ◌+ℤ◌, ◌≤ℤ◌, List, [], ◌∷◌, ◌++◌, length, Some, arith, sym, ap, ◌∙◌, subst, length-append}
 use Rattle.std.specs.Prelude.{All, flat_map}
-use Rattle.std.proofs.lemmas.Int.{ints}
 use Rattle.std.proofs.lemmas.List.{get_or_append_left}
+use Rattle.std.specs.List.{AllByRecursion}
+use Rattle.ta_base.proofs.Each.{each_in}
+use Rattle.ta_base.proofs.Integers.{natural_or_not}
 use Rattle.ta_linear.specs.Rows.{AllBelow}
-use Rattle.ta_linear.specs.Terms.{IsNormal}
 use Rattle.ta_linear.specs.Values.{terms_value, value_of, RowHolds, Solves}
 use Rattle.ta_linear.specs.declared.row.Row.{Row}
 use Rattle.ta_linear.proofs.Farkas.{leaf_unsolved}
-use Rattle.ta_linear.proofs.TermLemmas.{IsNormal-le}
 use Rattle.ta_linear.proofs.RangeSum.{RowHolds-negation}
 use Rattle.ta_automaton.specs.declared.automaton.Automaton.{Automaton}
 use Rattle.ta_automaton.specs.declared.condition.Comparison.{Comparison}
 use Rattle.ta_automaton.specs.Forms.{FormOver}
-use Rattle.ta_automaton.specs.Lists.{Each}
-use Rattle.ta_automaton.specs.Masks.{In}
 use Rattle.ta_automaton.specs.Runs.{Admissible, Config, number_at, value_at}
-use Rattle.ta_automaton.proofs.Thresholds.{form_at_parameters}
+use Rattle.ta_automaton.proofs.Thresholds.{form_at_parameters, terms_same}
 use Rattle.ta_implied.specs.Implied.{resilience_rows, IsCopy, AreCopies, IsImplied, RiseHolds, LeavesImply, GuardsComeAfter}
 
 -- rows that all hold, by recursion
 abbrev AllHolds : (ℕ → ℤ) → List Row → Type 0
 AllHolds f [] = Unit {0}
 AllHolds f (r ∷ rs) = RowHolds f r × AllHolds f rs
-
-terms_same : (f g : ℕ → ℤ) (low high : ℕ) (ts : List (ℕ × ℤ)) → IsNormal low high ts → ((i : ℕ) → i < high → f i ≡ g i) → terms_value f ts ≡ terms_value g ts
-terms_same f g low high [] n h = refl
-terms_same f g low high (t ∷ ts) n h =
-    let same = h t.0 (omega (arith, IsNormal-le (t.0 + 1) high ts n.2)) in
-    omega (arith, ints, ap (λ z. t.1 *ℤ z) same, terms_same f g (t.0 + 1) high ts n.2 h)
 
 -- a copy holds where its row does
 copy_holds : (f : ℕ → ℤ) (r q : Row) → IsCopy r q → RowHolds f r → RowHolds f q
@@ -58,17 +50,13 @@ holds_append : (f : ℕ → ℤ) (rs qs : List Row) → AllHolds f rs → AllHol
 holds_append f [] qs h g = g
 holds_append f (r ∷ rs) qs h g = (h.0, holds_append f rs qs h.1 g)
 
-cases_holds : (z : ℤ) → (pos 0 ≤ℤ z) ⊎ ((pos 0 ≤ℤ z) → ⊥)
-cases_holds (pos n) = inl (omega (arith, ints))
-cases_holds (negsuc n) = inr (λ h. absurd (omega (arith, ints)))
-
 -- rows over the parameters hold in a configuration where they hold at its parameters
-rows_lifted : (a : Automaton) (c : Config) (rs : List Row) → length c.parameters ≡ length a.parameters → Each (λ (r : Row). FormOver (length a.parameters) r.form) rs → AllHolds (number_at c.parameters) rs → AllHolds (value_at c) rs
+rows_lifted : (a : Automaton) (c : Config) (rs : List Row) → length c.parameters ≡ length a.parameters → AllByRecursion (λ (r : Row). FormOver (length a.parameters) r.form) rs → AllHolds (number_at c.parameters) rs → AllHolds (value_at c) rs
 rows_lifted a c [] count over h = tt
 rows_lifted a c (r ∷ rs) count over h =
     (subst (λ z. pos 0 ≤ℤ z) (sym (form_at_parameters a c r.form count over.0)) h.0, rows_lifted a c rs count over.1 h.1)
 
-conditions_lifted : (a : Automaton) (c : Config) (ks : List Comparison) → length c.parameters ≡ length a.parameters → Each (λ (k : Comparison). Each (λ (r : Row). FormOver (length a.parameters) r.form) k.rows) ks → All (λ (k : Comparison). All (RowHolds (number_at c.parameters)) k.rows) ks → AllHolds (value_at c) (flat_map (λ (k : Comparison). k.rows) ks)
+conditions_lifted : (a : Automaton) (c : Config) (ks : List Comparison) → length c.parameters ≡ length a.parameters → AllByRecursion (λ (k : Comparison). AllByRecursion (λ (r : Row). FormOver (length a.parameters) r.form) k.rows) ks → All (λ (k : Comparison). All (RowHolds (number_at c.parameters)) k.rows) ks → AllHolds (value_at c) (flat_map (λ (k : Comparison). k.rows) ks)
 conditions_lifted a c [] count over h = tt
 conditions_lifted a c (k ∷ ks) count over h =
     holds_append (value_at c) k.rows (flat_map (λ (j : Comparison). j.rows) ks)
@@ -78,7 +66,7 @@ conditions_lifted a c (k ∷ ks) count over h =
 -- where the guard after holds and the one before doesn't, the system of the pair has a solution
 pub leaves_imply : LeavesImply
 leaves_imply a before after system ts is leaf c admissible shared holds row named =
-    elim (cases_holds (value_of (value_at c) row.form)) [
+    elim (natural_or_not (value_of (value_at c) row.form)) [
       | inl yea ↦ yea
       | inr nay ↦ absurd (leaf_unsolved system ts leaf (c.parameters ++ c.shared) (solved nay))
     ]
@@ -102,11 +90,6 @@ leaves_imply a before after system ts is leaf c admissible shared holds row name
 
 pair_implies : (a : Automaton) (pair : ℕ × ℕ) → IsImplied a pair → (c : Config) → Admissible a c.parameters → length c.shared ≡ length a.shared → RiseHolds a c pair.1 → RiseHolds a c pair.0
 pair_implies a pair is c admissible shared holds = leaves_imply a pair.0 pair.1 is.system is.multipliers is.is is.leaf c admissible shared holds
-
-pub each_in : {X : Type 0} (P : X → Type 0) (xs : List X) (x : X) → Each P xs → In x xs → P x
-each_in P [] x all is = absurd is
-each_in P (y ∷ ys) x all (inl same) = subst P (sym same) all.0
-each_in P (y ∷ ys) x all (inr is) = each_in P ys x all.1 is
 
 pub guards_come_after : GuardsComeAfter
 guards_come_after a pairs good c admissible shared zero first last leads holds =

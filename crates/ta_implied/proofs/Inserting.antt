@@ -1,13 +1,13 @@
 -- masks with one more pair
-use Rattle.std.proofs.Common.{◌≡◌, inl, inr, ℕ, zero, suc, ◌*◌, ◌%◌, ◌^◌, ◌<◌, List, [], ◌∷◌, length, set, get_or, false, bit_or, arith, sym, ap, ◌∙◌, subst}
+use Rattle.std.proofs.Common.{◌≡◌, inl, inr, ℕ, ◌*◌, ◌%◌, ◌^◌, ◌<◌, List, ◌∷◌, length, set, get_or, false, bit_or, arith, sym, ap, ◌∙◌, subst}
 use Rattle.std.proofs.lemmas.Nat.{or_lt, one_shl}
 use Rattle.std.proofs.lemmas.Bool.{cases_Bool}
 use Rattle.std.proofs.Math.Pow.{pow-lt}
+use Rattle.ta_base.proofs.Bits.{with_bit}
+use Rattle.ta_base.proofs.Each.{fits_at, fits_set}
 use Rattle.ta_automaton.specs.declared.automaton.Automaton.{Automaton}
-use Rattle.ta_automaton.specs.Lists.{Each}
-use Rattle.ta_automaton.specs.Masks.{has_bit, In}
-use Rattle.ta_implied.specs.Orders.{AreOrders, HasNoCircle, MayJoin, pairs_from, placed}
-use Rattle.ta_implied.proofs.Bits.{with_bit}
+use Rattle.ta_base.specs.Masks.{has_bit, In}
+use Rattle.ta_implied.specs.Orders.{AreOrderMasks, HasNoCircle, MayJoin, pairs_from, with_pair}
 use Rattle.ta_implied.proofs.Pairs.{pair_of_bit}
 use Rattle.ta_implied.proofs.Placing.{placed_pair, in_placed}
 use Rattle.ta_implied.proofs.Chains.{leads_along, still_no_circle}
@@ -16,34 +16,24 @@ use Rattle.ta_implied.proofs.Chains.{leads_along, still_no_circle}
 abbrev pub with_number : ℕ → ℕ → ℕ
 with_number mask j = bit_or mask ((1 * 2 ^ j) % 65536)
 
-fits_at : (masks : List ℕ) (i : ℕ) → Each (λ m. m < 2 ^ 16) masks → i < length masks → get_or masks i 0 < 2 ^ 16
-fits_at [] i h below = absurd (omega arith)
-fits_at (m ∷ ms) zero h below = h.0
-fits_at (m ∷ ms) (suc i) h below = fits_at ms i h.1 (omega arith)
-
-fits_set : (masks : List ℕ) (i more : ℕ) → Each (λ m. m < 2 ^ 16) masks → more < 2 ^ 16 → Each (λ m. m < 2 ^ 16) (set masks i more)
-fits_set [] i more h fits = tt
-fits_set (m ∷ ms) zero more h fits = (fits, h.1)
-fits_set (m ∷ ms) (suc i) more h fits = (h.0, fits_set ms i more h.1 fits)
-
 with_fits : (mask j : ℕ) → mask < 2 ^ 16 → j < 16 → with_number mask j < 2 ^ 16
 with_fits mask j fits below = or_lt 16 mask ((1 * 2 ^ j) % 65536) fits (subst (λ n. n < 2 ^ 16) (sym (one_shl j 16 below)) (pow-lt below))
 
 -- the pair that joins is the one whose number is new in the mask
-pub inserted_pairs : (a : Automaton) (pairs : List (ℕ × ℕ)) (j i : ℕ) (masks : List ℕ) → AreOrders masks → pairs_from 0 masks ≡ pairs → length masks ≡ 16 → length a.rise < 17 → MayJoin a pairs (j, i) → pairs_from 0 (set masks i (with_number (get_or masks i 0) j)) ≡ placed (j, i) pairs
+pub inserted_pairs : (a : Automaton) (pairs : List (ℕ × ℕ)) (j i : ℕ) (masks : List ℕ) → AreOrderMasks masks → pairs_from 0 masks ≡ pairs → length masks ≡ 16 → length a.rise < 17 → MayJoin a pairs (j, i) → pairs_from 0 (set masks i (with_number (get_or masks i 0) j)) ≡ with_pair (j, i) pairs
 inserted_pairs a pairs j i masks are view count limit may =
     let first : j < length a.rise = may.is.before in
     let second : i < length a.rise = may.is.after in
     let below : i < length masks = omega arith in
     let fits : j < 16 = omega arith in
     let none : has_bit (get_or masks i 0) j ≡ false = elim (cases_Bool (has_bit (get_or masks i 0) j)) [ inl t ↦ absurd (may.fresh (subst (In (j, i)) view (pair_of_bit masks j i are.fit t))) | inr f ↦ f ] in
-    placed_pair j i (with_number (get_or masks i 0) j) masks below fits none (λ x. with_bit 16 (get_or masks i 0) j x fits) ∙ ap (placed (j, i)) view
+    placed_pair j i (with_number (get_or masks i 0) j) masks below fits none (λ x. with_bit 16 (get_or masks i 0) j x fits) ∙ ap (with_pair (j, i)) view
 
-pub joined_no_circle : (a : Automaton) (pairs : List (ℕ × ℕ)) (pair : ℕ × ℕ) → HasNoCircle pairs → MayJoin a pairs pair → HasNoCircle (placed pair pairs)
+pub joined_no_circle : (a : Automaton) (pairs : List (ℕ × ℕ)) (pair : ℕ × ℕ) → HasNoCircle pairs → MayJoin a pairs pair → HasNoCircle (with_pair pair pairs)
 joined_no_circle a pairs pair none may more guard leads =
-    still_no_circle pairs pair.0 pair.1 none may.is.apart may.closes_none more guard (leads_along (placed pair pairs) (pair ∷ pairs) (in_placed pair pairs) more guard guard leads)
+    still_no_circle pairs pair.0 pair.1 none may.is.apart may.closes_none more guard (leads_along (with_pair pair pairs) (pair ∷ pairs) (in_placed pair pairs) more guard guard leads)
 
-pub inserted_orders : (a : Automaton) (pairs : List (ℕ × ℕ)) (j i : ℕ) (masks : List ℕ) → AreOrders masks → pairs_from 0 masks ≡ pairs → length masks ≡ 16 → length a.rise < 17 → MayJoin a pairs (j, i) → AreOrders (set masks i (with_number (get_or masks i 0) j))
+pub inserted_orders : (a : Automaton) (pairs : List (ℕ × ℕ)) (j i : ℕ) (masks : List ℕ) → AreOrderMasks masks → pairs_from 0 masks ≡ pairs → length masks ≡ 16 → length a.rise < 17 → MayJoin a pairs (j, i) → AreOrderMasks (set masks i (with_number (get_or masks i 0) j))
 inserted_orders a pairs j i masks are view count limit may =
     let first : j < length a.rise = may.is.before in
     let second : i < length a.rise = may.is.after in

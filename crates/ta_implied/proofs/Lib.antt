@@ -1,6 +1,4 @@
 -- lemmas for the crates above
-pub mod Bits
-pub mod Members
 mod Pairs
 pub mod Chains
 pub mod Placing
@@ -9,4 +7,4 @@ pub mod Joining
 mod Inserting
 pub mod Ordering
 pub mod Implying
-mod Copying
+pub mod Copying

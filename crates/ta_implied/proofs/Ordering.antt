@@ -1,12 +1,11 @@
 -- guards in an order in which no chain of pairs leads back
 use Rattle.std.proofs.Common.{◌⊎◌, inl, inr, ℕ, List, [], ◌∷◌, sym, refl, subst}
 use Rattle.std.proofs.lemmas.Bool.Decides.{eqb_tells}
-use Rattle.ta_automaton.specs.Masks.{In}
-use Rattle.ta_implied.specs.Implied.{Leads}
-use Rattle.ta_implied.specs.Orders.{HasNoCircle, InOrder, LeadsSome, Ordered, GuardsCanBeOrdered}
+use Rattle.ta_base.specs.Masks.{In}
+use Rattle.ta_base.proofs.Each.{each_from_in, each_in}
+use Rattle.ta_implied.specs.Implied.{ChainLeads}
+use Rattle.ta_implied.specs.Orders.{HasNoCircle, GuardsInOrder, LeadsSome, AreOrdered, GuardsCanBeOrdered}
 use Rattle.ta_implied.proofs.Chains.{Reaches, nothing_leads, leads_along, leads_join, one_more, through}
-use Rattle.ta_implied.proofs.Implying.{each_in}
-use Rattle.ta_implied.proofs.Joining.{each_from}
 
 -- whether guards are one or a chain leads from the first to the last, where it is known whether a chain does
 reaches_or_not : (pairs : List (ℕ × ℕ)) (first last : ℕ) → LeadsSome pairs first last ⊎ (LeadsSome pairs first last → ⊥) → Reaches pairs first last ⊎ (Reaches pairs first last → ⊥)
@@ -40,20 +39,20 @@ decide_leads (pair ∷ pairs) first last =
     leads_or_not pairs pair first last (decide_leads pairs first last) (reaches_or_not pairs first pair.0 (decide_leads pairs first pair.0)) (reaches_or_not pairs pair.1 last (decide_leads pairs pair.1 last))
 
 -- one more guard stands before the first to which a chain leads from it
-insert_by : (pairs : List (ℕ × ℕ)) → HasNoCircle pairs → (guard x : ℕ) (xs : List ℕ) → InOrder pairs (x ∷ xs) → LeadsSome pairs guard x ⊎ (LeadsSome pairs guard x → ⊥) → Ordered pairs (guard ∷ xs) → Ordered pairs (guard ∷ x ∷ xs)
+insert_by : (pairs : List (ℕ × ℕ)) → HasNoCircle pairs → (guard x : ℕ) (xs : List ℕ) → GuardsInOrder pairs (x ∷ xs) → LeadsSome pairs guard x ⊎ (LeadsSome pairs guard x → ⊥) → AreOrdered pairs (guard ∷ xs) → AreOrdered pairs (guard ∷ x ∷ xs)
 insert_by pairs none guard x xs h (inl l) rest = record {
   ys = guard ∷ x ∷ xs;
-  in_order = (each_from (λ y. LeadsSome pairs y guard → ⊥) (x ∷ xs) not_back, h);
+  in_order = (each_from_in (λ y. LeadsSome pairs y guard → ⊥) (x ∷ xs) not_back, h);
   all = λ y i. i;
   only = λ y i. i;
 }
   where
     not_back : (y : ℕ) → In y (x ∷ xs) → LeadsSome pairs y guard → ⊥
-    not_back y (inl e) k = let circle = leads_join pairs k.0 y guard x k.1 l in none circle.0 x (subst (λ g. Leads pairs circle.0 g x) e circle.1)
+    not_back y (inl e) k = let circle = leads_join pairs k.0 y guard x k.1 l in none circle.0 x (subst (λ g. ChainLeads pairs circle.0 g x) e circle.1)
     not_back y (inr i) k = each_in (λ z. LeadsSome pairs z x → ⊥) xs y h.0 i (leads_join pairs k.0 y guard x k.1 l)
 insert_by pairs none guard x xs h (inr not_to) rest = record {
   ys = x ∷ rest.ys;
-  in_order = (each_from (λ y. LeadsSome pairs y x → ⊥) rest.ys (λ y i. not_back y (rest.only y i)), rest.in_order);
+  in_order = (each_from_in (λ y. LeadsSome pairs y x → ⊥) rest.ys (λ y i. not_back y (rest.only y i)), rest.in_order);
   all = λ y i. all y i;
   only = λ y i. only y i;
 }
@@ -71,7 +70,7 @@ insert_by pairs none guard x xs h (inr not_to) rest = record {
     only y (inl e) = inr (inl e)
     only y (inr i) = elim (rest.only y i) [ inl e ↦ inl e | inr g ↦ inr (inr g) ]
 
-insert : (pairs : List (ℕ × ℕ)) → HasNoCircle pairs → (guard : ℕ) (xs : List ℕ) → InOrder pairs xs → Ordered pairs (guard ∷ xs)
+insert : (pairs : List (ℕ × ℕ)) → HasNoCircle pairs → (guard : ℕ) (xs : List ℕ) → GuardsInOrder pairs xs → AreOrdered pairs (guard ∷ xs)
 insert pairs none guard [] h = record { ys = guard ∷ []; in_order = (tt, tt); all = λ y i. i; only = λ y i. i }
 insert pairs none guard (x ∷ xs) h = insert_by pairs none guard x xs h (decide_leads pairs guard x) (insert pairs none guard xs h.1)
 

@@ -1,13 +1,14 @@
 -- the pairs of masks: which they are, their order, and one more at its place
-use Rattle.std.proofs.Common.{length, ◌≡◌, inl, inr, ℕ, zero, suc, ◌+◌, ◌-◌, ◌^◌, ◌<◌, ◌≤◌, List, [], ◌∷◌, ◌++◌, map, get_or, cond, true, arith, sym, ap, ◌∙◌, refl, subst, lit<}
+use Rattle.std.proofs.Common.{length, ◌≡◌, inl, inr, ℕ, zero, suc, ◌+◌, ◌-◌, ◌^◌, ◌<◌, ◌≤◌, List, [], ◌∷◌, ◌++◌, map, get_or, true, arith, sym, ap, ◌∙◌, refl, subst, lit<}
 use Rattle.std.specs.Prelude.{filter, replicate}
 use Rattle.std.proofs.lemmas.Bool.{false≢true}
-use Rattle.ta_automaton.specs.Lists.{Each}
-use Rattle.ta_automaton.specs.Masks.{has_bit, numbers_from, In}
-use Rattle.ta_automaton.proofs.MaskTests.{In-left, In-right, In-map, In-filter, In-numbers}
+use Rattle.std.specs.List.{AllByRecursion}
+use Rattle.ta_base.specs.Masks.{has_bit, numbers_from, In}
+use Rattle.ta_base.proofs.Bits.{bit_in_masks_below, has_none, no_numbers, some_bit}
+use Rattle.ta_base.proofs.Lists.{append_empty}
+use Rattle.ta_base.proofs.Members.{In-filter, In-left, In-map, In-right, in_append, in_filter, in_map}
+use Rattle.ta_base.proofs.Ranges.{In-numbers}
 use Rattle.ta_implied.specs.Orders.{pairs_at, pairs_from}
-use Rattle.ta_implied.proofs.Bits.{has_none, has_above, in_or_above, some_bit}
-use Rattle.ta_implied.proofs.Members.{in_append, in_map, in_filter}
 
 -- a pair of the guards of a mask
 in_pairs_at : (j i guard mask : ℕ) → In (j, i) (pairs_at guard mask) → (i ≡ guard) × (has_bit mask j ≡ true)
@@ -41,10 +42,6 @@ abbrev pub AreEmpty : List ℕ → Type 0
 AreEmpty [] = Unit {0}
 AreEmpty (m ∷ ms) = (m ≡ 0) × AreEmpty ms
 
-no_numbers : (xs : List ℕ) → filter (has_bit 0) xs ≡ []
-no_numbers [] = refl
-no_numbers (x ∷ xs) = ap (λ b. cond b (x ∷ filter (has_bit 0) xs) (filter (has_bit 0) xs)) (has_none x) ∙ no_numbers xs
-
 no_pairs_at : (k : ℕ) → pairs_at k 0 ≡ []
 no_pairs_at k = ap (map (λ j. (j, k))) (no_numbers (numbers_from 0 16))
 
@@ -56,21 +53,15 @@ pub AreEmpty-replicate : (n : ℕ) → AreEmpty (replicate n 0)
 AreEmpty-replicate zero = tt
 AreEmpty-replicate (suc n) = (refl, AreEmpty-replicate n)
 
-pub empty_fit : (masks : List ℕ) → AreEmpty masks → Each (λ m. m < 2 ^ 16) masks
+pub empty_fit : (masks : List ℕ) → AreEmpty masks → AllByRecursion (λ m. m < 2 ^ 16) masks
 empty_fit [] h = tt
 empty_fit (m ∷ ms) h = (rw h.0 (let small : 0 < 2 ^ 16 = lit< tt in small), empty_fit ms h.1)
 
--- a mask of numbers of guards alone has no other bits
-bit_below : (masks : List ℕ) (d j : ℕ) → Each (λ m. m < 2 ^ 16) masks → has_bit (get_or masks d 0) j ≡ true → j < 16
-bit_below [] d j h has = absurd (false≢true (sym (has_none j) ∙ has))
-bit_below (m ∷ ms) zero j h has = elim (in_or_above 16 j) [ inl below ↦ below | inr above ↦ absurd (false≢true (sym (has_above m 16 j h.0 above) ∙ has)) ]
-bit_below (m ∷ ms) (suc d) j h has = bit_below ms d j h.1 has
-
 -- a pair is one of the masks where its guard before is in the mask of its guard after
-pub pair_of_bit : (masks : List ℕ) (j i : ℕ) → Each (λ m. m < 2 ^ 16) masks → has_bit (get_or masks i 0) j ≡ true → In (j, i) (pairs_from 0 masks)
+pub pair_of_bit : (masks : List ℕ) (j i : ℕ) → AllByRecursion (λ m. m < 2 ^ 16) masks → has_bit (get_or masks i 0) j ≡ true → In (j, i) (pairs_from 0 masks)
 pair_of_bit masks j i fit has =
     let same : 0 + i ≡ i = omega arith in
-    subst (λ g. In (j, g) (pairs_from 0 masks)) same (pairs_in j 0 i masks (bit_below masks i j fit has) has)
+    subst (λ g. In (j, g) (pairs_from 0 masks)) same (pairs_in j 0 i masks (bit_in_masks_below masks i j fit has) has)
 
 pub bit_of_pair : (masks : List ℕ) (j i : ℕ) → In (j, i) (pairs_from 0 masks) → has_bit (get_or masks i 0) j ≡ true
 bit_of_pair masks j i h =
@@ -84,15 +75,11 @@ empty_mask k (suc m) fits none =
     let w = some_bit (suc m) 16 (omega arith) fits in
     absurd (subst (In (w.0, k)) none (pairs_at_in w.0 k (suc m) w.1 w.2))
 
-append_empty : (xs ys : List (ℕ × ℕ)) → xs ++ ys ≡ [] → (xs ≡ []) × (ys ≡ [])
-append_empty [] ys e = (refl, e)
-append_empty (x ∷ xs) ys e = absurd (let n = ap (λ (zs : List (ℕ × ℕ)). length zs) e in omega arith)
-
-empty_masks : (k : ℕ) (masks : List ℕ) → Each (λ m. m < 2 ^ 16) masks → pairs_from k masks ≡ [] → masks ≡ replicate (length masks) 0
+empty_masks : (k : ℕ) (masks : List ℕ) → AllByRecursion (λ m. m < 2 ^ 16) masks → pairs_from k masks ≡ [] → masks ≡ replicate (length masks) 0
 empty_masks k [] fit none = refl
 empty_masks k (m ∷ ms) fit none =
     let parts = append_empty (pairs_at k m) (pairs_from (k + 1) ms) none in
     ap (λ n. n ∷ ms) (empty_mask k m fit.0 parts.0) ∙ ap (λ xs. 0 ∷ xs) (empty_masks (k + 1) ms fit.1 parts.1)
 
-pub all_empty : (masks : List ℕ) → Each (λ m. m < 2 ^ 16) masks → length masks ≡ 16 → pairs_from 0 masks ≡ [] → masks ≡ replicate 16 0
+pub all_empty : (masks : List ℕ) → AllByRecursion (λ m. m < 2 ^ 16) masks → length masks ≡ 16 → pairs_from 0 masks ≡ [] → masks ≡ replicate 16 0
 all_empty masks fit count none = empty_masks 0 masks fit none ∙ ap (λ n. replicate n 0) count

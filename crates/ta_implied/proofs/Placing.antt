@@ -1,31 +1,21 @@
 -- one more pair at its place in a list
 use Rattle.std.proofs.Common.{◌≡◌, ◌⊎◌, inl, inr, ℕ, zero, suc, ◌+◌, ◌<◌, ◌≤◌, List, [], ◌∷◌, ◌++◌, map, length, set, get_or, eqb, cond, Bool, true, false, ◌&&◌, ◌||◌, arith, sym, ap, ◌∙◌, refl, subst}
 use Rattle.std.specs.Prelude.{filter, nat_lt}
-use Rattle.std.proofs.lemmas.Bool.{false≢true, true≢false, lt-ltb, ne_eqb}
+use Rattle.std.proofs.lemmas.Bool.{lt-ltb, ne_eqb}
 use Rattle.std.proofs.lemmas.Bool.Decides.{nat_tests, eqb_tells}
-use Rattle.ta_automaton.specs.Masks.{has_bit, numbers_from, In}
-use Rattle.ta_implied.specs.Orders.{pairs_at, pairs_from, is_earlier, placed}
-use Rattle.ta_implied.proofs.Members.{in_append, in_map, in_filter, in_numbers}
+use Rattle.ta_base.specs.Masks.{has_bit, numbers_from, In}
+use Rattle.ta_base.proofs.Lists.{if_first, if_second}
+use Rattle.ta_base.proofs.Members.{back, either, in_append, in_filter, in_map}
+use Rattle.ta_base.proofs.Ranges.{in_numbers}
+use Rattle.ta_implied.specs.Orders.{pairs_at, pairs_from, is_earlier, with_pair}
 
--- the items of a list and one more
-either : (pair other : ℕ × ℕ) (others rest : List (ℕ × ℕ)) (b : Bool) (q : ℕ × ℕ) → (In q rest → In q (pair ∷ others)) → In q (cond b (pair ∷ other ∷ others) (other ∷ rest)) → In q (pair ∷ other ∷ others)
-either pair other others rest true q h i = i
-either pair other others rest false q h (inl e) = inr (inl e)
-either pair other others rest false q h (inr i) = elim (h i) [ inl e ↦ inl e | inr g ↦ inr (inr g) ]
-
-pub in_placed : (pair : ℕ × ℕ) (pairs : List (ℕ × ℕ)) (q : ℕ × ℕ) → In q (placed pair pairs) → In q (pair ∷ pairs)
+pub in_placed : (pair : ℕ × ℕ) (pairs : List (ℕ × ℕ)) (q : ℕ × ℕ) → In q (with_pair pair pairs) → In q (pair ∷ pairs)
 in_placed pair [] q h = h
-in_placed pair (other ∷ others) q h = either pair other others (placed pair others) (is_earlier pair other) q (in_placed pair others q) h
+in_placed pair (other ∷ others) q h = either pair other others (with_pair pair others) (is_earlier pair other) q (in_placed pair others q) h
 
-back : (pair other : ℕ × ℕ) (others rest : List (ℕ × ℕ)) (b : Bool) (q : ℕ × ℕ) → (In q (pair ∷ others) → In q rest) → In q (pair ∷ other ∷ others) → In q (cond b (pair ∷ other ∷ others) (other ∷ rest))
-back pair other others rest true q h i = i
-back pair other others rest false q h (inl e) = inr (h (inl e))
-back pair other others rest false q h (inr (inl e)) = inl e
-back pair other others rest false q h (inr (inr i)) = inr (h (inr i))
-
-pub placed_in : (pair : ℕ × ℕ) (pairs : List (ℕ × ℕ)) (q : ℕ × ℕ) → In q (pair ∷ pairs) → In q (placed pair pairs)
+pub placed_in : (pair : ℕ × ℕ) (pairs : List (ℕ × ℕ)) (q : ℕ × ℕ) → In q (pair ∷ pairs) → In q (with_pair pair pairs)
 placed_in pair [] q h = h
-placed_in pair (other ∷ others) q h = back pair other others (placed pair others) (is_earlier pair other) q (placed_in pair others q) h
+placed_in pair (other ∷ others) q h = back pair other others (with_pair pair others) (is_earlier pair other) q (placed_in pair others q) h
 
 -- the places of two pairs
 earlier_guard : (pair other : ℕ × ℕ) → pair.1 < other.1 → is_earlier pair other ≡ true
@@ -40,32 +30,24 @@ earlier_before k j x h = grind (arith, nat_tests)
 later_before : (k j x : ℕ) → x < j → is_earlier (j, k) (x, k) ≡ false
 later_before k j x h = grind (arith, nat_tests)
 
-if_first : (pair other : ℕ × ℕ) (others rest : List (ℕ × ℕ)) (b : Bool) → b ≡ true → cond b (pair ∷ other ∷ others) (other ∷ rest) ≡ pair ∷ other ∷ others
-if_first pair other others rest true e = refl
-if_first pair other others rest false e = absurd (false≢true e)
-
-if_second : (pair other : ℕ × ℕ) (others rest : List (ℕ × ℕ)) (b : Bool) → b ≡ false → cond b (pair ∷ other ∷ others) (other ∷ rest) ≡ other ∷ rest
-if_second pair other others rest true e = absurd (true≢false e)
-if_second pair other others rest false e = refl
-
 -- behind pairs whose places are before its own
-placed_behind : (pair : ℕ × ℕ) (xs ys : List (ℕ × ℕ)) → ((q : ℕ × ℕ) → In q xs → is_earlier pair q ≡ false) → placed pair (xs ++ ys) ≡ xs ++ placed pair ys
+placed_behind : (pair : ℕ × ℕ) (xs ys : List (ℕ × ℕ)) → ((q : ℕ × ℕ) → In q xs → is_earlier pair q ≡ false) → with_pair pair (xs ++ ys) ≡ xs ++ with_pair pair ys
 placed_behind pair [] ys h = refl
-placed_behind pair (x ∷ xs) ys h = if_second pair x (xs ++ ys) (placed pair (xs ++ ys)) (is_earlier pair x) (h x (inl refl)) ∙ ap (λ zs. x ∷ zs) (placed_behind pair xs ys (λ q i. h q (inr i)))
+placed_behind pair (x ∷ xs) ys h = if_second pair x (xs ++ ys) (with_pair pair (xs ++ ys)) (is_earlier pair x) (h x (inl refl)) ∙ ap (λ zs. x ∷ zs) (placed_behind pair xs ys (λ q i. h q (inr i)))
 
 -- before pairs whose places are behind its own
-placed_first : (pair : ℕ × ℕ) (ys : List (ℕ × ℕ)) → ((q : ℕ × ℕ) → In q ys → is_earlier pair q ≡ true) → placed pair ys ≡ pair ∷ ys
+placed_first : (pair : ℕ × ℕ) (ys : List (ℕ × ℕ)) → ((q : ℕ × ℕ) → In q ys → is_earlier pair q ≡ true) → with_pair pair ys ≡ pair ∷ ys
 placed_first pair [] h = refl
-placed_first pair (y ∷ ys) h = if_first pair y ys (placed pair ys) (is_earlier pair y) (h y (inl refl))
+placed_first pair (y ∷ ys) h = if_first pair y ys (with_pair pair ys) (is_earlier pair y) (h y (inl refl))
 
 cond_append : (pair other : ℕ × ℕ) (others rest ys : List (ℕ × ℕ)) (b : Bool) → cond b (pair ∷ other ∷ (others ++ ys)) (other ∷ (rest ++ ys)) ≡ cond b (pair ∷ other ∷ others) (other ∷ rest) ++ ys
 cond_append pair other others rest ys true = refl
 cond_append pair other others rest ys false = refl
 
-placed_before : (pair : ℕ × ℕ) (xs ys : List (ℕ × ℕ)) → ((q : ℕ × ℕ) → In q ys → is_earlier pair q ≡ true) → placed pair (xs ++ ys) ≡ placed pair xs ++ ys
+placed_before : (pair : ℕ × ℕ) (xs ys : List (ℕ × ℕ)) → ((q : ℕ × ℕ) → In q ys → is_earlier pair q ≡ true) → with_pair pair (xs ++ ys) ≡ with_pair pair xs ++ ys
 placed_before pair [] ys h = placed_first pair ys h
 placed_before pair (x ∷ xs) ys h =
-    ap (λ zs. cond (is_earlier pair x) (pair ∷ x ∷ (xs ++ ys)) (x ∷ zs)) (placed_before pair xs ys h) ∙ cond_append pair x xs (placed pair xs) ys (is_earlier pair x)
+    ap (λ zs. cond (is_earlier pair x) (pair ∷ x ∷ (xs ++ ys)) (x ∷ zs)) (placed_before pair xs ys h) ∙ cond_append pair x xs (with_pair pair xs) ys (is_earlier pair x)
 
 -- the pairs of some numbers with a guard, those of a mask
 abbrev listed : ℕ → ℕ → List ℕ → List (ℕ × ℕ)
@@ -114,31 +96,31 @@ in_listed guard mask low n q h =
     (ap (λ (p : ℕ × ℕ). p.1) mapped.2, (let e : q.0 ≡ mapped.0 = ap (λ (p : ℕ × ℕ). p.0) mapped.2 in let w = within.0 in omega arith))
 
 -- the pairs of one guard from its first number on, with one more: where it is the first, and where it is later
-here : (guard more mask j n : ℕ) → IsWith more mask j → has_bit mask j ≡ false → placed (j, guard) (listed guard mask (numbers_from j (suc n))) ≡ listed guard more (numbers_from j (suc n))
+here : (guard more mask j n : ℕ) → IsWith more mask j → has_bit mask j ≡ false → with_pair (j, guard) (listed guard mask (numbers_from j (suc n))) ≡ listed guard more (numbers_from j (suc n))
 here guard more mask j n is none =
     let rest = numbers_from (j + 1) n in
     let bare : listed guard mask (j ∷ rest) ≡ listed guard mask rest = listed_false guard mask j rest none in
-    let first : placed (j, guard) (listed guard mask rest) ≡ (j, guard) ∷ listed guard mask rest = placed_first (j, guard) (listed guard mask rest) (λ q i. (let w = in_listed guard mask (j + 1) n q i in let early = earlier_before guard j q.0 (let b = w.1 in omega arith) in subst (λ g. is_earlier (j, guard) (q.0, g) ≡ true) (sym w.0) early)) in
+    let first : with_pair (j, guard) (listed guard mask rest) ≡ (j, guard) ∷ listed guard mask rest = placed_first (j, guard) (listed guard mask rest) (λ q i. (let w = in_listed guard mask (j + 1) n q i in let early = earlier_before guard j q.0 (let b = w.1 in omega arith) in subst (λ g. is_earlier (j, guard) (q.0, g) ≡ true) (sym w.0) early)) in
     let with_it : listed guard more (j ∷ rest) ≡ (j, guard) ∷ listed guard more rest = listed_true guard more j rest (own_bit more mask j is) in
-    ap (placed (j, guard)) bare ∙ first ∙ ap (λ zs. (j, guard) ∷ zs) (listed_later guard more mask j (j + 1) n is (omega arith)) ∙ sym with_it
+    ap (with_pair (j, guard)) bare ∙ first ∙ ap (λ zs. (j, guard) ∷ zs) (listed_later guard more mask j (j + 1) n is (omega arith)) ∙ sym with_it
 
-later : (guard more mask j low n : ℕ) → IsWith more mask j → low < j → (b : Bool) → has_bit mask low ≡ b → placed (j, guard) (listed guard mask (numbers_from (low + 1) n)) ≡ listed guard more (numbers_from (low + 1) n) → placed (j, guard) (listed guard mask (numbers_from low (suc n))) ≡ listed guard more (numbers_from low (suc n))
+later : (guard more mask j low n : ℕ) → IsWith more mask j → low < j → (b : Bool) → has_bit mask low ≡ b → with_pair (j, guard) (listed guard mask (numbers_from (low + 1) n)) ≡ listed guard more (numbers_from (low + 1) n) → with_pair (j, guard) (listed guard mask (numbers_from low (suc n))) ≡ listed guard more (numbers_from low (suc n))
 later guard more mask j low n is below true t rest_placed =
     let rest = numbers_from (low + 1) n in
     let bit : has_bit more low ≡ true = other_bit more mask j low is (λ e. omega arith) ∙ t in
-    ap (placed (j, guard)) (listed_true guard mask low rest t)
-    ∙ if_second (j, guard) (low, guard) (listed guard mask rest) (placed (j, guard) (listed guard mask rest)) (is_earlier (j, guard) (low, guard)) (later_before guard j low below)
+    ap (with_pair (j, guard)) (listed_true guard mask low rest t)
+    ∙ if_second (j, guard) (low, guard) (listed guard mask rest) (with_pair (j, guard) (listed guard mask rest)) (is_earlier (j, guard) (low, guard)) (later_before guard j low below)
     ∙ ap (λ zs. (low, guard) ∷ zs) rest_placed
     ∙ sym (listed_true guard more low rest bit)
 later guard more mask j low n is below false f rest_placed =
     let rest = numbers_from (low + 1) n in
     let bit : has_bit more low ≡ false = other_bit more mask j low is (λ e. omega arith) ∙ f in
-    ap (placed (j, guard)) (listed_false guard mask low rest f) ∙ rest_placed ∙ sym (listed_false guard more low rest bit)
+    ap (with_pair (j, guard)) (listed_false guard mask low rest f) ∙ rest_placed ∙ sym (listed_false guard more low rest bit)
 
-placed_here : (guard more mask j low n : ℕ) → IsWith more mask j → has_bit mask j ≡ false → low ≤ j → j < low + n → placed (j, guard) (listed guard mask (numbers_from low n)) ≡ listed guard more (numbers_from low n)
+placed_here : (guard more mask j low n : ℕ) → IsWith more mask j → has_bit mask j ≡ false → low ≤ j → j < low + n → with_pair (j, guard) (listed guard mask (numbers_from low n)) ≡ listed guard more (numbers_from low n)
 placed_here guard more mask j low zero is none least most = absurd (omega arith)
 placed_here guard more mask j low (suc n) is none least most = elim (eqb_tells low j) [
-  | inl e ↦ subst (λ k. placed (j, guard) (listed guard mask (numbers_from k (suc n))) ≡ listed guard more (numbers_from k (suc n))) (sym e.1) (here guard more mask j n is none)
+  | inl e ↦ subst (λ k. with_pair (j, guard) (listed guard mask (numbers_from k (suc n))) ≡ listed guard more (numbers_from k (suc n))) (sym e.1) (here guard more mask j n is none)
   | inr ne ↦ (let q = ne.1 in let below : low < j = omega arith in later guard more mask j low n is below (has_bit mask low) refl (placed_here guard more mask j (low + 1) n is none (omega arith) (omega arith)))
 ]
 
@@ -150,20 +132,20 @@ in_from k (m ∷ ms) q h = elim (in_append q (pairs_at k m) (pairs_from (k + 1) 
 ]
 
 -- the pairs of masks, with one more
-placed_from : (j k d more : ℕ) (masks : List ℕ) → d < length masks → j < 16 → has_bit (get_or masks d 0) j ≡ false → IsWith more (get_or masks d 0) j → placed (j, k + d) (pairs_from k masks) ≡ pairs_from k (set masks d more)
+placed_from : (j k d more : ℕ) (masks : List ℕ) → d < length masks → j < 16 → has_bit (get_or masks d 0) j ≡ false → IsWith more (get_or masks d 0) j → with_pair (j, k + d) (pairs_from k masks) ≡ pairs_from k (set masks d more)
 placed_from j k d more [] below fits none is = absurd (omega arith)
 placed_from j k zero more (m ∷ ms) below fits none is =
     let same : k + 0 ≡ k = omega arith in
-    ap (λ g. placed (j, g) (pairs_at k m ++ pairs_from (k + 1) ms)) same
+    ap (λ g. with_pair (j, g) (pairs_at k m ++ pairs_from (k + 1) ms)) same
     ∙ placed_before (j, k) (pairs_at k m) (pairs_from (k + 1) ms) (λ q i. earlier_guard (j, k) q (let w = in_from (k + 1) ms q i in omega arith))
     ∙ ap (λ xs. xs ++ pairs_from (k + 1) ms) (placed_here k more m j 0 16 is none (omega arith) (omega arith))
 placed_from j k (suc d) more (m ∷ ms) below fits none is =
     let same : k + suc d ≡ (k + 1) + d = omega arith in
     placed_behind (j, k + suc d) (pairs_at k m) (pairs_from (k + 1) ms) (λ q i. later_guard (j, k + suc d) q (let w = in_listed k m 0 16 q i in let e = w.0 in omega arith))
-    ∙ ap (λ g. pairs_at k m ++ placed (j, g) (pairs_from (k + 1) ms)) same
+    ∙ ap (λ g. pairs_at k m ++ with_pair (j, g) (pairs_from (k + 1) ms)) same
     ∙ ap (λ xs. pairs_at k m ++ xs) (placed_from j (k + 1) d more ms (omega arith) fits none is)
 
-pub placed_pair : (j i more : ℕ) (masks : List ℕ) → i < length masks → j < 16 → has_bit (get_or masks i 0) j ≡ false → IsWith more (get_or masks i 0) j → pairs_from 0 (set masks i more) ≡ placed (j, i) (pairs_from 0 masks)
+pub placed_pair : (j i more : ℕ) (masks : List ℕ) → i < length masks → j < 16 → has_bit (get_or masks i 0) j ≡ false → IsWith more (get_or masks i 0) j → pairs_from 0 (set masks i more) ≡ with_pair (j, i) (pairs_from 0 masks)
 placed_pair j i more masks below fits none is =
     let same : i ≡ 0 + i = omega arith in
-    sym (ap (λ g. placed (j, g) (pairs_from 0 masks)) same ∙ placed_from j 0 i more masks below fits none is)
+    sym (ap (λ g. with_pair (j, g) (pairs_from 0 masks)) same ∙ placed_from j 0 i more masks below fits none is)

@@ -9,7 +9,7 @@ abbrev pub resilience_of : List Comparison → List Row
 resilience_of comparisons = flat_map (λ (k : Comparison). k.rows) comparisons
 
 -- copies of these rows stand behind those
-pub record Copied (some before after : List Row) : Type 0 where
+pub record AreCopied (some before after : List Row) : Type 0 where
   pub added : List Row
   pub whole : after ≡ before ++ added
   pub copies : AreCopies some added

@@ -1,6 +1,7 @@
 -- Which rise guard implies which (Farkas' lemma over the resilience condition; this project's profile): of a pair, the guard that comes
 -- before holds wherever the one that comes after does
 use Rattle.std.specs.Prelude.{ℕ, zero, suc, ◌+◌, ◌<◌, ◌≡◌, ◌≢◌, List, [], ◌∷◌, ◌++◌, ℤ, length, flat_map, slice_get, Some}
+use Rattle.std.specs.List.{AllByRecursion}
 use Rattle.ta_linear.specs.Forms.{IsNegation}
 use Rattle.ta_linear.specs.Leaf.{LeafOf}
 use Rattle.ta_linear.specs.Values.{RowHolds}
@@ -8,8 +9,8 @@ use Rattle.ta_linear.specs.declared.row.Row.{Row}
 use Rattle.ta_linear.specs.declared.row.System.{System}
 use Rattle.ta_automaton.specs.declared.automaton.Automaton.{Automaton}
 use Rattle.ta_automaton.specs.declared.condition.Comparison.{Comparison}
-use Rattle.ta_automaton.specs.Lists.{Each, Distinct}
-use Rattle.ta_automaton.specs.Masks.{In}
+use Rattle.ta_base.specs.Lists.{Distinct}
+use Rattle.ta_base.specs.Masks.{In}
 use Rattle.ta_automaton.specs.Runs.{Admissible, Config, value_at}
 
 -- the rows of the resilience condition, in order
@@ -52,9 +53,9 @@ LeavesImply =
     → RiseHolds a c after → RiseHolds a c before
 
 -- from one guard a chain of so many more pairs leads to another
-abbrev pub Leads : List (ℕ × ℕ) → ℕ → ℕ → ℕ → Type 0
-Leads pairs zero first last = In (first, last) pairs
-Leads pairs (suc more) first last = (next : ℕ) × In (first, next) pairs × Leads pairs more next last
+abbrev pub ChainLeads : List (ℕ × ℕ) → ℕ → ℕ → ℕ → Type 0
+ChainLeads pairs zero first last = In (first, last) pairs
+ChainLeads pairs (suc more) first last = (next : ℕ) × In (first, next) pairs × ChainLeads pairs more next last
 
 -- a pair of different rise guards
 pub record IsPair (a : Automaton) (pair : ℕ × ℕ) : Type 0 where
@@ -71,14 +72,14 @@ pub record IsImplied (a : Automaton) (pair : ℕ × ℕ) : Type 0 where
 
 -- pairs that may order guards: each is implied, none stands twice, and no chain leads from a guard back to itself
 pub record Good (a : Automaton) (pairs : List (ℕ × ℕ)) : Type 0 where
-  pub pairs_are : Each (IsPair a) pairs
-  pub implied : Each (IsImplied a) pairs
+  pub pairs_are : AllByRecursion (IsPair a) pairs
+  pub implied : AllByRecursion (IsImplied a) pairs
   pub distinct : Distinct pairs
-  pub acyclic : (more guard : ℕ) → Leads pairs more guard guard → ⊥
+  pub acyclic : (more guard : ℕ) → ChainLeads pairs more guard guard → ⊥
 
 -- under such pairs, in a configuration of admissible parameters, a guard that holds has each from which a chain leads to it true
 abbrev pub GuardsComeAfter : Type 0
 GuardsComeAfter =
     (a : Automaton) (pairs : List (ℕ × ℕ)) → Good a pairs
     → (c : Config) → Admissible a c.parameters → length c.shared ≡ length a.shared
-    → (more first last : ℕ) → Leads pairs more first last → RiseHolds a c last → RiseHolds a c first
+    → (more first last : ℕ) → ChainLeads pairs more first last → RiseHolds a c last → RiseHolds a c first

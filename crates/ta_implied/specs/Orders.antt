@@ -1,12 +1,12 @@
 -- Lists of pairs of rise guards by rising numbers, the pairs that may join them, and why a pair is refused (this project's profile)
 use Rattle.std.specs.Prelude.{ℕ, ◌+◌, ◌<◌, ◌^◌, ◌==◌, ◌&&◌, ◌||◌, nat_lt, if◌then◌else◌, ℤ, ◌≡◌, Bool, List, [], ◌∷◌, ◌++◌, map, filter, true}
+use Rattle.std.specs.List.{AllByRecursion}
 use Rattle.ta_linear.specs.Leaf.{LeafOf}
 use Rattle.ta_linear.specs.declared.row.System.{System}
 use Rattle.ta_automaton.specs.declared.automaton.Automaton.{Automaton}
-use Rattle.ta_automaton.specs.Lists.{Each}
-use Rattle.ta_automaton.specs.Masks.{In, has_bit, numbers_from}
+use Rattle.ta_base.specs.Masks.{In, has_bit, numbers_from}
 use Rattle.ta_farkas.specs.Columns.{CheckStays}
-use Rattle.ta_implied.specs.Implied.{ImplySystem, IsPair, Leads}
+use Rattle.ta_implied.specs.Implied.{ImplySystem, IsPair, ChainLeads}
 
 -- the pairs of a guard with the guards of a mask before it, by rising number of the guard before
 abbrev pub pairs_at : ℕ → ℕ → List (ℕ × ℕ)
@@ -22,32 +22,32 @@ abbrev pub is_earlier : ℕ × ℕ → ℕ × ℕ → Bool
 is_earlier pair other = nat_lt pair.1 other.1 || ((pair.1 == other.1) && nat_lt pair.0 other.0)
 
 -- a list of pairs with one more at its place
-abbrev pub placed : ℕ × ℕ → List (ℕ × ℕ) → List (ℕ × ℕ)
-placed pair [] = pair ∷ []
-placed pair (other ∷ others) = if is_earlier pair other then pair ∷ other ∷ others else other ∷ placed pair others
+abbrev pub with_pair : ℕ × ℕ → List (ℕ × ℕ) → List (ℕ × ℕ)
+with_pair pair [] = pair ∷ []
+with_pair pair (other ∷ others) = if is_earlier pair other then pair ∷ other ∷ others else other ∷ with_pair pair others
 
 -- a chain of pairs leads from one guard to another
 abbrev pub LeadsSome : List (ℕ × ℕ) → ℕ → ℕ → Type 0
-LeadsSome pairs first last = (more : ℕ) × Leads pairs more first last
+LeadsSome pairs first last = (more : ℕ) × ChainLeads pairs more first last
 
 -- a guard comes before one of a mask, among those below a number
-abbrev pub IsBehind : List (ℕ × ℕ) → ℕ → ℕ → ℕ → Type 0
-IsBehind pairs mask n j = (guard : ℕ) × (guard < n) × (has_bit mask guard ≡ true) × In (j, guard) pairs
+abbrev pub IsBeforeSome : List (ℕ × ℕ) → ℕ → ℕ → ℕ → Type 0
+IsBeforeSome pairs mask n j = (guard : ℕ) × (guard < n) × (has_bit mask guard ≡ true) × In (j, guard) pairs
 
 -- no chain of pairs leads from a guard back to itself
 abbrev pub HasNoCircle : List (ℕ × ℕ) → Type 0
-HasNoCircle pairs = (more guard : ℕ) → ¬ Leads pairs more guard guard
+HasNoCircle pairs = (more guard : ℕ) → ¬ ChainLeads pairs more guard guard
 
 -- masks of guards before others: each is of numbers of guards alone, and no chain of their pairs leads back
-pub record AreOrders (masks : List ℕ) : Type 0 where
-  pub fit : Each (λ m. m < 2 ^ 16) masks
+pub record AreOrderMasks (masks : List ℕ) : Type 0 where
+  pub fit : AllByRecursion (λ m. m < 2 ^ 16) masks
   pub no_circle : HasNoCircle (pairs_from 0 masks)
 
 -- a pair may join others: it is of different rise guards, isn't among them, and no chain of them leads from its guard after to its guard before
 pub record MayJoin (a : Automaton) (pairs : List (ℕ × ℕ)) (pair : ℕ × ℕ) : Type 0 where
   pub is : IsPair a pair
   pub fresh : ¬ In pair pairs
-  pub closes_none : (more : ℕ) → ¬ Leads pairs more pair.1 pair.0
+  pub closes_none : (more : ℕ) → ¬ ChainLeads pairs more pair.1 pair.0
 
 -- multipliers are a leaf of a pair's system, and the check of it stays in range
 pub record IsShown (a : Automaton) (pair : ℕ × ℕ) (ts : List (ℕ × ℤ)) : Type 0 where
@@ -57,23 +57,23 @@ pub record IsShown (a : Automaton) (pair : ℕ × ℕ) (ts : List (ℕ × ℤ)) 
   pub stays : CheckStays system ts
 
 -- a pair joined others at its place: it may, and these multipliers show it
-pub record Joined (a : Automaton) (pair : ℕ × ℕ) (ts : List (ℕ × ℤ)) (old new : List (ℕ × ℕ)) : Type 0 where
+pub record JoinsPair (a : Automaton) (pair : ℕ × ℕ) (ts : List (ℕ × ℤ)) (old new : List (ℕ × ℕ)) : Type 0 where
   pub may : MayJoin a old pair
   pub shown : IsShown a pair ts
-  pub whole : new ≡ placed pair old
+  pub whole : new ≡ with_pair pair old
 
 -- no chain of pairs leads from a guard to one that stands before it
-abbrev pub InOrder : List (ℕ × ℕ) → List ℕ → Type 0
-InOrder pairs [] = Unit {0}
-InOrder pairs (guard ∷ guards) = Each (λ later. ¬ LeadsSome pairs later guard) guards × InOrder pairs guards
+abbrev pub GuardsInOrder : List (ℕ × ℕ) → List ℕ → Type 0
+GuardsInOrder pairs [] = Unit {0}
+GuardsInOrder pairs (guard ∷ guards) = AllByRecursion (λ later. ¬ LeadsSome pairs later guard) guards × GuardsInOrder pairs guards
 
 -- the guards of a list in such an order
-pub record Ordered (pairs : List (ℕ × ℕ)) (xs : List ℕ) : Type 0 where
+pub record AreOrdered (pairs : List (ℕ × ℕ)) (xs : List ℕ) : Type 0 where
   pub ys : List ℕ
-  pub in_order : InOrder pairs ys
+  pub in_order : GuardsInOrder pairs ys
   pub all : (x : ℕ) → In x xs → In x ys
   pub only : (x : ℕ) → In x ys → In x xs
 
 -- under pairs without a circle any guards can be put into such an order
 abbrev pub GuardsCanBeOrdered : Type 0
-GuardsCanBeOrdered = (pairs : List (ℕ × ℕ)) → HasNoCircle pairs → (xs : List ℕ) → Ordered pairs xs
+GuardsCanBeOrdered = (pairs : List (ℕ × ℕ)) → HasNoCircle pairs → (xs : List ℕ) → AreOrdered pairs xs

@@ -2,7 +2,7 @@
 use Rattle.std.specs.Prelude.{ℕ, ℤ, List}
 use Rattle.ta_linear.specs.declared.row.System.{System}
 use Rattle.ta_automaton.specs.declared.automaton.Automaton.{Automaton}
-use Rattle.ta_farkas.specs.Faults.{IsFirstFault}
+use Rattle.ta_farkas.specs.Faults.{IsFirstFaultOfLeaf}
 use Rattle.ta_farkas.specs.declared.LeafFault.{LeafFault}
 use Rattle.ta_implied.specs.Implied.{ImplySystem}
 use Rattle.ta_implied.specs.Orders.{MayJoin}
@@ -13,7 +13,7 @@ use Rattle.ta_implied.specs.declared.fault.OrderFault.TheVariants.{Pair, Leaf, M
 pub record FailsToShow (a : Automaton) (pair : ℕ × ℕ) (ts : List (ℕ × ℤ)) (fault : LeafFault) : Type 0 where
   pub system : System
   pub is : ImplySystem a pair.0 pair.1 system
-  pub first : IsFirstFault system ts fault
+  pub first : IsFirstFaultOfLeaf system ts fault
 
 -- a pair that may not join comes before a leaf's fault
 abbrev pub IsOrderFault : Automaton → List (ℕ × ℕ) → ℕ × ℕ → List (ℕ × ℤ) → OrderFault → Type 0

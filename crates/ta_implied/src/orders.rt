@@ -3,9 +3,9 @@
 
 ghost use Rattle.std.specs.Prelude.{ℕ, ◌≡◌, ◌↔◌, ◌≤◌, ◌<◌, ◌^◌, ◌⊎◌, [], true, IsTrue, IfErr, OnOk};
 ghost use Rattle.ta_linear.specs.Leaf.{AreMultipliers};
-ghost use Rattle.ta_automaton.specs.Masks.{In, has_bit};
+ghost use Rattle.ta_base.specs.Masks.{In, has_bit};
 ghost use Rattle.ta_implied.specs.Implied.{Good, IsPair};
-ghost use Rattle.ta_implied.specs.Orders.{HasNoCircle, IsBehind, Joined, LeadsSome, MayJoin, placed};
+ghost use Rattle.ta_implied.specs.Orders.{HasNoCircle, IsBeforeSome, JoinsPair, LeadsSome, MayJoin, with_pair};
 ghost use Rattle.ta_implied.specs.Refused.{IsOrderFault};
 
 use crate::fault::OrderFault;
@@ -13,6 +13,7 @@ use crate::system::imply_system;
 use std::alloc::Global;
 use std::marker::Model;
 use ta_automaton::Automaton;
+use ta_base::masks::contains;
 use ta_farkas::check_leaf;
 
 /// Pairs of rise guards, of which one comes before the other. Contracts see them as a list of pairs
@@ -26,13 +27,13 @@ pub struct Orders {
 
 impl Model for Orders {
     ghost use Rattle.std.specs.Prelude.{ℕ, List};
-    ghost use Rattle.ta_implied.specs.Orders.{AreOrders, pairs_from};
+    ghost use Rattle.ta_implied.specs.Orders.{AreOrderMasks, pairs_from};
 
     ghost Value = { List (ℕ × ℕ) };
 
     ghost view = { λ s. pairs_from 0 s.masks };
 
-    ghost invariant = { λ s. AreOrders s.masks };
+    ghost invariant = { λ s. AreOrderMasks s.masks };
 }
 
 impl Orders {
@@ -71,7 +72,7 @@ impl Orders {
     /// Pushes a pair of guards without a leaf.
     pub fn insert(&mut self, automaton: &Automaton, before: u32, after: u32)
         requires { MayJoin automaton.now self.old (before, after) }
-        ensures { self.new ≡ placed (before, after) self.old }
+        ensures { self.new ≡ with_pair (before, after) self.old }
     {
         let with_it = self.masks[after as usize] | 1 << before;
         self.masks[after as usize] = with_it;
@@ -89,7 +90,7 @@ impl Orders {
         requires { AreMultipliers 0 (2 ^ 32) multipliers.now }
         ensures fault { IfErr result (IsOrderFault automaton.now self.old (before, after) multipliers.now) }
         ensures kept { IfErr result (λ _. self.new ≡ self.old) }
-        ensures joined { OnOk result (Joined automaton.now (before, after) multipliers.now self.old self.new) }
+        ensures joined { OnOk result (JoinsPair automaton.now (before, after) multipliers.now self.old self.new) }
         ensures good { Good automaton.now self.old → Good automaton.now self.new }
     {
         if !self.takes(automaton, before, after) {
@@ -116,7 +117,7 @@ impl Orders {
         requires { before < 16 }
         ensures { IsTrue result ↔ In (before, after) self.now }
     {
-        contains(self.mask(after), before)
+        contains(u32::from(self.mask(after)), before)
     }
 
     // Whether a chain of pairs leads from one guard to another.
@@ -124,7 +125,7 @@ impl Orders {
         requires { first < 16 }
         ensures { IsTrue result ↔ LeadsSome self.now first last }
     {
-        contains(self.sources(last), first)
+        contains(u32::from(self.sources(last)), first)
     }
 
     // The guards from which a chain of pairs leads to a guard.
@@ -144,7 +145,7 @@ impl Orders {
     // Some guards, with all that come before one of them.
     fn with_sources(&self, found: u16) -> u16
         ensures grown { found ≤ result }
-        ensures members { (j : ℕ) → (has_bit result j ≡ true) ↔ ((has_bit found j ≡ true) ⊎ IsBehind self.now found 16 j) }
+        ensures members { (j : ℕ) → (has_bit result j ≡ true) ↔ ((has_bit found j ≡ true) ⊎ IsBeforeSome self.now found 16 j) }
     {
         let mut all = found;
         for guard in 0..16 {
@@ -158,7 +159,7 @@ impl Orders {
         requires { guard < 16 }
         ensures { (j : ℕ) → (has_bit result j ≡ true) ↔ ((has_bit set guard ≡ true) × In (j, guard) self.now) }
     {
-        if contains(set, guard) {
+        if contains(u32::from(set), guard) {
             self.mask(guard)
         } else {
             0
@@ -172,12 +173,4 @@ fn are_pair(automaton: &Automaton, before: u32, after: u32) -> bool
 {
     let guards = automaton.rise.as_slice().len();
     (before as usize) < guards && (after as usize) < guards && before != after
-}
-
-// Whether a number is in a set.
-fn contains(set: u16, number: u32) -> bool
-    requires { number < 16 }
-    ensures { result ≡ has_bit set number }
-{
-    set & (1 << number) != 0
 }

@@ -6,11 +6,12 @@ ghost use Rattle.ta_linear.specs.Forms.{IsNegation};
 ghost use Rattle.ta_linear.specs.Numbers.{InRange};
 ghost use Rattle.std.specs.Prelude.{neg_ℤ, pos, ◌-ℤ◌};
 ghost use Rattle.ta_implied.specs.Implied.{ImplySystem, IsCopy};
-ghost use Rattle.ta_implied.specs.Copies.{Copied, resilience_of};
+ghost use Rattle.ta_implied.specs.Copies.{AreCopied, resilience_of};
 
 use std::alloc::{AllocError, Global};
 use ta_automaton::{Automaton, Condition};
-use ta_linear::{Form, LinearFault, List, Row, System};
+use ta_base::List;
+use ta_linear::{Form, LinearFault, Row, System};
 
 /// A row of the same numbers.
 fn copy_row(alloc: Global, row: &Row) -> Result<Row, AllocError>
@@ -27,7 +28,7 @@ fn copy_row(alloc: Global, row: &Row) -> Result<Row, AllocError>
 
 /// Appends copies of some rows.
 fn push_rows(alloc: Global, some: &[Row], rows: &mut Vec<Row>) -> Result<(), AllocError>
-    ensures { OnOk result (Copied some.now rows.old.items rows.new.items) }
+    ensures { OnOk result (AreCopied some.now rows.old.items rows.new.items) }
 {
     for row in some {
         rows.push(copy_row(alloc, row)?)?;
@@ -41,7 +42,7 @@ fn push_condition(
     condition: &Condition,
     rows: &mut Vec<Row>,
 ) -> Result<(), AllocError>
-    ensures { OnOk result (Copied (resilience_of condition.now.comparisons) rows.old.items rows.new.items) }
+    ensures { OnOk result (AreCopied (resilience_of condition.now.comparisons) rows.old.items rows.new.items) }
 {
     for comparison in condition.comparisons.as_slice() {
         push_rows(alloc, comparison.rows.as_slice(), rows)?;

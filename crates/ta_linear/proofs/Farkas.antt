@@ -3,14 +3,14 @@ use Rattle.std.proofs.Common.{◌≡◌, ℕ, zero, suc, ◌+◌, ℤ, pos, ◌+
 use Rattle.std.specs.List.{All}
 use Rattle.std.proofs.lemmas.Int.{ints}
 use Rattle.std.proofs.Math.IntN.{zero-*ℤ}
+use Rattle.ta_base.proofs.Integers.{distributes, distributes_right, mul-ge-zero, mul-le-zero, range_sum, times_assoc}
+use Rattle.ta_base.proofs.Sums.{range_sum-add, range_sum-nonpositive, range_sum-same, range_sum-times, range_sum-zero}
 use Rattle.ta_linear.specs.Rows.{AllBelow}
 use Rattle.ta_linear.specs.Values.{value_of, RowHolds, Solves}
 use Rattle.ta_linear.specs.Leaf.{weighted, AreMultipliers, Leaf, coefficient_in, constant_in, LeafOf}
 use Rattle.ta_linear.specs.declared.row.Row.{Row}
 use Rattle.ta_linear.specs.declared.row.System.{System}
-use Rattle.ta_linear.proofs.Integers.{distributes, distributes_right, times_assoc}
-use Rattle.ta_linear.proofs.Signs.{mul-ge-zero, mul-le-zero}
-use Rattle.ta_linear.proofs.RangeSum.{range_sum, range_sum-same, range_sum-add, range_sum-zero, range_sum-times, range_sum-nonpositive, terms_value-sum}
+use Rattle.ta_linear.proofs.RangeSum.{terms_value-sum}
 
 -- rows whose values, at natural values of n unknowns, are at least 0
 pub record Meets {R : Type 0} (coefficient_of : ℕ → Option R → ℤ) (constant_of : Option R → ℤ) (rows : List R) (value_in : Option R → ℤ) (v : ℕ → ℤ) (n : ℕ) : Type 0 where

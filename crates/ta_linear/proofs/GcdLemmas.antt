@@ -1,5 +1,5 @@
 -- what ties the greatest common divisor by Euclid's recursion to the relation IsGcd
-use Rattle.std.proofs.Common.{◌≡◌, ℕ, zero, suc, ◌<◌, ◌%◌, arith, refl, sym, ℤ, pos, unsigned_abs}
+use Rattle.std.proofs.Common.{◌≡◌, ℕ, zero, suc, ◌<◌, ◌%◌, arith, refl, sym}
 use Rattle.std.specs.Int.{IsGcd}
 use Rattle.ta_linear.specs.Gcd.{gcd_within, gcd_of}
 use Rattle.std.proofs.lemmas.Nat.Gcd.{IsGcd-from_zero, IsGcd-from_mod, same_from_IsGcd}
@@ -20,12 +20,5 @@ IsGcd-gcd_of a b = IsGcd-gcd_within (suc b) a b (omega arith)
 pub gcd_of_is : (a b g : ℕ) → IsGcd a b g → g ≡ gcd_of a b
 gcd_of_is a b g h = same_from_IsGcd a b g (gcd_of a b) h (IsGcd-gcd_of a b)
 
-pub gcd_of-mod : (a b : ℕ) → gcd_of b (a % b) ≡ gcd_of a b
-gcd_of-mod a b = gcd_of_is a b (gcd_of b (a % b)) (IsGcd-from_mod a b (gcd_of b (a % b)) (IsGcd-gcd_of b (a % b)))
-
 pub gcd_of-zero : (a b : ℕ) → b ≡ 0 → gcd_of a b ≡ a
 gcd_of-zero a b e = sym (gcd_of_is a b a (IsGcd-from_zero a b e))
-
--- from natural numbers to whole ones
-pub IsGcd-whole : (a b : ℤ) (x y g : ℕ) (r : ℤ) → x ≡ unsigned_abs a → y ≡ unsigned_abs b → r ≡ pos g → IsGcd x y g → IsGcd (unsigned_abs a) (unsigned_abs b) (unsigned_abs r)
-IsGcd-whole a b x y g r d e f h = rw (← d, ← e, f) h

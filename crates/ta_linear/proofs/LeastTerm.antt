@@ -1,9 +1,10 @@
-use Rattle.std.proofs.Common.{◌≡◌, ℕ, ℤ, pos, ◌+◌, ◌<◌, ◌≤◌, ◌+ℤ◌, List, [], ◌∷◌, length, eqb, cond, arith}
+use Rattle.std.proofs.Common.{◌≡◌, ℕ, ℤ, ◌+◌, ◌<◌, ◌≤◌, ◌+ℤ◌, List, [], ◌∷◌, length, arith}
 use Rattle.std.proofs.lemmas.Int.{ints}
 use Rattle.std.proofs.lemmas.Bool.Decides.{nat_tests}
+use Rattle.ta_base.proofs.Integers.{add_cond}
 use Rattle.ta_linear.specs.Numbers.{InRange}
 use Rattle.ta_linear.specs.Terms.{coefficient, IsNormal}
-use Rattle.ta_linear.specs.Forms.{IsLeastTerm, SomeSumLeaves}
+use Rattle.ta_linear.specs.Forms.{IsLeastTerm, SomeSumOutOfRange}
 use Rattle.ta_linear.proofs.TermLemmas.{coefficient-below, IsNormal-le}
 
 -- the first variable of the terms is above another
@@ -31,9 +32,6 @@ least-right xs ys t ts e above = rw e (record {
   shorter = omega arith;
 })
 
-add_cond : (a b x : ℕ) (p q : ℤ) → a ≡ b → cond (eqb a x) (p +ℤ q) (pos 0) ≡ (cond (eqb a x) p (pos 0) +ℤ cond (eqb b x) q (pos 0))
-add_cond a b x p q e = grind (arith, ints, nat_tests)
-
 pub least-both : (xs ys : List (ℕ × ℤ)) (s : ℕ × ℤ) (ss : List (ℕ × ℤ)) (t : ℕ × ℤ) (ts : List (ℕ × ℤ)) → xs ≡ s ∷ ss → ys ≡ t ∷ ts → s.0 ≡ t.0 → (sum : ℤ) → sum ≡ (s.1 +ℤ t.1) → InRange (s.1 +ℤ t.1) → IsLeastTerm xs ys (s.0, sum) ss ts
 least-both xs ys s ss t ts d e same sum is fits = rw (d, e, is) (record {
   sums = λ x. omega (arith, ints, add_cond s.0 t.0 x s.1 t.1 same);
@@ -41,7 +39,7 @@ least-both xs ys s ss t ts d e same sum is fits = rw (d, e, is) (record {
   shorter = omega arith;
 })
 
-pub leaves-both : (xs ys : List (ℕ × ℤ)) (s : ℕ × ℤ) (ss : List (ℕ × ℤ)) (t : ℕ × ℤ) (ts : List (ℕ × ℤ)) → xs ≡ s ∷ ss → ys ≡ t ∷ ts → s.0 ≡ t.0 → (InRange (s.1 +ℤ t.1) → ⊥) → SomeSumLeaves xs ys
+pub leaves-both : (xs ys : List (ℕ × ℤ)) (s : ℕ × ℤ) (ss : List (ℕ × ℤ)) (t : ℕ × ℤ) (ts : List (ℕ × ℤ)) → xs ≡ s ∷ ss → ys ≡ t ∷ ts → s.0 ≡ t.0 → (InRange (s.1 +ℤ t.1) → ⊥) → SomeSumOutOfRange xs ys
 leaves-both xs ys s ss t ts d e same leaves = rw (d, e) (λ low high left right.
     let p = coefficient-below (s.0 + 1) high ss s.0 left.2 (omega arith) in
     let q = coefficient-below (t.0 + 1) high ts s.0 right.2 (omega arith) in

@@ -1,10 +1,11 @@
 use Rattle.std.proofs.Common.{length, drop, get_or, ◌≡◌, ◌↔◌, ℕ, ℤ, ◌+◌, ◌<◌, ◌+ℤ◌, ◌*ℤ◌, List, arith}
 use Rattle.std.proofs.lemmas.Int.{ints}
+use Rattle.ta_base.proofs.Lists.{at_drop}
 use Rattle.ta_linear.specs.Numbers.{InRange}
 use Rattle.ta_linear.specs.Terms.{IsNormal}
 use Rattle.ta_linear.specs.Values.{terms_value}
 use Rattle.ta_linear.specs.Sums.{StaysInRange}
-use Rattle.ta_linear.proofs.TermLemmas.{at_drop, IsNormal-le}
+use Rattle.ta_linear.proofs.TermLemmas.{IsNormal-le}
 
 -- what a sum of products keeps: its value with what is left, and whether it stays in range
 pub record Summing (number : ℕ → ℤ) (high : ℕ) (start : ℤ) (all : List (ℕ × ℤ)) (sum : ℤ) (left : List (ℕ × ℤ)) : Type 0 where

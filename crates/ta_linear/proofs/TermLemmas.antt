@@ -1,11 +1,12 @@
-use Rattle.std.proofs.Common.{length, drop, get_or, add-one, drop-cons, ◌≡◌, ◌≢◌, ℕ, ℤ, pos, negsuc, neg_ℤ, ◌-ℤ◌, inl, inr, ◌+◌, ◌<◌, ◌≤◌, ◌^◌, ◌+ℤ◌, ◌*ℤ◌, List, [], ◌∷◌, ◌++◌, eqb, cond, true, false, refl, arith, sym, ap, ◌∙◌}
+use Rattle.std.proofs.Common.{length, drop, get_or, ◌≡◌, ◌≢◌, ℕ, ℤ, pos, negsuc, neg_ℤ, ◌-ℤ◌, inl, inr, ◌+◌, ◌<◌, ◌≤◌, ◌^◌, ◌+ℤ◌, ◌*ℤ◌, List, [], ◌∷◌, ◌++◌, eqb, cond, refl, arith, sym, ap, ◌∙◌}
 use Rattle.std.proofs.lemmas.Int.{ints, unsigned_abs-mul}
 use Rattle.std.proofs.lemmas.Bool.Decides.{nat_tests, eqb_tells}
+use Rattle.ta_base.proofs.Integers.{distributes, if_same, if_zero, times_if, times_not_zero}
+use Rattle.ta_base.proofs.Lists.{at_drop}
 use Rattle.ta_linear.specs.Numbers.{InRange}
 use Rattle.ta_linear.specs.Terms.{coefficient, IsTerm, IsNormal}
-use Rattle.ta_linear.specs.Forms.{IsLeastTerm, SomeSumLeaves, IsSum, SumLeaves, IsMultiple, MultipleLeaves, IsNegation}
+use Rattle.ta_linear.specs.Forms.{IsLeastTerm, SomeSumOutOfRange, IsSum, SumOutOfRange, IsMultiple, MultipleOutOfRange, IsNegation}
 use Rattle.ta_linear.specs.declared.form.Form.{Form}
-use Rattle.ta_linear.proofs.Integers.{distributes, times_not_zero}
 use Rattle.std.proofs.Math.IntN.{*ℤ-zero}
 use Rattle.std.proofs.Math.ListN.{drop_of_length-le}
 
@@ -71,9 +72,6 @@ merge-push a b out left right t left_rest right_rest m n ne =
       sums = λ x. omega (arith, ints, m.sums x, n.sums x, coefficient-append out (t ∷ []) x);
     }
 
-if_zero : (a x : ℕ) (z : ℤ) → z ≡ pos 0 → cond (eqb a x) z (pos 0) ≡ pos 0
-if_zero a x z e = grind (arith, ints, nat_tests)
-
 pub merge-skip : (a b out left right : List (ℕ × ℤ)) (t : ℕ × ℤ) (left_rest right_rest : List (ℕ × ℤ)) → Merging a b out left right → IsLeastTerm left right t left_rest right_rest → t.1 ≡ pos 0 → Merging a b out left_rest right_rest
 merge-skip a b out left right t left_rest right_rest m n zero =
     let next = n.normal m.place (2 ^ 32) m.left_normal m.right_normal in
@@ -85,7 +83,7 @@ merge-skip a b out left right t left_rest right_rest m n zero =
       sums = λ x. omega (arith, ints, m.sums x, n.sums x, if_zero t.0 x t.1 zero);
     }
 
-pub merge-leaves : (a b out left right : List (ℕ × ℤ)) → Merging a b out left right → SomeSumLeaves left right → (x : ℕ) × (InRange (coefficient a x +ℤ coefficient b x) → ⊥)
+pub merge-leaves : (a b out left right : List (ℕ × ℤ)) → Merging a b out left right → SomeSumOutOfRange left right → (x : ℕ) × (InRange (coefficient a x +ℤ coefficient b x) → ⊥)
 merge-leaves a b out left right m leaves =
     let w = leaves m.place (2 ^ 32) m.left_normal m.right_normal in
     let none = coefficient-above 0 m.place out w.0 m.out_normal w.1 in
@@ -96,10 +94,6 @@ pub merge-end : (a b out left right : List (ℕ × ℤ)) → Merging a b out lef
 merge-end a b out left right m none_left none_right x =
     let sums = rw (none_left, none_right) at (m.sums x) in
     omega (arith, ints, sums)
-
-times_if : (factor z product : ℤ) (a x : ℕ) → product ≡ (factor *ℤ z) → cond (eqb a x) product (pos 0) ≡ (factor *ℤ cond (eqb a x) z (pos 0))
-times_if factor z product a x is =
-    elim (eqb a x) as (λ v. cond v product (pos 0) ≡ (factor *ℤ cond v z (pos 0))) [ true ↦ is | false ↦ sym (*ℤ-zero factor) ]
 
 pub scale-push : (factor : ℤ) (all out : List (ℕ × ℤ)) (t : ℕ × ℤ) (rest : List (ℕ × ℤ)) (product : ℤ) → Scaling factor all out (t ∷ rest) → factor ≢ pos 0 → product ≡ (factor *ℤ t.1) → InRange product → Scaling factor all (out ++ (t.0, product) ∷ []) rest
 scale-push factor all out t rest product m ne is fits = record {
@@ -117,9 +111,6 @@ scale-leaves factor all out t rest m leaves =
     let same : (factor *ℤ t.1) ≡ (factor *ℤ coefficient all t.0) = omega (arith, ints, m.sums t.0, none, ap (λ z. factor *ℤ z) this) in
     (t.0, λ h. leaves (rw same h))
 
-pub at_drop : (xs : List (ℕ × ℤ)) (i : ℕ) (d : ℕ × ℤ) → i < length xs → drop i xs ≡ get_or xs i d ∷ drop (i + 1) xs
-at_drop xs i d h = rw add-one (drop-cons xs i d h)
-
 pub scale-push-at : (factor : ℤ) (all out xs : List (ℕ × ℤ)) (i : ℕ) (d : ℕ × ℤ) (product : ℤ) → Scaling factor all out (drop i xs) → i < length xs → factor ≢ pos 0 → product ≡ (factor *ℤ (get_or xs i d).1) → InRange product → Scaling factor all (out ++ ((get_or xs i d).0, product) ∷ []) (drop (i + 1) xs)
 scale-push-at factor all out xs i d product m h ne is fits =
     scale-push factor all out (get_or xs i d) (drop (i + 1) xs) product (rw (at_drop xs i d h) at m) ne is fits
@@ -134,26 +125,11 @@ scale-end factor all out xs i m h x =
     let sums = rw none at (m.sums x) in
     omega (arith, ints, sums, *ℤ-zero factor)
 
-if_other : (a x : ℕ) (z : ℤ) → a ≢ x → cond (eqb a x) z (pos 0) ≡ pos 0
-if_other a x z h = grind (arith, ints, nat_tests)
-
-if_same : (a x : ℕ) (z : ℤ) → a ≡ x → cond (eqb a x) z (pos 0) ≡ z
-if_same a x z h = grind (arith, ints, nat_tests)
-
 -- what a search for a variable keeps
 pub record Looking (all left : List (ℕ × ℤ)) (x : ℕ) : Type 0 where
   pub place : ℕ
   pub normal : IsNormal place (2 ^ 32) left
   pub same : coefficient left x ≡ coefficient all x
-
-pub look-past : (all xs : List (ℕ × ℤ)) (i x : ℕ) (d : ℕ × ℤ) → Looking all (drop i xs) x → i < length xs → (get_or xs i d).0 ≢ x → Looking all (drop (i + 1) xs) x
-look-past all xs i x d l h ne =
-    let m = rw (at_drop xs i d h) at l in
-    record {
-      place = (get_or xs i d).0 + 1;
-      normal = m.normal.2;
-      same = omega (arith, ints, m.same, if_other (get_or xs i d).0 x (get_or xs i d).1 ne);
-    }
 
 pub look-found : (all xs : List (ℕ × ℤ)) (i x : ℕ) (d : ℕ × ℤ) → Looking all (drop i xs) x → i < length xs → (get_or xs i d).0 ≡ x → ((get_or xs i d).1 ≡ coefficient all x) × InRange (get_or xs i d).1
 look-found all xs i x d l h e =
@@ -161,11 +137,6 @@ look-found all xs i x d l h e =
     let t = get_or xs i d in
     let rest = coefficient-below (t.0 + 1) (2 ^ 32) (drop (i + 1) xs) x m.normal.2 (omega arith) in
     (omega (arith, ints, m.same, rest, if_same t.0 x t.1 e), m.normal.1.in_range)
-
-pub look-end : (all xs : List (ℕ × ℤ)) (i x : ℕ) → Looking all (drop i xs) x → length xs ≤ i → coefficient all x ≡ pos 0
-look-end all xs i x l h =
-    let none : drop i xs ≡ [] = drop_of_length-le xs h in
-    sym (rw none at l.same)
 
 -- each coefficient of normal terms is in range
 pub coefficient-fits : (low high : ℕ) (ts : List (ℕ × ℤ)) (x : ℕ) → IsNormal low high ts → InRange (coefficient ts x)
@@ -180,16 +151,16 @@ coefficient-fits low high (t ∷ ts) x n =
 negative-fits : (z : ℤ) → InRange z → InRange (negsuc 0 *ℤ z)
 negative-fits z h = rw (unsigned_abs-mul (negsuc 0) z) (omega (arith, h))
 
-pub negative_stays : (a : Form) → MultipleLeaves a (negsuc 0) → ⊥
+pub negative_stays : (a : Form) → MultipleOutOfRange a (negsuc 0) → ⊥
 negative_stays a (inl leaves) = leaves (negative-fits a.constant a.constant_fits)
 negative_stays a (inr leaves) = leaves.1 (negative-fits (coefficient a.terms leaves.0) (coefficient-fits 0 (2 ^ 32) a.terms leaves.0 a.normal))
 
 -- a result that is a form is in range
-pub sum-stays : (sum a b : Form) → IsSum sum a b → SumLeaves a b → ⊥
+pub sum-stays : (sum a b : Form) → IsSum sum a b → SumOutOfRange a b → ⊥
 sum-stays sum a b h (inl leaves) = leaves (rw (← h.constant) sum.constant_fits)
 sum-stays sum a b h (inr leaves) = leaves.1 (rw (← h.coefficients leaves.0) (coefficient-fits 0 (2 ^ 32) sum.terms leaves.0 sum.normal))
 
-pub multiple-stays : (multiple a : Form) (factor : ℤ) → IsMultiple multiple a factor → MultipleLeaves a factor → ⊥
+pub multiple-stays : (multiple a : Form) (factor : ℤ) → IsMultiple multiple a factor → MultipleOutOfRange a factor → ⊥
 multiple-stays multiple a factor h (inl leaves) = leaves (rw (← h.constant) multiple.constant_fits)
 multiple-stays multiple a factor h (inr leaves) = leaves.1 (rw (← h.coefficients leaves.0) (coefficient-fits 0 (2 ^ 32) multiple.terms leaves.0 multiple.normal))
 

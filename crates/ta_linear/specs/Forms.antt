@@ -10,8 +10,8 @@ pub record IsSum (sum a b : Form) : Type 0 where
   pub coefficients : (x : ℕ) → coefficient sum.terms x ≡ (coefficient a.terms x +ℤ coefficient b.terms x)
 
 -- the constant or some coefficient of the sum leaves the range
-abbrev pub SumLeaves : Form → Form → Type 0
-SumLeaves a b =
+abbrev pub SumOutOfRange : Form → Form → Type 0
+SumOutOfRange a b =
     ¬ InRange (a.constant +ℤ b.constant)
     ⊎ ((x : ℕ) × ¬ InRange (coefficient a.terms x +ℤ coefficient b.terms x))
 
@@ -21,8 +21,8 @@ pub record IsMultiple (multiple a : Form) (factor : ℤ) : Type 0 where
   pub coefficients : (x : ℕ) → coefficient multiple.terms x ≡ (factor *ℤ coefficient a.terms x)
 
 -- the constant or some coefficient of the exact multiple is out of range
-abbrev pub MultipleLeaves : Form → ℤ → Type 0
-MultipleLeaves a factor =
+abbrev pub MultipleOutOfRange : Form → ℤ → Type 0
+MultipleOutOfRange a factor =
     ¬ InRange (factor *ℤ a.constant) ⊎ ((x : ℕ) × ¬ InRange (factor *ℤ coefficient a.terms x))
 
 -- the form is another's negative, less 1
@@ -37,7 +37,7 @@ pub record IsLeastTerm (left right : List (ℕ × ℤ)) (term : ℕ × ℤ) (lef
   pub shorter : length left_rest + length right_rest < length left + length right
 
 -- some coefficient of the sum of two normal lists leaves the range
-abbrev pub SomeSumLeaves : List (ℕ × ℤ) → List (ℕ × ℤ) → Type 0
-SomeSumLeaves left right =
+abbrev pub SomeSumOutOfRange : List (ℕ × ℤ) → List (ℕ × ℤ) → Type 0
+SomeSumOutOfRange left right =
     (low high : ℕ) → IsNormal low high left → IsNormal low high right
     → (x : ℕ) × (low ≤ x) × ¬ InRange (coefficient left x +ℤ coefficient right x)

@@ -1,7 +1,7 @@
 -- What sums, multiples, negations and leaves say of values (elementary; Farkas' lemma in the direction that a refutation rests on)
 use Rattle.std.specs.Prelude.{ℕ, ℤ, ◌≡◌, ◌+ℤ◌, ◌-ℤ◌, ◌*ℤ◌, pos, neg_ℤ, ◌↔◌, List}
 use Rattle.ta_linear.specs.Numbers.{InRange}
-use Rattle.ta_linear.specs.Forms.{IsSum, SumLeaves, IsMultiple, MultipleLeaves, IsNegation}
+use Rattle.ta_linear.specs.Forms.{IsSum, SumOutOfRange, IsMultiple, MultipleOutOfRange, IsNegation}
 use Rattle.ta_linear.specs.Values.{value_of, RowHolds, Solves}
 use Rattle.ta_linear.specs.Leaf.{LeafOf}
 use Rattle.ta_linear.specs.declared.form.Form.{Form}
@@ -10,11 +10,11 @@ use Rattle.ta_linear.specs.declared.row.System.{System}
 
 -- a form that is a sum shows that no number of that sum leaves the range
 abbrev pub SumsStayInRange : Type 0
-SumsStayInRange = (sum a b : Form) → IsSum sum a b → ¬ SumLeaves a b
+SumsStayInRange = (sum a b : Form) → IsSum sum a b → ¬ SumOutOfRange a b
 
 -- a form that is a multiple shows that no number of that multiple leaves the range
 abbrev pub MultiplesStayInRange : Type 0
-MultiplesStayInRange = (multiple a : Form) (factor : ℤ) → IsMultiple multiple a factor → ¬ MultipleLeaves a factor
+MultiplesStayInRange = (multiple a : Form) (factor : ℤ) → IsMultiple multiple a factor → ¬ MultipleOutOfRange a factor
 
 -- a form that is a negation shows that its constant stays in range
 abbrev pub NegationsStayInRange : Type 0

@@ -7,13 +7,13 @@ ghost use Rattle.ta_linear.specs.Numbers.{InRange};
 ghost use Rattle.ta_linear.specs.Sums.{StaysInRange};
 ghost use Rattle.ta_linear.specs.Values.{point_of, value_of};
 ghost use Rattle.ta_linear.specs.Terms.{coefficient, IsNormal};
-ghost use Rattle.ta_linear.specs.Forms.{IsLeastTerm, SomeSumLeaves, IsSum, SumLeaves, IsMultiple, MultipleLeaves};
+ghost use Rattle.ta_linear.specs.Forms.{IsLeastTerm, SomeSumOutOfRange, IsSum, SumOutOfRange, IsMultiple, MultipleOutOfRange};
 
 use crate::fault::{LinearFault, OutOfRange};
 use crate::form::Form;
-use crate::list::List;
 use crate::number::{multiply, plus, plus_product};
 use std::alloc::Global;
+use ta_base::List;
 
 impl Form {
     /// The form without variables.
@@ -62,7 +62,7 @@ impl Form {
     /// The sum. Overflow exactly where its constant or a coefficient leaves the range.
     pub fn add(&self, alloc: Global, other: &Form) -> Result<Form, LinearFault>
         ensures ok { IfOk result (λ sum. IsSum sum self.now other.now) }
-        ensures overflow { IsErrOf result LinearFault.Overflow → SumLeaves self.now other.now }
+        ensures overflow { IsErrOf result LinearFault.Overflow → SumOutOfRange self.now other.now }
     {
         let constant = plus(self.constant, other.constant).ok_or(LinearFault::Overflow)?;
         let mut left = self.terms.as_slice();
@@ -85,7 +85,7 @@ impl Form {
     /// range.
     pub fn scale(&self, alloc: Global, factor: i128) -> Result<Form, LinearFault>
         ensures ok { IfOk result (λ multiple. IsMultiple multiple self.now factor) }
-        ensures overflow { IsErrOf result LinearFault.Overflow → MultipleLeaves self.now factor }
+        ensures overflow { IsErrOf result LinearFault.Overflow → MultipleOutOfRange self.now factor }
     {
         if factor == 0 {
             return Ok(Form::constant_of(alloc, 0));
@@ -112,7 +112,7 @@ fn least_term<'a>(
 ) -> Result<Option<(Term, &'a [Term], &'a [Term])>, LinearFault>
     ensures none { IfOk result (λ o. IfNone o ((left.now ≡ []) × (right.now ≡ []))) }
     ensures some { IfOk result (λ o. IfSome o (λ s. IsLeastTerm left.now right.now s.0 s.1.now s.2.now)) }
-    ensures overflow { OnErr result (SomeSumLeaves left.now right.now) }
+    ensures overflow { OnErr result (SomeSumOutOfRange left.now right.now) }
     ensures fault { IsOkUnless result LinearFault.Overflow }
 {
     let Some((first, left_rest)) = left.split_first() else {

@@ -5,13 +5,11 @@ mod arithmetic;
 mod fault;
 mod form;
 mod law;
-mod list;
 mod number;
 mod row;
 
 pub use fault::{LinearFault, OutOfRange};
 pub use form::Form;
 pub use law::{leaf_has_no_solution, results_stay_in_range, values_follow};
-pub use list::List;
 pub use number::{floor_div, gcd, gcd_natural, minus, multiply, plus, plus_product};
 pub use row::{Row, System};

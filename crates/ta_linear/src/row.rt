@@ -5,9 +5,9 @@ ghost use Rattle.ta_linear.specs.Rows.{AllBelow, AllBelow-prop};
 
 use crate::fault::LinearFault;
 use crate::form::Form;
-use crate::list::List;
 use crate::number::minus;
 use std::alloc::Global;
+use ta_base::List;
 
 /// Means `form >= 0`.
 #[derive(Drop)]

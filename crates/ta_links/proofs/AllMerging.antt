@@ -1,21 +1,22 @@
 -- Rows that are merged one after another
 use Rattle.std.proofs.Common.{◌≡◌, ◌≢◌, ◌⊎◌, inl, inr, ℕ, zero, suc, ℤ, pos, ◌+◌, ◌-◌, ◌<◌, ◌≤◌, List, [], ◌∷◌, length, map, drop, drop_of_length-le, get_or, arith, sym, ap, ◌∙◌, refl, subst}
 use Rattle.std.specs.List.{range_with_len}
+use Rattle.ta_base.proofs.Lists.{at_drop}
+use Rattle.ta_base.proofs.Naturals.{equal_or_not}
 use Rattle.ta_dense.specs.Tableau.{TableauRow, merged}
 use Rattle.ta_dense.specs.Merge.{MergesInRange}
 use Rattle.ta_dense.proofs.ProperFacts.{merged-zero}
 use Rattle.ta_links.specs.declared.cell.Cell.{Cell}
 use Rattle.ta_links.specs.declared.row_head.RowHead.{RowHead}
 use Rattle.ta_links.specs.declared.linked_cells.LinkedCells.{LinkedCells}
-use Rattle.ta_links.specs.Values.{value_in, row_values, fills, filled, filled_rows}
+use Rattle.ta_links.specs.Values.{value_in, row_values, fills, filled_places, filled_rows}
 use Rattle.ta_links.specs.Gaps.{AreSound}
 use Rattle.ta_links.specs.Linked.{table_row, no_head, AreProperHeads}
-use Rattle.ta_links.specs.Merging.{row_in, RowMerged, IsSpared, RowStepped, StepRefused, MergedBelow}
+use Rattle.ta_links.specs.Merging.{row_in, RowMerged, IsSpared, RowStepped, MergeRefused, MergedBelow}
 use Rattle.ta_links.specs.MergingAll.{RefusedFirst}
-use Rattle.ta_links.proofs.Options.{is_or_not}
 use Rattle.ta_links.proofs.LinkedFacts.{row_value_at}
 use Rattle.ta_linear.specs.Terms.{IsNormal, coefficient}
-use Rattle.ta_linear.proofs.TermLemmas.{at_drop, coefficient-below, IsNormal-le}
+use Rattle.ta_linear.proofs.TermLemmas.{coefficient-below, IsNormal-le}
 use Rattle.ta_links.proofs.ColumnSteps.{filled_same, fills_same, at_other}
 
 pub values_same : (cells new : List Cell) (n r : ℕ) → ((c : ℕ) → value_in new r c ≡ value_in cells r c) → row_values new n r ≡ row_values cells n r
@@ -28,7 +29,7 @@ pub row_same_in : (hs hs' : List RowHead) (old new : LinkedCells) (n r : ℕ) �
 row_same_in hs hs' old new n r same e =
     ap (table_row new.cells.items n r) e ∙ ap (λ (zs : List ℤ). record { basic = (get_or hs r no_head).basic; denominator = (get_or hs r no_head).denominator; constant = (get_or hs r no_head).constant; cells = zs }) (values_same old.cells.items new.cells.items n r same)
 
-pub filled_none : (n : ℕ) (f g : ℕ → ℤ) → ((j : ℕ) → g j ≡ f j) → filled n f g ≡ 0
+pub filled_none : (n : ℕ) (f g : ℕ → ℤ) → ((j : ℕ) → g j ≡ f j) → filled_places n f g ≡ 0
 filled_none zero f g same = refl
 filled_none (suc n) f g same = let a = filled_none n f g same in let b = fills_same (f n) (g n) (sym (same n)) in omega arith
 
@@ -74,29 +75,15 @@ filled_rows_same (suc n) columns f g h same =
     let last = filled_same columns (f n) (g n) (h n) (λ j b. same n j (omega arith)) in
     omega arith
 
-pub filled_from : (n : ℕ) (f f' g : ℕ → ℤ) → ((j : ℕ) → f j ≡ f' j) → filled n f g ≡ filled n f' g
+pub filled_from : (n : ℕ) (f f' g : ℕ → ℤ) → ((j : ℕ) → f j ≡ f' j) → filled_places n f g ≡ filled_places n f' g
 filled_from zero f f' g same = refl
 filled_from (suc n) f f' g same = let a = filled_from n f f' g same in let b = ap (λ (z : ℤ). fills z (g n)) (same n) in omega arith
-
-pub merged_start : (first columns row column : ℕ) (hs : List RowHead) (old : LinkedCells) → AreSound old → AreProperHeads hs → MergedBelow first columns row column hs old 0 hs old
-merged_start first columns row column hs old sound proper = record {
-  sound = sound;
-  row_heads = refl;
-  column_heads = refl;
-  long = refl;
-  proper = proper;
-  rest = λ i c w. refl;
-  rest_heads = λ i w. refl;
-  done = λ i b ne. absurd (omega arith);
-  within = λ i b ne. absurd (omega arith);
-  held = omega arith;
-}
 
 -- a row that wasn't reached is as it was
 pub unreached : (first columns row column : ℕ) (hs : List RowHead) (old : LinkedCells) (place : ℕ) (hs1 : List RowHead) (now : LinkedCells) → MergedBelow first columns row column hs old place hs1 now → (i : ℕ) → (place ≤ i) ⊎ IsSpared first row i → row_in hs1 now columns i ≡ row_in hs old columns i
 unreached first columns row column hs old place hs1 now m i w = row_same_in hs hs1 old now columns i (λ c. m.rest i c w) (m.rest_heads i w)
 
-pub refused_here : (first columns row column : ℕ) (hs : List RowHead) (old : LinkedCells) (place rows : ℕ) (hs1 : List RowHead) (now : LinkedCells) → place < rows → MergedBelow first columns row column hs old place hs1 now → StepRefused first columns row place column hs1 now → RefusedFirst first columns row column hs old rows place
+pub refused_here : (first columns row column : ℕ) (hs : List RowHead) (old : LinkedCells) (place rows : ℕ) (hs1 : List RowHead) (now : LinkedCells) → place < rows → MergedBelow first columns row column hs old place hs1 now → MergeRefused first columns row place column hs1 now → RefusedFirst first columns row column hs old rows place
 refused_here first columns row column hs old place rows hs1 now inside m s = record {
   inside = inside;
   refused = record {
@@ -122,12 +109,12 @@ merged_more first columns row column hs old place hs1 now hs2 new m s =
       proper = s.proper;
       rest = λ i c w. s.others i c (apart i w) ∙ m.rest i c (before i w);
       rest_heads = λ i w. s.other_heads i (apart i w) ∙ m.rest_heads i (before i w);
-      done = λ i b ne. elim (is_or_not i place) [
+      done = λ i b ne. elim (equal_or_not i place) [
         | inl e ↦ subst (λ (k : ℕ). row_in hs2 new columns k ≡ merged column (row_in hs old columns row) (row_in hs old columns k)) (sym e)
             (s.row_merged (λ same. ne (subst (IsSpared first row) (sym e) same)) ∙ ap (λ (t : TableauRow). merged column t (row_in hs1 now columns place)) chosen ∙ ap (merged column (row_in hs old columns row)) here)
         | inr apart_ ↦ row_same_in hs1 hs2 now new columns i (λ c. s.others i c (inl apart_)) (s.other_heads i (inl apart_)) ∙ m.done i (omega arith) ne
       ];
-      within = λ i b ne. elim (is_or_not i place) [
+      within = λ i b ne. elim (equal_or_not i place) [
         | inl e ↦ subst (λ (k : ℕ). MergesInRange column (row_in hs old columns row) (row_in hs old columns k)) (sym e)
             (subst (λ (t : TableauRow). MergesInRange column t (row_in hs old columns place)) chosen (subst (λ (t : TableauRow). MergesInRange column (row_in hs1 now columns row) t) here (s.within (λ same. ne (subst (IsSpared first row) (sym e) same)))))
         | inr apart_ ↦ m.within i (omega arith) ne
@@ -157,14 +144,6 @@ pub record Meeting (first columns row column : ℕ) (hs : List RowHead) (old : L
   pub below : MergedBelow first columns row column hs old place hs' now
   pub todo : IsNormal place (length hs) (drop index met)
   pub numbers : (i : ℕ) → place ≤ i → value_in old.cells.items i column ≡ coefficient (drop index met) i
-
-pub meeting : (first columns row column : ℕ) (hs : List RowHead) (old : LinkedCells) (met : List (ℕ × ℤ)) → AreSound old → AreProperHeads hs → IsNormal 0 (length hs) met → ((i : ℕ) → value_in old.cells.items i column ≡ coefficient met i) → Meeting first columns row column hs old met 0 hs old
-meeting first columns row column hs old met sound proper normal numbers = record {
-  place = 0;
-  below = merged_start first columns row column hs old sound proper;
-  todo = normal;
-  numbers = λ i low. numbers i;
-}
 
 -- the rows before the next one of the list are passed
 pub record AtNext (first columns row column : ℕ) (hs : List RowHead) (old : LinkedCells) (met : List (ℕ × ℤ)) (index at : ℕ) (hs' : List RowHead) (now : LinkedCells) : Type 0 where

@@ -1,16 +1,14 @@
 -- The cells and heads of a system's rows
-use Rattle.std.proofs.Common.{◌≡◌, ◌≢◌, inl, inr, ℕ, zero, suc, ℤ, pos, ◌+◌, ◌<◌, ◌≤◌, List, [], ◌∷◌, ◌++◌, length, drop, get_or, append_assoc, arith, sym, ap, ◌∙◌, refl, Option, None}
-use Rattle.std.proofs.lemmas.List.{drop_more}
+use Rattle.std.proofs.Common.{◌≡◌, ◌≢◌, inl, inr, ℕ, zero, suc, ℤ, pos, ◌+◌, ◌≤◌, List, [], ◌∷◌, ◌++◌, length, get_or, arith, sym, ap, ◌∙◌, refl, Option, None}
+use Rattle.ta_base.proofs.Integers.{zero_or_not}
+use Rattle.ta_base.proofs.Naturals.{equal_or_not}
+use Rattle.ta_base.proofs.Options.{not_both}
 use Rattle.ta_linear.specs.Terms.{coefficient}
 use Rattle.ta_linear.specs.declared.row.Row.{Row}
 use Rattle.ta_links.specs.declared.cell.Cell.{Cell}
-use Rattle.ta_links.specs.declared.row_head.RowHead.{RowHead}
 use Rattle.ta_links.specs.Chains.{head_at, IsLive, Direction, IsChained, along_rows, along_columns}
 use Rattle.ta_links.specs.Free.{AreLinked}
-use Rattle.ta_links.specs.Values.{value_in}
-use Rattle.ta_links.specs.Starting.{RowsShow, slack_heads}
-use Rattle.ta_links.proofs.Options.{is_or_not, not_both}
-use Rattle.ta_links.proofs.Cells.{zero_tells}
+use Rattle.ta_links.specs.Starting.{RowsShow}
 
 dead : (cells : List Cell) (i : ℕ) → length cells ≡ 0 → IsLive cells i → ⊥
 dead cells i none live = let h = live.inside in omega arith
@@ -43,13 +41,9 @@ heads_pushed heads new e all r = ap (λ (hs : List (Option ℕ)). head_at hs r) 
   go (h ∷ hs) all zero = all 0
   go (h ∷ hs) all (suc r) = go hs (λ q. all (suc q)) r
 
-pub no_values : (cells : List Cell) → length cells ≡ 0 → (r c : ℕ) → value_in cells r c ≡ pos 0
-no_values [] e r c = refl
-no_values (x ∷ xs) e r c = absurd (omega arith)
-
 -- a row that was written over
 pub overwritten_by : (list form : List (ℕ × ℤ)) (f g : ℕ → ℤ) → ((c : ℕ) → coefficient list c ≢ pos 0 → g c ≡ coefficient form c) → ((c : ℕ) → coefficient list c ≡ pos 0 → g c ≡ f c) → ((c : ℕ) → coefficient list c ≡ pos 0 → f c ≡ coefficient form c) → (c : ℕ) → g c ≡ coefficient form c
-overwritten_by list form f g listed rest was c = elim (zero_tells (coefficient list c)) [ inl e ↦ rest c e ∙ was c e | inr ne ↦ listed c ne ]
+overwritten_by list form f g listed rest was c = elim (zero_or_not (coefficient list c)) [ inl e ↦ rest c e ∙ was c e | inr ne ↦ listed c ne ]
 
 pub shows_none : (first : ℕ) (rows : List Row) (f : ℕ → ℕ → ℤ) → ((r c : ℕ) → first ≤ r → f r c ≡ pos 0) → RowsShow first f rows first f
 shows_none first rows f zero_ = record { same = λ i c b. refl; shown = λ i c d low h. absurd (omega arith); empty = λ i c h. zero_ i c h }
@@ -58,7 +52,7 @@ pub shows_more : (first : ℕ) (old : ℕ → ℕ → ℤ) (rows : List Row) (k 
     ((c : ℕ) → coefficient ts c ≢ pos 0 → g k c ≡ coefficient ts c) → ((c : ℕ) → coefficient ts c ≡ pos 0 → g k c ≡ f k c) → RowsShow first old rows (k + 1) g
 shows_more first old rows k f g ts from s is others listed rest = record {
   same = λ i c b. others i c (λ e. omega arith) ∙ s.same i c b;
-  shown = λ i c d low h. elim (is_or_not i k) [
+  shown = λ i c d low h. elim (equal_or_not i k) [
     | inl e ↦ ap (λ (m : ℕ). g m c) e ∙ here c ∙ ap (λ (xs : List (ℕ × ℤ)). coefficient xs c) (is d) ∙ ap (λ (m : ℕ). coefficient (get_or rows m d).form.terms c) (sym e)
     | inr ne ↦ others i c ne ∙ s.shown i c d low (omega arith)
   ];
@@ -66,13 +60,3 @@ shows_more first old rows k f g ts from s is others listed rest = record {
 } where
   here : (c : ℕ) → g k c ≡ coefficient ts c
   here = overwritten_by ts ts (f k) (g k) listed rest (λ c e. s.empty k c (omega arith) ∙ sym e)
-
-pub heads_more : (whole : List RowHead) (rows : List Row) (heads new : List RowHead) (slack i : ℕ) (r : Row) → i < length rows → r ≡ get_or rows i r → heads ++ slack_heads slack (drop i rows) ≡ whole →
-    new ≡ heads ++ record { basic = slack; denominator = pos 1; constant = r.form.constant } ∷ [] → new ++ slack_heads (slack + 1) (drop (i + 1) rows) ≡ whole
-heads_more whole rows heads new slack i r h e all is =
-    let head : RowHead = record { basic = slack; denominator = pos 1; constant = r.form.constant } in
-    let rest = slack_heads (suc slack) (drop (i + 1) rows) in
-    let split : slack_heads slack (drop i rows) ≡ head ∷ rest =
-    ap (slack_heads slack) (drop_more rows i r h) ∙ ap (λ (z : Row). record { basic = slack; denominator = pos 1; constant = z.form.constant } ∷ rest) (sym e) in
-    let more : slack + 1 ≡ suc slack = omega arith in
-    ap (λ (xs : List RowHead). xs ++ slack_heads (slack + 1) (drop (i + 1) rows)) is ∙ ap (λ (n : ℕ). (heads ++ head ∷ []) ++ slack_heads n (drop (i + 1) rows)) more ∙ append_assoc heads (head ∷ []) rest ∙ ap (λ (xs : List RowHead). heads ++ xs) (sym split) ∙ all

@@ -1,7 +1,7 @@
 -- Rows that are carried through a kept pivot
-use Rattle.std.proofs.Common.{set, ◌≡◌, ◌≢◌, inl, inr, ℕ, ℤ, pos, ◌+◌, ◌-◌, ◌<◌, ◌≤◌, ◌<ℤ◌, List, ◌++◌, length, replicate, get_or, arith, sym, ap, ◌∙◌, refl, subst}
+use Rattle.std.proofs.Common.{◌≡◌, ◌≢◌, inl, inr, ℕ, ℤ, pos, ◌+◌, ◌-◌, ◌<◌, ◌≤◌, ◌<ℤ◌, List, ◌++◌, length, replicate, get_or, arith, sym, ap, ◌∙◌, refl, subst}
 use Rattle.std.proofs.lemmas.Bool.{cases_lt}
-use Rattle.std.proofs.lemmas.List.{ext_get_or, length-set, get_or-set_same, get_or-set_other, length-append, length-replicate, length-map, get_or-map, get_or_past, get_or_append_left, get_or-append_right, get_or-replicate}
+use Rattle.std.proofs.lemmas.List.{ext_get_or, length-append, length-replicate, length-map, get_or-map, get_or_past, get_or_append_left, get_or-append_right, get_or-replicate}
 use Rattle.std.proofs.lemmas.List.FromFn.{length-range_with_len, get_or-range_with_len, length-map-range_with_len}
 use Rattle.std.specs.List.{range_with_len}
 use Rattle.ta_linear.specs.Terms.{IsNormal, coefficient}
@@ -15,12 +15,10 @@ use Rattle.ta_links.specs.declared.row_head.RowHead.{RowHead}
 use Rattle.ta_links.specs.declared.linked_cells.LinkedCells.{LinkedCells}
 use Rattle.ta_links.specs.Values.{value_in, row_values}
 use Rattle.ta_links.specs.Gaps.{AreSound}
-use Rattle.ta_links.specs.Linked.{table_row, no_head, IsProperHead}
+use Rattle.ta_links.specs.Linked.{table_row}
 use Rattle.ta_links.specs.Merging.{row_in, MergedBelow}
 use Rattle.ta_links.specs.MergingAll.{RefusedFirst}
-use Rattle.ta_links.specs.Carrying.{rows_from, IsRoom, IsEmpty, IsPlaced, OthersSame, RowsCarried, CarryRefused}
-use Rattle.ta_links.proofs.Options.{is_or_not}
-use Rattle.ta_links.proofs.Beginning.{overwritten_by}
+use Rattle.ta_links.specs.Carrying.{rows_from, IsRoom, IsEmpty, HasChosenNumbers, OthersSame, RowsCarried, CarryRefused}
 use Rattle.ta_links.proofs.LinkedFacts.{row_value_at}
 use Rattle.ta_links.proofs.RowMerging.{numbers_long}
 use Rattle.ta_links.proofs.AllMerging.{row_same_in, not_spared_by}
@@ -56,11 +54,11 @@ chosen_cells columns last cells ks few numbers =
       | inr high ↦ get_or-append_right ks zeros (length ks) j (pos 0) refl high ∙ get_or-replicate (columns - length ks) (j - length ks) (pos 0) (pos 0) (omega arith) ∙ sym (get_or_past ks j (pos 0) high)
     ]))
 
-pub chosen_is : (columns last : ℕ) (k : KeptPivot) (hs : List RowHead) (l : LinkedCells) → length k.cells ≤ columns → IsPlaced last k hs l → row_in hs l columns last ≡ chosen_row columns k
+pub chosen_is : (columns last : ℕ) (k : KeptPivot) (hs : List RowHead) (l : LinkedCells) → length k.cells ≤ columns → HasChosenNumbers last k hs l → row_in hs l columns last ≡ chosen_row columns k
 chosen_is columns last k hs l few p =
     ap (table_row l.cells.items columns last) p.head ∙ ap (λ (zs : List ℤ). record { basic = 0; denominator = k.denominator; constant = k.constant; cells = zs }) (chosen_cells columns last l.cells.items k.cells few p.numbers)
 
-pub placed_positive : (columns last : ℕ) (k : KeptPivot) (hs : List RowHead) (l : LinkedCells) → IsKept columns k → IsPlaced last k hs l → pos 0 <ℤ value_in l.cells.items last k.column
+pub placed_positive : (columns last : ℕ) (k : KeptPivot) (hs : List RowHead) (l : LinkedCells) → IsKept columns k → HasChosenNumbers last k hs l → pos 0 <ℤ value_in l.cells.items last k.column
 placed_positive columns last k hs l kept p = subst (λ (z : ℤ). pos 0 <ℤ z) (sym (p.numbers k.column)) kept.positive
 
 -- a row that is carried, before
@@ -69,7 +67,7 @@ row_before columns first count hs hs1 l l1 i b o =
     let ne : first + i ≢ first + count = λ e. omega arith in
     row_same_in hs hs1 l l1 columns (first + i) (λ c. o.numbers (first + i) c ne) (o.heads_same (first + i) ne) ∙ sym (rows_from_at hs l columns first count i b)
 
-carried_within : (columns first count : ℕ) (k : KeptPivot) (hs hs1 : List RowHead) (l l1 : LinkedCells) (i : ℕ) → i < count → length k.cells ≤ columns → IsPlaced (first + count) k hs1 l1 → OthersSame (first + count) hs l hs1 l1 →
+carried_within : (columns first count : ℕ) (k : KeptPivot) (hs hs1 : List RowHead) (l l1 : LinkedCells) (i : ℕ) → i < count → length k.cells ≤ columns → HasChosenNumbers (first + count) k hs1 l1 → OthersSame (first + count) hs l hs1 l1 →
     MergesInRange k.column (row_in hs1 l1 columns (first + count)) (row_in hs1 l1 columns (first + i)) → MergesInRange k.column (chosen_row columns k) (get_or (rows_from hs l columns first count) i no_row)
 carried_within columns first count k hs hs1 l l1 i b few p o m =
     subst (λ (r : TableauRow). MergesInRange k.column r (get_or (rows_from hs l columns first count) i no_row)) (chosen_is columns (first + count) k hs1 l1 few p)
@@ -84,7 +82,7 @@ pub record Cleared (last : ℕ) (l : LinkedCells) (new : LinkedCells) : Type 0 w
   pub others : (i c : ℕ) → i ≢ last → value_in new.cells.items i c ≡ value_in l.cells.items i c
 
 -- what the calls that carry rows through a pivot come to
-pub carried_done : (columns first count : ℕ) (k : KeptPivot) (hs hs1 hs2 : List RowHead) (l l1 l2 l3 : LinkedCells) → IsKept columns k → IsRoom columns (first + count) hs1 l1 → IsPlaced (first + count) k hs1 l1 → OthersSame (first + count) hs l hs1 l1 →
+pub carried_done : (columns first count : ℕ) (k : KeptPivot) (hs hs1 hs2 : List RowHead) (l l1 l2 l3 : LinkedCells) → IsKept columns k → IsRoom columns (first + count) hs1 l1 → HasChosenNumbers (first + count) k hs1 l1 → OthersSame (first + count) hs l hs1 l1 →
     MergedBelow first columns (first + count) k.column hs1 l1 (length hs1) hs2 l2 → Cleared (first + count) l2 l3 → RowsCarried columns first count k hs l hs2 l3
 carried_done columns first count k hs hs1 hs2 l l1 l2 l3 kept room p o m x =
     let old = rows_from hs l columns first count in
@@ -122,7 +120,7 @@ carried_done columns first count k hs hs1 hs2 l l1 l2 l3 kept room p o m x =
           carried_within columns first count k hs hs1 l l1 i b few p o (m.within (first + i) (omega arith) (not_spared_by first (first + count) (first + i) from ne));
     }
 
-pub carry_refused : (columns first count at : ℕ) (k : KeptPivot) (hs hs1 : List RowHead) (l l1 : LinkedCells) → IsKept columns k → IsRoom columns (first + count) hs1 l1 → IsPlaced (first + count) k hs1 l1 → OthersSame (first + count) hs l hs1 l1 →
+pub carry_refused : (columns first count at : ℕ) (k : KeptPivot) (hs hs1 : List RowHead) (l l1 : LinkedCells) → IsKept columns k → IsRoom columns (first + count) hs1 l1 → HasChosenNumbers (first + count) k hs1 l1 → OthersSame (first + count) hs l hs1 l1 →
     RefusedFirst first columns (first + count) k.column hs1 l1 (length hs1) at → CarryRefused columns first count k hs l at
 carry_refused columns first count at k hs hs1 l l1 kept room p o r =
     let long = room.long in
@@ -147,28 +145,3 @@ carry_refused columns first count at k hs hs1 l l1 kept room p o r =
             carried_within columns first count k hs hs1 l l1 j (omega arith) few p o (r.before (first + j) (omega arith) (not_spared_by first (first + count) (first + j) from ne));
       };
     }
-
--- the last row, after a pivot was written into it
-pub placed_room : (columns last : ℕ) (k : KeptPivot) (terms : List (ℕ × ℤ)) (hs hs1 : List RowHead) (l l1 : LinkedCells) (head : RowHead) → IsRoom columns last hs l → IsEmpty last l → ((c : ℕ) → coefficient terms c ≡ get_or k.cells c (pos 0)) →
-    head ≡ record { basic = 0; denominator = k.denominator; constant = k.constant } → IsProperHead head → hs1 ≡ set hs last head → AreSound l1 → length l1.row_heads.items ≡ length l.row_heads.items → length l1.column_heads.items ≡ length l.column_heads.items →
-    ((r c : ℕ) → r ≢ last → value_in l1.cells.items r c ≡ value_in l.cells.items r c) → ((c : ℕ) → coefficient terms c ≢ pos 0 → value_in l1.cells.items last c ≡ coefficient terms c) → ((c : ℕ) → coefficient terms c ≡ pos 0 → value_in l1.cells.items last c ≡ value_in l.cells.items last c) →
-    IsRoom columns last hs1 l1 × IsPlaced last k hs1 l1 × OthersSame last hs l hs1 l1
-placed_room columns last k terms hs hs1 l l1 head room empty numbers is proper set_ sound rl cl others listed rest =
-    let long = room.long in
-    let ls = length-set hs last head in
-    let lh = ap (λ (xs : List RowHead). length xs) set_ in
-    let here : get_or hs1 last no_head ≡ head = ap (λ (xs : List RowHead). get_or xs last no_head) set_ ∙ get_or-set_same hs last head no_head (omega arith) in
-    let elsewhere : (i : ℕ) → i ≢ last → get_or hs1 i no_head ≡ get_or hs i no_head = λ i ne. ap (λ (xs : List RowHead). get_or xs i no_head) set_ ∙ get_or-set_other hs last i head no_head ne in (
-      record {
-        sound = sound;
-        rows = rl ∙ room.rows ∙ sym (lh ∙ ls);
-        columns_are = cl ∙ room.columns_are;
-        proper = λ i b. elim (is_or_not i last) [
-          | inl e ↦ subst IsProperHead (sym (ap (λ (j : ℕ). get_or hs1 j no_head) e ∙ here)) proper
-          | inr ne ↦ subst IsProperHead (sym (elsewhere i ne)) (room.proper i (omega arith))
-        ];
-        long = lh ∙ ls ∙ long;
-      },
-      record { head = here ∙ is; numbers = λ c. overwritten_by terms terms (value_in l.cells.items last) (value_in l1.cells.items last) listed rest (λ j e. empty j ∙ sym e) c ∙ numbers c },
-      record { numbers = others; heads_same = elsewhere },
-    )

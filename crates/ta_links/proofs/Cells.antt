@@ -1,20 +1,22 @@
 -- Numbers that cells put into places
-use Rattle.std.proofs.Common.{◌≡◌, ◌≢◌, ◌⊎◌, inl, inr, ℕ, zero, suc, ℤ, pos, negsuc, ◌+ℤ◌, ◌-ℤ◌, ◌<◌, List, [], ◌∷◌, ◌++◌, length, set, arith, ap, ◌∙◌, refl}
+use Rattle.std.proofs.Common.{◌≡◌, ◌≢◌, ◌⊎◌, inl, inr, ℕ, zero, suc, ℤ, pos, ◌+ℤ◌, ◌-ℤ◌, ◌<◌, List, [], ◌∷◌, ◌++◌, length, set, arith, ap, ◌∙◌, refl}
 use Rattle.std.proofs.lemmas.Int.{ints}
 use Rattle.std.proofs.lemmas.Bool.Decides.{eqb_tells}
+use Rattle.ta_base.proofs.Integers.{zero_or_not}
+use Rattle.ta_base.proofs.Naturals.{at_or_not}
 use Rattle.ta_links.specs.declared.cell.Cell.{Cell}
 use Rattle.ta_links.specs.Chains.{cell_at, IsLive}
-use Rattle.ta_links.specs.Values.{placed, shown, value_in}
+use Rattle.ta_links.specs.Values.{only_at_place, shown, value_in}
 
 -- a number stands at its place
-pub placed_here : (row column : ℕ) (value : ℤ) (r c : ℕ) → row ≡ r → column ≡ c → placed row column value r c ≡ value
+pub placed_here : (row column : ℕ) (value : ℤ) (r c : ℕ) → row ≡ r → column ≡ c → only_at_place row column value r c ≡ value
 placed_here row column value r c e f = elim (eqb_tells row r) [
   | inl a ↦ elim (eqb_tells column c) [ inl b ↦ rw (a.0, b.0) refl | inr b ↦ absurd (b.1 f) ]
   | inr a ↦ absurd (a.1 e)
 ]
 
 -- and 0 at each other
-pub placed_elsewhere : (row column : ℕ) (value : ℤ) (r c : ℕ) → (row ≢ r) ⊎ (column ≢ c) → placed row column value r c ≡ pos 0
+pub placed_elsewhere : (row column : ℕ) (value : ℤ) (r c : ℕ) → (row ≢ r) ⊎ (column ≢ c) → only_at_place row column value r c ≡ pos 0
 placed_elsewhere row column value r c apart = elim (eqb_tells row r) [
   | inl a ↦ elim (eqb_tells column c) [
     | inl b ↦ elim apart [ inl ne ↦ absurd (ne a.1) | inr ne ↦ absurd (ne b.1) ]
@@ -23,17 +25,10 @@ placed_elsewhere row column value r c apart = elim (eqb_tells row r) [
   | inr a ↦ rw a.0 refl
 ]
 
-pub placed_zero : (row column : ℕ) (r c : ℕ) → placed row column (pos 0) r c ≡ pos 0
+pub placed_zero : (row column : ℕ) (r c : ℕ) → only_at_place row column (pos 0) r c ≡ pos 0
 placed_zero row column r c = elim (eqb_tells row r) [
   | inl a ↦ elim (eqb_tells column c) [ inl b ↦ rw (a.0, b.0) refl | inr b ↦ rw (a.0, b.0) refl ]
   | inr a ↦ rw a.0 refl
-]
-
--- a place is a number's or isn't
-pub at_or_not : (row column r c : ℕ) → ((row ≡ r) × (column ≡ c)) ⊎ ((row ≢ r) ⊎ (column ≢ c))
-at_or_not row column r c = elim (eqb_tells row r) [
-  | inl a ↦ elim (eqb_tells column c) [ inl b ↦ inl (a.1, b.1) | inr b ↦ inr (inr b.1) ]
-  | inr a ↦ inr (inl a.1)
 ]
 
 -- cells that show the same in each place
@@ -44,7 +39,7 @@ value_same [] (y ∷ ys) long rows columns values r c = absurd (omega arith)
 value_same (x ∷ xs) [] long rows columns values r c = absurd (omega arith)
 value_same (x ∷ xs) (y ∷ ys) long rows columns values r c =
     let first : shown x r c ≡ shown y r c =
-    ap (λ (m : ℕ). placed m x.column x.value r c) (rows 0) ∙ ap (λ (m : ℕ). placed y.row m x.value r c) (columns 0) ∙ ap (λ (z : ℤ). placed y.row y.column z r c) (values 0) in
+    ap (λ (m : ℕ). only_at_place m x.column x.value r c) (rows 0) ∙ ap (λ (m : ℕ). only_at_place y.row m x.value r c) (columns 0) ∙ ap (λ (z : ℤ). only_at_place y.row y.column z r c) (values 0) in
     let rest = value_same xs ys (omega arith) (λ k. rows (suc k)) (λ k. columns (suc k)) (λ k. values (suc k)) r c in
     ap (λ (z : ℤ). z +ℤ value_in xs r c) first ∙ ap (λ (z : ℤ). shown y r c +ℤ z) rest
 
@@ -66,13 +61,8 @@ NoneAt cells r c = (k : ℕ) → IsLive cells k → (cell_at cells k).row ≡ r 
 next_live : (x : Cell) (xs : List Cell) (k : ℕ) → IsLive xs k → IsLive (x ∷ xs) (suc k)
 next_live x xs k live = let inside = live.inside in record { inside = omega arith; value = live.value }
 
-pub zero_tells : (z : ℤ) → (z ≡ pos 0) ⊎ (z ≢ pos 0)
-zero_tells (pos zero) = inl refl
-zero_tells (pos (suc n)) = inr (λ e. absurd (omega (arith, ints)))
-zero_tells (negsuc n) = inr (λ e. absurd (cc))
-
 zero_or : (x : Cell) → (x.value ≢ pos 0 → ⊥) → x.value ≡ pos 0
-zero_or x h = elim (zero_tells x.value) [ inl e ↦ e | inr ne ↦ absurd (h ne) ]
+zero_or x h = elim (zero_or_not x.value) [ inl e ↦ e | inr ne ↦ absurd (h ne) ]
 
 pub value_none : (cells : List Cell) (r c : ℕ) → NoneAt cells r c → value_in cells r c ≡ pos 0
 value_none [] r c none = refl
@@ -107,7 +97,7 @@ look [] r c = inr (λ k live e. absurd (let h = live.inside in omega arith))
 look (x ∷ xs) r c = elim (look xs r c) [
   | inl i ↦ inl (suc i.0, next_live x xs i.0 i.1, i.2, i.3)
   | inr none ↦ elim (at_or_not x.row x.column r c) [
-    | inl here ↦ elim (zero_tells x.value) [
+    | inl here ↦ elim (zero_or_not x.value) [
       | inl dead ↦ inr (λ k live e. none_more x xs r c none (λ l. absurd (l.value dead)) k live e)
       | inr value ↦ inl (0, record { inside = omega arith; value = value }, here.0, here.1)
     ]

@@ -3,13 +3,14 @@ use Rattle.std.proofs.Common.{◌≡◌, ◌≢◌, inl, inr, ℕ, zero, suc, �
 use Rattle.std.proofs.lemmas.Int.{ints}
 use Rattle.std.proofs.lemmas.Bool.Decides.{eqb_tells}
 use Rattle.std.proofs.lemmas.Bool.{cases_lt}
+use Rattle.ta_base.proofs.Lists.{at_drop}
+use Rattle.ta_base.proofs.Naturals.{equal_or_not}
 use Rattle.ta_linear.specs.Terms.{IsNormal, coefficient}
-use Rattle.ta_linear.proofs.TermLemmas.{at_drop, coefficient-below, IsNormal-le}
+use Rattle.ta_linear.proofs.TermLemmas.{coefficient-below, IsNormal-le}
 use Rattle.ta_links.specs.declared.linked_cells.LinkedCells.{LinkedCells}
 use Rattle.ta_links.specs.Chains.{along_rows}
-use Rattle.ta_links.specs.Values.{value_in, written, fills, filled}
+use Rattle.ta_links.specs.Values.{value_in, written, fills, filled_places}
 use Rattle.ta_links.specs.Gaps.{AreSound, MayBefore}
-use Rattle.ta_links.proofs.Options.{is_or_not}
 use Rattle.ta_links.proofs.Writing.{written_here, written_elsewhere}
 
 pub fills_same : (a b : ℤ) → a ≡ b → fills a b ≡ 0
@@ -19,7 +20,7 @@ fills_same (pos zero) (negsuc n) e = absurd (cc)
 fills_same (pos (suc m)) b e = refl
 fills_same (negsuc m) b e = refl
 
-pub filled_same : (n : ℕ) (f g h : ℕ → ℤ) → ((j : ℕ) → j < n → h j ≡ g j) → filled n f h ≡ filled n f g
+pub filled_same : (n : ℕ) (f g h : ℕ → ℤ) → ((j : ℕ) → j < n → h j ≡ g j) → filled_places n f h ≡ filled_places n f g
 filled_same zero f g h same = refl
 filled_same (suc n) f g h same =
     let rest = filled_same n f g h (λ j b. same j (omega arith)) in
@@ -27,9 +28,9 @@ filled_same (suc n) f g h same =
     omega arith
 
 -- one number of a row is written that was as before
-pub filled_step : (n : ℕ) (f g h : ℕ → ℤ) (c : ℕ) → c < n → g c ≡ f c → ((j : ℕ) → j ≢ c → h j ≡ g j) → filled n f h ≡ filled n f g + fills (f c) (h c)
+pub filled_step : (n : ℕ) (f g h : ℕ → ℤ) (c : ℕ) → c < n → g c ≡ f c → ((j : ℕ) → j ≢ c → h j ≡ g j) → filled_places n f h ≡ filled_places n f g + fills (f c) (h c)
 filled_step zero f g h c inside here rest = absurd (omega arith)
-filled_step (suc n) f g h c inside here rest = elim (is_or_not c n) [
+filled_step (suc n) f g h c inside here rest = elim (equal_or_not c n) [
   | inl e ↦
       let below = filled_same n f g h (λ j b. rest j (omega arith)) in
       let old : fills (f n) (g n) ≡ 0 = fills_same (f n) (g n) (ap f (sym e) ∙ sym here ∙ ap g e) in
@@ -54,7 +55,7 @@ pub record Overwritten (old : LinkedCells) (row : ℕ) (list form : List (ℕ ×
   pub kept : (c : ℕ) → (c < low → coefficient list c ≡ pos 0) → value_in now.cells.items row c ≡ value_in old.cells.items row c
   pub same : (c : ℕ) → low ≤ c → coefficient list c ≡ coefficient (drop index list) c
   pub fresh : old.free_head ≡ None → ((c : ℕ) → value_in old.cells.items row c ≡ pos 0) → now.free_head ≡ None
-  pub held : length now.cells.items ≤ length old.cells.items + filled (length old.column_heads.items) (value_in old.cells.items row) (value_in now.cells.items row)
+  pub held : length now.cells.items ≤ length old.cells.items + filled_places (length old.column_heads.items) (value_in old.cells.items row) (value_in now.cells.items row)
 
 pub overwriting : (old : LinkedCells) (row : ℕ) (list form : List (ℕ × ℤ)) → AreSound old → IsNormal 0 (length old.column_heads.items) list → Overwritten old row list form 0 None old
 overwriting old row list form sound normal = record {
@@ -125,7 +126,7 @@ overwritten_more old row list form index left now d value left' new w h is p =
       columns = p.columns ∙ w.columns;
       start = λ k e. let b = p.before k e in let under = b.low in record { live = b.live; here = b.here; low = omega arith };
       others = λ r c ne. p.values r c ∙ written_elsewhere f row t.0 value r c (inl (λ e. ne (sym e))) ∙ w.others r c ne;
-      done = λ c b ne. elim (is_or_not c t.0) [
+      done = λ c b ne. elim (equal_or_not c t.0) [
         | inl e ↦ ap (value_in new.cells.items row) e ∙ here ∙ is ∙ ap (coefficient form) (sym e)
         | inr apart ↦ elim (cases_lt c w.low) [
           | inl under ↦ elsewhere c apart ∙ w.done c under ne

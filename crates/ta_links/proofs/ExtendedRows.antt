@@ -3,6 +3,8 @@ use Rattle.std.proofs.Common.{◌≡◌, ◌≢◌, inl, inr, ℕ, ℤ, pos, suc
 use Rattle.std.proofs.lemmas.Bool.{cases_lt}
 use Rattle.std.proofs.lemmas.Int.{ints}
 use Rattle.std.proofs.lemmas.List.{ext_get_or, length-append, length-map, length-replicate, get_or-replicate, length-take, length-drop, get_or-map, get_or_past, get_or-take, get_or-drop, get_or_append_left, get_or-append_right}
+use Rattle.ta_base.proofs.Naturals.{equal_or_not}
+use Rattle.ta_base.proofs.Options.{none_or_some}
 use Rattle.ta_linear.specs.Terms.{coefficient}
 use Rattle.ta_linear.specs.declared.row.Row.{Row}
 use Rattle.ta_dense.specs.Tableau.{TableauRow, no_row}
@@ -22,7 +24,6 @@ use Rattle.ta_links.specs.Merging.{row_in}
 use Rattle.ta_links.specs.Starting.{RowsShow, slack_heads}
 use Rattle.ta_links.specs.Carrying.{rows_from, IsRoom, IsEmpty, AreKeptBelow, RowsCarried, CarryRefused}
 use Rattle.ta_links.specs.Extending.{raised_head, AllCarried, IsRefusal}
-use Rattle.ta_links.proofs.Options.{is_or_not, none_or_some}
 use Rattle.ta_links.proofs.Cells.{value_none, value_found}
 use Rattle.ta_links.proofs.LinkedFacts.{length-table_rows, table_row_at, row_value_at, table_is, length-slack_heads, proper_slacks}
 use Rattle.ta_links.proofs.RowMerging.{numbers_long}
@@ -81,7 +82,7 @@ dropped_linked cells rs cs free last l long empty = record {
     | inl low ↦ get_or-take last rs line None low
     | inr high ↦
         let t = length-take last rs in
-        get_or_past (take last rs) line None (omega arith) ∙ sym (elim (is_or_not line last) [ inl e ↦ ap (head_at rs) e ∙ none | inr ne ↦ get_or_past rs line None (omega arith) ])
+        get_or_past (take last rs) line None (omega arith) ∙ sym (elim (equal_or_not line last) [ inl e ↦ ap (head_at rs) e ∙ none | inr ne ↦ get_or_past rs line None (omega arith) ])
   ]
 
 -- one more pivot
@@ -115,7 +116,7 @@ carrying_more columns first count ks j k hs hs1 hs2 l l1 l2 e a r =
         heads_same = λ i b. r.kept.heads_same i b ∙ a.kept.heads_same i b;
       };
       rows = r.rows ∙ ap (after_pivot columns k) a.rows ∙ ap (λ (q : KeptPivot). after_pivot columns q (carried columns ks j rows0)) e ∙ sym (carried_more columns j ks rows0);
-      within = λ i b. elim (is_or_not i j) [
+      within = λ i b. elim (equal_or_not i j) [
         | inl same ↦ subst (λ (m : ℕ). RowsMergeBelow (kept_at ks m).column (chosen_row columns (kept_at ks m)) (carried columns ks m rows0) (length rows0)) (sym same) step
         | inr ne ↦ a.within i (omega arith)
       ];
@@ -226,9 +227,6 @@ begun_room u n first count hs old rows hs1 l1 w proper sound rl cl =
       ];
       long = long;
     }
-
-pub begun_empty : (u n first count : ℕ) (hs : List RowHead) (old : LinkedCells) (rows : List Row) (hs1 : List RowHead) (l1 : LinkedCells) → Lengthened u n first count hs old rows hs1 l1 → IsEmpty (first + count) l1
-begun_empty u n first count hs old rows hs1 l1 w c = let all = w.all in w.shows.empty (first + count) c (omega arith)
 
 -- an old row where there are more columns
 widened_row : (u n i : ℕ) (h h' : RowHead) (old new : LinkedCells) → AreSound old → length old.column_heads.items ≡ u → h' ≡ raised_head u n h → ((c : ℕ) → value_in new.cells.items i c ≡ value_in old.cells.items i c) → table_row new.cells.items (u + n) i h' ≡ widened u n (table_row old.cells.items u i h)

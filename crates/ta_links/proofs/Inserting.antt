@@ -1,14 +1,15 @@
 -- Cells stay linked where one is put in
 use Rattle.std.proofs.Common.{◌≡◌, ◌≢◌, inl, inr, ℕ, ℤ, pos, ◌+ℤ◌, ◌<◌, ◌≤◌, ◌+◌, List, [], ◌∷◌, length, arith, sym, ap, ◌∙◌, refl, subst, Option, Some}
+use Rattle.ta_base.proofs.Naturals.{equal_or_not}
+use Rattle.ta_base.proofs.Options.{not_both, same_index}
 use Rattle.ta_linear.specs.Numbers.{InRange}
 use Rattle.ta_links.specs.declared.cell.Cell.{Cell}
 use Rattle.ta_links.specs.declared.way.Way.TheVariants.{Rows, Columns}
 use Rattle.ta_links.specs.Chains.{cell_at, IsLive, Direction, line_at, place_at, along_rows, along_columns, IsChained}
 use Rattle.ta_links.specs.Free.{FreeVisits, IsFree, AreLinked}
-use Rattle.ta_links.specs.Values.{placed, value_in}
+use Rattle.ta_links.specs.Values.{only_at_place, value_in}
 use Rattle.ta_links.specs.Links.{following, headed, spliced, taken, taken_at, next_free}
-use Rattle.ta_links.specs.Gaps.{IsGap, Stays}
-use Rattle.ta_links.proofs.Options.{is_or_not, not_both, same_index}
+use Rattle.ta_links.specs.Gaps.{IsEmptyPlace, Stays}
 use Rattle.ta_links.proofs.Insertion.{Insertion, stands, insertion_keeps}
 use Rattle.ta_links.proofs.Heads.{headed_new, headed_rest, headed_long, following_live}
 use Rattle.ta_links.proofs.Splicing.{Spliced, Relinked, splice_facts, rows_relinked, columns_relinked}
@@ -18,7 +19,7 @@ use Rattle.ta_links.proofs.Cells.{value_same}
 -- one way's chains, where the taken cell stands between the two cells of its gap
 insertion_of : (way : Direction) (cells : List Cell) (heads : List (Option ℕ)) (free : Option ℕ) (cell : Cell) (at : ℕ) (t new : List Cell) (p : Option ℕ) → IsChained way cells heads →
     ((i k : ℕ) → IsLive cells i → IsLive cells k → line_at way cells i ≡ line_at way cells k → place_at way cells i ≡ place_at way cells k → i ≡ k) →
-    way.line cell < length heads → IsGap way cells heads (way.line cell) (way.place cell) p → way.before cell ≡ p → way.after cell ≡ following way cells heads (way.line cell) p → cell.value ≢ pos 0 →
+    way.line cell < length heads → IsEmptyPlace way cells heads (way.line cell) (way.place cell) p → way.before cell ≡ p → way.after cell ≡ following way cells heads (way.line cell) p → cell.value ≢ pos 0 →
     Taken cells free cell at t → Relinked way t p (following way cells heads (way.line cell) p) (Some at) (Some at) new → Insertion
 insertion_of way cells heads free cell at t new p chained one inside gap front back value took linked =
     let n = following way cells heads (way.line cell) p in
@@ -53,7 +54,7 @@ insertion_of way cells heads free cell at t new p chained one inside gap front b
             linked.line k ∙ ap way.line (kept k ne),
             linked.place k ∙ ap way.place (kept k ne),
           );
-      only = λ k live. elim (is_or_not k at) [
+      only = λ k live. elim (equal_or_not k at) [
         | inl e ↦ inl e
         | inr ne ↦ inr (record {
           inside = took.only k (let a = live.inside in let b = linked.long in omega arith) ne;
@@ -98,8 +99,8 @@ pub record Put (cells : List Cell) (row_heads column_heads : List (Option ℕ)) 
   pub linked : AreLinked cells row_heads column_heads free
   pub row_inside : row < length row_heads
   pub column_inside : column < length column_heads
-  pub left_gap : IsGap along_rows cells row_heads row column left
-  pub above_gap : IsGap along_columns cells column_heads column row above
+  pub left_gap : IsEmptyPlace along_rows cells row_heads row column left
+  pub above_gap : IsEmptyPlace along_columns cells column_heads column row above
   pub not_zero : value ≢ pos 0
   pub in_range : InRange value
 
@@ -137,7 +138,7 @@ pub record PutDone (cells : List Cell) (row_heads column_heads : List (Option �
   pub linked : AreLinked new (headed row_heads left row (Some (taken_at cells free))) (headed column_heads above column (Some (taken_at cells free))) (next_free cells free)
   pub little : length new ≤ length cells + 1
   pub longer : length cells ≤ length new
-  pub values : (r c : ℕ) → value_in new r c ≡ (value_in cells r c +ℤ placed row column value r c)
+  pub values : (r c : ℕ) → value_in new r c ≡ (value_in cells r c +ℤ only_at_place row column value r c)
   pub kept : (k : ℕ) → IsLive cells k → Stays cells new k
 
 put_done : (cells : List Cell) (row_heads column_heads : List (Option ℕ)) (free left above : Option ℕ) (row column : ℕ) (value : ℤ) (t s1 s2 : List Cell) (at : ℕ) → at ≡ taken_at cells free → Put cells row_heads column_heads free left above row column value →
@@ -187,7 +188,7 @@ put_done cells row_heads column_heads free left above row column value t s1 s2 a
           visited = took.left;
           visits = visits_kept cells s2 (next_free cells free) took.left at took.visits took.without (let a = rows.long in let b = took.longer in omega arith)
               (λ k ne dead. (rows.value k ∙ ap (λ (c : Cell). c.value) (took.rest k ne) ∙ dead, rows.after_rest k (λ e. (w.left_gap.may k e).live.value dead) ∙ ap (λ (c : Cell). c.right) (took.rest k ne)));
-          all = λ i inside out e. elim (is_or_not i at) [
+          all = λ i inside out e. elim (equal_or_not i at) [
             | inl x ↦ w.not_zero (sym (ap (λ (c : Cell). c.value) took.here) ∙ sym (rows.value at) ∙ ap (λ (q : ℕ). (cell_at s2 q).value) (sym x) ∙ e)
             | inr ne ↦ took.all i (took.only i (let a = rows.long in omega arith) ne) ne out (sym (ap (λ (c : Cell). c.value) (took.rest i ne)) ∙ sym (rows.value i) ∙ e)
           ];
@@ -218,7 +219,7 @@ put_keeps cells row_heads column_heads free left above row column value w =
 pub record PutFrom (cells : List Cell) (row_heads column_heads : List (Option ℕ)) (row column : ℕ) (value : ℤ) (new : List Cell) (rows columns : List (Option ℕ)) (head : Option ℕ) : Type 0 where
   pub linked : AreLinked new rows columns head
   pub little : length new ≤ length cells + 1
-  pub values : (r c : ℕ) → value_in new r c ≡ (value_in cells r c +ℤ placed row column value r c)
+  pub values : (r c : ℕ) → value_in new r c ≡ (value_in cells r c +ℤ only_at_place row column value r c)
   pub kept : (k : ℕ) → IsLive cells k → Stays cells new k
   pub rows_long : length rows ≡ length row_heads
   pub columns_long : length columns ≡ length column_heads

@@ -1,8 +1,9 @@
 -- A cell that is put into a line keeps chains
 use Rattle.std.proofs.Common.{◌≡◌, ◌≢◌, ◌⊎◌, inl, inr, ℕ, ◌<◌, ◌≤◌, List, length, arith, sym, ap, ◌∙◌, subst, Option, Some, None}
+use Rattle.ta_base.proofs.Naturals.{equal_or_not, some_or_not}
+use Rattle.ta_base.proofs.Options.{none_or_some, not_both, same_index}
 use Rattle.ta_links.specs.declared.cell.Cell.{Cell}
-use Rattle.ta_links.specs.Chains.{head_at, IsLive, Direction, line_at, place_at, before_at, after_at, IsFirst, Follows, IsChained}
-use Rattle.ta_links.proofs.Options.{none_or_some, is_or_not, some_or_not, not_both, same_index}
+use Rattle.ta_links.specs.Chains.{head_at, IsLive, Direction, line_at, place_at, before_at, after_at, IsFirstCell, FollowsCell, IsChained}
 
 -- a cell `x` goes into a line, between the cells `p` and `n`, one or both of which may be missing
 pub record Insertion : Type 0 where
@@ -92,7 +93,7 @@ insert_inside w i live =
 
 insert_empty : (w : Insertion) (q : ℕ) → head_at w.heads' q ≡ None → (k : ℕ) → IsLive w.cells' k → line_at w.way w.cells' k ≢ q
 insert_empty w q none k live at =
-    let apart : (q ≢ w.line) ⊎ (w.p ≢ None) = elim (is_or_not q w.line) [
+    let apart : (q ≢ w.line) ⊎ (w.p ≢ None) = elim (equal_or_not q w.line) [
       | inl e ↦ inr (λ first. not_both (head_at w.heads' q) w.x (ap (head_at w.heads') e ∙ w.head_new first) none)
       | inr ne ↦ inl ne
     ] in
@@ -107,8 +108,8 @@ insert_empty w q none k live at =
       | inr old ↦ w.chained.empty q was k old (sym (line_kept w k old) ∙ at)
     ]
 
-insert_first : (w : Insertion) (q i : ℕ) → head_at w.heads' q ≡ Some i → IsFirst w.way w.cells' q i
-insert_first w q i e = elim (is_or_not q w.line) [
+insert_first : (w : Insertion) (q i : ℕ) → head_at w.heads' q ≡ Some i → IsFirstCell w.way w.cells' q i
+insert_first w q i e = elim (equal_or_not q w.line) [
   | inl here_ ↦ elim (none_or_some w.p) [
     | inl front ↦
         let same : w.x ≡ i = same_index (head_at w.heads' q) w.x i (ap (head_at w.heads') here_ ∙ w.head_new front) e in
@@ -117,8 +118,8 @@ insert_first w q i e = elim (is_or_not q w.line) [
   ]
   | inr ne ↦ first_old w q i (inl ne) e
 ] where
-  first_new : (w : Insertion) (q : ℕ) → q ≡ w.line → w.p ≡ None → (i : ℕ) → w.x ≡ i → IsFirst w.way w.cells' q i
-  first_new w q here_ front i same = subst (λ (k : ℕ). IsFirst w.way w.cells' q k) same record {
+  first_new : (w : Insertion) (q : ℕ) → q ≡ w.line → w.p ≡ None → (i : ℕ) → w.x ≡ i → IsFirstCell w.way w.cells' q i
+  first_new w q here_ front i same = subst (λ (k : ℕ). IsFirstCell w.way w.cells' q k) same record {
     live = w.new;
     here = w.line_x ∙ sym here_;
     front = w.before_x ∙ front;
@@ -134,7 +135,7 @@ insert_first w q i e = elim (is_or_not q w.line) [
     ];
   }
 
-  first_old : (w : Insertion) (q i : ℕ) → (q ≢ w.line) ⊎ (w.p ≢ None) → head_at w.heads' q ≡ Some i → IsFirst w.way w.cells' q i
+  first_old : (w : Insertion) (q i : ℕ) → (q ≢ w.line) ⊎ (w.p ≢ None) → head_at w.heads' q ≡ Some i → IsFirstCell w.way w.cells' q i
   first_old w q i apart e =
       let first = w.chained.first q i (sym (w.head_rest q apart) ∙ e) in
       let behind_ : w.n ≢ Some i = λ n. elim (none_or_some w.p) [
@@ -213,15 +214,15 @@ insert_last w i live end k alive at = elim (w.only i live) [
       ]
 ]
 
-insert_next : (w : Insertion) (i j : ℕ) → IsLive w.cells' i → after_at w.way w.cells' i ≡ Some j → Follows w.way w.cells' i j
+insert_next : (w : Insertion) (i j : ℕ) → IsLive w.cells' i → after_at w.way w.cells' i ≡ Some j → FollowsCell w.way w.cells' i j
 insert_next w i j live e = elim (w.only i live) [
-  | inl x ↦ subst (λ (k : ℕ). Follows w.way w.cells' k j) (sym x) (from_new w j (sym w.after_x ∙ sym (ap (after_at w.way w.cells') x) ∙ e))
+  | inl x ↦ subst (λ (k : ℕ). FollowsCell w.way w.cells' k j) (sym x) (from_new w j (sym w.after_x ∙ sym (ap (after_at w.way w.cells') x) ∙ e))
   | inr was ↦ elim (some_or_not w.p i) [
-    | inl p ↦ subst (λ (k : ℕ). Follows w.way w.cells' i k) (same_index (after_at w.way w.cells' i) w.x j (w.after_p i was p) e) (to_new w i was p)
+    | inl p ↦ subst (λ (k : ℕ). FollowsCell w.way w.cells' i k) (same_index (after_at w.way w.cells' i) w.x j (w.after_p i was p) e) (to_new w i was p)
     | inr p ↦ from_old w i j was p (sym (w.after_rest i was p) ∙ e)
   ]
 ] where
-  from_new : (w : Insertion) (j : ℕ) → w.n ≡ Some j → Follows w.way w.cells' w.x j
+  from_new : (w : Insertion) (j : ℕ) → w.n ≡ Some j → FollowsCell w.way w.cells' w.x j
   from_new w j n =
       let b = behind w j n in
       let px = w.place_x in
@@ -246,7 +247,7 @@ insert_next w i j live e = elim (w.only i live) [
         ];
       }
 
-  to_new : (w : Insertion) (i : ℕ) → IsLive w.cells i → w.p ≡ Some i → Follows w.way w.cells' i w.x
+  to_new : (w : Insertion) (i : ℕ) → IsLive w.cells i → w.p ≡ Some i → FollowsCell w.way w.cells' i w.x
   to_new w i was p =
       let gap = w.gap_p i p in
       let px = w.place_x in
@@ -271,7 +272,7 @@ insert_next w i j live e = elim (w.only i live) [
         ];
       }
 
-  from_old : (w : Insertion) (i j : ℕ) → IsLive w.cells i → w.p ≢ Some i → after_at w.way w.cells i ≡ Some j → Follows w.way w.cells' i j
+  from_old : (w : Insertion) (i j : ℕ) → IsLive w.cells i → w.p ≢ Some i → after_at w.way w.cells i ≡ Some j → FollowsCell w.way w.cells' i j
   from_old w i j was p e =
       let f = w.chained.next i j was e in
       let pi = place_kept w i was in
@@ -326,7 +327,7 @@ insert_begins w i live e = elim (w.only i live) [
   | inr was ↦
       let apart : w.n ≢ Some i = λ n. not_both (before_at w.way w.cells' i) w.x (w.before_n i was n) e in
       let begins = w.chained.begins i was (sym (w.before_rest i was apart) ∙ e) in
-      let other : (line_at w.way w.cells i ≢ w.line) ⊎ (w.p ≢ None) = elim (is_or_not (line_at w.way w.cells i) w.line) [
+      let other : (line_at w.way w.cells i ≢ w.line) ⊎ (w.p ≢ None) = elim (equal_or_not (line_at w.way w.cells i) w.line) [
         | inl here_ ↦ inr (λ none. apart (sym (w.gap_none none) ∙ ap (head_at w.heads) (sym here_) ∙ begins))
         | inr ne ↦ inl ne
       ] in

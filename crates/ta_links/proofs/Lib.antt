@@ -1,4 +1,3 @@
-mod Options
 mod Insertion
 mod Removal
 mod Splicing
@@ -8,7 +7,6 @@ mod Taking
 mod Inserting
 mod Removing
 mod Writing
-mod Bits
 mod Walking
 mod ColumnSteps
 mod Beginning

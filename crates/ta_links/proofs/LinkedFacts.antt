@@ -1,9 +1,10 @@
 -- Rows that are read from cells, and live cells that are counted
-use Rattle.std.proofs.Common.{◌≡◌, ◌≢◌, ℕ, zero, suc, ℤ, pos, negsuc, ◌+◌, ◌<◌, ◌≤◌, List, [], ◌∷◌, length, drop, get_or, map, arith, sym, ap, ◌∙◌, refl, subst, Option, None}
+use Rattle.std.proofs.Common.{◌≡◌, ◌≢◌, ℕ, zero, suc, ℤ, pos, negsuc, ◌+◌, ◌<◌, ◌≤◌, List, [], ◌∷◌, length, get_or, map, arith, sym, ap, ◌∙◌, refl, subst, Option, None}
 use Rattle.std.proofs.lemmas.Int.{ints}
-use Rattle.std.proofs.lemmas.List.{get_or-map, drop_more}
+use Rattle.std.proofs.lemmas.List.{get_or-map}
 use Rattle.std.proofs.lemmas.List.FromFn.{length-range_with_len, get_or-range_with_len}
 use Rattle.std.specs.List.{range_with_len}
+use Rattle.ta_base.proofs.Options.{not_both}
 use Rattle.ta_linear.specs.Terms.{coefficient}
 use Rattle.ta_linear.specs.declared.row.Row.{Row}
 use Rattle.ta_dense.specs.Tableau.{TableauRow, no_row, row_of, cell_of}
@@ -14,10 +15,9 @@ use Rattle.ta_links.specs.Chains.{cell_at}
 use Rattle.ta_links.specs.Free.{IsFree, FreeVisits, NotIn}
 use Rattle.ta_links.specs.Values.{value_in, row_values, fills}
 use Rattle.ta_links.specs.Linked.{table_row, table_rows, no_head, live_count, AreProperHeads, IsProperHead, Linked, IsKeptInChains}
-use Rattle.ta_links.specs.Inside.Fields.{linked_of, IsSound}
+use Rattle.ta_links.specs.Inside.Fields.{linked_of, IsSoundLinks}
 use Rattle.ta_links.specs.declared.linked.LinkedDictionary.TheInside.{Inside}
 use Rattle.ta_links.specs.Starting.{slack_heads}
-use Rattle.ta_links.proofs.Options.{not_both}
 
 pub length-table_rows : (cells : List Cell) (n k : ℕ) (hs : List RowHead) → length (table_rows cells n k hs) ≡ length hs
 length-table_rows cells n k [] = refl
@@ -91,7 +91,7 @@ length-slack_heads v [] = refl
 length-slack_heads v (r ∷ rs) = let a = length-slack_heads (suc v) rs in omega arith
 
 -- what a dictionary keeps of its chains
-pub kept_of : (d : Inside) → IsSound d → IsKeptInChains (linked_of d)
+pub kept_of : (d : Inside) → IsSoundLinks d → IsKeptInChains (linked_of d)
 kept_of d s = record {
   linked = s.linked;
   rows = s.rows_long ∙ sym (length-table_rows d.links.cells.items (length d.non_basic.items) 0 d.rows.items);
@@ -111,7 +111,7 @@ row_below inside d row view h =
     let l = length-table_rows inside.links.cells.items (length inside.non_basic.items) 0 inside.rows.items in
     omega arith
 
-pub head_is : (inside : Inside) (d : Linked) (row : ℕ) (h : RowHead) → IsSound inside → linked_of inside ≡ d → row < length d.tableau.rows → h ≡ get_or inside.rows.items row no_head → HeadIs inside d row h
+pub head_is : (inside : Inside) (d : Linked) (row : ℕ) (h : RowHead) → IsSoundLinks inside → linked_of inside ≡ d → row < length d.tableau.rows → h ≡ get_or inside.rows.items row no_head → HeadIs inside d row h
 head_is inside d row h s view b is =
     let below = row_below inside d row view b in
     record {
@@ -124,8 +124,3 @@ pub number_is : (inside : Inside) (d : Linked) (row column : ℕ) → linked_of 
 number_is inside d row column view r c =
     let columns = ap (λ (e : Linked). length e.tableau.non_basic) view in
     sym (table_cell inside.links.cells.items (length inside.non_basic.items) inside.rows.items row column (row_below inside d row view r) (omega arith)) ∙ ap (λ (e : Linked). cell_of (row_of e.tableau row) column) view
-
-pub count_more : (cells : List Cell) (index count : ℕ) (d : Cell) (more : ℕ) → index < length cells → count + live_count (drop index cells) ≡ live_count cells → more ≡ fills (pos 0) (get_or cells index d).value → (count + more) + live_count (drop (index + 1) cells) ≡ live_count cells
-count_more cells index count d more h all e =
-    let split = ap live_count (drop_more cells index d h) in
-    omega arith

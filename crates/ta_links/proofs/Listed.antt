@@ -2,6 +2,7 @@
 use Rattle.std.proofs.Common.{◌≡◌, inl, inr, ℕ, ℤ, pos, ◌+◌, ◌<◌, ◌≤◌, List, [], ◌∷◌, ◌++◌, arith, sym, ap, ◌∙◌, refl, Option, None, Some}
 use Rattle.std.proofs.lemmas.Int.{ints}
 use Rattle.std.proofs.lemmas.Bool.{cases_lt}
+use Rattle.ta_base.proofs.Naturals.{equal_or_not}
 use Rattle.ta_linear.specs.Terms.{IsNormal, IsTerm, coefficient}
 use Rattle.ta_linear.proofs.TermLemmas.{IsNormal-push, IsNormal-higher, coefficient-append, coefficient-above}
 use Rattle.ta_links.specs.declared.linked_cells.LinkedCells.{LinkedCells}
@@ -10,22 +11,18 @@ use Rattle.ta_links.specs.declared.way.Way.TheVariants.{Rows, Columns}
 use Rattle.ta_links.specs.Chains.{cell_at, IsLive, place_at}
 use Rattle.ta_links.specs.Gaps.{AreSound, spot}
 use Rattle.ta_links.specs.Links.{direction}
-use Rattle.ta_links.specs.Lines.{number_at, MayBeOn, IsNext, NoneLeft}
-use Rattle.ta_links.specs.Listing.{Lists, places_of}
-use Rattle.ta_links.proofs.Options.{is_or_not}
+use Rattle.ta_links.specs.Lines.{line_value_at, MayBeOn, IsNext, NoneLeft}
+use Rattle.ta_links.specs.Listing.{Lists, line_places}
 use Rattle.ta_links.proofs.ColumnSteps.{at_own, at_other}
 
 -- the cells before a place are listed
 pub record Listing (way : Way) (l : LinkedCells) (on : ℕ) (before : Option ℕ) (ts : List (ℕ × ℤ)) : Type 0 where
   pub may : MayBeOn way l.cells.items on before
   pub normal : IsNormal 0 (spot (direction way) l.cells.items before) ts
-  pub numbers : (p : ℕ) → p < spot (direction way) l.cells.items before → number_at way l.cells.items on p ≡ coefficient ts p
-
-pub listing : (way : Way) (l : LinkedCells) (on : ℕ) → Listing way l on None []
-listing way l on = record { may = λ h e. absurd (cc); normal = omega arith; numbers = λ p b. absurd (omega arith) }
+  pub numbers : (p : ℕ) → p < spot (direction way) l.cells.items before → line_value_at way l.cells.items on p ≡ coefficient ts p
 
 -- a live cell's place is one of the line's
-pub place_inside : (way : Way) (l : LinkedCells) (i : ℕ) → AreSound l → IsLive l.cells.items i → place_at (direction way) l.cells.items i < places_of way l
+pub place_inside : (way : Way) (l : LinkedCells) (i : ℕ) → AreSound l → IsLive l.cells.items i → place_at (direction way) l.cells.items i < line_places way l
 place_inside Rows l i s live = s.columns.inside i live
 place_inside Columns l i s live = s.rows.inside i live
 
@@ -42,11 +39,11 @@ listed_more way l on before ts at t sound w n e0 e1 =
     record {
       may = λ h e. let same : at ≡ h = cc in rw (sym same) n.on;
       normal = IsNormal-higher 0 (t.0 + 1) (spot (direction way) cells (Some at)) (ts ++ t ∷ []) (omega arith) pushed;
-      numbers = λ p b. elim (is_or_not t.0 p) [
+      numbers = λ p b. elim (equal_or_not t.0 p) [
         | inl e ↦
             let none : coefficient ts t.0 ≡ pos 0 = coefficient-above 0 (spot (direction way) cells before) ts t.0 w.normal (omega arith) in
             let sum = coefficient-append ts (t ∷ []) t.0 in
-            let here : number_at way cells on p ≡ t.1 = ap (number_at way cells on) (sym e ∙ e0) ∙ n.value ∙ sym e1 in
+            let here : line_value_at way cells on p ≡ t.1 = ap (line_value_at way cells on) (sym e ∙ e0) ∙ n.value ∙ sym e1 in
             here ∙ sym (ap (coefficient (ts ++ t ∷ [])) (sym e) ∙ sum ∙ omega (arith, ints, own, none))
         | inr ne ↦
             let rest : coefficient (t ∷ []) p ≡ pos 0 = at_other t [] p ne in
@@ -60,13 +57,13 @@ listed_more way l on before ts at t sound w n e0 e1 =
     }
 
 -- how far a walk has come is inside the line
-pub spot_inside : (way : Way) (l : LinkedCells) (on : ℕ) (before : Option ℕ) → AreSound l → MayBeOn way l.cells.items on before → spot (direction way) l.cells.items before ≤ places_of way l
+pub spot_inside : (way : Way) (l : LinkedCells) (on : ℕ) (before : Option ℕ) → AreSound l → MayBeOn way l.cells.items on before → spot (direction way) l.cells.items before ≤ line_places way l
 spot_inside way l on None sound may = omega arith
 spot_inside way l on (Some k) sound may = let m = may k refl in let b = place_inside way l k sound m.live in omega arith
 
 pub listed_all : (way : Way) (l : LinkedCells) (on : ℕ) (before : Option ℕ) (ts : List (ℕ × ℤ)) → AreSound l → Listing way l on before ts → NoneLeft way l.cells.items on before → Lists way l on ts
 listed_all way l on before ts sound w none = record {
-  normal = IsNormal-higher 0 (spot (direction way) l.cells.items before) (places_of way l) ts (spot_inside way l on before sound w.may) w.normal;
+  normal = IsNormal-higher 0 (spot (direction way) l.cells.items before) (line_places way l) ts (spot_inside way l on before sound w.may) w.normal;
   numbers = λ p. elim (cases_lt p (spot (direction way) l.cells.items before)) [
     | inl low ↦ w.numbers p low
     | inr high ↦ none p high ∙ sym (coefficient-above 0 (spot (direction way) l.cells.items before) ts p w.normal high)

@@ -1,33 +1,27 @@
 -- A row that is merged place by place
-use Rattle.std.proofs.Common.{◌≡◌, ◌≢◌, inl, inr, ℕ, zero, suc, ℤ, pos, negsuc, ◌+◌, ◌*ℤ◌, ◌-ℤ◌, ◌<ℤ◌, ◌/◌, ◌<◌, ◌≤◌, List, length, arith, sym, ap, ◌∙◌, refl, subst, Option, Some, None, IfSome, IfNone}
+use Rattle.std.proofs.Common.{◌≡◌, ◌≢◌, inl, inr, ℕ, suc, ℤ, pos, ◌+◌, ◌*ℤ◌, ◌-ℤ◌, ◌<ℤ◌, ◌<◌, ◌≤◌, List, length, arith, sym, ap, ◌∙◌, refl, subst, Option, Some, None, IfSome, IfNone}
 use Rattle.std.specs.Prelude.{unsigned_abs, int_div}
-use Rattle.std.proofs.lemmas.Int.{ints}
 use Rattle.std.proofs.lemmas.Bool.Decides.{eqb_tells}
-use Rattle.std.proofs.Math.Nat.{div-le_self}
+use Rattle.ta_base.proofs.Integers.{pos_out}
+use Rattle.ta_base.proofs.Naturals.{equal_or_not}
+use Rattle.ta_dense.proofs.ProperFacts.{in_range-div}
 use Rattle.ta_linear.specs.Numbers.{InRange}
 use Rattle.ta_dense.specs.Merge.{CombinesInRange}
-use Rattle.ta_dense.proofs.Divide.{unsigned_abs-neg}
-use Rattle.ta_dense.proofs.MergedRow.{pos_out}
 use Rattle.ta_links.specs.declared.cell.Cell.{Cell}
 use Rattle.ta_links.specs.declared.linked_cells.LinkedCells.{LinkedCells}
 use Rattle.ta_links.specs.Chains.{along_rows}
-use Rattle.ta_links.specs.Values.{value_in, fills, filled}
+use Rattle.ta_links.specs.Values.{value_in, fills, filled_places}
 use Rattle.ta_links.specs.Gaps.{AreSound, MayBefore}
 use Rattle.ta_links.specs.Merging.{merged_cell, MergesAt, gcd_below}
 use Rattle.ta_linear.specs.Gcd.{gcd_of}
 use Rattle.std.specs.Option.{SomeIff}
 use mir.Val.{of_z}
 use mir.Syntax.{w128}
-use Rattle.ta_links.proofs.Options.{is_or_not}
 use Rattle.ta_links.proofs.Writing.{written_here, written_elsewhere}
 use Rattle.ta_links.proofs.ColumnSteps.{PutOver, filled_step}
 
-in_range-quotient : (z : ℤ) (g : ℕ) → InRange z → InRange (int_div z (pos g))
-in_range-quotient (pos a) g h = omega (arith, div-le_self a g)
-in_range-quotient (negsuc a) g h = rw (unsigned_abs-neg (pos (suc a / g))) (omega (arith, div-le_self (suc a) g))
-
 pub quotient_fits : (z d : ℤ) → pos 0 <ℤ d → InRange z → InRange (int_div z d)
-quotient_fits z d positive h = let out = pos_out d positive in subst (λ (e : ℤ). InRange (int_div z e)) (sym out.1) (in_range-quotient z (suc out.0) h)
+quotient_fits z d positive h = let out = pos_out d positive in subst (λ (e : ℤ). InRange (int_div z e)) (sym out.1) (in_range-div z (suc out.0) h)
 
 pub merged_here : (p q : ℤ) (column : ℕ) (turned : ℤ) (f g : ℕ → ℤ) (j : ℕ) → j ≡ column → merged_cell p q column turned f g j ≡ turned
 merged_here p q column turned f g j e = elim (eqb_tells j column) [ inl a ↦ rw a.0 refl | inr ne ↦ absurd (ne.1 e) ]
@@ -36,7 +30,7 @@ pub merged_elsewhere : (p q : ℤ) (column : ℕ) (turned : ℤ) (f g : ℕ → 
 merged_elsewhere p q column turned f g j ne = elim (eqb_tells j column) [ inl a ↦ absurd (ne a.1) | inr a ↦ rw a.0 refl ]
 
 pub merged_same : (p q : ℤ) (column : ℕ) (turned : ℤ) (f g f' g' : ℕ → ℤ) (j : ℕ) → f j ≡ f' j → g j ≡ g' j → merged_cell p q column turned f g j ≡ merged_cell p q column turned f' g' j
-merged_same p q column turned f g f' g' j e h = elim (is_or_not j column) [
+merged_same p q column turned f g f' g' j e h = elim (equal_or_not j column) [
   | inl a ↦ merged_here p q column turned f g j a ∙ sym (merged_here p q column turned f' g' j a)
   | inr ne ↦ merged_elsewhere p q column turned f g j ne ∙ ap (λ (z : ℤ). p *ℤ z -ℤ q *ℤ g j) e ∙ ap (λ (z : ℤ). p *ℤ f' j -ℤ q *ℤ z) h ∙ sym (merged_elsewhere p q column turned f' g' j ne)
 ]
@@ -58,25 +52,12 @@ pub record Rewritten (old : LinkedCells) (columns row at : ℕ) (p q : ℤ) (col
   pub others : (r c : ℕ) → r ≢ at → value_in now.cells.items r c ≡ value_in old.cells.items r c
   pub done : (j : ℕ) → j < place → value_in now.cells.items at j ≡ int_div (merged_cell p q column turned (value_in old.cells.items at) (value_in old.cells.items row) j) divisor
   pub rest : (j : ℕ) → place ≤ j → value_in now.cells.items at j ≡ value_in old.cells.items at j
-  pub held : length now.cells.items ≤ length old.cells.items + filled columns (value_in old.cells.items at) (value_in now.cells.items at)
-
-pub rewriting : (old : LinkedCells) (columns row at : ℕ) (p q : ℤ) (column : ℕ) (turned divisor : ℤ) → AreSound old → Rewritten old columns row at p q column turned divisor 0 None None old
-rewriting old columns row at p q column turned divisor sound = record {
-  sound = sound;
-  rows = refl;
-  same_columns = refl;
-  start = λ h e. absurd (cc);
-  front = λ h e. absurd (cc);
-  others = λ r c ne. refl;
-  done = λ j b. absurd (omega arith);
-  rest = λ j b. refl;
-  held = omega arith;
-}
+  pub held : length now.cells.items ≤ length old.cells.items + filled_places columns (value_in old.cells.items at) (value_in now.cells.items at)
 
 -- the chosen row's number at the next place is as before, also if it is the row that is written
 pub chosen_kept : (old : LinkedCells) (columns row at : ℕ) (p q : ℤ) (column : ℕ) (turned divisor : ℤ) (place : ℕ) (left chosen : Option ℕ) (now : LinkedCells) → Rewritten old columns row at p q column turned divisor place left chosen now →
     value_in now.cells.items row place ≡ value_in old.cells.items row place
-chosen_kept old columns row at p q column turned divisor place left chosen now w = elim (is_or_not row at) [
+chosen_kept old columns row at p q column turned divisor place left chosen now w = elim (equal_or_not row at) [
   | inl e ↦ ap (λ (r : ℕ). value_in now.cells.items r place) e ∙ w.rest place (omega arith) ∙ ap (λ (r : ℕ). value_in old.cells.items r place) (sym e)
   | inr ne ↦ w.others row place ne
 ]
@@ -98,7 +79,7 @@ rewritten_more old columns row at p q column turned divisor place left chosen no
       start = may_before_next new.cells.items at place left' o.before;
       front = may_before_next new.cells.items row place chosen' front;
       others = λ r c ne. o.values r c ∙ written_elsewhere f at place v r c (inl (λ e. ne (sym e))) ∙ w.others r c ne;
-      done = λ j b. elim (is_or_not j place) [
+      done = λ j b. elim (equal_or_not j place) [
         | inl e ↦ ap (value_in new.cells.items at) e ∙ here ∙ ap (λ (z : ℤ). int_div z divisor) target ∙ ap (λ (k : ℕ). int_div (merged_cell p q column turned (value_in old.cells.items at) (value_in old.cells.items row) k) divisor) (sym e)
         | inr ne ↦ elsewhere j ne ∙ w.done j (omega arith)
       ];
@@ -131,11 +112,6 @@ merged_told (Some x) p q column turned f g j n m e h ne s = record {
   within = λ apart. subst (λ (z : ℤ). CombinesInRange p z q (g j)) e (subst (λ (z : ℤ). CombinesInRange p n q z) h s.0);
   refused = tt;
 }
-
-pub bits_positive : (d : ℤ) → pos 0 <ℤ d → 0 < of_z w128 d
-bits_positive (pos zero) h = absurd (omega (arith, ints, h))
-bits_positive (pos (suc n)) h = omega arith
-bits_positive (negsuc n) h = absurd (omega (arith, ints, h))
 
 pub gcd_more : (first : ℕ) (f : ℕ → ℤ) (n d : ℕ) (x : ℤ) (r : ℕ) → d ≡ gcd_below first f n → x ≡ f n → r ≡ gcd_of d (unsigned_abs x) → r ≡ gcd_below first f (n + 1)
 gcd_more first f n d x r e h is =

@@ -1,17 +1,17 @@
 -- The dictionary after a pivot
 use Rattle.std.proofs.Common.{◌≡◌, ◌≢◌, inl, inr, ℕ, zero, suc, ℤ, ◌+◌, ◌<◌, ◌≤◌, List, length, map, set, get_or, arith, sym, ap, ◌∙◌, refl, subst}
 use Rattle.std.proofs.lemmas.List.{ext_get_or, length-set, length-map, get_or-map, get_or-set_same, get_or-set_other}
+use Rattle.ta_base.proofs.Naturals.{equal_or_not}
 use Rattle.ta_dense.specs.Tableau.{Tableau, TableauRow, merged, turned, no_row, pivoted, pivoted_rows}
 use Rattle.ta_dense.specs.Merge.{MergesInRange, OthersMergeBelow, FirstOtherRefused}
 use Rattle.ta_links.specs.declared.row_head.RowHead.{RowHead}
 use Rattle.ta_links.specs.declared.linked_cells.LinkedCells.{LinkedCells}
-use Rattle.ta_links.specs.Values.{value_in, fills, filled, filled_rows}
+use Rattle.ta_links.specs.Values.{value_in, fills, filled_places, filled_rows}
 use Rattle.ta_links.specs.Linked.{table_row, table_rows, no_head, numbers_of}
 use Rattle.ta_links.specs.declared.cell.Cell.{Cell}
 use Rattle.ta_links.specs.Merging.{row_in, IsSpared, MergedBelow, RowTurned}
 use Rattle.ta_links.specs.MergingAll.{RefusedFirst}
 use Rattle.ta_links.specs.Pivoting.{RowsPivoted}
-use Rattle.ta_links.proofs.Options.{is_or_not}
 use Rattle.ta_links.proofs.LinkedFacts.{length-table_rows, table_row_at, table_cell}
 use Rattle.ta_links.proofs.ColumnSteps.{filled_same}
 use Rattle.ta_links.proofs.AllMerging.{row_same_in, unreached, filled_none, filled_rows_same, filled_from}
@@ -40,7 +40,7 @@ pivoted_is n row column entering hs hs1 hs2 l l1 l2 inside m t =
     ext_get_or no_row new (set (map (merged column chosen) old) row (turned entering column chosen)) (omega arith) (λ i b.
     let below : i < length hs = omega arith in
     let mine = table_at hs2 l2 n i (omega arith) in
-    elim (is_or_not i row) [
+    elim (equal_or_not i row) [
       | inl e ↦
           mine ∙ ap (λ (k : ℕ). row_in hs2 l2 n k) e ∙ t.row_turned ∙ ap (turned entering column) (unreached 0 n row column hs l (length hs) hs1 l1 m row (inr (inr refl))) ∙ ap (turned entering column) (sym chosen_is)
           ∙ sym (ap (λ (k : ℕ). get_or (set (map (merged column chosen) old) row (turned entering column chosen)) k no_row) e ∙ get_or-set_same (map (merged column chosen) old) row (turned entering column chosen) no_row (omega arith))
@@ -69,13 +69,13 @@ first_refused n row column k hs l inside r =
     }
 
 -- one row of a table is written that was as before
-filled_rows_step : (m n : ℕ) (f g h : ℕ → ℕ → ℤ) (row : ℕ) → row < m → ((j : ℕ) → g row j ≡ f row j) → ((i j : ℕ) → i ≢ row → h i j ≡ g i j) → filled_rows m n f h ≡ filled_rows m n f g + filled n (f row) (h row)
+filled_rows_step : (m n : ℕ) (f g h : ℕ → ℕ → ℤ) (row : ℕ) → row < m → ((j : ℕ) → g row j ≡ f row j) → ((i j : ℕ) → i ≢ row → h i j ≡ g i j) → filled_rows m n f h ≡ filled_rows m n f g + filled_places n (f row) (h row)
 filled_rows_step zero n f g h row inside here rest = absurd (omega arith)
-filled_rows_step (suc m) n f g h row inside here rest = elim (is_or_not row m) [
+filled_rows_step (suc m) n f g h row inside here rest = elim (equal_or_not row m) [
   | inl e ↦
       let below = filled_rows_same m n f g h (λ i j b. rest i j (omega arith)) in
-      let old : filled n (f m) (g m) ≡ 0 = filled_none n (f m) (g m) (λ j. ap (λ (k : ℕ). g k j) (sym e) ∙ here j ∙ ap (λ (k : ℕ). f k j) e) in
-      let new : filled n (f m) (h m) ≡ filled n (f row) (h row) = ap (λ (k : ℕ). filled n (f k) (h k)) (sym e) in
+      let old : filled_places n (f m) (g m) ≡ 0 = filled_none n (f m) (g m) (λ j. ap (λ (k : ℕ). g k j) (sym e) ∙ here j ∙ ap (λ (k : ℕ). f k j) e) in
+      let new : filled_places n (f m) (h m) ≡ filled_places n (f row) (h row) = ap (λ (k : ℕ). filled_places n (f k) (h k)) (sym e) in
       omega arith
   | inr ne ↦
       let below = filled_rows_step m n f g h row (omega arith) here rest in
@@ -83,7 +83,7 @@ filled_rows_step (suc m) n f g h row inside here rest = elim (is_or_not row m) [
       omega arith
 ]
 
-filled_below : (n : ℕ) (f g f' g' : ℕ → ℤ) → ((j : ℕ) → j < n → f j ≡ f' j) → ((j : ℕ) → j < n → g j ≡ g' j) → filled n f g ≡ filled n f' g'
+filled_below : (n : ℕ) (f g f' g' : ℕ → ℤ) → ((j : ℕ) → j < n → f j ≡ f' j) → ((j : ℕ) → j < n → g j ≡ g' j) → filled_places n f g ≡ filled_places n f' g'
 filled_below zero f g f' g' e h = refl
 filled_below (suc n) f g f' g' e h =
     let rest = filled_below n f g f' g' (λ j b. e j (omega arith)) (λ j b. h j (omega arith)) in

@@ -1,8 +1,9 @@
 -- A cell that is taken out of its line keeps chains
 use Rattle.std.proofs.Common.{◌≡◌, ◌≢◌, ◌⊎◌, inl, inr, ℕ, ◌<◌, ◌≤◌, List, length, arith, sym, ap, ◌∙◌, Option, Some, None}
+use Rattle.ta_base.proofs.Naturals.{equal_or_not, some_or_not}
+use Rattle.ta_base.proofs.Options.{none_or_some, not_both, same_index}
 use Rattle.ta_links.specs.declared.cell.Cell.{Cell}
-use Rattle.ta_links.specs.Chains.{head_at, IsLive, Direction, line_at, place_at, before_at, after_at, IsFirst, Follows, IsChained}
-use Rattle.ta_links.proofs.Options.{none_or_some, is_or_not, some_or_not, not_both, same_index}
+use Rattle.ta_links.specs.Chains.{head_at, IsLive, Direction, line_at, place_at, before_at, after_at, IsFirstCell, FollowsCell, IsChained}
 
 -- a live cell `x` leaves its line, where it stood between the cells `p` and `n`, one or both of which may be missing
 pub record Removal : Type 0 where
@@ -30,12 +31,12 @@ pub record Removal : Type 0 where
   pub head_rest : (q : ℕ) → (q ≢ line_at way cells x) ⊎ (p ≢ None) → head_at heads' q ≡ head_at heads q
 
 -- the cell before the gap, and the cell behind it
-ahead : (w : Removal) (h : ℕ) → w.p ≡ Some h → IsLive w.cells h × Follows w.way w.cells h w.x × (after_at w.way w.cells h ≡ Some w.x)
+ahead : (w : Removal) (h : ℕ) → w.p ≡ Some h → IsLive w.cells h × FollowsCell w.way w.cells h w.x × (after_at w.way w.cells h ≡ Some w.x)
 ahead w h e =
     let b = w.chained.back w.x h w.live (w.before_x ∙ e) in
     (b.0, w.chained.next h w.x b.0 b.1, b.1)
 
-behind : (w : Removal) (j : ℕ) → w.n ≡ Some j → Follows w.way w.cells w.x j
+behind : (w : Removal) (j : ℕ) → w.n ≡ Some j → FollowsCell w.way w.cells w.x j
 behind w j e = w.chained.next w.x j w.live (w.after_x ∙ e)
 
 -- the removed cell is the only one at its place
@@ -43,7 +44,7 @@ alone : (w : Removal) (k : ℕ) → IsLive w.cells k → k ≢ w.x → line_at w
 alone w k live apart at same = apart (w.one k w.x live w.live at same)
 
 apart_or : (w : Removal) (q : ℕ) → ((q ≡ line_at w.way w.cells w.x) × (w.p ≡ None)) ⊎ ((q ≢ line_at w.way w.cells w.x) ⊎ (w.p ≢ None))
-apart_or w q = elim (is_or_not q (line_at w.way w.cells w.x)) [
+apart_or w q = elim (equal_or_not q (line_at w.way w.cells w.x)) [
   | inl e ↦ elim (none_or_some w.p) [
     | inl none ↦ inl (e, none)
     | inr h ↦ inr (inr (λ none. not_both w.p h.0 h.1 none))
@@ -74,7 +75,7 @@ remove_empty w q none k live at =
       | inr other ↦ w.chained.empty q (sym (w.head_rest q other) ∙ none) k o.0 was
     ]
 
-remove_first : (w : Removal) (q i : ℕ) → head_at w.heads' q ≡ Some i → IsFirst w.way w.cells' q i
+remove_first : (w : Removal) (q i : ℕ) → head_at w.heads' q ≡ Some i → IsFirstCell w.way w.cells' q i
 remove_first w q i e = elim (apart_or w q) [
   | inl at ↦
       let n : w.n ≡ Some i = sym (w.head_new at.1) ∙ ap (head_at w.heads') (sym at.0) ∙ e in
@@ -144,7 +145,7 @@ remove_last w i live end k alive at =
           omega arith
     ]
 
-remove_next : (w : Removal) (i j : ℕ) → IsLive w.cells' i → after_at w.way w.cells' i ≡ Some j → Follows w.way w.cells' i j
+remove_next : (w : Removal) (i j : ℕ) → IsLive w.cells' i → after_at w.way w.cells' i ≡ Some j → FollowsCell w.way w.cells' i j
 remove_next w i j live e =
     let o = w.only i live in
     let pi = o.3 in

@@ -2,20 +2,20 @@
 use Rattle.std.proofs.Common.{◌≡◌, ◌≢◌, inl, inr, ℕ, ℤ, pos, ◌+ℤ◌, ◌-ℤ◌, ◌<◌, List, [], ◌∷◌, length, set, arith, sym, ap, ◌∙◌, refl, subst, Option, Some}
 use Rattle.std.proofs.lemmas.Int.{ints}
 use Rattle.std.proofs.lemmas.List.{get_or-set_same, get_or-set_other, length-set}
+use Rattle.ta_base.proofs.Naturals.{at_or_not, equal_or_not}
 use Rattle.ta_linear.specs.Numbers.{InRange}
 use Rattle.ta_links.specs.declared.cell.Cell.{Cell}
 use Rattle.ta_links.specs.declared.way.Way.TheVariants.{Rows, Columns}
 use Rattle.ta_links.specs.Chains.{no_cell, cell_at, head_at, IsLive, Direction, line_at, place_at, before_at, after_at, along_rows, along_columns, IsChained}
 use Rattle.ta_links.specs.Free.{NotIn, FreeVisits, AreLinked}
-use Rattle.ta_links.specs.Values.{placed, shown, value_in}
+use Rattle.ta_links.specs.Values.{only_at_place, shown, value_in}
 use Rattle.ta_links.specs.Links.{headed, spliced, freed, with_value}
 use Rattle.ta_links.specs.Gaps.{Stays}
-use Rattle.ta_links.proofs.Options.{is_or_not}
 use Rattle.ta_links.proofs.Removal.{Removal, removal_keeps}
 use Rattle.ta_links.proofs.Heads.{headed_new, headed_rest, headed_long}
 use Rattle.ta_links.proofs.Splicing.{Spliced, Relinked, splice_facts, rows_relinked, columns_relinked}
 use Rattle.ta_links.proofs.Taking.{visits_kept}
-use Rattle.ta_links.proofs.Cells.{value_same, value_set, placed_zero, placed_here, placed_elsewhere, at_or_not}
+use Rattle.ta_links.proofs.Cells.{value_same, value_set, placed_zero, placed_here, placed_elsewhere}
 
 -- cells after one was freed
 pub record Freed (cells : List Cell) (free : Option ℕ) (at : ℕ) (new : List Cell) : Type 0 where
@@ -101,7 +101,7 @@ down_spliced cells at =
 pub record CutDone (cells : List Cell) (row_heads column_heads : List (Option ℕ)) (free : Option ℕ) (at : ℕ) (new : List Cell) : Type 0 where
   pub linked : let cell = cell_at cells at in AreLinked new (headed row_heads cell.left cell.row cell.right) (headed column_heads cell.above cell.column cell.below) (Some at)
   pub long : length new ≡ length cells
-  pub values : let cell = cell_at cells at in (r c : ℕ) → value_in new r c ≡ (value_in cells r c -ℤ placed cell.row cell.column cell.value r c)
+  pub values : let cell = cell_at cells at in (r c : ℕ) → value_in new r c ≡ (value_in cells r c -ℤ only_at_place cell.row cell.column cell.value r c)
   pub kept : (k : ℕ) → IsLive cells k → k ≢ at → Stays cells new k
 
 -- a live cell isn't in the chain of free ones
@@ -129,7 +129,7 @@ cut_done cells row_heads column_heads free at s1 s2 new l live one two free_ =
       values = λ r c.
           let same = value_same s2 cells rows.long rows.line rows.place rows.value r c in
           let shown_ : shown (cell_at s2 at) r c ≡ shown cell r c =
-          ap (λ (m : ℕ). placed m (cell_at s2 at).column (cell_at s2 at).value r c) (rows.line at) ∙ ap (λ (m : ℕ). placed cell.row m (cell_at s2 at).value r c) (rows.place at) ∙ ap (λ (z : ℤ). placed cell.row cell.column z r c) (rows.value at) in
+          ap (λ (m : ℕ). only_at_place m (cell_at s2 at).column (cell_at s2 at).value r c) (rows.line at) ∙ ap (λ (m : ℕ). only_at_place cell.row m (cell_at s2 at).value r c) (rows.place at) ∙ ap (λ (z : ℤ). only_at_place cell.row cell.column z r c) (rows.value at) in
           omega (arith, ints, free_.shows r c, same, shown_);
       linked = record {
         rows = removal_keeps across;
@@ -188,7 +188,7 @@ pub record Valued (cells : List Cell) (at : ℕ) (value : ℤ) (new : List Cell)
   pub below : (k : ℕ) → (cell_at new k).below ≡ (cell_at cells k).below
 
 field_kept : {A : Type 0} (g : Cell → A) (cells : List Cell) (at : ℕ) (value : ℤ) → at < length cells → ((c : Cell) → g (with_value value c) ≡ g c) → (k : ℕ) → g (cell_at (set cells at (with_value value (cell_at cells at))) k) ≡ g (cell_at cells k)
-field_kept g cells at value inside same k = elim (is_or_not k at) [
+field_kept g cells at value inside same k = elim (equal_or_not k at) [
   | inl e ↦
       let at_ = get_or-set_same cells at (with_value value (cell_at cells at)) no_cell inside in
       ap (λ (q : ℕ). g (cell_at (set cells at (with_value value (cell_at cells at))) q)) e ∙ ap g at_ ∙ same (cell_at cells at) ∙ ap (λ (q : ℕ). g (cell_at cells q)) (sym e)
@@ -248,10 +248,10 @@ chained_same way cells heads new back_ on lines places befores afters c = record
 
 pub record SetDone (cells : List Cell) (row_heads column_heads : List (Option ℕ)) (free : Option ℕ) (at : ℕ) (value : ℤ) (new : List Cell) : Type 0 where
   pub linked : AreLinked new row_heads column_heads free
-  pub values : let cell = cell_at cells at in (r c : ℕ) → value_in new r c ≡ (value_in cells r c +ℤ placed cell.row cell.column (value -ℤ cell.value) r c)
+  pub values : let cell = cell_at cells at in (r c : ℕ) → value_in new r c ≡ (value_in cells r c +ℤ only_at_place cell.row cell.column (value -ℤ cell.value) r c)
   pub kept : (k : ℕ) → IsLive cells k → Stays cells new k
 
-placed_difference : (row column : ℕ) (a b : ℤ) (r c : ℕ) → placed row column (a -ℤ b) r c ≡ placed row column a r c -ℤ placed row column b r c
+placed_difference : (row column : ℕ) (a b : ℤ) (r c : ℕ) → only_at_place row column (a -ℤ b) r c ≡ only_at_place row column a r c -ℤ only_at_place row column b r c
 placed_difference row column a b r c = elim (at_or_not row column r c) [
   | inl e ↦ omega (arith, ints, placed_here row column (a -ℤ b) r c e.0 e.1, placed_here row column a r c e.0 e.1, placed_here row column b r c e.0 e.1)
   | inr ne ↦ omega (arith, ints, placed_elsewhere row column (a -ℤ b) r c ne, placed_elsewhere row column a r c ne, placed_elsewhere row column b r c ne)
@@ -264,11 +264,11 @@ set_keeps cells row_heads column_heads free at value l live not_zero fits =
     let v = valued_facts cells at value live.inside in
     let long = v.long in
     let f = l.free in
-    let back_ : (k : ℕ) → IsLive new k → IsLive cells k = λ k m. elim (is_or_not k at) [
+    let back_ : (k : ℕ) → IsLive new k → IsLive cells k = λ k m. elim (equal_or_not k at) [
       | inl e ↦ subst (λ (q : ℕ). IsLive cells q) (sym e) live
       | inr ne ↦ record { inside = let a = m.inside in omega arith; value = λ e. m.value (ap (λ (c : Cell). c.value) (v.rest k ne) ∙ e) }
     ] in
-    let on : (k : ℕ) → IsLive cells k → IsLive new k = λ k m. elim (is_or_not k at) [
+    let on : (k : ℕ) → IsLive cells k → IsLive new k = λ k m. elim (equal_or_not k at) [
       | inl e ↦ record { inside = let a = m.inside in omega arith; value = λ z. not_zero (sym v.here ∙ ap (λ (q : ℕ). (cell_at new q).value) (sym e) ∙ z) }
       | inr ne ↦ record { inside = let a = m.inside in omega arith; value = λ e. m.value (sym (ap (λ (c : Cell). c.value) (v.rest k ne)) ∙ e) }
     ] in
@@ -280,12 +280,12 @@ set_keeps cells row_heads column_heads free at value l live not_zero fits =
         free = record {
           visited = f.visited;
           visits = visits_kept cells new free f.visited at f.visits (not_visited cells free f.visited at f.visits live) (omega arith) (λ k ne dead. (ap (λ (c : Cell). c.value) (v.rest k ne) ∙ dead, v.right k));
-          all = λ i inside out e. elim (is_or_not i at) [
+          all = λ i inside out e. elim (equal_or_not i at) [
             | inl x ↦ not_zero (sym v.here ∙ ap (λ (q : ℕ). (cell_at new q).value) (sym x) ∙ e)
             | inr ne ↦ f.all i (omega arith) out (sym (ap (λ (c : Cell). c.value) (v.rest i ne)) ∙ e)
           ];
         };
-        fits = λ i m. elim (is_or_not i at) [
+        fits = λ i m. elim (equal_or_not i at) [
           | inl x ↦ subst InRange (sym (ap (λ (q : ℕ). (cell_at new q).value) x ∙ v.here)) fits
           | inr ne ↦ subst InRange (sym (ap (λ (c : Cell). c.value) (v.rest i ne))) (l.fits i (back_ i m))
         ];
@@ -298,7 +298,7 @@ set_keeps cells row_heads column_heads free at value l live not_zero fits =
 pub record CutFrom (cells : List Cell) (row_heads column_heads : List (Option ℕ)) (at : ℕ) (new : List Cell) (rows columns : List (Option ℕ)) (head : Option ℕ) : Type 0 where
   pub linked : AreLinked new rows columns head
   pub long : length new ≡ length cells
-  pub values : let cell = cell_at cells at in (r c : ℕ) → value_in new r c ≡ (value_in cells r c -ℤ placed cell.row cell.column cell.value r c)
+  pub values : let cell = cell_at cells at in (r c : ℕ) → value_in new r c ≡ (value_in cells r c -ℤ only_at_place cell.row cell.column cell.value r c)
   pub kept : (k : ℕ) → IsLive cells k → k ≢ at → Stays cells new k
   pub rows_long : length rows ≡ length row_heads
   pub columns_long : length columns ≡ length column_heads

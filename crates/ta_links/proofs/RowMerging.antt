@@ -4,27 +4,27 @@ use Rattle.std.specs.Prelude.{unsigned_abs, int_div}
 use Rattle.std.specs.List.{range_with_len}
 use Rattle.std.proofs.lemmas.List.{ext_get_or, length-set, length-map, get_or-map, get_or-set_same, get_or-set_other, map-append}
 use Rattle.std.proofs.lemmas.List.FromFn.{length-range_with_len, get_or-range_with_len}
+use Rattle.ta_base.proofs.Integers.{product_positive}
+use Rattle.ta_base.proofs.Lists.{range_more}
+use Rattle.ta_base.proofs.Naturals.{equal_or_not}
 use Rattle.ta_linear.specs.Gcd.{gcd_of}
 use Rattle.ta_linear.specs.Numbers.{InRange}
 use Rattle.ta_dense.specs.Tableau.{combine, gcd_with, cell_of, merged, merged_by, divisor_of, divided, reduced, factor_divisor}
 use Rattle.ta_dense.specs.Merge.{CombinesInRange, MergesByInRange, MergesInRange, IsProper}
 use Rattle.ta_dense.proofs.PivotLaws.{get_or-combine, length-combine}
 use Rattle.ta_dense.proofs.RowFacts.{record_same}
-use Rattle.ta_dense.proofs.SlackRows.{range_more}
 use Rattle.ta_dense.proofs.ProperFacts.{Factored, factored, merged_from, IsProper-merged}
 use Rattle.ta_dense.proofs.ReduceFacts.{divisor_positive}
-use Rattle.ta_dense.proofs.MergedRow.{product_positive}
 use Rattle.std.proofs.lemmas.List.Elements.{All-map}
 use Rattle.ta_links.specs.Free.{AreLinked}
 use Rattle.ta_links.proofs.Cells.{look, value_found, value_none}
 use Rattle.ta_links.specs.declared.cell.Cell.{Cell}
 use Rattle.ta_links.specs.declared.row_head.RowHead.{RowHead}
-use Rattle.ta_links.specs.Values.{value_in, row_values, filled}
+use Rattle.ta_links.specs.Values.{value_in, row_values, filled_places}
 use Rattle.ta_links.specs.Linked.{table_row, IsProperHead, AreProperHeads, no_head}
 use Rattle.ta_links.specs.Merging.{merged_cell, MergesAt, RefusedAt, gcd_below, HeadsMerge, MergedHead, RowMerged}
 use Rattle.ta_links.specs.declared.linked_cells.LinkedCells.{LinkedCells}
 use Rattle.ta_links.specs.Gaps.{AreSound}
-use Rattle.ta_links.proofs.Options.{is_or_not}
 use Rattle.ta_links.proofs.LinkedFacts.{row_value_at}
 use Rattle.ta_links.proofs.MergeSteps.{merged_here, merged_elsewhere}
 
@@ -48,7 +48,7 @@ merged_list p q column turned cells n row at inside =
     ext_get_or (pos 0) (set both column turned) (map F (range_with_len 0 n)) (omega arith) (λ j b.
     let below : j < n = omega arith in
     let right : get_or (map F (range_with_len 0 n)) j (pos 0) ≡ F j = get_or-map F (range_with_len 0 n) j 0 (pos 0) (omega arith) ∙ ap F (get_or-range_with_len 0 n j 0 below ∙ omega arith) in
-    elim (is_or_not j column) [
+    elim (equal_or_not j column) [
       | inl e ↦ ap (λ (k : ℕ). get_or (set both column turned) k (pos 0)) e ∙ get_or-set_same both column turned (pos 0) (omega arith) ∙ sym (merged_here p q column turned (value_in cells at) (value_in cells row) j e) ∙ sym right
       | inr ne ↦
           get_or-set_other both column j turned (pos 0) ne ∙ get_or-combine p q xs cs j (lx ∙ sym lc) ∙ ap (λ (z : ℤ). p *ℤ z -ℤ q *ℤ get_or cs j (pos 0)) (row_value_at cells n at j below)
@@ -209,7 +209,7 @@ pub row_done : (columns row at column : ℕ) (hs hs' : List RowHead) (old new : 
     chosen ≡ get_or hs row no_head → head ≡ get_or hs at no_head → Begun old.cells.items columns row at column p q c a → pos 0 <ℤ value_in old.cells.items row column → HeadsMerge p q head chosen →
     ((j : ℕ) → j < columns → MergesAt p q column (value_in old.cells.items at) (value_in old.cells.items row) j) → RowWritten old.cells.items new.cells.items columns row at column p q head chosen g →
     hs' ≡ set hs at nh → nh ≡ new_head p q head chosen g → AreSound new → length new.row_heads.items ≡ length old.row_heads.items → length new.column_heads.items ≡ length old.column_heads.items →
-    ((r c : ℕ) → r ≢ at → value_in new.cells.items r c ≡ value_in old.cells.items r c) → length new.cells.items ≤ length old.cells.items + filled columns (value_in old.cells.items at) (value_in new.cells.items at) →
+    ((r c : ℕ) → r ≢ at → value_in new.cells.items r c ≡ value_in old.cells.items r c) → length new.cells.items ≤ length old.cells.items + filled_places columns (value_in old.cells.items at) (value_in new.cells.items at) →
     RowMerged columns row at column hs old hs' new
 row_done columns row at column hs hs' old new p q c a head chosen nh g sound proper inside_row inside_at ec eh b above hm all w set_ is sound' rl cl others held =
     let cells = old.cells.items in
@@ -225,7 +225,7 @@ row_done columns row at column hs hs' old new p q c a head chosen nh g sound pro
       row_heads = rl;
       column_heads = cl;
       long = long;
-      proper = λ i below. elim (is_or_not i at) [
+      proper = λ i below. elim (equal_or_not i at) [
         | inl e ↦ subst IsProperHead (sym (ap (λ (k : ℕ). get_or hs' k no_head) e ∙ here)) np
         | inr ne ↦ subst IsProperHead (sym (elsewhere i ne)) (proper i (omega arith))
       ];

@@ -1,12 +1,12 @@
 -- What splicing leaves and writes of each cell
 use Rattle.std.proofs.Common.{◌≡◌, ◌≢◌, inl, inr, ℕ, ◌<◌, List, length, set, arith, sym, ap, ◌∙◌, refl, subst, Option, Some, None}
 use Rattle.std.proofs.lemmas.List.{get_or-set_same, get_or-set_other, length-set}
+use Rattle.ta_base.proofs.Naturals.{equal_or_not}
 use Rattle.ta_links.specs.declared.cell.Cell.{Cell}
 use Rattle.ta_links.specs.declared.way.Way.{Way}
 use Rattle.ta_links.specs.declared.way.Way.TheVariants.{Rows, Columns}
 use Rattle.ta_links.specs.Chains.{no_cell, cell_at, line_at, place_at, before_at, after_at, Direction, along_rows, along_columns}
 use Rattle.ta_links.specs.Links.{direction, with_after, with_before, linked, spliced}
-use Rattle.ta_links.proofs.Options.{is_or_not}
 
 abbrev pub other : Way → Way
 other Rows = Columns
@@ -28,7 +28,7 @@ linked_length write cells (Some j) to = length-set cells j (write to (cell_at ce
 
 linked_keeps : {A : Type 0} (g : Cell → A) (write : Option ℕ → Cell → Cell) (cells : List Cell) (at to : Option ℕ) → ((c : Cell) → g (write to c) ≡ g c) → ((j : ℕ) → at ≡ Some j → j < length cells) → (k : ℕ) → g (cell_at (linked write cells at to) k) ≡ g (cell_at cells k)
 linked_keeps g write cells None to same inside k = refl
-linked_keeps g write cells (Some j) to same inside k = elim (is_or_not j k) [
+linked_keeps g write cells (Some j) to same inside k = elim (equal_or_not j k) [
   | inl e ↦
       let some : Some j ≡ Some k = ap (λ (m : ℕ). Some m) e in
       ap g (linked_hit write cells (Some j) to k some (inside k some)) ∙ same (cell_at cells k)

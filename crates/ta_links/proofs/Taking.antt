@@ -1,12 +1,12 @@
 -- A cell that is taken, and one that is freed
-use Rattle.std.proofs.Common.{◌≡◌, ◌≢◌, ◌⊎◌, inl, inr, ℕ, ℤ, pos, ◌+ℤ◌, ◌<◌, ◌≤◌, ◌+◌, List, [], ◌∷◌, ◌++◌, length, set, arith, sym, ap, ◌∙◌, refl, subst, Option, Some, None}
+use Rattle.std.proofs.Common.{◌≡◌, ◌≢◌, inl, inr, ℕ, ℤ, pos, ◌+ℤ◌, ◌<◌, ◌≤◌, ◌+◌, List, [], ◌∷◌, ◌++◌, length, set, arith, sym, ap, ◌∙◌, refl, subst, Option, Some, None}
 use Rattle.std.proofs.lemmas.Int.{ints}
 use Rattle.std.proofs.lemmas.Bool.{cases_lt}
 use Rattle.std.proofs.lemmas.List.{get_or-set_same, get_or-set_other, length-set, length-append, get_or_append_left, get_or_at, get_or_past}
 use Rattle.ta_links.specs.declared.cell.Cell.{Cell}
 use Rattle.ta_links.specs.Chains.{no_cell, cell_at, IsLive}
 use Rattle.ta_links.specs.Free.{NotIn, FreeVisits, IsFree}
-use Rattle.ta_links.specs.Values.{placed, shown, value_in}
+use Rattle.ta_links.specs.Values.{only_at_place, shown, value_in}
 use Rattle.ta_links.specs.Links.{taken, taken_at, next_free}
 use Rattle.ta_links.proofs.Cells.{value_set, value_push, placed_zero}
 
@@ -25,11 +25,8 @@ pub record Taken (cells : List Cell) (free : Option ℕ) (cell : Cell) (at : ℕ
   pub without : NotIn at left
   pub all : (i : ℕ) → i < length cells → i ≢ at → NotIn i left → (cell_at cells i).value ≢ pos 0
 
-below_or : (k n : ℕ) → (k < n) ⊎ (n ≤ k)
-below_or k n = cases_lt k n
-
 at_end : (cells : List Cell) (cell : Cell) (k : ℕ) → k ≢ length cells → cell_at (cells ++ cell ∷ []) k ≡ cell_at cells k
-at_end cells cell k ne = elim (below_or k (length cells)) [
+at_end cells cell k ne = elim (cases_lt k (length cells)) [
   | inl h ↦ get_or_append_left cells (cell ∷ []) no_cell k h
   | inr h ↦
       let long = length-append cells (cell ∷ []) in
@@ -77,7 +74,7 @@ taken_free cells a cell (i ∷ is) visits all =
       only = λ k h ne. omega arith;
       dead = λ k live e. live.value (ap (λ (m : ℕ). (cell_at cells m).value) e ∙ dead);
       shows = λ r c.
-          let old : shown (cell_at cells a) r c ≡ pos 0 = ap (λ (z : ℤ). placed (cell_at cells a).row (cell_at cells a).column z r c) dead ∙ placed_zero (cell_at cells a).row (cell_at cells a).column r c in
+          let old : shown (cell_at cells a) r c ≡ pos 0 = ap (λ (z : ℤ). only_at_place (cell_at cells a).row (cell_at cells a).column z r c) dead ∙ placed_zero (cell_at cells a).row (cell_at cells a).column r c in
           let now = value_set cells a cell r c (omega arith) in
           omega (arith, ints, old, now);
       left = is;

@@ -1,35 +1,24 @@
 -- The chosen row after a pivot
-use Rattle.std.proofs.Common.{◌≡◌, ◌≢◌, inl, inr, ℕ, ℤ, pos, negsuc, neg_ℤ, ◌+◌, ◌*ℤ◌, ◌-ℤ◌, ◌<ℤ◌, ◌<◌, ◌≤◌, List, length, map, set, get_or, arith, sym, ap, ◌∙◌, subst}
+use Rattle.std.proofs.Common.{◌≡◌, ◌≢◌, inl, inr, ℕ, ℤ, pos, negsuc, neg_ℤ, ◌+◌, ◌<ℤ◌, ◌<◌, ◌≤◌, List, length, map, set, get_or, arith, sym, ap, ◌∙◌, subst}
 use Rattle.std.specs.Prelude.{int_div}
-use Rattle.std.proofs.lemmas.Int.{ints}
 use Rattle.std.proofs.lemmas.List.{ext_get_or, length-set, length-map, get_or-map, get_or-set_same, get_or-set_other}
+use Rattle.ta_base.proofs.Integers.{div-one, minus_one_negates, negated, no_times, unsigned_abs-neg}
+use Rattle.ta_base.proofs.Naturals.{equal_or_not}
 use Rattle.ta_linear.specs.Numbers.{InRange}
 use Rattle.ta_dense.specs.Tableau.{turned}
 use Rattle.ta_dense.specs.Merge.{IsProper}
-use Rattle.ta_dense.proofs.Divide.{unsigned_abs-neg}
-use Rattle.ta_dense.proofs.ReduceFacts.{div-one}
 use Rattle.ta_dense.proofs.RowFacts.{record_same}
 use Rattle.ta_dense.proofs.ProperFacts.{IsProper-turned}
 use Rattle.ta_links.specs.declared.cell.Cell.{Cell}
 use Rattle.ta_links.specs.declared.row_head.RowHead.{RowHead}
 use Rattle.ta_links.specs.declared.linked_cells.LinkedCells.{LinkedCells}
-use Rattle.ta_links.specs.Values.{value_in, row_values, filled}
+use Rattle.ta_links.specs.Values.{value_in, row_values, filled_places}
 use Rattle.ta_links.specs.Gaps.{AreSound}
 use Rattle.ta_links.specs.Linked.{table_row, no_head, IsProperHead, AreProperHeads}
 use Rattle.ta_links.specs.Merging.{merged_cell, MergesAt, RowTurned}
-use Rattle.ta_links.proofs.Options.{is_or_not}
 use Rattle.ta_links.proofs.LinkedFacts.{row_value_at}
 use Rattle.ta_links.proofs.MergeSteps.{merged_here, merged_elsewhere}
 use Rattle.ta_links.proofs.RowMerging.{numbers_long, value_fits, table_proper}
-
-negated : (z : ℤ) → (negsuc 0 *ℤ z -ℤ pos 0 *ℤ z) ≡ neg_ℤ z
-negated z = omega (arith, ints)
-
-minus_one : (z : ℤ) → (negsuc 0 *ℤ z) ≡ neg_ℤ z
-minus_one z = omega (arith, ints)
-
-no_times : (z : ℤ) → (pos 0 *ℤ z) ≡ pos 0
-no_times z = omega (arith, ints)
 
 pub turns_within : (l : LinkedCells) (row column : ℕ) → AreSound l → (j : ℕ) → MergesAt (negsuc 0) (pos 0) column (value_in l.cells.items row) (value_in l.cells.items row) j
 turns_within l row column sound j ne =
@@ -37,7 +26,7 @@ turns_within l row column sound j ne =
     let fits = value_fits l.cells.items l.row_heads.items l.column_heads.items l.free_head row j sound in
     let neg : InRange (neg_ℤ z) = rw (unsigned_abs-neg z) fits in
     record {
-      left = subst InRange (sym (minus_one z)) neg;
+      left = subst InRange (sym (minus_one_negates z)) neg;
       right = subst InRange (sym (no_times z)) (omega arith);
       difference = subst InRange (sym (negated z)) neg;
     }
@@ -54,7 +43,7 @@ turned_cells cells new n row column den inside values =
     ext_get_or (pos 0) (row_values new n row) (set (map neg_ℤ xs) column den) (omega arith) (λ j b.
     let below : j < n = omega arith in
     let is = row_value_at new n row j below ∙ values j below ∙ div-one (merged_cell (negsuc 0) (pos 0) column den f f j) in
-    elim (is_or_not j column) [
+    elim (equal_or_not j column) [
       | inl e ↦ is ∙ merged_here (negsuc 0) (pos 0) column den f f j e ∙ sym (ap (λ (k : ℕ). get_or (set (map neg_ℤ xs) column den) k (pos 0)) e ∙ get_or-set_same (map neg_ℤ xs) column den (pos 0) (omega arith))
       | inr ne ↦ is ∙ merged_elsewhere (negsuc 0) (pos 0) column den f f j ne ∙ negated (f j) ∙ sym (get_or-set_other (map neg_ℤ xs) column j den (pos 0) ne ∙ get_or-map neg_ℤ xs j (pos 0) (pos 0) (omega arith) ∙ ap neg_ℤ (row_value_at cells n row j below))
     ])
@@ -62,7 +51,7 @@ turned_cells cells new n row column den inside values =
 pub turn_done : (n row column entering : ℕ) (hs hs' : List RowHead) (old new : LinkedCells) (head nh : RowHead) (c : ℤ) → AreSound old → AreProperHeads hs → row < length hs → column < n → pos 0 <ℤ value_in old.cells.items row column → head ≡ get_or hs row no_head →
     c ≡ value_in old.cells.items row column → ((j : ℕ) → j < n → value_in new.cells.items row j ≡ int_div (merged_cell (negsuc 0) (pos 0) column head.denominator (value_in old.cells.items row) (value_in old.cells.items row) j) (pos 1)) →
     hs' ≡ set hs row nh → nh ≡ record { basic = entering; denominator = c; constant = neg_ℤ head.constant } → AreSound new → length new.row_heads.items ≡ length old.row_heads.items → length new.column_heads.items ≡ length old.column_heads.items →
-    ((r k : ℕ) → r ≢ row → value_in new.cells.items r k ≡ value_in old.cells.items r k) → length new.cells.items ≤ length old.cells.items + filled n (value_in old.cells.items row) (value_in new.cells.items row) → RowTurned n row column entering hs old hs' new
+    ((r k : ℕ) → r ≢ row → value_in new.cells.items r k ≡ value_in old.cells.items r k) → length new.cells.items ≤ length old.cells.items + filled_places n (value_in old.cells.items row) (value_in new.cells.items row) → RowTurned n row column entering hs old hs' new
 turn_done n row column entering hs hs' old new head nh c sound proper inside_row inside positive eh ec values set_ is sound' rl cl others held =
     let cells = old.cells.items in
     let here : get_or hs' row no_head ≡ nh = ap (λ (xs : List RowHead). get_or xs row no_head) set_ ∙ get_or-set_same hs row nh no_head inside_row in
@@ -81,7 +70,7 @@ turn_done n row column entering hs hs' old new head nh c sound proper inside_row
       row_heads = rl;
       column_heads = cl;
       long = long;
-      proper = λ i below. elim (is_or_not i row) [
+      proper = λ i below. elim (equal_or_not i row) [
         | inl e ↦ subst IsProperHead (sym (ap (λ (k : ℕ). get_or hs' k no_head) e ∙ here)) nhp
         | inr ne ↦ subst IsProperHead (sym (elsewhere i ne)) (proper i (omega arith))
       ];

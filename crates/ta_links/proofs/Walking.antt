@@ -5,19 +5,19 @@ use Rattle.ta_links.specs.declared.way.Way.{Way}
 use Rattle.ta_links.specs.declared.way.Way.TheVariants.{Rows, Columns}
 use Rattle.ta_links.specs.Chains.{cell_at, IsLive, line_at, place_at, IsChained}
 use Rattle.ta_links.specs.Links.{direction, following}
-use Rattle.ta_links.specs.Lines.{number_at, IsOn, MayBeOn, IsNext, NoneLeft}
+use Rattle.ta_links.specs.Lines.{line_value_at, IsOn, MayBeOn, IsNext, NoneLeft}
 use Rattle.ta_links.specs.declared.linked_cells.LinkedCells.{LinkedCells}
 use Rattle.ta_links.specs.Gaps.{AreSound}
 use Rattle.ta_links.specs.Listing.{heads_of}
 use Rattle.ta_links.proofs.Cells.{value_none, value_found}
 
 -- the number at a place without a live cell, and with one
-number_none : (way : Way) (cells : List Cell) (line place : ℕ) → ((k : ℕ) → IsLive cells k → line_at (direction way) cells k ≡ line → place_at (direction way) cells k ≢ place) → number_at way cells line place ≡ pos 0
+number_none : (way : Way) (cells : List Cell) (line place : ℕ) → ((k : ℕ) → IsLive cells k → line_at (direction way) cells k ≡ line → place_at (direction way) cells k ≢ place) → line_value_at way cells line place ≡ pos 0
 number_none Rows cells line place none = value_none cells line place none
 number_none Columns cells line place none = value_none cells place line (λ k live e f. none k live f e)
 
 number_found : (way : Way) (cells : List Cell) (line : ℕ) (j : ℕ) → ((i k : ℕ) → IsLive cells i → IsLive cells k → (cell_at cells i).row ≡ (cell_at cells k).row → (cell_at cells i).column ≡ (cell_at cells k).column → i ≡ k) → IsOn way cells line j →
-    number_at way cells line (place_at (direction way) cells j) ≡ (cell_at cells j).value
+    line_value_at way cells line (place_at (direction way) cells j) ≡ (cell_at cells j).value
 number_found Rows cells line j one on = value_found cells j line (cell_at cells j).column on.live on.here refl (λ k live e f. one k j live on.live (e ∙ sym on.here) f)
 number_found Columns cells line j one on = value_found cells j (cell_at cells j).row line on.live refl on.here (λ k live e f. one k j live on.live e (f ∙ sym on.here))
 

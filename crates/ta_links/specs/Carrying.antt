@@ -28,7 +28,7 @@ abbrev pub IsEmpty : ℕ → LinkedCells → Type 0
 IsEmpty last links = (c : ℕ) → value_in links.cells.items last c ≡ pos 0
 
 -- or has the numbers of a kept pivot's chosen row
-pub record IsPlaced (last : ℕ) (k : KeptPivot) (heads : List RowHead) (links : LinkedCells) : Type 0 where
+pub record HasChosenNumbers (last : ℕ) (k : KeptPivot) (heads : List RowHead) (links : LinkedCells) : Type 0 where
   pub head : get_or heads last no_head ≡ record { basic = 0; denominator = k.denominator; constant = k.constant }
   pub numbers : (c : ℕ) → value_in links.cells.items last c ≡ get_or k.cells c (pos 0)
 

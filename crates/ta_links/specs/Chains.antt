@@ -45,14 +45,14 @@ abbrev pub after_at : Direction → List Cell → ℕ → Option ℕ
 after_at way cells i = way.after (cell_at cells i)
 
 -- cell i is the first live cell of a line
-pub record IsFirst (way : Direction) (cells : List Cell) (line i : ℕ) : Type 0 where
+pub record IsFirstCell (way : Direction) (cells : List Cell) (line i : ℕ) : Type 0 where
   pub live : IsLive cells i
   pub here : line_at way cells i ≡ line
   pub front : before_at way cells i ≡ None
   pub least : (k : ℕ) → IsLive cells k → line_at way cells k ≡ line → place_at way cells i ≤ place_at way cells k
 
 -- cell j is the next live cell of cell i's line, and leads back to it
-pub record Follows (way : Direction) (cells : List Cell) (i j : ℕ) : Type 0 where
+pub record FollowsCell (way : Direction) (cells : List Cell) (i j : ℕ) : Type 0 where
   pub live : IsLive cells j
   pub here : line_at way cells j ≡ line_at way cells i
   pub rises : place_at way cells i < place_at way cells j
@@ -63,8 +63,8 @@ pub record Follows (way : Direction) (cells : List Cell) (i j : ℕ) : Type 0 wh
 pub record IsChained (way : Direction) (cells : List Cell) (heads : List (Option ℕ)) : Type 0 where
   pub inside : (i : ℕ) → IsLive cells i → line_at way cells i < length heads
   pub empty : (line : ℕ) → head_at heads line ≡ None → (k : ℕ) → IsLive cells k → line_at way cells k ≢ line
-  pub first : (line i : ℕ) → head_at heads line ≡ Some i → IsFirst way cells line i
-  pub next : (i j : ℕ) → IsLive cells i → after_at way cells i ≡ Some j → Follows way cells i j
+  pub first : (line i : ℕ) → head_at heads line ≡ Some i → IsFirstCell way cells line i
+  pub next : (i j : ℕ) → IsLive cells i → after_at way cells i ≡ Some j → FollowsCell way cells i j
   pub last : (i : ℕ) → IsLive cells i → after_at way cells i ≡ None → (k : ℕ) → IsLive cells k → line_at way cells k ≡ line_at way cells i → place_at way cells k ≤ place_at way cells i
   pub begins : (i : ℕ) → IsLive cells i → before_at way cells i ≡ None → head_at heads (line_at way cells i) ≡ Some i
   pub back : (i h : ℕ) → IsLive cells i → before_at way cells i ≡ Some h → IsLive cells h × (after_at way cells h ≡ Some i)

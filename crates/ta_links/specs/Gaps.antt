@@ -7,13 +7,13 @@ use Rattle.ta_links.specs.Free.{AreLinked}
 use Rattle.ta_links.specs.Links.{following}
 
 -- nothing, or a live cell of the line before the place
-pub record IsBefore (way : Direction) (cells : List Cell) (line place h : ℕ) : Type 0 where
+pub record IsCellBefore (way : Direction) (cells : List Cell) (line place h : ℕ) : Type 0 where
   pub live : IsLive cells h
   pub here : line_at way cells h ≡ line
   pub low : place_at way cells h < place
 
 abbrev pub MayBefore : Direction → List Cell → ℕ → ℕ → Option ℕ → Type 0
-MayBefore way cells line place before = (h : ℕ) → before ≡ Some h → IsBefore way cells line place h
+MayBefore way cells line place before = (h : ℕ) → before ≡ Some h → IsCellBefore way cells line place h
 
 -- behind it no cell of the line stands before the place
 pub record IsSought (way : Direction) (cells : List Cell) (heads : List (Option ℕ)) (line place : ℕ) (before : Option ℕ) : Type 0 where
@@ -21,7 +21,7 @@ pub record IsSought (way : Direction) (cells : List Cell) (heads : List (Option 
   pub behind : (j : ℕ) → following way cells heads line before ≡ Some j → place ≤ place_at way cells j
 
 -- nor at the place
-pub record IsGap (way : Direction) (cells : List Cell) (heads : List (Option ℕ)) (line place : ℕ) (before : Option ℕ) : Type 0 where
+pub record IsEmptyPlace (way : Direction) (cells : List Cell) (heads : List (Option ℕ)) (line place : ℕ) (before : Option ℕ) : Type 0 where
   pub may : MayBefore way cells line place before
   pub behind : (j : ℕ) → following way cells heads line before ≡ Some j → place < place_at way cells j
 

@@ -6,11 +6,11 @@ use Rattle.ta_dense.specs.Slack.{coefficients}
 use Rattle.ta_links.specs.declared.kept.LinkedPivot.TheInside.{Inside}
 
 -- what the fields of a kept pivot mean
-abbrev pub pivot_view : Inside → KeptPivot
-pivot_view k = record { row = k.row; column = k.column; denominator = k.denominator; constant = k.chosen.constant; cells = coefficients k.columns k.chosen.terms }
+abbrev pub sparse_pivot_view : Inside → KeptPivot
+sparse_pivot_view k = record { row = k.row; column = k.column; denominator = k.denominator; constant = k.chosen.constant; cells = coefficients k.columns k.chosen.terms }
 
 -- what they keep
-pub record IsSoundPivot (k : Inside) : Type 0 where
+pub record IsSoundSparsePivot (k : Inside) : Type 0 where
   pub normal : IsNormal 0 k.columns k.chosen.terms
   pub positive : pos 0 <ℤ k.denominator
   pub fits : InRange k.denominator

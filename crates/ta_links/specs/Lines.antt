@@ -9,9 +9,9 @@ use Rattle.ta_links.specs.Links.{direction}
 use Rattle.ta_links.specs.Gaps.{spot}
 
 -- the number at a place of a line
-abbrev pub number_at : Way → List Cell → ℕ → ℕ → ℤ
-number_at Rows cells line place = value_in cells line place
-number_at Columns cells line place = value_in cells place line
+abbrev pub line_value_at : Way → List Cell → ℕ → ℕ → ℤ
+line_value_at Rows cells line place = value_in cells line place
+line_value_at Columns cells line place = value_in cells place line
 
 -- nothing, or a live cell of the line
 pub record IsOn (way : Way) (cells : List Cell) (l h : ℕ) : Type 0 where
@@ -25,9 +25,9 @@ MayBeOn way cells line before = (h : ℕ) → before ≡ Some h → IsOn way cel
 pub record IsNext (way : Way) (cells : List Cell) (l : ℕ) (before : Option ℕ) (j : ℕ) : Type 0 where
   pub on : IsOn way cells l j
   pub further : spot (direction way) cells before ≤ place_at (direction way) cells j
-  pub passed : (p : ℕ) → spot (direction way) cells before ≤ p → p < place_at (direction way) cells j → number_at way cells l p ≡ pos 0
-  pub value : number_at way cells l (place_at (direction way) cells j) ≡ (cell_at cells j).value
+  pub passed : (p : ℕ) → spot (direction way) cells before ≤ p → p < place_at (direction way) cells j → line_value_at way cells l p ≡ pos 0
+  pub value : line_value_at way cells l (place_at (direction way) cells j) ≡ (cell_at cells j).value
 
 -- no number of the line is left that isn't 0
 abbrev pub NoneLeft : Way → List Cell → ℕ → Option ℕ → Type 0
-NoneLeft way cells line before = (p : ℕ) → spot (direction way) cells before ≤ p → number_at way cells line p ≡ pos 0
+NoneLeft way cells line before = (p : ℕ) → spot (direction way) cells before ≤ p → line_value_at way cells line p ≡ pos 0

@@ -6,7 +6,7 @@ use Rattle.ta_dense.specs.Tableau.{TableauRow, merged, turned}
 use Rattle.ta_dense.specs.Merge.{CombinesInRange, MergesInRange}
 use Rattle.ta_links.specs.declared.row_head.RowHead.{RowHead}
 use Rattle.ta_links.specs.declared.linked_cells.LinkedCells.{LinkedCells}
-use Rattle.ta_links.specs.Values.{value_in, filled, filled_rows}
+use Rattle.ta_links.specs.Values.{value_in, filled_places, filled_rows}
 use Rattle.ta_links.specs.Gaps.{AreSound}
 use Rattle.ta_links.specs.Linked.{table_row, no_head, AreProperHeads}
 
@@ -57,7 +57,7 @@ pub record RowMerged (columns row at column : ℕ) (heads : List RowHead) (old :
   pub other_heads : (i : ℕ) → i ≢ at → get_or heads' i no_head ≡ get_or heads i no_head
   pub row_merged : row_in heads' new columns at ≡ merged column (row_in heads old columns row) (row_in heads old columns at)
   pub within : MergesInRange column (row_in heads old columns row) (row_in heads old columns at)
-  pub held : length new.cells.items ≤ length old.cells.items + filled columns (value_in old.cells.items at) (value_in new.cells.items at)
+  pub held : length new.cells.items ≤ length old.cells.items + filled_places columns (value_in old.cells.items at) (value_in new.cells.items at)
 
 -- the chosen row, and the rows before a first one, are spared
 abbrev pub IsSpared : ℕ → ℕ → ℕ → Type 0
@@ -74,10 +74,10 @@ pub record RowStepped (first columns row at column : ℕ) (heads : List RowHead)
   pub other_heads : (i : ℕ) → (i ≢ at) ⊎ IsSpared first row i → get_or heads' i no_head ≡ get_or heads i no_head
   pub row_merged : ¬ (IsSpared first row at) → row_in heads' new columns at ≡ merged column (row_in heads old columns row) (row_in heads old columns at)
   pub within : ¬ (IsSpared first row at) → MergesInRange column (row_in heads old columns row) (row_in heads old columns at)
-  pub held : length new.cells.items ≤ length old.cells.items + filled columns (value_in old.cells.items at) (value_in new.cells.items at)
+  pub held : length new.cells.items ≤ length old.cells.items + filled_places columns (value_in old.cells.items at) (value_in new.cells.items at)
 
 -- a row that isn't spared doesn't stay in range
-pub record StepRefused (first columns row at column : ℕ) (heads : List RowHead) (old : LinkedCells) : Type 0 where
+pub record MergeRefused (first columns row at column : ℕ) (heads : List RowHead) (old : LinkedCells) : Type 0 where
   pub apart : ¬ (IsSpared first row at)
   pub refused : ¬ (MergesInRange column (row_in heads old columns row) (row_in heads old columns at))
 
@@ -104,4 +104,4 @@ pub record RowTurned (columns row column entering : ℕ) (heads : List RowHead) 
   pub others : (r c : ℕ) → r ≢ row → value_in new.cells.items r c ≡ value_in old.cells.items r c
   pub other_heads : (i : ℕ) → i ≢ row → get_or heads' i no_head ≡ get_or heads i no_head
   pub row_turned : row_in heads' new columns row ≡ turned entering column (row_in heads old columns row)
-  pub held : length new.cells.items ≤ length old.cells.items + filled columns (value_in old.cells.items row) (value_in new.cells.items row)
+  pub held : length new.cells.items ≤ length old.cells.items + filled_places columns (value_in old.cells.items row) (value_in new.cells.items row)

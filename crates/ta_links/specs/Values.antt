@@ -4,12 +4,12 @@ use Rattle.std.specs.List.{range_with_len}
 use Rattle.ta_links.specs.declared.cell.Cell.{Cell}
 
 -- a number at one place, and 0 at each other
-abbrev pub placed : ℕ → ℕ → ℤ → ℕ → ℕ → ℤ
-placed row column value r c = if row == r && column == c then value else pos 0
+abbrev pub only_at_place : ℕ → ℕ → ℤ → ℕ → ℕ → ℤ
+only_at_place row column value r c = if row == r && column == c then value else pos 0
 
 -- what a cell puts into a row and a column
 abbrev pub shown : Cell → ℕ → ℕ → ℤ
-shown c row column = placed c.row c.column c.value row column
+shown c row column = only_at_place c.row c.column c.value row column
 
 -- the number in a row and a column: the sum of what the cells put there, of which one at most isn't 0
 abbrev pub value_in : List Cell → ℕ → ℕ → ℤ
@@ -33,11 +33,11 @@ fills (pos (suc m)) b = 0
 fills (negsuc m) b = 0
 
 -- how many of the first places of a row were 0 and aren't
-abbrev pub filled : ℕ → (ℕ → ℤ) → (ℕ → ℤ) → ℕ
-filled zero old new = 0
-filled (suc n) old new = filled n old new + fills (old n) (new n)
+abbrev pub filled_places : ℕ → (ℕ → ℤ) → (ℕ → ℤ) → ℕ
+filled_places zero old new = 0
+filled_places (suc n) old new = filled_places n old new + fills (old n) (new n)
 
 -- and of the first rows
 abbrev pub filled_rows : ℕ → ℕ → (ℕ → ℕ → ℤ) → (ℕ → ℕ → ℤ) → ℕ
 filled_rows zero columns old new = 0
-filled_rows (suc n) columns old new = filled_rows n columns old new + filled columns (old n) (new n)
+filled_rows (suc n) columns old new = filled_rows n columns old new + filled_places columns (old n) (new n)

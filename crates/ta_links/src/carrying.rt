@@ -4,7 +4,7 @@ ghost use Rattle.std.specs.Prelude.{◌≡◌, ◌≢◌, ◌+◌, ◌<◌, ◌^
 ghost use Rattle.ta_dense.specs.Kept.{IsKept};
 ghost use Rattle.ta_links.specs.Values.{value_in};
 ghost use Rattle.ta_links.specs.Gaps.{AreSound};
-ghost use Rattle.ta_links.specs.Carrying.{CarryRefused, IsEmpty, IsPlaced, IsRoom, OthersSame, RowsCarried};
+ghost use Rattle.ta_links.specs.Carrying.{CarryRefused, IsEmpty, HasChosenNumbers, IsRoom, OthersSame, RowsCarried};
 
 use crate::columns::write_columns;
 use crate::kept::LinkedPivot;
@@ -29,7 +29,7 @@ fn place_pivot(
     requires empty { IsEmpty last links.old }
     requires kept { IsKept columns kept.now }
     ensures room { IfOk result (λ _. IsRoom columns last heads.new.items links.new) }
-    ensures placed { IfOk result (λ _. IsPlaced last kept.now heads.new.items links.new) }
+    ensures placed { IfOk result (λ _. HasChosenNumbers last kept.now heads.new.items links.new) }
     ensures others { IfOk result (λ _. OthersSame last heads.old.items links.old heads.new.items links.new) }
 {
     let form = kept.form();

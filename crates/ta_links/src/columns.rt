@@ -2,7 +2,7 @@
 
 ghost use Rattle.std.specs.Prelude.{◌≡◌, ◌≢◌, ◌<◌, ◌≤◌, ◌+◌, ℕ, pos, length, None, IfOk};
 ghost use Rattle.ta_linear.specs.Terms.{IsNormal, coefficient};
-ghost use Rattle.ta_links.specs.Values.{value_in, filled};
+ghost use Rattle.ta_links.specs.Values.{value_in, filled_places};
 ghost use Rattle.ta_links.specs.Gaps.{AreSound};
 
 use crate::linked_cells::LinkedCells;
@@ -27,7 +27,7 @@ pub(crate) fn write_columns(
     ensures listed { IfOk result (λ _. (c : ℕ) → coefficient list.now c ≢ pos 0 → value_in links.new.cells.items row c ≡ coefficient form.now.terms c) }
     ensures rest { IfOk result (λ _. (c : ℕ) → coefficient list.now c ≡ pos 0 → value_in links.new.cells.items row c ≡ value_in links.old.cells.items row c) }
     ensures fresh { IfOk result (λ _. links.old.free_head ≡ None → ((c : ℕ) → value_in links.old.cells.items row c ≡ pos 0) → links.new.free_head ≡ None) }
-    ensures held { IfOk result (λ _. length links.new.cells.items ≤ length links.old.cells.items + filled (length links.old.column_heads.items) (value_in links.old.cells.items row) (value_in links.new.cells.items row)) }
+    ensures held { IfOk result (λ _. length links.new.cells.items ≤ length links.old.cells.items + filled_places (length links.old.column_heads.items) (value_in links.old.cells.items row) (value_in links.new.cells.items row)) }
 {
     let mut left = None;
     for (column, _) in list {

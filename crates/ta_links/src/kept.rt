@@ -7,7 +7,8 @@ ghost use Rattle.ta_links.specs.Linked.{IsProperHead};
 
 use crate::row_head::RowHead;
 use std::marker::Model;
-use ta_linear::{Form, List};
+use ta_base::List;
+use ta_linear::Form;
 
 /// A pivot of a dictionary of linked rows: its row and column, how many columns there were, and the
 /// chosen row as it was before it, by its numbers that aren't 0.
@@ -25,11 +26,11 @@ impl Model for LinkedPivot {
 
     ghost Value = { KeptPivot };
 
-    ghost use Rattle.ta_links.specs.KeptRows.{pivot_view, IsSoundPivot};
+    ghost use Rattle.ta_links.specs.KeptRows.{sparse_pivot_view, IsSoundSparsePivot};
 
-    ghost view = { pivot_view };
+    ghost view = { sparse_pivot_view };
 
-    ghost invariant = { IsSoundPivot };
+    ghost invariant = { IsSoundSparsePivot };
 }
 
 impl LinkedPivot {

@@ -37,11 +37,11 @@ impl Model for LinkedDictionary {
 
     ghost Value = { Linked };
 
-    ghost use Rattle.ta_links.specs.Inside.Fields.{linked_of, IsSound};
+    ghost use Rattle.ta_links.specs.Inside.Fields.{linked_of, IsSoundLinks};
 
     ghost view = { linked_of };
 
-    ghost invariant = { IsSound };
+    ghost invariant = { IsSoundLinks };
 }
 
 // 1 for a number that isn't 0.
@@ -196,6 +196,10 @@ impl Dictionary for LinkedDictionary {
             .len()
             .saturating_add(self.links.cells.len())
             .saturating_mul(112)
+    }
+
+    fn is_wide(&self) -> bool {
+        true
     }
 
     fn leaving(&self) -> Option<u32> {

@@ -3,8 +3,8 @@
 ghost use Rattle.std.specs.Prelude.{◌≡◌, ◌≢◌, ◌<◌, ◌≤◌, ◌+◌, ◌+ℤ◌, ◌-ℤ◌, ℕ, pos, length, Some, None, IfOk};
 ghost use Rattle.ta_linear.specs.Numbers.{InRange};
 ghost use Rattle.ta_links.specs.Chains.{IsLive, cell_at, along_rows, along_columns};
-ghost use Rattle.ta_links.specs.Values.{value_in, placed};
-ghost use Rattle.ta_links.specs.Gaps.{IsGap, AreSound, Stays};
+ghost use Rattle.ta_links.specs.Values.{value_in, only_at_place};
+ghost use Rattle.ta_links.specs.Gaps.{IsEmptyPlace, AreSound, Stays};
 ghost use Rattle.ta_links.specs.Links.{direction, following};
 
 use crate::cell::Cell;
@@ -52,14 +52,14 @@ pub(crate) fn insert(
     requires sound { AreSound links.old }
     requires row { row < length links.old.row_heads.items }
     requires column { column < length links.old.column_heads.items }
-    requires left { IsGap along_rows links.old.cells.items links.old.row_heads.items row column left }
-    requires above { IsGap along_columns links.old.cells.items links.old.column_heads.items column row above }
+    requires left { IsEmptyPlace along_rows links.old.cells.items links.old.row_heads.items row column left }
+    requires above { IsEmptyPlace along_columns links.old.cells.items links.old.column_heads.items column row above }
     requires value { value ≢ pos 0 }
     requires fits { InRange value }
     ensures sound { IfOk result (λ _. AreSound links.new) }
     ensures rows { IfOk result (λ _. length links.new.row_heads.items ≡ length links.old.row_heads.items) }
     ensures columns { IfOk result (λ _. length links.new.column_heads.items ≡ length links.old.column_heads.items) }
-    ensures values { IfOk result (λ _. (r c : ℕ) → value_in links.new.cells.items r c ≡ (value_in links.old.cells.items r c +ℤ placed row column value r c)) }
+    ensures values { IfOk result (λ _. (r c : ℕ) → value_in links.new.cells.items r c ≡ (value_in links.old.cells.items r c +ℤ only_at_place row column value r c)) }
     ensures kept { IfOk result (λ _. (k : ℕ) → IsLive links.old.cells.items k → Stays links.old.cells.items links.new.cells.items k) }
     ensures fresh { IfOk result (λ _. links.old.free_head ≡ None → links.new.free_head ≡ None) }
     ensures held { IfOk result (λ _. length links.new.cells.items ≤ length links.old.cells.items + 1) }
@@ -103,7 +103,7 @@ pub(crate) fn remove(links: &mut LinkedCells, at: usize)
     ensures sound { AreSound links.new }
     ensures rows { length links.new.row_heads.items ≡ length links.old.row_heads.items }
     ensures columns { length links.new.column_heads.items ≡ length links.old.column_heads.items }
-    ensures values { let cell = cell_at links.old.cells.items at in (r c : ℕ) → value_in links.new.cells.items r c ≡ (value_in links.old.cells.items r c -ℤ placed cell.row cell.column cell.value r c) }
+    ensures values { let cell = cell_at links.old.cells.items at in (r c : ℕ) → value_in links.new.cells.items r c ≡ (value_in links.old.cells.items r c -ℤ only_at_place cell.row cell.column cell.value r c) }
     ensures kept { (k : ℕ) → IsLive links.old.cells.items k → k ≢ at → Stays links.old.cells.items links.new.cells.items k }
     ensures held { length links.new.cells.items ≡ length links.old.cells.items }
 {
@@ -138,7 +138,7 @@ pub(crate) fn set_value(links: &mut LinkedCells, at: usize, value: i128)
     ensures sound { AreSound links.new }
     ensures rows { length links.new.row_heads.items ≡ length links.old.row_heads.items }
     ensures columns { length links.new.column_heads.items ≡ length links.old.column_heads.items }
-    ensures values { let cell = cell_at links.old.cells.items at in (r c : ℕ) → value_in links.new.cells.items r c ≡ (value_in links.old.cells.items r c +ℤ placed cell.row cell.column (value -ℤ cell.value) r c) }
+    ensures values { let cell = cell_at links.old.cells.items at in (r c : ℕ) → value_in links.new.cells.items r c ≡ (value_in links.old.cells.items r c +ℤ only_at_place cell.row cell.column (value -ℤ cell.value) r c) }
     ensures kept { (k : ℕ) → IsLive links.old.cells.items k → Stays links.old.cells.items links.new.cells.items k }
     ensures held { length links.new.cells.items ≡ length links.old.cells.items }
 {

@@ -5,7 +5,7 @@ ghost use Rattle.std.specs.Option.{SomeIff};
 ghost use Rattle.ta_linear.specs.Numbers.{InRange};
 ghost use Rattle.ta_dense.specs.Merge.{CombinesInRange};
 ghost use Rattle.ta_links.specs.Chains.{along_rows};
-ghost use Rattle.ta_links.specs.Values.{value_in, filled};
+ghost use Rattle.ta_links.specs.Values.{value_in, filled_places};
 ghost use Rattle.ta_links.specs.Gaps.{AreSound, IsSought, MayBefore};
 ghost use Rattle.ta_links.specs.Merging.{merged_cell, MergesAt, RefusedAt, gcd_below};
 
@@ -150,7 +150,7 @@ pub(crate) fn write_merged(
     ensures same_columns { IfOk result (λ _. length links.new.column_heads.items ≡ length links.old.column_heads.items) }
     ensures others { IfOk result (λ _. (r c : ℕ) → r ≢ at → value_in links.new.cells.items r c ≡ value_in links.old.cells.items r c) }
     ensures values { IfOk result (λ _. (j : ℕ) → j < columns → value_in links.new.cells.items at j ≡ int_div (merged_cell p q column turned (value_in links.old.cells.items at) (value_in links.old.cells.items row) j) divisor) }
-    ensures held { IfOk result (λ _. length links.new.cells.items ≤ length links.old.cells.items + filled columns (value_in links.old.cells.items at) (value_in links.new.cells.items at)) }
+    ensures held { IfOk result (λ _. length links.new.cells.items ≤ length links.old.cells.items + filled_places columns (value_in links.old.cells.items at) (value_in links.new.cells.items at)) }
 {
     let mut cursors = Cursors {
         at: None,

@@ -5,7 +5,7 @@ ghost use Rattle.ta_links.specs.Values.{value_in};
 ghost use Rattle.ta_links.specs.Gaps.{AreSound};
 ghost use Rattle.ta_links.specs.Linked.{AreProperHeads};
 ghost use Rattle.ta_links.specs.Listing.{Lists};
-ghost use Rattle.ta_links.specs.Merging.{MergedBelow, RowStepped, StepRefused};
+ghost use Rattle.ta_links.specs.Merging.{MergedBelow, RowStepped, MergeRefused};
 ghost use Rattle.ta_links.specs.MergingAll.{RefusedFirst};
 ghost use Rattle.ta_links.specs.declared.way.Way.TheVariants.{Columns};
 
@@ -35,7 +35,7 @@ fn merge_one(
     requires column { column < columns }
     requires positive { pos 0 <ℤ value_in links.old.cells.items row column }
     ensures done { IfOk result (λ b. b ≡ true → RowStepped first columns row at column heads.old.items links.old heads.new.items links.new) }
-    ensures refused { IfOk result (λ b. b ≡ false → StepRefused first columns row at column heads.old.items links.old) }
+    ensures refused { IfOk result (λ b. b ≡ false → MergeRefused first columns row at column heads.old.items links.old) }
 {
     if at < first {
         return Ok(true);

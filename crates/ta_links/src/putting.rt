@@ -4,7 +4,7 @@ ghost use Rattle.std.specs.Prelude.{◌≡◌, ◌<◌, ◌≤◌, ◌+◌, ℕ,
 ghost use Rattle.ta_linear.specs.Numbers.{InRange};
 ghost use Rattle.ta_links.specs.Chains.{along_rows};
 ghost use Rattle.ta_links.specs.Values.{value_in, written, fills};
-ghost use Rattle.ta_links.specs.Gaps.{IsGap, IsBefore, MayBefore, AreSound, IsAt};
+ghost use Rattle.ta_links.specs.Gaps.{IsEmptyPlace, IsCellBefore, MayBefore, AreSound, IsAt};
 
 use crate::linked_cells::{LinkedCells, insert, remove, set_value};
 use crate::seeking::{cell_at_place, seek};
@@ -20,7 +20,7 @@ fn rewrite(links: &mut LinkedCells, at: usize, row: u32, column: u32, value: i12
     ensures rows { length links.new.row_heads.items ≡ length links.old.row_heads.items }
     ensures columns { length links.new.column_heads.items ≡ length links.old.column_heads.items }
     ensures values { (r c : ℕ) → value_in links.new.cells.items r c ≡ written (value_in links.old.cells.items) row column value r c }
-    ensures kept { (r h : ℕ) → IsBefore along_rows links.old.cells.items r column h → IsBefore along_rows links.new.cells.items r column h }
+    ensures kept { (r h : ℕ) → IsCellBefore along_rows links.old.cells.items r column h → IsCellBefore along_rows links.new.cells.items r column h }
     ensures held { length links.new.cells.items ≡ length links.old.cells.items }
 {
     if value == 0 {
@@ -41,13 +41,13 @@ fn fill(
     requires sound { AreSound links.old }
     requires row { row < length links.old.row_heads.items }
     requires column { column < length links.old.column_heads.items }
-    requires left { IsGap along_rows links.old.cells.items links.old.row_heads.items row column left }
+    requires left { IsEmptyPlace along_rows links.old.cells.items links.old.row_heads.items row column left }
     requires fits { InRange value }
     ensures sound { IfOk result (λ _. AreSound links.new) }
     ensures rows { IfOk result (λ _. length links.new.row_heads.items ≡ length links.old.row_heads.items) }
     ensures columns { IfOk result (λ _. length links.new.column_heads.items ≡ length links.old.column_heads.items) }
     ensures values { IfOk result (λ _. (r c : ℕ) → value_in links.new.cells.items r c ≡ written (value_in links.old.cells.items) row column value r c) }
-    ensures kept { IfOk result (λ _. (r h : ℕ) → IsBefore along_rows links.old.cells.items r column h → IsBefore along_rows links.new.cells.items r column h) }
+    ensures kept { IfOk result (λ _. (r h : ℕ) → IsCellBefore along_rows links.old.cells.items r column h → IsCellBefore along_rows links.new.cells.items r column h) }
     ensures fresh { IfOk result (λ _. links.old.free_head ≡ None → links.new.free_head ≡ None) }
     ensures held { IfOk result (λ _. length links.new.cells.items ≤ length links.old.cells.items + fills (value_in links.old.cells.items row column) value) }
 {
@@ -84,7 +84,7 @@ pub(crate) fn put(
     ensures columns { IfOk result (λ _. length links.new.column_heads.items ≡ length links.old.column_heads.items) }
     ensures values { IfOk result (λ _. (r c : ℕ) → value_in links.new.cells.items r c ≡ written (value_in links.old.cells.items) row column value r c) }
     ensures before { IfOk result (λ o. MayBefore along_rows links.new.cells.items row column o) }
-    ensures kept { IfOk result (λ _. (r h : ℕ) → IsBefore along_rows links.old.cells.items r column h → IsBefore along_rows links.new.cells.items r column h) }
+    ensures kept { IfOk result (λ _. (r h : ℕ) → IsCellBefore along_rows links.old.cells.items r column h → IsCellBefore along_rows links.new.cells.items r column h) }
     ensures fresh { IfOk result (λ _. links.old.free_head ≡ None → value_in links.old.cells.items row column ≡ pos 0 → links.new.free_head ≡ None) }
     ensures held { IfOk result (λ _. length links.new.cells.items ≤ length links.old.cells.items + fills (value_in links.old.cells.items row column) value) }
 {

@@ -2,7 +2,7 @@
 
 ghost use Rattle.std.specs.Prelude.{◌≡◌, ◌<◌, ◌≤◌, ℕ, length, Some, IfSome, IfNone};
 ghost use Rattle.ta_links.specs.Chains.{IsChained, place_at, along_rows};
-ghost use Rattle.ta_links.specs.Gaps.{AreSound, IsGap, IsSought, IsBefore, MayBefore, IsAt, spot};
+ghost use Rattle.ta_links.specs.Gaps.{AreSound, IsEmptyPlace, IsSought, IsCellBefore, MayBefore, IsAt, spot};
 ghost use Rattle.ta_links.specs.Links.{direction, following};
 
 use crate::cell::Cell;
@@ -22,7 +22,7 @@ fn next_before(
     requires chained { IsChained (direction way) cells.now heads.now }
     requires line { line < length heads.now }
     requires before { MayBefore (direction way) cells.now line place before }
-    ensures found { IfSome result (IsBefore (direction way) cells.now line place) }
+    ensures found { IfSome result (IsCellBefore (direction way) cells.now line place) }
     ensures further { IfSome result (λ j. spot (direction way) cells.now before ≤ place_at (direction way) cells.now j) }
     ensures none { IfNone result (IsSought (direction way) cells.now heads.now line place before) }
 {
@@ -92,7 +92,7 @@ pub(crate) fn cell_at_place(
     requires row { row < length heads.now }
     requires left { IsSought along_rows cells.now heads.now row column left }
     ensures found { IfSome result (IsAt cells.now row column) }
-    ensures none { IfNone result (IsGap along_rows cells.now heads.now row column left) }
+    ensures none { IfNone result (IsEmptyPlace along_rows cells.now heads.now row column left) }
 {
     let next = cell_behind(Way::Rows, cells, heads, row, left)?;
     if cell_of(cells, next).column == column {

@@ -5,13 +5,15 @@ use Rattle.std.proofs.lemmas.Fmt.{decimal_digit}
 use Rattle.std.specs.Char.{is_ascii_digit}
 use Rattle.std.specs.List.{AllByRecursion}
 use Rattle.std.specs.Str.{bytes_eq}
-use Rattle.ta_syntax.specs.Kinds.{IsNameText, is_letter, is_word, mark_bytes}
+use Rattle.std.proofs.lemmas.Bool.{and_parts}
+use Rattle.ta_syntax.specs.Kinds.{IsNameText, mark_bytes}
+use Rattle.ta_base.specs.Bytes.{is_letter, is_word}
 use Rattle.ta_syntax.specs.declared.tokens.Mark.{Mark}
 use Rattle.ta_syntax.specs.declared.tokens.Mark.TheVariants as mark
 use Rattle.ta_syntax.specs.Grammar.{IsSum, Term, Terms}
 use Rattle.ta_syntax.specs.PlainSums.{sum_depth}
 use Rattle.ta_maker.specs.Family.{lone, name, numbered}
-use Rattle.ta_maker.specs.Made.{IsNumber}
+use Rattle.ta_maker.specs.Made.{IsFamilyNumber}
 
 ends_with_digit : List ℕ → Bool
 ends_with_digit [] = false
@@ -69,41 +71,21 @@ is_name : List ℕ → Bool
 is_name [] = false
 is_name (c ∷ cs) = is_letter c && (are_words (c ∷ cs) && no_mark (c ∷ cs))
 
-both : (a b : Bool) → (a && b) ≡ true → (a ≡ true) × (b ≡ true)
-both true b e = (refl, e)
-both false b e = absurd (cc)
-
 words : (text : List ℕ) → are_words text ≡ true → AllByRecursion (λ b. IsTrue (is_word b)) text
 unfolding are_words
 words [] e = tt
-words (c ∷ cs) e = let two = both (is_word c) (are_words cs) e in (two.0, words cs two.1)
+words (c ∷ cs) e = let two = and_parts (is_word c) (are_words cs) e in (two.0, words cs two.1)
 
 named : (text : List ℕ) → is_name text ≡ true → IsNameText text
 unfolding is_name
 named [] e = absurd (cc)
 named (c ∷ cs) e =
-    let letter = both (is_letter c) (are_words (c ∷ cs) && no_mark (c ∷ cs)) e in
-    let rest = both (are_words (c ∷ cs)) (no_mark (c ∷ cs)) letter.1 in
+    let letter = and_parts (is_letter c) (are_words (c ∷ cs) && no_mark (c ∷ cs)) e in
+    let rest = and_parts (are_words (c ∷ cs)) (no_mark (c ∷ cs)) letter.1 in
     record { first = letter.0; each = words (c ∷ cs) rest.0; free = free (c ∷ cs) rest.1 }
 
-pub name_a : IsNameText (codes "A")
-unfolding is_name are_words no_mark ends_with_digit
-name_a = named (codes "A") refl
-
-pub name_b : IsNameText (codes "B")
-unfolding is_name are_words no_mark ends_with_digit
-name_b = named (codes "B") refl
-
-pub name_n : IsNameText (codes "n")
-unfolding is_name are_words no_mark ends_with_digit
-name_n = named (codes "n") refl
-
-pub name_lost : IsNameText (codes "lost")
-unfolding is_name are_words no_mark ends_with_digit
-name_lost = named (codes "lost") refl
-
 -- a fact of each number of the family
-of_each : (P : ℕ → Type 0) → P 1 → P 2 → P 3 → P 4 → P 5 → P 6 → P 7 → (k : ℕ) → IsNumber k → P k
+of_each : (P : ℕ → Type 0) → P 1 → P 2 → P 3 → P 4 → P 5 → P 6 → P 7 → (k : ℕ) → IsFamilyNumber k → P k
 of_each P a b c d e f g zero is = let low = is.low in absurd (omega (arith, low))
 of_each P a b c d e f g (suc zero) is = a
 of_each P a b c d e f g (suc (suc zero)) is = b
@@ -115,25 +97,25 @@ of_each P a b c d e f g (suc (suc (suc (suc (suc (suc (suc zero))))))) is = g
 of_each P a b c d e f g (suc (suc (suc (suc (suc (suc (suc (suc k)))))))) is = let high = is.high in absurd (omega (arith, high))
 
 -- a name with a digit behind it
-with_digit : (front : List ℕ) (k : ℕ) → IsNumber k → is_name (front ++ (48 + k) ∷ []) ≡ true → IsNameText (numbered front k)
+with_digit : (front : List ℕ) (k : ℕ) → IsFamilyNumber k → is_name (front ++ (48 + k) ∷ []) ≡ true → IsNameText (numbered front k)
 with_digit front k is e =
     let high = is.high in
     let small : k < 10 = omega (arith, high) in
     subst (λ (ds : List ℕ). IsNameText (front ++ ds)) (sym (decimal_digit k small)) (named (front ++ (48 + k) ∷ []) e)
 
-pub name_x : (k : ℕ) → IsNumber k → IsNameText (numbered (codes "x") k)
+pub name_x : (k : ℕ) → IsFamilyNumber k → IsNameText (numbered (codes "x") k)
 unfolding is_name are_words no_mark ends_with_digit
 name_x k is = with_digit (codes "x") k is (of_each (λ j. is_name (codes "x" ++ (48 + j) ∷ []) ≡ true) refl refl refl refl refl refl refl k is)
 
-pub name_s : (k : ℕ) → IsNumber k → IsNameText (numbered (codes "s") k)
+pub name_s : (k : ℕ) → IsFamilyNumber k → IsNameText (numbered (codes "s") k)
 unfolding is_name are_words no_mark ends_with_digit
 name_s k is = with_digit (codes "s") k is (of_each (λ j. is_name (codes "s" ++ (48 + j) ∷ []) ≡ true) refl refl refl refl refl refl refl k is)
 
-pub name_g : (k : ℕ) → IsNumber k → IsNameText (numbered (codes "g") k)
+pub name_g : (k : ℕ) → IsFamilyNumber k → IsNameText (numbered (codes "g") k)
 unfolding is_name are_words no_mark ends_with_digit
 name_g k is = with_digit (codes "g") k is (of_each (λ j. is_name (codes "g" ++ (48 + j) ∷ []) ≡ true) refl refl refl refl refl refl refl k is)
 
-pub name_family : (k : ℕ) → IsNumber k → IsNameText (numbered (codes "family") k)
+pub name_family : (k : ℕ) → IsFamilyNumber k → IsNameText (numbered (codes "family") k)
 unfolding is_name are_words no_mark ends_with_digit
 name_family k is = with_digit (codes "family") k is (of_each (λ j. is_name (codes "family" ++ (48 + j) ∷ []) ≡ true) refl refl refl refl refl refl refl k is)
 

@@ -7,12 +7,12 @@ use Rattle.ta_maker.specs.declared.fault.MakerFault.{MakerFault}
 use Rattle.ta_maker.specs.declared.fault.MakerFault.TheVariants.{Memory, Range}
 
 -- the numbers of the family
-pub record IsNumber (k : ℕ) : Type 0 where
+pub record IsFamilyNumber (k : ℕ) : Type 0 where
   pub low : 1 ≤ k
   pub high : k ≤ 7
 
 -- the automaton of the number; or that it is none of the family
 abbrev pub Makes : ℕ → Result Tree MakerFault → Type 0
-Makes k (Ok tree) = IsNumber k × (plain_tree tree ≡ family k)
+Makes k (Ok tree) = IsFamilyNumber k × (plain_tree tree ≡ family k)
 Makes k (Err Range) = (k ≡ 0) ⊎ (7 < k)
-Makes k (Err Memory) = IsNumber k
+Makes k (Err Memory) = IsFamilyNumber k

@@ -4,14 +4,15 @@
 ghost use Rattle.std.specs.Prelude.{◌≡◌, ◌≤◌, ◌∷◌, [], IfOk, codes, map};
 ghost use Rattle.ta_syntax.specs.PlainTrees.{plain_comparison, plain_event, plain_location, plain_name, plain_pattern, plain_rule, plain_tree, plain_update};
 ghost use Rattle.ta_maker.specs.Family.{family, lost, numbered, numbers_on, rules_of, sender, waiter};
-ghost use Rattle.ta_maker.specs.Made.{IsNumber, Makes};
+ghost use Rattle.ta_maker.specs.Made.{IsFamilyNumber, Makes};
 
 use crate::fault::MakerFault;
 use crate::names::{numbered, one, spelled};
 use crate::sums::{at_least_one, lone, name_term, one_too_many};
 use std::alloc::{AllocError, Global};
+use ta_base::List;
 use ta_syntax::{
-    List, Spelled, Tree, TreeComparison, TreeEvent, TreeLocation, TreePattern, TreeRule, TreeUpdate,
+    Spelled, Tree, TreeComparison, TreeEvent, TreeLocation, TreePattern, TreeRule, TreeUpdate,
 };
 
 /// The automaton of a number from 1 to 7. It has twice as many rules as the number says, and the walk
@@ -30,7 +31,7 @@ pub fn make_family(alloc: Global, k: u32) -> Result<Tree, MakerFault>
 
 /// The automaton of a number.
 fn family(alloc: Global, k: u32) -> Result<Tree, AllocError>
-    requires { IsNumber k }
+    requires { IsFamilyNumber k }
     ensures { IfOk result (λ tree. plain_tree tree ≡ family k) }
 {
     Ok(Tree {
@@ -58,7 +59,7 @@ fn list_of<T: Drop>(alloc: Global, item: T) -> Result<List<T>, AllocError>
 
 /// The shared variables.
 fn shared(alloc: Global, k: u32) -> Result<List<Spelled>, AllocError>
-    requires { IsNumber k }
+    requires { IsFamilyNumber k }
     ensures { IfOk result (λ list. map plain_name list ≡ map (numbered (codes "x")) (numbers_on 1 k)) }
 {
     let mut names = Vec::new(alloc);
@@ -86,7 +87,7 @@ fn locations(alloc: Global) -> Result<List<TreeLocation>, AllocError>
 
 /// The rules.
 fn rules(alloc: Global, k: u32) -> Result<List<TreeRule>, AllocError>
-    requires { IsNumber k }
+    requires { IsFamilyNumber k }
     ensures { IfOk result (λ list. map plain_rule list ≡ rules_of (numbers_on 1 k)) }
 {
     let mut rules = Vec::new(alloc);
@@ -99,7 +100,7 @@ fn rules(alloc: Global, k: u32) -> Result<List<TreeRule>, AllocError>
 
 /// The rule that raises a shared variable.
 fn sender(alloc: Global, index: u32) -> Result<TreeRule, AllocError>
-    requires { IsNumber index }
+    requires { IsFamilyNumber index }
     ensures { IfOk result (λ rule. plain_rule rule ≡ sender index) }
 {
     let update = TreeUpdate {
@@ -117,7 +118,7 @@ fn sender(alloc: Global, index: u32) -> Result<TreeRule, AllocError>
 
 /// The rule that waits for a shared variable.
 fn waiter(alloc: Global, index: u32) -> Result<TreeRule, AllocError>
-    requires { IsNumber index }
+    requires { IsFamilyNumber index }
     ensures { IfOk result (λ rule. plain_rule rule ≡ waiter index) }
 {
     let guard = at_least_one(alloc, numbered(alloc, "x", index)?)?;

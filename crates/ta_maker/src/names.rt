@@ -6,7 +6,8 @@ ghost use Rattle.ta_syntax.specs.Kinds.{IsNameText};
 ghost use Rattle.ta_maker.specs.Family.{numbered};
 
 use std::alloc::{AllocError, Global};
-use ta_syntax::{Digits, Spelled, Text};
+use ta_base::Text;
+use ta_syntax::{Digits, Spelled};
 
 /// A name.
 pub(crate) fn spelled(alloc: Global, name: &str) -> Result<Spelled, AllocError>

@@ -1,18 +1,12 @@
 -- How the faults of parts make those of the whole: the first of them, or none.
 use Rattle.std.proofs.Common.{◌≡◌, Bool, true, false, List, [], ◌∷◌, ◌++◌, Result, Ok, Err, inl, inr, refl, sym, ap, subst, ◌∙◌}
 use Rattle.ta_syntax.specs.declared.fault.FileFault.{FileFault}
-use Rattle.ta_syntax.specs.declared.fault.FileFault.TheVariants as fault
 use Rattle.ta_meaning.specs.Faults.{where_, else_, First, FirstOrMemory, Judges, Answers}
 
 -- ---- where there are none
-
 pub where-false : (test : Bool) (f : FileFault) → test ≡ false → where_ test f ≡ []
 where-false false f e = refl
 where-false true f e = cc
-
-pub where-true : (test : Bool) (f : FileFault) → test ≡ true → where_ test f ≡ f ∷ []
-where-true true f e = refl
-where-true false f e = cc
 
 pub else-left-none : (a b : List FileFault) → a ≡ [] → else_ a b ≡ b
 else-left-none [] b e = refl
@@ -29,7 +23,6 @@ pub append-none : (a b : List FileFault) → a ≡ [] → b ≡ [] → a ++ b �
 append-none a b e g = append-left-none a b e ∙ g
 
 -- where the whole has none, no part has one
-
 pub not-where : (test : Bool) (f : FileFault) → where_ test f ≡ [] → test ≡ false
 not-where false f e = refl
 not-where true f e = cc
@@ -50,11 +43,6 @@ pub none-append-right : (a b : List FileFault) → a ++ b ≡ [] → b ≡ []
 none-append-right [] b e = e
 none-append-right (f ∷ a) b e = cc
 
--- ---- the first of them
-
-pub memory-first : (faults : List FileFault) (e : FileFault) → e ≡ fault.Memory → FirstOrMemory faults e
-memory-first faults e m = inl m
-
 pub where-leads : (test : Bool) (f : FileFault) → test ≡ true → First (where_ test f) f
 where-leads true f e = ([], refl)
 where-leads false f e = cc
@@ -72,7 +60,6 @@ pub else-right-leads : (a b : List FileFault) (e : FileFault) → a ≡ [] → F
 else-right-leads a b e none h = subst (λ (fs : List FileFault). First fs e) (sym (else-left-none a b none)) h
 
 -- the same where memory may be wanted
-
 first-through : (a b : List FileFault) (e : FileFault) → (First a e → First b e) → FirstOrMemory a e → FirstOrMemory b e
 first-through a b e through (inl m) = inl m
 first-through a b e through (inr w) = inr (through w)
@@ -112,10 +99,6 @@ answers-along a b IsRight r e h = subst (λ (fs : List FileFault). Answers fs Is
 pub answers-knowing : {X : Type 0} (faults : List FileFault) (P Q : X → Type 0) (r : Result X FileFault) → ((x : X) → faults ≡ [] → P x → Q x) → Answers faults P r → Answers faults Q r
 answers-knowing faults P Q (Ok x) f h = (h.0, f x h.0 h.1)
 answers-knowing faults P Q (Err e) f h = h
-
--- the last part answers for the whole where those before it have no fault
-pub answers-after : {X : Type 0} (a b : List FileFault) (IsRight : X → Type 0) (r : Result X FileFault) → a ≡ [] → Answers b IsRight r → Answers (a ++ b) IsRight r
-answers-after a b IsRight r none h = answers-along b (a ++ b) IsRight r (sym (append-left-none a b none)) h
 
 pub answers-otherwise : {X : Type 0} (a b : List FileFault) (IsRight : X → Type 0) (r : Result X FileFault) → a ≡ [] → Answers b IsRight r → Answers (else_ a b) IsRight r
 answers-otherwise a b IsRight r none h = answers-along b (else_ a b) IsRight r (sym (else-left-none a b none)) h

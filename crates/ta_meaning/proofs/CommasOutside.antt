@@ -1,7 +1,7 @@
 -- In an automaton file no comma stands inside parentheses. So no token is both too deep and one too many.
 use Rattle.std.proofs.Common.{◌≡◌, ℕ, suc, ◌-◌, ◌<◌, ◌≤◌, Bool, true, false, List, [], ◌∷◌, ◌++◌, refl, sym, subst, arith, inl, inr}
 use Rattle.ta_syntax.specs.Grammar.{Terms, Term, Factor, done, term, number, times, alone, blank, named, nested, sum_kinds, more_kinds, term_kinds, factor_kinds, relation_kind, PlainRule, PlainEvent, PlainPattern, PlainTree, listed, further, led, ended, each, name_kinds, initial_kinds, location_kinds, comparison_kinds, update_kinds, rule_kinds, event_kinds, pattern_kinds, file_kinds}
-use Rattle.ta_syntax.specs.Limits.{Counts, at_start, after, run, Within, IsDeep, IsMany}
+use Rattle.ta_syntax.specs.Limits.{Counts, at_start, counted_after, run, StaysWithin, IsDeep, IsMany}
 use Rattle.ta_syntax.specs.declared.tokens.Kind.{Kind}
 use Rattle.ta_syntax.specs.declared.tokens.Kind.TheVariants as kind
 use Rattle.ta_syntax.specs.declared.tokens.Mark.{Mark}
@@ -162,7 +162,7 @@ file-flat t =
 
 -- ---- so where a list is full no parenthesis is open
 
-after-deeper : (c : Counts) (k : Kind) → (after c k).open_now ≡ deeper c.open_now k
+after-deeper : (c : Counts) (k : Kind) → (counted_after c k).open_now ≡ deeper c.open_now k
 after-deeper c (kind.Name n) = refl
 after-deeper c (kind.Number n) = refl
 after-deeper c (kind.Fixed mark.Open) = refl
@@ -170,7 +170,7 @@ after-deeper c (kind.Fixed mark.Close) = refl
 after-deeper c (kind.Fixed m) = refl
 
 -- only a comma fills a list
-filled : (c : Counts) (k : Kind) → c.commas < c.limit → (after c k).limit ≤ (after c k).commas → NotInside c.open_now k → (after c k).open_now ≡ 0
+filled : (c : Counts) (k : Kind) → c.commas < c.limit → (counted_after c k).limit ≤ (counted_after c k).commas → NotInside c.open_now k → (counted_after c k).open_now ≡ 0
 filled c (kind.Name n) room full out = absurd (omega arith)
 filled c (kind.Number n) room full out = absurd (omega arith)
 filled c (kind.Fixed mark.Comma) room full out = out
@@ -179,14 +179,14 @@ filled c (kind.Fixed m) room full out = absurd (omega arith)
 room_from : (c : Counts) (k : Kind) → (IsMany c k → ⊥) → c.commas < c.limit
 room_from c k not = let h : (c.limit ≤ c.commas) → ⊥ = λ h. not (inl h) in omega arith
 
-full-closed : (c : Counts) (front : List Kind) (k : Kind) (rest : List Kind) (end : ℕ) → c.commas < c.limit → Within c front → Outside c.open_now end (front ++ k ∷ rest) → (run c front).limit ≤ (run c front).commas → (run c front).open_now ≡ 0
+full-closed : (c : Counts) (front : List Kind) (k : Kind) (rest : List Kind) (end : ℕ) → c.commas < c.limit → StaysWithin c front → Outside c.open_now end (front ++ k ∷ rest) → (run c front).limit ≤ (run c front).commas → (run c front).open_now ≡ 0
 full-closed c [] k rest end room within out full = absurd (omega arith)
 full-closed c (x ∷ []) k rest end room within out full = filled c x room full out.0
 full-closed c (x ∷ y ∷ front) k rest end room within out full =
-    full-closed (after c x) (y ∷ front) k rest end (room_from (after c x) y within.2.1) within.2 (subst (λ (n : ℕ). Outside n end ((y ∷ front) ++ k ∷ rest)) (sym (after-deeper c x)) out.1) full
+    full-closed (counted_after c x) (y ∷ front) k rest end (room_from (counted_after c x) y within.2.1) within.2 (subst (λ (n : ℕ). Outside n end ((y ∷ front) ++ k ∷ rest)) (sym (after-deeper c x)) out.1) full
 
 -- no token of a file is both too deep and one too many
-pub not-both : (front : List Kind) (k : Kind) (rest : List Kind) (t : PlainTree) → file_kinds t ≡ front ++ k ∷ rest → Within at_start front → IsDeep (run at_start front) k → IsMany (run at_start front) k → ⊥
+pub not-both : (front : List Kind) (k : Kind) (rest : List Kind) (t : PlainTree) → file_kinds t ≡ front ++ k ∷ rest → StaysWithin at_start front → IsDeep (run at_start front) k → IsMany (run at_start front) k → ⊥
 not-both front (kind.Fixed mark.Open) rest t e within deep (inl full) =
     let closed = full-closed at_start front (kind.Fixed mark.Open) rest 0 (omega arith) within (subst (λ (ks : List Kind). Outside 0 0 ks) e (file-flat t)) full in
     omega arith

@@ -1,8 +1,9 @@
 -- The rows of compared forms, and what a comparison and a condition mean.
-use Rattle.std.proofs.Common.{◌≡◌, ℕ, ℤ, pos, ◌+◌, ◌^◌, ◌≤◌, ◌-ℤ◌, Bool, List, [], ◌∷◌, ◌++◌, length, map, get_or, Result, refl, sym, ap, subst, ◌∙◌, arith}
-use Rattle.std.proofs.lemmas.Int.{ints}
-use Rattle.std.proofs.Common.{append_assoc, length-append}
+use Rattle.std.proofs.Common.{◌≡◌, ℕ, ℤ, pos, ◌+◌, ◌^◌, ◌-ℤ◌, Bool, List, [], ◌∷◌, ◌++◌, length, map, get_or, Result, sym, ap, subst, ◌∙◌}
 use Rattle.std.proofs.lemmas.List.{append-nil, length-map}
+use Rattle.std.specs.List.{AllByRecursion}
+use Rattle.ta_base.proofs.Integers.{less_alike, minus_alike, none_less_none}
+use Rattle.ta_base.proofs.Lists.{at_map_both}
 use Rattle.ta_linear.specs.Terms.{coefficient}
 use Rattle.ta_linear.specs.declared.form.Form.{Form}
 use Rattle.ta_linear.specs.declared.row.Row.{Row}
@@ -14,7 +15,6 @@ use Rattle.ta_syntax.specs.declared.tokens.Relation.TheVariants as relation
 use Rattle.ta_syntax.specs.declared.tree.TreeComparison.{TreeComparison}
 use Rattle.ta_syntax.specs.declared.fault.FileFault.{FileFault}
 use Rattle.ta_syntax.specs.declared.fault.FileFault.TheVariants as fault
-use Rattle.ta_automaton.specs.Lists.{Each}
 use Rattle.ta_automaton.specs.Forms.{RowOver}
 use Rattle.ta_automaton.specs.declared.condition.Comparison.{Comparison}
 use Rattle.ta_automaton.specs.declared.condition.Condition.{Condition}
@@ -24,10 +24,8 @@ use Rattle.ta_meaning.specs.Faults.{Scope, FirstOrMemory, Answers, where_, else_
 use Rattle.ta_meaning.specs.Inside.Resolved.{ResolvedForm, ResolvedComparison, ResolvedCondition}
 use Rattle.ta_meaning.specs.SumParts.{IsDifference}
 use Rattle.ta_meaning.specs.Inside.SumParts.{PartOf, is_large_form, any_large_row, form_differences, RowOfDifference}
-use Rattle.ta_meaning.proofs.ListItems.{each_push}
-use Rattle.ta_meaning.proofs.Answering.{else-left-none, not-where, answers-along, answers-knowing, answers-otherwise, append-none, append-left-none, append-left-first, else-left-first}
+use Rattle.ta_meaning.proofs.Answering.{else-left-none, not-where, answers-along, answers-knowing, answers-otherwise, append-none, append-left-first, else-left-first}
 use Rattle.ta_meaning.proofs.LargeNumbers.{same_large, same_large_rows, form_over, rows_over}
-use Rattle.ta_meaning.proofs.LinearSums.{at_map_both}
 
 -- ---- a sum
 
@@ -45,17 +43,6 @@ sum_answers s faults plain at form r none part answer =
     let known = answers-knowing (where_ (is_large_form form) (fault.TooLarge at)) (λ f. f ≡ form) (ResolvedForm s.allowed plain) r right answer in
     let large = answers-along (where_ (is_large_form form) (fault.TooLarge at)) (where_ (is_large_linear (linear_sum s.allowed plain)) (fault.TooLarge at)) (ResolvedForm s.allowed plain) r (ap (λ (b : Bool). where_ b (fault.TooLarge at)) (same_large (linear_sum s.allowed plain) form part.numbers)) known in
     answers-otherwise faults (where_ (is_large_linear (linear_sum s.allowed plain)) (fault.TooLarge at)) (ResolvedForm s.allowed plain) r none large
-
--- ---- a comparison
-
-less_alike : (a b c d z : ℤ) → a ≡ c → b ≡ d → ((a -ℤ b) -ℤ z) ≡ ((c -ℤ d) -ℤ z)
-less_alike a b c d z e g = omega (arith, ints, e, g)
-
-minus_alike : (a b c d : ℤ) → a ≡ c → b ≡ d → (a -ℤ b) ≡ (c -ℤ d)
-minus_alike a b c d e g = omega (arith, ints, e, g)
-
-none_less_none : (pos 0 -ℤ pos 0) ≡ pos 0
-none_less_none = refl
 
 row_of : (names : List (List ℕ)) (greater less : Terms) (g l : Form) (shift : ℤ) (row : Row) → FormOf (linear_sum names greater) g → FormOf (linear_sum names less) l → IsDifference row.form g l shift → RowOf (linear_difference names (record { greater = greater; less = less; shift = shift })) row
 row_of names greater less g l shift row is_g is_l is = record {
@@ -85,14 +72,7 @@ rows_are names relation.Equal left right l r (a ∷ b ∷ c ∷ rows) is_l is_r 
 rows_are names relation.AtLeast left right l r (a ∷ b ∷ rows) is_l is_r h = absurd h.1
 rows_are names relation.More left right l r (a ∷ b ∷ rows) is_l is_r h = absurd h.1
 
-pub one_or_two : (rel : Relation) (l r : Form) → (1 ≤ length (form_differences rel l r)) × (length (form_differences rel l r) ≤ 2)
-one_or_two relation.Less l r = (omega arith, omega arith)
-one_or_two relation.AtMost l r = (omega arith, omega arith)
-one_or_two relation.Equal l r = (omega arith, omega arith)
-one_or_two relation.AtLeast l r = (omega arith, omega arith)
-one_or_two relation.More l r = (omega arith, omega arith)
-
-pub each_length : (names : List (List ℕ)) (ds : List Difference) → Each (λ l. length l.coefficients ≡ length names) (map (linear_difference names) ds)
+pub each_length : (names : List (List ℕ)) (ds : List Difference) → AllByRecursion (λ l. length l.coefficients ≡ length names) (map (linear_difference names) ds)
 each_length names [] = tt
 each_length names (d ∷ ds) = (length-map names (λ x. sum_coefficient x d.greater -ℤ sum_coefficient x d.less), each_length names ds)
 
@@ -110,7 +90,7 @@ comparison_answers s c l r rows none_left none_right part_left part_right is =
           let over = rows_over (comparison_rows s.allowed (plain_comparison c)) (length s.allowed) rows numbers (each_length s.allowed (differences_by c.relation (plain_sum c.left) (plain_sum c.right))) (not-where (any_large_row rows) (fault.TooLarge c.at) small) in
           record {
             means = record { known = record { left = part_left.known; right = part_right.known }; rows = subst (λ (rs : List Row). Pairwise RowOf (comparison_rows s.allowed (plain_comparison c)) rs) (sym e) numbers };
-            over = subst (λ (rs : List Row). Each (RowOver (length s.allowed)) rs) (sym e) over;
+            over = subst (λ (rs : List Row). AllByRecursion (RowOver (length s.allowed)) rs) (sym e) over;
           },
     )
 
@@ -132,22 +112,8 @@ last_of_comparison s c none_left none_right =
 pub record Resolving (s : Scope) (all left : List TreeComparison) (so_far : List Comparison) : Type 0 where
   pub faults : condition_faults s all ≡ condition_faults s left
   pub means : (rest : List Comparison) → Pairwise (MeansComparison s.allowed) (map plain_comparison left) rest → Pairwise (MeansComparison s.allowed) (map plain_comparison all) (so_far ++ rest)
-  pub over : Each (λ (k : Comparison). Each (RowOver (length s.allowed)) k.rows) so_far
+  pub over : AllByRecursion (λ (k : Comparison). AllByRecursion (RowOver (length s.allowed)) k.rows) so_far
   pub count : length so_far + length left ≡ length all
-
-pub condition_begins : (s : Scope) (all : List TreeComparison) → Resolving s all all []
-condition_begins s all = record { faults = refl; means = λ rest h. h; over = tt; count = omega arith }
-
-pub condition_more : (s : Scope) (all left : List TreeComparison) (c : TreeComparison) (so_far : List Comparison) (k : Comparison) → Resolving s all (c ∷ left) so_far → comparison_faults s c ≡ [] → ResolvedComparison s.allowed (plain_comparison c) k → Resolving s all left (so_far ++ k ∷ [])
-condition_more s all left c so_far k had none resolved = record {
-  faults = had.faults ∙ append-left-none (comparison_faults s c) (condition_faults s left) none;
-  means = λ rest h. subst (λ (ks : List Comparison). Pairwise (MeansComparison s.allowed) (map plain_comparison all) ks) (sym (append_assoc so_far (k ∷ []) rest)) (had.means (k ∷ rest) (resolved.means, h));
-  over = each_push (λ (x : Comparison). Each (RowOver (length s.allowed)) x.rows) so_far k had.over resolved.over;
-  count = omega (arith, had.count, length-append so_far (k ∷ []));
-}
-
-pub condition_fails : (s : Scope) (all left : List TreeComparison) (c : TreeComparison) (so_far : List Comparison) (e : FileFault) → Resolving s all (c ∷ left) so_far → FirstOrMemory (comparison_faults s c) e → FirstOrMemory (condition_faults s all) e
-condition_fails s all left c so_far e had first = subst (λ (fs : List FileFault). FirstOrMemory fs e) (sym had.faults) (append-left-first (comparison_faults s c) (condition_faults s left) e first)
 
 pub condition_ends : (s : Scope) (all : List TreeComparison) (so_far : List Comparison) (condition : Condition) → Resolving s all [] so_far → condition.comparisons ≡ so_far → (condition_faults s all ≡ []) × ResolvedCondition s.allowed (map plain_comparison all) condition
 condition_ends s all so_far condition had e =
@@ -155,6 +121,6 @@ condition_ends s all so_far condition had e =
       had.faults,
       record {
         means = subst (λ (ks : List Comparison). Pairwise (MeansComparison s.allowed) (map plain_comparison all) ks) (append-nil so_far ∙ whole) (had.means [] tt);
-        over = subst (λ (ks : List Comparison). Each (λ (k : Comparison). Each (RowOver (length s.allowed)) k.rows) ks) whole had.over;
+        over = subst (λ (ks : List Comparison). AllByRecursion (λ (k : Comparison). AllByRecursion (RowOver (length s.allowed)) k.rows) ks) whole had.over;
       },
     )

@@ -1,28 +1,27 @@
 -- Names that are declared one after another without a fault: they are distinct and legal.
 use Rattle.std.proofs.Common.{◌≡◌, ℕ, true, false, not, ◌||◌, List, [], ◌∷◌, ◌++◌, length, map, refl, sym, ap, subst, ◌∙◌, append_assoc}
 use Rattle.std.specs.Str.{bytes_eq}
-use Rattle.std.specs.List.{list_any}
+use Rattle.std.specs.List.{list_any, AllByRecursion}
 use Rattle.std.proofs.lemmas.Bool.{ltb-false, false≢true, not-false, or_parts}
 use Rattle.std.proofs.lemmas.List.{append-nil}
 use Rattle.std.proofs.lemmas.Slice.Eq.{bytes_eq-Decides}
+use Rattle.ta_base.proofs.Each.{distinct_push_apart, each_append}
 use Rattle.ta_syntax.specs.PlainTrees.{plain_name, plain_location}
 use Rattle.ta_syntax.specs.declared.names.Spelled.{Spelled}
 use Rattle.ta_syntax.specs.declared.tree.TreeLocation.{TreeLocation}
 use Rattle.ta_syntax.specs.declared.tree.Tree.{Tree}
 use Rattle.ta_syntax.specs.declared.fault.FileFault.TheVariants as fault
-use Rattle.ta_automaton.specs.Lists.{Each, Distinct}
+use Rattle.ta_base.specs.Lists.{Distinct}
 use Rattle.ta_automaton.specs.Names.{Name}
 use Rattle.ta_meaning.specs.Sums.{has_name}
 use Rattle.ta_meaning.specs.Names.{guard_names, all_names, location_name, names_of}
 use Rattle.ta_meaning.specs.Faults.{where_, is_long, declared_faults, declarations_faults, location_spelled, any_initial, names_faults}
-use Rattle.ta_meaning.proofs.ListItems.{each_append}
-use Rattle.ta_meaning.proofs.DistinctItems.{distinct_push_apart}
 use Rattle.ta_meaning.proofs.Answering.{not-where, none-else-left, none-else-right, none-append-left, none-append-right}
 
 -- ---- names among names
 
 -- a name that is not among names differs from each of them
-pub has_name-apart : (names : List (List ℕ)) (n : List ℕ) → has_name names n ≡ false → Each (λ m. m ≡ n → ⊥) names
+pub has_name-apart : (names : List (List ℕ)) (n : List ℕ) → has_name names n ≡ false → AllByRecursion (λ m. m ≡ n → ⊥) names
 has_name-apart [] n e = tt
 has_name-apart (m ∷ names) n e =
     let parts = or_parts (bytes_eq m n) (has_name names n) e in
@@ -47,7 +46,6 @@ pub declared-distinct : (before : List (List ℕ)) (n : Spelled) → Distinct be
 declared-distinct before n d none = distinct_push_apart before n.name d (has_name-apart before n.name (declared-new before n none))
 
 -- ---- names one after another
-
 pub declarations-distinct : (before : List (List ℕ)) (ns : List Spelled) → Distinct before → declarations_faults before ns ≡ [] → Distinct (before ++ map plain_name ns)
 declarations-distinct before [] d none = subst Distinct (sym (append-nil before)) d
 declarations-distinct before (n ∷ ns) d none =
@@ -55,7 +53,7 @@ declarations-distinct before (n ∷ ns) d none =
     let later : declarations_faults (before ++ n.name ∷ []) ns ≡ [] = none-append-right (declared_faults before n) _ none in
     subst Distinct (append_assoc before (n.name ∷ []) (map plain_name ns)) (declarations-distinct (before ++ n.name ∷ []) ns (declared-distinct before n d here) later)
 
-pub declarations-legal : (before : List (List ℕ)) (ns : List Spelled) → declarations_faults before ns ≡ [] → Each Name (map plain_name ns)
+pub declarations-legal : (before : List (List ℕ)) (ns : List Spelled) → declarations_faults before ns ≡ [] → AllByRecursion Name (map plain_name ns)
 declarations-legal before [] none = tt
 declarations-legal before (n ∷ ns) none =
     let here : declared_faults before n ≡ [] = none-append-left (declared_faults before n) _ none in
@@ -105,11 +103,11 @@ names-distinct t none =
     subst (λ names. Distinct (guard_names ns ++ names)) (location_names t.locations) (declarations-distinct (guard_names ns) (map location_spelled t.locations) guards d.locations)
 
 -- they are legal
-pub names-legal : (t : Tree) → names_faults (names_of t) t ≡ [] → Each Name (all_names (names_of t))
+pub names-legal : (t : Tree) → names_faults (names_of t) t ≡ [] → AllByRecursion Name (all_names (names_of t))
 names-legal t none =
     let d = names_declared t none in
     let ns = names_of t in
-    let locations : Each Name ns.locations = subst (Each Name) (location_names t.locations) (declarations-legal (guard_names ns) (map location_spelled t.locations) d.locations) in
+    let locations : AllByRecursion Name ns.locations = subst (AllByRecursion Name) (location_names t.locations) (declarations-legal (guard_names ns) (map location_spelled t.locations) d.locations) in
     each_append Name (guard_names ns) ns.locations (each_append Name ns.parameters ns.shared (declarations-legal [] t.parameters d.parameters) (declarations-legal ns.parameters t.shared d.shared)) locations
 
 -- the automaton's name is legal

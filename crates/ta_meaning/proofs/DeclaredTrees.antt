@@ -1,6 +1,7 @@
 -- The names of a tree, declared part by part.
-use Rattle.std.proofs.Common.{◌≡◌, ℕ, ◌+◌, not, List, [], ◌++◌, length, map, take, drop, sym, ap, subst, ◌∙◌, append_assoc, length-append}
-use Rattle.std.proofs.lemmas.List.{length-map, take_at, drop_at}
+use Rattle.std.proofs.Common.{◌≡◌, ℕ, ◌+◌, not, List, [], ◌++◌, length, map, take, drop, sym, ap, subst, ◌∙◌, length-append}
+use Rattle.std.proofs.lemmas.List.{length-map}
+use Rattle.ta_base.proofs.Lists.{cut_in_three}
 use Rattle.ta_syntax.specs.PlainTrees.{plain_name, plain_location}
 use Rattle.ta_syntax.specs.declared.names.Spelled.{Spelled}
 use Rattle.ta_syntax.specs.declared.tree.TreeLocation.{TreeLocation}
@@ -36,7 +37,6 @@ pub record InitialFits (t : Tree) : Type 0 where
   pub initial : where_ (not (any_initial t.locations)) (fault.NoInitial t.locations_at) ≡ []
 
 -- ---- the names
-
 along_none : (start names : List (List ℕ)) (ps qs : List Spelled) → start ≡ names → ps ≡ qs → declarations_faults start ps ≡ [] → declarations_faults names qs ≡ []
 along_none start names ps qs s p none = subst (λ (z : List (List ℕ)). declarations_faults z qs ≡ []) s (subst (λ (z : List Spelled). declarations_faults start z ≡ []) p none)
 
@@ -55,7 +55,6 @@ after_all t start names ls s p is =
     ∙ ap (λ (z : List (List ℕ)). guard_names (names_of t) ++ z) (location_names ls ∙ ap (λ (z : List TreeLocation). map location_name (map plain_location z)) p)
 
 -- ---- no fault so far
-
 pub parameters_fit : (t : Tree) (start : List (List ℕ)) (ps : List Spelled) → NameFits t → start ≡ [] → ps ≡ t.parameters → declarations_faults start ps ≡ [] → ParametersFit t
 parameters_fit t start ps name s p none = record { name = name; parameters = along_none start [] ps t.parameters s p none }
 
@@ -68,7 +67,6 @@ all_fit t start ls before s p none =
     (along_none start (guard_names (names_of t)) (map location_spelled ls) (map location_spelled t.locations) s (ap (λ (z : List TreeLocation). map location_spelled z) p) none))))
 
 -- ---- the first fault
-
 pub stops_at_name : (t : Tree) (e : FileFault) → FirstOrMemory (where_ (is_long t.name) (fault.TooLarge t.name.at)) e → FirstOrMemory (names_faults (names_of t) t) e
 stops_at_name t e first = append-left-first _ _ e first
 
@@ -97,15 +95,6 @@ lengths t =
     ∙ ap (λ n. n + length (map location_name (map plain_location t.locations))) (length-append (map plain_name t.parameters) (map plain_name t.shared) ∙ ap (λ n. n + length (map plain_name t.shared)) (length-map t.parameters plain_name) ∙ ap (λ n. length t.parameters + n) (length-map t.shared plain_name))
     ∙ ap (λ n. length t.parameters + length t.shared + n) (length-map (map plain_location t.locations) location_name ∙ length-map t.locations plain_location)
 
--- names in order, cut into their kinds
-cut : (ps ss ls : List (List ℕ)) (p s : ℕ) → length ps ≡ p → length ss ≡ s → (take p (ps ++ ss ++ ls) ≡ ps) × (take s (drop p (ps ++ ss ++ ls)) ≡ ss) × (drop (p + s) (ps ++ ss ++ ls) ≡ ls)
-cut ps ss ls p s e f =
-    let group : ps ++ ss ++ ls ≡ ps ++ (ss ++ ls) = append_assoc ps ss ls in (
-      ap (take p) group ∙ take_at ps (ss ++ ls) p e,
-      ap (λ z. take s (drop p z)) group ∙ ap (take s) (drop_at ps (ss ++ ls) p e) ∙ take_at ss ls s f,
-      drop_at (ps ++ ss) ls (p + s) (length-append ps ss ∙ ap (λ n. n + length ss) e ∙ ap (λ n. p + n) f),
-    )
-
 abbrev kinds : List (List ℕ) → List (List ℕ) → List (List ℕ) → Names
 kinds ps ss ls = record { parameters = ps; shared = ss; locations = ls }
 
@@ -115,5 +104,5 @@ kinds_same ps qs ss us ls ms e f g = ap (λ z. kinds z ss ls) e ∙ ap (λ z. ki
 -- the names of a tree in order, cut by the numbers of its parameters and shared variables, are its names
 pub kinds_are : (t : Tree) (names : List (List ℕ)) (p s : ℕ) → names ≡ all_names (names_of t) → p ≡ length t.parameters → s ≡ length t.shared → record { parameters = take p names; shared = take s (drop p names); locations = drop (p + s) names } ≡ names_of t
 kinds_are t names p s is e f =
-    let parts = cut (map plain_name t.parameters) (map plain_name t.shared) (map location_name (map plain_location t.locations)) p s (length-map t.parameters plain_name ∙ sym e) (length-map t.shared plain_name ∙ sym f) in
+    let parts = cut_in_three (map plain_name t.parameters) (map plain_name t.shared) (map location_name (map plain_location t.locations)) p s (length-map t.parameters plain_name ∙ sym e) (length-map t.shared plain_name ∙ sym f) in
     kinds_same _ _ _ _ _ _ (ap (take p) is ∙ parts.0) (ap (λ z. take s (drop p z)) is ∙ parts.1) (ap (drop (p + s)) is ∙ parts.2)

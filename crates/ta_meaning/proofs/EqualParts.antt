@@ -2,6 +2,7 @@
 use mathlib.Core.HLevel.{is_prop→PathP}
 use Rattle.std.proofs.Common.{◌≡◌, ℕ, ℤ, ◌+◌, ◌≤◌, ◌^◌, length}
 use Rattle.std.proofs.Props.{props}
+use Rattle.ta_base.proofs.Naturals.{le-prop}
 use Rattle.ta_linear.specs.Numbers.{InRange}
 use Rattle.ta_linear.specs.Terms.{IsNormal, IsNormal-prop}
 use Rattle.ta_linear.specs.declared.form.Form.{Form}
@@ -18,9 +19,6 @@ use Rattle.ta_automaton.specs.declared.file.File.{File}
 
 InRange-prop : (z : ℤ) → IsProp (InRange z)
 InRange-prop z = hlevel props
-
-le-prop : (m n : ℕ) → IsProp (m ≤ n)
-le-prop m n = hlevel props
 
 pub form-equal : (a b : Form) → a.constant ≡ b.constant → a.terms ≡ b.terms → a ≡ b
 form-equal a b constant terms = λ i. record {

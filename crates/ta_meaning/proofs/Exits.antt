@@ -1,9 +1,7 @@
 -- what the exit of a `?` answers
 use Rattle.std.proofs.Common.{◌≡◌, List, Result, Err, sym, subst}
 use Rattle.ta_syntax.specs.declared.fault.FileFault.{FileFault}
-use Rattle.ta_syntax.specs.declared.fault.FileFault.TheVariants as fault
 use Rattle.ta_meaning.specs.Faults.{First, FirstOrMemory, Judges, Answers}
-use Rattle.ta_meaning.proofs.Answering.{memory-first}
 
 pub exit-leads : {X : Type 0} (faults : List FileFault) (P : X → Type 0) (r : Result X FileFault) (e : FileFault) → (y : FileFault) × (r ≡ Err y) × (y ≡ e) → First faults e → Judges faults P r
 exit-leads faults P r e w h =
@@ -12,7 +10,3 @@ exit-leads faults P r e w h =
 pub exit-first : {X : Type 0} (faults : List FileFault) (P : X → Type 0) (r : Result X FileFault) (e : FileFault) → (y : FileFault) × (r ≡ Err y) × (y ≡ e) → FirstOrMemory faults e → Answers faults P r
 exit-first faults P r e w h =
     subst (λ (z : Result _ FileFault). Answers faults P z) (sym w.1) (subst (λ (f : FileFault). FirstOrMemory faults f) (sym w.2) h)
-
-pub exit-memory : {X : Type 0} (faults : List FileFault) (P : X → Type 0) (r : Result X FileFault) → (y : FileFault) × (r ≡ Err y) × (y ≡ fault.Memory) → Answers faults P r
-exit-memory faults P r w =
-    subst (λ (z : Result _ FileFault). Answers faults P z) (sym w.1) (memory-first faults w.0 w.2)

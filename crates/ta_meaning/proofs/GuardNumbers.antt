@@ -1,18 +1,19 @@
 -- what numbering a comparison's row does to the guards so far
 use Rattle.std.proofs.Common.{drop, ◌≡◌, ◌⊎◌, inl, inr, ℕ, ◌+◌, ◌≤◌, List, [], ◌∷◌, ◌++◌, map, length, Bool, true, false, not, ltb, ◌&&◌, slice_get, Some, Ok, Err, arith, sym, ap, ◌∙◌, refl, subst}
-use Rattle.std.specs.List.{list_any}
+use Rattle.std.specs.List.{list_any, AllByRecursion}
 use Rattle.std.proofs.lemmas.List.{length-append, map_push, length-map}
 use Rattle.std.proofs.lemmas.Bool.{cond-true, cond-false, false_from_ne_true, true≢false, lt-ltb, le-ltb, and_left, and_right, and_from, not_from_true, not_from_false}
+use Rattle.ta_base.proofs.Each.{distinct_push, each_at, each_map_of, each_push, each_weaker, map_each}
+use Rattle.ta_base.proofs.Lists.{get_last, get_map, get_of_map}
 use Rattle.ta_linear.specs.Terms.{IsNormal}
 use Rattle.ta_linear.specs.declared.row.Row.{Row}
 use Rattle.ta_syntax.specs.PlainTrees.{plain_comparison}
 use Rattle.ta_syntax.specs.declared.tree.TreeComparison.{TreeComparison}
 use Rattle.ta_syntax.specs.declared.fault.FileFault.{FileFault}
 use Rattle.ta_syntax.specs.declared.fault.FileFault.TheVariants as fault
-use Rattle.ta_automaton.specs.Lists.{Each, Distinct}
+use Rattle.ta_base.specs.Lists.{Distinct}
 use Rattle.ta_automaton.specs.Forms.{RowOver, RiseRow, FallRow}
 use Rattle.ta_automaton.specs.declared.condition.Comparison.{Comparison}
-use Rattle.ta_automaton.proofs.Thresholds.{each_at}
 use Rattle.ta_meaning.specs.Names.{Names, guard_names}
 use Rattle.ta_meaning.specs.Linear.{Linear, comparison_rows, differences_by}
 use Rattle.ta_meaning.specs.Guards.{Guards, is_negative, is_positive, falls, has_row, with_row, is_no_threshold, is_one_more, is_past_limit}
@@ -22,8 +23,6 @@ use Rattle.ta_meaning.specs.Inside.Numbering.{any_shared, is_no_guard, Has, RowA
 use Rattle.ta_meaning.specs.declared.guards.GuardList.{GuardList}
 use Rattle.ta_meaning.specs.declared.guards.GuardNumber.TheVariants as number
 use Rattle.ta_meaning.proofs.ComparedForms.{each_length}
-use Rattle.ta_meaning.proofs.DistinctItems.{distinct_push}
-use Rattle.ta_meaning.proofs.ListItems.{each_push, each_with, get_last, get_map, map_get}
 use Rattle.ta_meaning.proofs.Answering.{where-false, where-first, else-left-none, else-right-first, else-left-first}
 use Rattle.ta_meaning.proofs.NormalTerms.{same_linear, linear_unique}
 use Rattle.ta_meaning.proofs.GuardRows.{has_at, at_has}
@@ -37,10 +36,10 @@ pub has_linear : (places : ℕ) (rows : List Row) (row : Row) → Has rows row �
 has_linear places rows row (n, first) =
     has_at (map (linear_of places) rows) n (linear_of places row) (get_map (linear_of places) rows n first.other first.named ∙ ap Some (same_linear first.other row places first.same))
 
-pub linear_has : (places : ℕ) (rows : List Row) (row : Row) → Each (Normal places) rows → Normal places row → has_row (map (linear_of places) rows) (linear_of places row) ≡ true → Has rows row
+pub linear_has : (places : ℕ) (rows : List Row) (row : Row) → AllByRecursion (Normal places) rows → Normal places row → has_row (map (linear_of places) rows) (linear_of places row) ≡ true → Has rows row
 linear_has places rows row normal is t =
     let w = at_has (map (linear_of places) rows) (linear_of places row) t in
-    let o = map_get (linear_of places) rows w.0 (linear_of places row) w.1 in
+    let o = get_of_map (linear_of places) rows w.0 (linear_of places row) w.1 in
     (w.0, record { other = o.0; named = o.1; same = linear_unique o.0 row places (each_at (Normal places) rows w.0 o.0 normal o.1) is o.2 })
 
 -- the rows after one of them was numbered, as numbers
@@ -51,7 +50,7 @@ pub record RowPlaced (places : ℕ) (rows : List Row) (row : Row) (limit : ℕ) 
   pub distinct : Distinct (map (linear_of places) after)
   pub no_more : (not (has_row (map (linear_of places) rows) (linear_of places row)) && not (ltb (length (map (linear_of places) rows)) limit)) ≡ false
 
-pub row_placed : (places limit at : ℕ) (rows after : List Row) (row : Row) (n : ℕ) → Each (Normal places) rows → Normal places row → length rows ≤ limit → Distinct (map (linear_of places) rows) → RowAnswers rows row limit at after (Ok n) → RowPlaced places rows row limit after n
+pub row_placed : (places limit at : ℕ) (rows after : List Row) (row : Row) (n : ℕ) → AllByRecursion (Normal places) rows → Normal places row → length rows ≤ limit → Distinct (map (linear_of places) rows) → RowAnswers rows row limit at after (Ok n) → RowPlaced places rows row limit after n
 row_placed places limit at rows after row n normal is few distinct (inl h) =
     let ls = map (linear_of places) rows in
     let l = linear_of places row in
@@ -79,12 +78,12 @@ row_placed places limit at rows after row n normal is few distinct (inr h) =
       no_more = and_right (not (has_row ls l)) (not (ltb (length ls) limit)) (not_from_true (ltb (length ls) limit) (lt-ltb (length ls) limit (omega arith)));
     }
 
-pub each_placed : (P : Row → Type 0) (rows after : List Row) (row : Row) (limit at n : ℕ) → Each P rows → P row → RowAnswers rows row limit at after (Ok n) → Each P after
-each_placed P rows after row limit at n h p (inl w) = subst (λ (zs : List Row). Each P zs) (sym w.0) h
-each_placed P rows after row limit at n h p (inr w) = subst (λ (zs : List Row). Each P zs) (sym w.0) (each_push P rows row h p)
+pub each_placed : (P : Row → Type 0) (rows after : List Row) (row : Row) (limit at n : ℕ) → AllByRecursion P rows → P row → RowAnswers rows row limit at after (Ok n) → AllByRecursion P after
+each_placed P rows after row limit at n h p (inl w) = subst (λ (zs : List Row). AllByRecursion P zs) (sym w.0) h
+each_placed P rows after row limit at n h p (inr w) = subst (λ (zs : List Row). AllByRecursion P zs) (sym w.0) (each_push P rows row h p)
 
 -- one row more than the limit
-pub row_more : (places limit at : ℕ) (rows after : List Row) (row : Row) (e : FileFault) → Each (Normal places) rows → Normal places row → RowAnswers rows row limit at after (Err e)
+pub row_more : (places limit at : ℕ) (rows after : List Row) (row : Row) (e : FileFault) → AllByRecursion (Normal places) rows → Normal places row → RowAnswers rows row limit at after (Err e)
     → (e ≡ fault.Memory) ⊎ ((e ≡ fault.TooMany at) × ((not (has_row (map (linear_of places) rows) (linear_of places row)) && not (ltb (length (map (linear_of places) rows)) limit)) ≡ true))
 row_more places limit at rows after row e normal is (inl m) = inl m
 row_more places limit at rows after row e normal is (inr h) =
@@ -98,14 +97,6 @@ row_more places limit at rows after row e normal is (inr h) =
           (not_from_false (has_row ls l) (false_from_ne_true (has_row ls l) (λ t. h.2 (linear_has places rows row normal is t))))
           (not_from_false (ltb (length ls) limit) (le-ltb (length ls) limit (omega arith))),
     )
-
-each_map : {X Y : Type 0} (f : X → Y) (P : Y → Type 0) (xs : List X) → Each (λ x. P (f x)) xs → Each P (map f xs)
-each_map f P [] h = tt
-each_map f P (x ∷ xs) h = (h.0, each_map f P xs h.1)
-
-map_each : {X Y : Type 0} (f : X → Y) (P : Y → Type 0) (xs : List X) → Each P (map f xs) → Each (λ x. P (f x)) xs
-map_each f P [] h = tt
-map_each f P (x ∷ xs) h = (h.0, map_each f P xs h.1)
 
 pub guards_same : (a b : Guards) → a.rise ≡ b.rise → a.fall ≡ b.fall → a ≡ b
 guards_same a b p q =
@@ -130,7 +121,7 @@ one_row_is : (ns : Names) (c : TreeComparison) (row : Row) → OneRow ns c row �
 one_row_is ns c row one = comparison_rows_are ns c one.rows one.resolved ∙ ap (map (linear_of (size ns))) one.only
 
 pub one_row_over : (ns : Names) (c : TreeComparison) (row : Row) → OneRow ns c row → RowOver (size ns) row
-one_row_over ns c row one = let h = subst (λ (zs : List Row). Each (RowOver (size ns)) zs) one.only one.resolved.over in h.0
+one_row_over ns c row one = let h = subst (λ (zs : List Row). AllByRecursion (RowOver (size ns)) zs) one.only one.resolved.over in h.0
 
 over_kinds : (ns : Names) (row : Row) → RowOver (size ns) row → RowOver (length ns.parameters + length ns.shared) row
 over_kinds ns row h = subst (λ n. RowOver n row) (length-append ns.parameters ns.shared) h
@@ -138,11 +129,11 @@ over_kinds ns row h = subst (λ n. RowOver n row) (length-append ns.parameters n
 kinds_over : (ns : Names) (row : Row) → RowOver (length ns.parameters + length ns.shared) row → RowOver (size ns) row
 kinds_over ns row h = subst (λ n. RowOver n row) (sym (length-append ns.parameters ns.shared)) h
 
-pub rise_normal : (ns : Names) (guards : GuardList) → GuardsKept ns guards → Each (Normal (size ns)) guards.rise.items
-rise_normal ns guards kept = each_with (RiseRow (length ns.parameters) (length ns.shared)) (Normal (size ns)) guards.rise.items (λ r h. (kinds_over ns r h.over).below) kept.rise_rows
+pub rise_normal : (ns : Names) (guards : GuardList) → GuardsKept ns guards → AllByRecursion (Normal (size ns)) guards.rise.items
+rise_normal ns guards kept = each_weaker (RiseRow (length ns.parameters) (length ns.shared)) (Normal (size ns)) guards.rise.items (λ r h. (kinds_over ns r h.over).below) kept.rise_rows
 
-pub fall_normal : (ns : Names) (guards : GuardList) → GuardsKept ns guards → Each (Normal (size ns)) guards.fall.items
-fall_normal ns guards kept = each_with (FallRow (length ns.parameters) (length ns.shared)) (Normal (size ns)) guards.fall.items (λ r h. (kinds_over ns r h.over).below) kept.fall_rows
+pub fall_normal : (ns : Names) (guards : GuardList) → GuardsKept ns guards → AllByRecursion (Normal (size ns)) guards.fall.items
+fall_normal ns guards kept = each_weaker (FallRow (length ns.parameters) (length ns.shared)) (Normal (size ns)) guards.fall.items (λ r h. (kinds_over ns r h.over).below) kept.fall_rows
 
 -- the faults behind those of the comparison, at its only row
 abbrev later_faults : (parameters : ℕ) (g : Guards) (at : ℕ) (rows : List Linear) → List FileFault
@@ -185,7 +176,6 @@ first_along faults test at e is (inr h) =
     subst (λ (fs : List FileFault). FirstOrMemory fs e) (sym is) (subst (λ f. FirstOrMemory (where_ test (fault.TooMany at)) f) (sym h.0) (where-first test (fault.TooMany at) h.1))
 
 -- ---- a rise guard
-
 rise_falls : (ns : Names) (c : TreeComparison) (row : Row) → OneRow ns c row → any_shared is_negative (length ns.parameters) row.form.terms ≡ false → falls (length ns.parameters) (linear_of (size ns) row) ≡ false
 rise_falls ns c row one rises = sym (falls_same (length ns.parameters) (size ns) row (one_row_over ns c row one).below) ∙ rises
 
@@ -227,11 +217,11 @@ rise_numbered ns before after c row n kept one rises answers same =
           rise_limit = placed.fits;
           fall_limit = subst (λ (zs : List Row). length zs ≤ 6) (sym same) kept.fall_limit;
           rise_rows = each_placed (RiseRow parameters shared) before.rise.items after.rise.items row 16 c.at n kept.rise_rows (record { over = over_kinds ns row over; rises = rises_each parameters row.form.terms rises }) answers;
-          fall_rows = subst (λ (zs : List Row). Each (FallRow parameters shared) zs) (sym same) kept.fall_rows;
+          fall_rows = subst (λ (zs : List Row). AllByRecursion (FallRow parameters shared) zs) (sym same) kept.fall_rows;
           rise_distinct = placed.distinct;
           fall_distinct = subst (λ (zs : List Row). Distinct (map (linear_of (size ns)) zs)) (sym same) kept.fall_distinct;
-          rise_kind = each_map (linear_of (size ns)) (λ (r : Linear). falls parameters r ≡ false) after.rise.items (each_placed (λ (r : Row). falls parameters (linear_of (size ns) r) ≡ false) before.rise.items after.rise.items row 16 c.at n (map_each (linear_of (size ns)) (λ (r : Linear). falls parameters r ≡ false) before.rise.items kept.rise_kind) negative answers);
-          fall_kind = subst (λ (zs : List Row). Each (λ (r : Linear). falls parameters r ≡ true) (map (linear_of (size ns)) zs)) (sym same) kept.fall_kind;
+          rise_kind = each_map_of (linear_of (size ns)) (λ (r : Linear). falls parameters r ≡ false) after.rise.items (each_placed (λ (r : Row). falls parameters (linear_of (size ns) r) ≡ false) before.rise.items after.rise.items row 16 c.at n (map_each (linear_of (size ns)) (λ (r : Linear). falls parameters r ≡ false) before.rise.items kept.rise_kind) negative answers);
+          fall_kind = subst (λ (zs : List Row). AllByRecursion (λ (r : Linear). falls parameters r ≡ true) (map (linear_of (size ns)) zs)) (sym same) kept.fall_kind;
         };
         guards = guards_same (guards_so_far ns after) (record { rise = with_row g.rise l; fall = g.fall }) placed.linears (ap (map (linear_of (size ns))) same)
             ∙ sym (cond-false (falls parameters l) (record { rise = g.rise; fall = with_row g.fall l }) (record { rise = with_row g.rise l; fall = g.fall }) negative);
@@ -240,7 +230,6 @@ rise_numbered ns before after c row n kept one rises answers same =
     )
 
 -- ---- a fall guard
-
 fall_falls : (ns : Names) (c : TreeComparison) (row : Row) → OneRow ns c row → any_shared is_negative (length ns.parameters) row.form.terms ≡ true → falls (length ns.parameters) (linear_of (size ns) row) ≡ true
 fall_falls ns c row one drops = sym (falls_same (length ns.parameters) (size ns) row (one_row_over ns c row one).below) ∙ drops
 
@@ -282,12 +271,12 @@ fall_numbered ns before after c row n kept one drops never answers same =
         kept = record {
           rise_limit = subst (λ (zs : List Row). length zs ≤ 16) (sym same) kept.rise_limit;
           fall_limit = placed.fits;
-          rise_rows = subst (λ (zs : List Row). Each (RiseRow parameters shared) zs) (sym same) kept.rise_rows;
+          rise_rows = subst (λ (zs : List Row). AllByRecursion (RiseRow parameters shared) zs) (sym same) kept.rise_rows;
           fall_rows = each_placed (FallRow parameters shared) before.fall.items after.fall.items row 6 c.at n kept.fall_rows (record { over = over_kinds ns row over; falls = falls_each parameters row.form.terms never; some_shared = some_shared is_negative parameters row.form.terms drops }) answers;
           rise_distinct = subst (λ (zs : List Row). Distinct (map (linear_of (size ns)) zs)) (sym same) kept.rise_distinct;
           fall_distinct = placed.distinct;
-          rise_kind = subst (λ (zs : List Row). Each (λ (r : Linear). falls parameters r ≡ false) (map (linear_of (size ns)) zs)) (sym same) kept.rise_kind;
-          fall_kind = each_map (linear_of (size ns)) (λ (r : Linear). falls parameters r ≡ true) after.fall.items (each_placed (λ (r : Row). falls parameters (linear_of (size ns) r) ≡ true) before.fall.items after.fall.items row 6 c.at n (map_each (linear_of (size ns)) (λ (r : Linear). falls parameters r ≡ true) before.fall.items kept.fall_kind) negative answers);
+          rise_kind = subst (λ (zs : List Row). AllByRecursion (λ (r : Linear). falls parameters r ≡ false) (map (linear_of (size ns)) zs)) (sym same) kept.rise_kind;
+          fall_kind = each_map_of (linear_of (size ns)) (λ (r : Linear). falls parameters r ≡ true) after.fall.items (each_placed (λ (r : Row). falls parameters (linear_of (size ns) r) ≡ true) before.fall.items after.fall.items row 6 c.at n (map_each (linear_of (size ns)) (λ (r : Linear). falls parameters r ≡ true) before.fall.items kept.fall_kind) negative answers);
         };
         guards = guards_same (guards_so_far ns after) (record { rise = g.rise; fall = with_row g.fall l }) (ap (map (linear_of (size ns))) same) placed.linears
             ∙ sym (cond-true (falls parameters l) (record { rise = g.rise; fall = with_row g.fall l }) (record { rise = with_row g.rise l; fall = g.fall }) negative);

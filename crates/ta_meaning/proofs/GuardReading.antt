@@ -3,14 +3,14 @@ use Rattle.std.proofs.Common.{◌≡◌, ◌⊎◌, inl, inr, ℕ, List, [], ◌
 use Rattle.std.proofs.lemmas.List.{append-nil, append_assoc, length-map}
 use Rattle.std.proofs.lemmas.Option.{slice_get_within}
 use Rattle.std.proofs.lemmas.Bool.{true≢false}
+use Rattle.std.specs.List.{AllByRecursion}
+use Rattle.ta_base.proofs.Each.{each_at, each_push, each_weaker}
 use Rattle.ta_syntax.specs.Grammar.{PlainComparison}
 use Rattle.ta_syntax.specs.PlainTrees.{plain_comparison}
 use Rattle.ta_syntax.specs.declared.tree.TreeComparison.{TreeComparison}
 use Rattle.ta_syntax.specs.declared.fault.FileFault.{FileFault}
-use Rattle.ta_automaton.specs.Lists.{Each}
-use Rattle.ta_automaton.proofs.Thresholds.{each_at}
 use Rattle.ta_meaning.specs.Names.{Names, guard_names}
-use Rattle.ta_meaning.specs.Linear.{Linear, comparison_rows, UsesNames}
+use Rattle.ta_meaning.specs.Linear.{Linear, UsesNames}
 use Rattle.ta_meaning.specs.Guards.{Guards, falls, with_row, with_guard, with_guards, rows_of, NamesGuards}
 use Rattle.ta_meaning.specs.Faults.{FirstOrMemory, in_guards, guard_faults, guards_faults, guards_then}
 use Rattle.ta_meaning.specs.Inside.Numbering.{guards_so_far, GuardsKept, GuardNumbered, GuardsNumbered, AmongGuards, WithNumber, NumberFits, linear_of}
@@ -18,7 +18,6 @@ use Rattle.ta_meaning.specs.declared.guards.GuardList.{GuardList}
 use Rattle.ta_meaning.specs.declared.guards.GuardMasks.{GuardMasks}
 use Rattle.ta_meaning.specs.declared.guards.GuardNumber.{GuardNumber}
 use Rattle.ta_meaning.specs.declared.guards.GuardNumber.TheVariants as number
-use Rattle.ta_meaning.proofs.ListItems.{each_push, each_with}
 use Rattle.ta_meaning.proofs.Answering.{append-left-none, append-left-first}
 use Rattle.ta_meaning.proofs.GuardSteps.{Extends, with_row_cases, guard_falls, guard_rises, extends_guard, guards_append, rows_append, rows_one, among_extends, among_number, mask_kind, mask_other, no_rows, guards_counted}
 
@@ -89,14 +88,14 @@ numbered_more ns first before after cs c masks more n all h bits =
     let g = guards_so_far ns before in
     let k = guards_so_far ns after in
     let masks_now = masks_more ns before after c (rows_of names cs) masks more n h bits all.rise all.fall in
-    let old = each_with (AmongGuards parameters g) (AmongGuards parameters k) (rows_of names cs) (λ r a. among_extends parameters g k r (subst (λ (z : Guards). Extends g z) (sym h.guards) (extends_guard parameters g h.row)) a) all.among in
+    let old = each_weaker (AmongGuards parameters g) (AmongGuards parameters k) (rows_of names cs) (λ r a. among_extends parameters g k r (subst (λ (z : Guards). Extends g z) (sym h.guards) (extends_guard parameters g h.row)) a) all.among in
     record {
       kept = h.kept;
       guards = h.guards ∙ ap (λ (z : Guards). with_guard parameters z h.row) all.guards ∙ sym (ap (with_guards parameters (guards_so_far ns first)) rows ∙ guards_append parameters (guards_so_far ns first) (rows_of names cs) (h.row ∷ []));
       known = each_push (UsesNames names) cs c all.known h.known;
       rise = subst (λ (zs : List Linear). NamesGuards k.rise zs more.rise) (sym rows) masks_now.0;
       fall = subst (λ (zs : List Linear). NamesGuards k.fall zs more.fall) (sym rows) masks_now.1;
-      among = subst (λ (zs : List Linear). Each (AmongGuards parameters k) zs) (sym rows) (each_push (AmongGuards parameters k) (rows_of names cs) h.row old (among_number parameters k h.row n h.numbered));
+      among = subst (λ (zs : List Linear). AllByRecursion (AmongGuards parameters k) zs) (sym rows) (each_push (AmongGuards parameters k) (rows_of names cs) h.row old (among_number parameters k h.row n h.numbered));
     }
 
 -- the comparisons so far are numbered, and the faults of all are those of the comparisons left

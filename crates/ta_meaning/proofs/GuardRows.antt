@@ -1,16 +1,14 @@
 -- rows as numbers: when two are the same, and which are among others
-use Rattle.std.proofs.Common.{◌≡◌, ◌⊎◌, inl, inr, ℕ, ℤ, pos, negsuc, zero, suc, List, [], ◌∷◌, ◌++◌, length, true, ◌&&◌, eqb, slice_get, Some, Decides, ap, refl}
+use Rattle.std.proofs.Common.{◌≡◌, ◌⊎◌, inl, inr, ℕ, zero, suc, List, [], ◌∷◌, ◌++◌, length, true, ◌&&◌, slice_get, Some, Decides, ap, refl}
 use Rattle.std.proofs.lemmas.Bool.{false≢true, or_cases, or_left, or_right}
-use Rattle.std.proofs.lemmas.Bool.Decides.{Decides-eqb, Decides-int_eq, Decides-and, Decides-like}
+use Rattle.std.proofs.lemmas.Bool.Decides.{Decides-int_eq, Decides-and, Decides-like}
 use Rattle.std.proofs.lemmas.Slice.Eq.{slice_eq-Decides}
 use Rattle.std.specs.Ordering.{int_eq}
-use Rattle.std.specs.List.{list_any}
 use lib.Pointwise.{pointwise}
 use Rattle.std.proofs.lemmas.Option.{same_Some}
-use Rattle.ta_automaton.proofs.Trails.{get_left}
+use Rattle.ta_base.proofs.Lists.{get_last, get_push, slice_get_left}
 use Rattle.ta_meaning.specs.Linear.{Linear}
 use Rattle.ta_meaning.specs.Guards.{same_row, has_row}
-use Rattle.ta_meaning.proofs.ListItems.{get_last, get_push}
 use Rattle.ta_meaning.proofs.NormalTerms.{linear_same}
 
 pub row_decides : (a b : Linear) → Decides (same_row a b) (a ≡ b)
@@ -19,7 +17,6 @@ row_decides a b =
     (Decides-and (int_eq a.constant b.constant) (pointwise int_eq a.coefficients b.coefficients) (Decides-int_eq a.constant b.constant) (slice_eq-Decides Decides-int_eq a.coefficients b.coefficients (pointwise int_eq a.coefficients b.coefficients) refl))
 
 -- ---- rows among rows
-
 pub has_at : (rows : List Linear) (i : ℕ) (r : Linear) → slice_get rows i ≡ Some r → has_row rows r ≡ true
 has_at [] i r e = absurd (cc)
 has_at (q ∷ rows) zero r e = or_left (same_row q r) (has_row rows r) ((row_decides q r).1 (same_Some q r e))
@@ -33,7 +30,7 @@ at_has (q ∷ rows) r e = elim (or_cases (same_row q r) (has_row rows r) e) [
 ]
 
 pub has_left : (a b : List Linear) (r : Linear) → has_row a r ≡ true → has_row (a ++ b) r ≡ true
-has_left a b r t = let w = at_has a r t in has_at (a ++ b) w.0 r (get_left a b w.0 r w.1)
+has_left a b r t = let w = at_has a r t in has_at (a ++ b) w.0 r (slice_get_left a b w.0 r w.1)
 
 -- a row that is among rows with one more is the last or was there before
 pub has_push : (rows : List Linear) (q r : Linear) → has_row (rows ++ q ∷ []) r ≡ true → (has_row rows r ≡ true) ⊎ (r ≡ q)

@@ -1,23 +1,23 @@
 -- the signs of shared variables' coefficients, in a row's terms and in its numbers
-use Rattle.std.proofs.Common.{◌≡◌, inl, inr, ℕ, ℤ, pos, negsuc, suc, ◌+◌, ◌-◌, ◌<◌, ◌≤◌, ◌≤ℤ◌, List, [], ◌∷◌, map, length, drop, get_or, Bool, true, false, leb, ◌&&◌, arith, sym, ap, ◌∙◌, refl}
-use Rattle.std.specs.List.{list_any}
+use Rattle.std.proofs.Common.{◌≡◌, inl, inr, ℕ, ℤ, pos, negsuc, ◌+◌, ◌-◌, ◌<◌, ◌≤◌, ◌≤ℤ◌, List, [], ◌∷◌, map, length, drop, get_or, Bool, true, false, leb, ◌&&◌, arith, sym, ap, ◌∙◌, refl}
+use Rattle.std.specs.List.{list_any, AllByRecursion}
 use Rattle.std.proofs.lemmas.Int.{ints}
 use Rattle.std.proofs.lemmas.Bool.{false≢true, true≢false, or_cases, or_left, or_right, or_parts, and_parts, and_from, and_cases, cases_eq, leb-true, leb-false, le-leb, ltb-false}
 use Rattle.std.proofs.lemmas.Bool.Decides.{same_from_decides}
 use Rattle.std.proofs.lemmas.List.{get_or-drop, length-drop}
 use Rattle.std.proofs.lemmas.List.Recursion.{or_at}
+use Rattle.ta_base.proofs.Lists.{number_gives}
+use Rattle.ta_base.proofs.Ranges.{length-numbers}
 use Rattle.ta_linear.specs.Terms.{coefficient, IsNormal}
 use Rattle.ta_linear.specs.declared.row.Row.{Row}
 use Rattle.ta_linear.proofs.TermLemmas.{IsNormal-le}
-use Rattle.ta_automaton.specs.Lists.{Each}
 use Rattle.ta_automaton.specs.Forms.{RowOver}
 use Rattle.ta_meaning.specs.Linear.{Linear, Pairwise, RowOf}
 use Rattle.ta_meaning.specs.Guards.{is_negative, is_positive, falls, is_no_threshold}
 use Rattle.ta_meaning.specs.Inside.Numbering.{any_shared, is_no_guard, linear_of}
-use Rattle.ta_meaning.proofs.NormalTerms.{coefficient-first, coefficient-other, linear_at, length-numbers, linear_is}
+use Rattle.ta_meaning.proofs.NormalTerms.{coefficient-first, coefficient-other, linear_at, linear_is}
 
 -- ---- terms
-
 not_negative : (z : ℤ) → is_negative z ≡ false → pos 0 ≤ℤ z
 not_negative (pos n) e = omega (arith, ints)
 not_negative (negsuc n) e = absurd (true≢false e)
@@ -26,7 +26,7 @@ not_positive : (z : ℤ) → is_positive z ≡ false → z ≤ℤ pos 0
 not_positive (pos n) e = let h = ltb-false 0 n e in omega (arith, ints)
 not_positive (negsuc n) e = omega (arith, ints)
 
-none_passes : (test : ℤ → Bool) (Q : ℤ → Type 0) (parameters : ℕ) (ts : List (ℕ × ℤ)) → ((z : ℤ) → test z ≡ false → Q z) → any_shared test parameters ts ≡ false → Each (λ (t : ℕ × ℤ). parameters ≤ t.0 → Q t.1) ts
+none_passes : (test : ℤ → Bool) (Q : ℤ → Type 0) (parameters : ℕ) (ts : List (ℕ × ℤ)) → ((z : ℤ) → test z ≡ false → Q z) → any_shared test parameters ts ≡ false → AllByRecursion (λ (t : ℕ × ℤ). parameters ≤ t.0 → Q t.1) ts
 none_passes test Q parameters [] f h = tt
 none_passes test Q parameters (t ∷ ts) f h =
     let parts = or_parts (leb parameters t.0 && test t.1) (any_shared test parameters ts) h in (
@@ -38,14 +38,14 @@ none_passes test Q parameters (t ∷ ts) f h =
     )
 
 -- no negative coefficient of a shared variable
-pub rises_each : (parameters : ℕ) (ts : List (ℕ × ℤ)) → any_shared is_negative parameters ts ≡ false → Each (λ (t : ℕ × ℤ). parameters ≤ t.0 → pos 0 ≤ℤ t.1) ts
+pub rises_each : (parameters : ℕ) (ts : List (ℕ × ℤ)) → any_shared is_negative parameters ts ≡ false → AllByRecursion (λ (t : ℕ × ℤ). parameters ≤ t.0 → pos 0 ≤ℤ t.1) ts
 rises_each parameters ts h = none_passes is_negative (λ z. pos 0 ≤ℤ z) parameters ts not_negative h
 
 -- no positive coefficient of a shared variable
-pub falls_each : (parameters : ℕ) (ts : List (ℕ × ℤ)) → any_shared is_positive parameters ts ≡ false → Each (λ (t : ℕ × ℤ). parameters ≤ t.0 → t.1 ≤ℤ pos 0) ts
+pub falls_each : (parameters : ℕ) (ts : List (ℕ × ℤ)) → any_shared is_positive parameters ts ≡ false → AllByRecursion (λ (t : ℕ × ℤ). parameters ≤ t.0 → t.1 ≤ℤ pos 0) ts
 falls_each parameters ts h = none_passes is_positive (λ z. z ≤ℤ pos 0) parameters ts not_positive h
 
-pub some_shared : (test : ℤ → Bool) (parameters : ℕ) (ts : List (ℕ × ℤ)) → any_shared test parameters ts ≡ true → Each (λ (t : ℕ × ℤ). t.0 < parameters) ts → ⊥
+pub some_shared : (test : ℤ → Bool) (parameters : ℕ) (ts : List (ℕ × ℤ)) → any_shared test parameters ts ≡ true → AllByRecursion (λ (t : ℕ × ℤ). t.0 < parameters) ts → ⊥
 some_shared test parameters [] h below = false≢true h
 some_shared test parameters (t ∷ ts) h below = elim (or_cases (leb parameters t.0 && test t.1) (any_shared test parameters ts) h) [
   | inl e ↦ (let low = leb-true parameters t.0 (and_parts (leb parameters t.0) (test t.1) e).0 in let high = below.0 in omega arith)
@@ -96,13 +96,6 @@ any_from test parameters low high i (s ∷ ts) none n h t = elim (cases_eq s.0 i
   | inr ne ↦ or_right (leb parameters s.0 && test s.1) (any_shared test parameters ts) (any_from test parameters (s.0 + 1) high i ts none n.2 h (ap test (sym (coefficient-other s ts i ne)) ∙ t))
 ]
 
-number_gives : (test : ℤ → Bool) (zs : List ℤ) → list_any test zs ≡ true → (i : ℕ) × (i < length zs) × (test (get_or zs i (pos 0)) ≡ true)
-number_gives test [] h = absurd (false≢true h)
-number_gives test (z ∷ zs) h = elim (or_cases (test z) (list_any test zs) h) [
-  | inl e ↦ (0, omega arith, e)
-  | inr e ↦ (let w = number_gives test zs e in (suc w.0, (let b = w.1 in omega arith), w.2))
-]
-
 -- a row's terms and its numbers agree on whether a coefficient of a shared variable passes
 pub any_same : (test : ℤ → Bool) (parameters places : ℕ) (row : Row) → test (pos 0) ≡ false → IsNormal 0 places row.form.terms → any_shared test parameters row.form.terms ≡ list_any test (drop parameters (linear_of places row).coefficients)
 any_same test parameters places row none n =
@@ -130,8 +123,7 @@ pub falls_same : (parameters places : ℕ) (row : Row) → IsNormal 0 places row
 falls_same parameters places row n = any_same is_negative parameters places row refl n
 
 -- ---- comparisons
-
-pub rows_are : (places : ℕ) (linears : List Linear) (rows : List Row) → Each (λ (l : Linear). length l.coefficients ≡ places) linears → Pairwise RowOf linears rows → linears ≡ map (linear_of places) rows
+pub rows_are : (places : ℕ) (linears : List Linear) (rows : List Row) → AllByRecursion (λ (l : Linear). length l.coefficients ≡ places) linears → Pairwise RowOf linears rows → linears ≡ map (linear_of places) rows
 rows_are places [] [] count are = refl
 rows_are places [] (r ∷ rows) count are = absurd are
 rows_are places (l ∷ linears) [] count are = absurd are
@@ -140,7 +132,7 @@ rows_are places (l ∷ linears) (r ∷ rows) count are =
     let rest = rows_are places linears rows count.1 are.1 in
     cc
 
-pub no_threshold_same : (parameters places : ℕ) (rows : List Row) → Each (RowOver places) rows → is_no_guard parameters rows ≡ is_no_threshold parameters (map (linear_of places) rows)
+pub no_threshold_same : (parameters places : ℕ) (rows : List Row) → AllByRecursion (RowOver places) rows → is_no_guard parameters rows ≡ is_no_threshold parameters (map (linear_of places) rows)
 no_threshold_same parameters places [] over = refl
 no_threshold_same parameters places (r ∷ []) over =
     ap (λ b. b && any_shared is_positive parameters r.form.terms) (falls_same parameters places r over.0.below)

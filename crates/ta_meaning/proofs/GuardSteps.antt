@@ -3,20 +3,19 @@ use Rattle.std.proofs.Common.{◌≡◌, ◌⊎◌, inl, inr, ℕ, ◌<◌, ◌^
 use Rattle.std.proofs.lemmas.List.{append-nil, append_assoc}
 use Rattle.std.proofs.lemmas.Option.{slice_get_within}
 use Rattle.std.proofs.lemmas.Bool.{false≢true, cond-true, cond-false, cases_Bool}
+use Rattle.ta_base.proofs.Bits.{mask_below, no_bit}
+use Rattle.ta_base.proofs.Each.{distinct_at}
+use Rattle.ta_base.proofs.Lists.{get_push, slice_get_left}
 use Rattle.ta_syntax.specs.Grammar.{PlainComparison}
 use Rattle.ta_syntax.specs.PlainTrees.{plain_comparison}
 use Rattle.ta_syntax.specs.declared.tree.TreeComparison.{TreeComparison}
-use Rattle.ta_automaton.specs.Lists.{Distinct}
-use Rattle.ta_automaton.proofs.Trails.{get_left}
+use Rattle.ta_base.specs.Lists.{Distinct}
 use Rattle.ta_meaning.specs.Linear.{Linear, comparison_rows}
 use Rattle.ta_meaning.specs.Guards.{Guards, falls, has_row, with_row, with_guard, with_guards, rows_of, NamesGuards}
 use Rattle.ta_meaning.specs.Faults.{Scope, guards_with, guard_faults, guards_faults, guards_then, counted}
-use Rattle.ta_meaning.specs.Inside.Numbering.{IsNumber, AmongGuards, WithBit}
+use Rattle.ta_meaning.specs.Inside.Numbering.{IsGuardNumber, AmongGuards, WithBit}
 use Rattle.ta_meaning.specs.declared.guards.GuardNumber.{GuardNumber}
 use Rattle.ta_meaning.specs.declared.guards.GuardNumber.TheVariants as number
-use Rattle.ta_meaning.proofs.DistinctItems.{distinct_at}
-use Rattle.ta_meaning.proofs.ListItems.{get_push}
-use Rattle.ta_meaning.proofs.GuardMasks.{mask_below, none_set}
 use Rattle.ta_meaning.proofs.GuardRows.{has_at, at_has, has_left, has_push, has_last}
 use Rattle.ta_syntax.specs.declared.fault.FileFault.{FileFault}
 use Rattle.ta_meaning.proofs.Answering.{none-append-left, none-append-right}
@@ -104,7 +103,6 @@ guards_with_rows parameters s g (c ∷ cs) none =
     ∙ sym (guards_append parameters g (comparison_rows s.allowed (plain_comparison c)) (rows_of s.allowed (map plain_comparison cs)))
 
 -- ---- rows among the guards
-
 pub among_fall : (parameters : ℕ) (g : Guards) (r : Linear) → falls parameters r ≡ true → has_row g.fall r ≡ true → AmongGuards parameters g r
 among_fall parameters g r t h = cond-true (falls parameters r) (has_row g.fall r) (has_row g.rise r) t ∙ h
 
@@ -117,15 +115,14 @@ among_extends parameters g after r x h = elim (cases_Bool (falls parameters r)) 
   | inr f ↦ among_rise parameters after r f (subst (λ (rows : List Linear). has_row rows r ≡ true) (sym x.rise) (has_left g.rise x.rise_more r (sym (cond-false (falls parameters r) (has_row g.fall r) (has_row g.rise r) f) ∙ h)))
 ]
 
-pub among_number : (parameters : ℕ) (g : Guards) (r : Linear) (n : GuardNumber) → IsNumber parameters g r n → AmongGuards parameters g r
+pub among_number : (parameters : ℕ) (g : Guards) (r : Linear) (n : GuardNumber) → IsGuardNumber parameters g r n → AmongGuards parameters g r
 among_number parameters g r (number.Rise n) h = among_rise parameters g r h.0 (has_at g.rise n r h.1)
 among_number parameters g r (number.Fall n) h = among_fall parameters g r h.0 (has_at g.fall n r h.1)
 
 -- ---- masks
-
 kept_at : (guards after : List Linear) (row : Linear) (i : ℕ) (g : Linear) → (after ≡ guards) ⊎ (after ≡ guards ++ row ∷ []) → slice_get guards i ≡ Some g → slice_get after i ≡ Some g
 kept_at guards after row i g (inl e) h = ap (λ (xs : List Linear). slice_get xs i) e ∙ h
-kept_at guards after row i g (inr e) h = ap (λ (xs : List Linear). slice_get xs i) e ∙ get_left guards (row ∷ []) i g h
+kept_at guards after row i g (inr e) h = ap (λ (xs : List Linear). slice_get xs i) e ∙ slice_get_left guards (row ∷ []) i g h
 
 was_at : (guards after : List Linear) (row : Linear) (i : ℕ) (g : Linear) → (after ≡ guards) ⊎ (after ≡ guards ++ row ∷ []) → slice_get after i ≡ Some g → (slice_get guards i ≡ Some g) ⊎ (g ≡ row)
 was_at guards after row i g (inl e) h = inl (ap (λ (xs : List Linear). slice_get xs i) (sym e) ∙ h)
@@ -157,10 +154,10 @@ mask_other guards rows row mask none names i = (
 -- later guards are none of these rows
 pub mask_later : (guards more rows : List Linear) (mask : ℕ) → Distinct (guards ++ more) → ((i : ℕ) (g : Linear) → slice_get (guards ++ more) i ≡ Some g → has_row rows g ≡ true → has_row guards g ≡ true) → NamesGuards guards rows mask → NamesGuards (guards ++ more) rows mask
 mask_later guards more rows mask distinct among names i = (
-  λ b. (let w = (names i).0 b in (w.0, get_left guards more i w.0 w.1, w.2)),
+  λ b. (let w = (names i).0 b in (w.0, slice_get_left guards more i w.0 w.1, w.2)),
   λ w. (
       let o = at_has guards w.0 (among i w.0 w.1 w.2) in
-      let same : i ≡ o.0 = distinct_at (guards ++ more) i o.0 w.0 distinct w.1 (get_left guards more o.0 w.0 o.1) in
+      let same : i ≡ o.0 = distinct_at (guards ++ more) i o.0 w.0 distinct w.1 (slice_get_left guards more o.0 w.0 o.1) in
       (names i).1 (w.0, ap (slice_get guards) same ∙ o.1, w.2)
       ),
 )
@@ -169,4 +166,4 @@ pub mask_fits : (guards rows : List Linear) (mask : ℕ) → NamesGuards guards 
 mask_fits guards rows mask names = mask_below mask (length guards) (λ i b. let w = (names i).0 b in slice_get_within guards i w.0 w.1)
 
 pub no_rows : (guards : List Linear) → NamesGuards guards [] 0
-no_rows guards i = (λ b. absurd (none_set i b), λ w. absurd (false≢true w.2))
+no_rows guards i = (λ b. absurd (no_bit i b), λ w. absurd (false≢true w.2))

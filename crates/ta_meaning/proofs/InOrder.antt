@@ -1,15 +1,16 @@
 -- Parts of a tree that stand one after another in a text: faults that rise within each part rise in the whole.
 use Rattle.std.proofs.Common.{ℕ, ◌+◌, ◌≤◌, ◌<◌, ◌≡◌, Bool, true, false, List, [], ◌∷◌, ◌++◌, map, ◌⊎◌, inl, inr, refl, sym, subst, arith}
 use Rattle.std.specs.List.{AllByRecursion}
+use Rattle.ta_base.proofs.Each.{each_append, each_weaker}
+use Rattle.ta_base.proofs.Ranges.{rises-wider}
 use Rattle.ta_syntax.specs.Grammar.{further, listed, led, ended, each}
 use Rattle.ta_syntax.specs.Stated.{Offsets, unplaced, at_first}
 use Rattle.ta_syntax.specs.declared.tokens.Mark.{Mark}
 use Rattle.ta_syntax.specs.declared.fault.FileFault.{FileFault}
-use Rattle.ta_automaton.specs.Lists.{Each, Rises}
+use Rattle.ta_base.specs.Lists.{Rises}
 use Rattle.ta_meaning.specs.Faults.{where_, else_}
-use Rattle.ta_meaning.specs.Offsets.{offset_of, IsOfMeaning}
+use Rattle.ta_meaning.specs.Offsets.{fault_offset, IsOfMeaning}
 use Rattle.ta_meaning.proofs.StartedParts.{Starts}
-use Rattle.ta_meaning.proofs.ListItems.{each_with, each_append}
 
 -- the tokens of which these offsets are stated lie one after another, from `low` on and below `high`
 abbrev pub Lies : ℕ → List Offsets → ℕ → Type 0
@@ -18,7 +19,7 @@ Lies low (x ∷ xs) high = (at : ℕ) × (low ≤ at) × AllByRecursion (λ a. a
 
 -- the offsets of faults rise strictly, from `low` on and below `high`
 abbrev pub Within : ℕ → ℕ → List FileFault → Type 0
-Within low high faults = Rises low high (map offset_of faults)
+Within low high faults = Rises low high (map fault_offset faults)
 
 -- the number is among those that are stated of a token
 abbrev pub IsAmong : ℕ → Offsets → Type 0
@@ -31,13 +32,13 @@ IsStated at [] = ⊥
 IsStated at (x ∷ s) = IsAmong at x ⊎ IsStated at s
 
 abbrev pub AreStated : List Offsets → List FileFault → Type 0
-AreStated stated faults = Each (λ f. IsStated (offset_of f) stated) faults
+AreStated stated faults = AllByRecursion (λ f. IsStated (fault_offset f) stated) faults
 
 -- wherever the tokens of a part lie, its faults rise there; each has the offset of a token, and is one that meaning may have
 pub record InOrder (stated : List Offsets) (faults : List FileFault) : Type 0 where
   pub rise : (low high : ℕ) → Lies low stated high → Within low high faults
   pub tokens : AreStated stated faults
-  pub kinds : Each IsOfMeaning faults
+  pub kinds : AllByRecursion IsOfMeaning faults
 
 -- the offset of a token of a part, which is there wherever the tokens lie
 pub record IsInside (at : ℕ) (stated : List Offsets) : Type 0 where
@@ -45,7 +46,6 @@ pub record IsInside (at : ℕ) (stated : List Offsets) : Type 0 where
   pub token : IsStated at stated
 
 -- ---- what lies in a text
-
 pub lies-room : (low high : ℕ) (s : List Offsets) → Lies low s high → low ≤ high
 lies-room low high [] h = h
 lies-room low high (x ∷ s) h = let later : h.0 + 1 ≤ high = lies-room (h.0 + 1) high s h.3 in let here : low ≤ h.0 = h.1 in omega arith
@@ -72,7 +72,6 @@ lies-at_first at low high [] h = h
 lies-at_first at low high (x ∷ s) h = (h.0, h.1, h.2.1, h.3)
 
 -- ---- what is stated of a part is stated of the whole
-
 stated-left : (at : ℕ) (s r : List Offsets) → IsStated at s → IsStated at (s ++ r)
 stated-left at [] r h = absurd h
 stated-left at (x ∷ s) r (inl h) = inl h
@@ -88,28 +87,21 @@ stated-at_first at first (x ∷ s) (inl h) = inl (inr h)
 stated-at_first at first (x ∷ s) (inr h) = inr h
 
 are_stated-left : (s r : List Offsets) (fs : List FileFault) → AreStated s fs → AreStated (s ++ r) fs
-are_stated-left s r fs h = each_with (λ f. IsStated (offset_of f) s) (λ f. IsStated (offset_of f) (s ++ r)) fs (λ f k. stated-left (offset_of f) s r k) h
+are_stated-left s r fs h = each_weaker (λ f. IsStated (fault_offset f) s) (λ f. IsStated (fault_offset f) (s ++ r)) fs (λ f k. stated-left (fault_offset f) s r k) h
 
 are_stated-right : (s r : List Offsets) (fs : List FileFault) → AreStated r fs → AreStated (s ++ r) fs
-are_stated-right s r fs h = each_with (λ f. IsStated (offset_of f) r) (λ f. IsStated (offset_of f) (s ++ r)) fs (λ f k. stated-right (offset_of f) s r k) h
-
--- ---- faults within bounds
-
-rises-wider : (low high low' high' : ℕ) (xs : List ℕ) → low' ≤ low → high ≤ high' → Rises low high xs → Rises low' high' xs
-rises-wider low high low' high' [] l r h = tt
-rises-wider low high low' high' (x ∷ xs) l r h = let here : low ≤ x = h.0 in let below : x < high = h.1 in (omega arith, omega arith, rises-wider (x + 1) high (x + 1) high' xs (omega arith) r h.2)
+are_stated-right s r fs h = each_weaker (λ f. IsStated (fault_offset f) r) (λ f. IsStated (fault_offset f) (s ++ r)) fs (λ f k. stated-right (fault_offset f) s r k) h
 
 pub within-wider : (low high low' high' : ℕ) (fs : List FileFault) → low' ≤ low → high ≤ high' → Within low high fs → Within low' high' fs
-within-wider low high low' high' fs l r h = rises-wider low high low' high' (map offset_of fs) l r h
+within-wider low high low' high' fs l r h = rises-wider low high low' high' (map fault_offset fs) l r h
 
 pub within-append : (low middle high : ℕ) (fs gs : List FileFault) → low ≤ middle → middle ≤ high → Within low middle fs → Within middle high gs → Within low high (fs ++ gs)
 within-append low middle high [] gs l r h k = within-wider middle high low high gs l (omega arith) k
 within-append low middle high (f ∷ fs) gs l r h k =
-    let here : offset_of f < middle = h.1 in
-    (h.0, omega arith, within-append (offset_of f + 1) middle high fs gs (omega arith) r h.2 k)
+    let here : fault_offset f < middle = h.1 in
+    (h.0, omega arith, within-append (fault_offset f + 1) middle high fs gs (omega arith) r h.2 k)
 
 -- ---- an offset inside a part
-
 pub inside-name : (at : ℕ) → IsInside at ((at ∷ []) ∷ [])
 inside-name at = record { inside = λ low high h. let here : low ≤ h.0 = h.1 in let is : at ≡ h.0 = h.2.0 in let room : h.0 + 1 ≤ high = h.3 in (omega arith, omega arith); token = inl (inl refl) }
 
@@ -119,7 +111,6 @@ inside-at_first at [] starts = absurd starts
 inside-at_first at (x ∷ s) starts = record { inside = λ low high h. let here : low ≤ h.0 = h.1 in let is : at ≡ h.0 = h.2.0 in let room : h.0 + 1 ≤ high = lies-room (h.0 + 1) high s h.3 in (omega arith, omega arith); token = inl (inl refl) }
 
 -- ---- parts and their faults
-
 pub no_faults : (s : List Offsets) → InOrder s []
 no_faults s = record { rise = λ low high h. tt; tokens = tt; kinds = tt }
 
@@ -127,8 +118,8 @@ pub along : (s r : List Offsets) (fs gs : List FileFault) → s ≡ r → fs ≡
 along s r fs gs e d h = subst (λ (z : List Offsets). InOrder z gs) e (subst (λ (z : List FileFault). InOrder s z) d h)
 
 -- a fault alone, at an offset inside
-pub one : (s : List Offsets) (test : Bool) (f : FileFault) → IsOfMeaning f → IsInside (offset_of f) s → InOrder s (where_ test f)
-one s true f kind i = record { rise = λ low high h. let in_ : (low ≤ offset_of f) × (offset_of f < high) = i.inside low high h in (in_.0, in_.1, tt); tokens = (i.token, tt); kinds = (kind, tt) }
+pub one : (s : List Offsets) (test : Bool) (f : FileFault) → IsOfMeaning f → IsInside (fault_offset f) s → InOrder s (where_ test f)
+one s true f kind i = record { rise = λ low high h. let in_ : (low ≤ fault_offset f) × (fault_offset f < high) = i.inside low high h in (in_.0, in_.1, tt); tokens = (i.token, tt); kinds = (kind, tt) }
 one s false f kind i = no_faults s
 
 -- one of two lists of faults
@@ -142,7 +133,7 @@ together s r fs gs h k = record {
   rise = λ low high lies.
       let parts : Split low high s r = lies-split low high s r lies in
       within-append low parts.middle high fs gs (lies-room low parts.middle s parts.left) (lies-room parts.middle high r parts.right) (h.rise low parts.middle parts.left) (k.rise parts.middle high parts.right);
-  tokens = each_append (λ f. IsStated (offset_of f) (s ++ r)) fs gs (are_stated-left s r fs h.tokens) (are_stated-right s r gs k.tokens);
+  tokens = each_append (λ f. IsStated (fault_offset f) (s ++ r)) fs gs (are_stated-left s r fs h.tokens) (are_stated-right s r gs k.tokens);
   kinds = each_append IsOfMeaning fs gs h.kinds k.kinds;
 }
 
@@ -162,7 +153,7 @@ before_tokens s r fs h = record {
 
 -- one offset more stated of the first token
 pub with_first : (at : ℕ) (s : List Offsets) (fs : List FileFault) → InOrder s fs → InOrder (at_first at s) fs
-with_first at s fs h = record { rise = λ low high lies. h.rise low high (lies-at_first at low high s lies); tokens = each_with (λ f. IsStated (offset_of f) s) (λ f. IsStated (offset_of f) (at_first at s)) fs (λ f k. stated-at_first (offset_of f) at s k) h.tokens; kinds = h.kinds }
+with_first at s fs h = record { rise = λ low high lies. h.rise low high (lies-at_first at low high s lies); tokens = each_weaker (λ f. IsStated (fault_offset f) s) (λ f. IsStated (fault_offset f) (at_first at s)) fs (λ f k. stated-at_first (fault_offset f) at s k) h.tokens; kinds = h.kinds }
 
 -- ---- lists of parts
 

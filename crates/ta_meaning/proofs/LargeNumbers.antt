@@ -1,17 +1,19 @@
 -- Numbers above 1,000,000,000: in a form exactly where they are in what it means.
-use Rattle.std.proofs.Common.{◌≡◌, ℕ, zero, suc, ℤ, pos, ◌+◌, ◌^◌, ◌<◌, ◌≤◌, ◌+ℤ◌, unsigned_abs, Bool, true, false, ◌||◌, cond, eqb, List, [], ◌∷◌, length, get_or, refl, sym, ap, subst, ◌∙◌, arith}
-use Rattle.std.specs.List.{list_any}
+use Rattle.std.proofs.Common.{◌≡◌, ℕ, zero, suc, ℤ, pos, ◌+◌, ◌^◌, ◌<◌, ◌≤◌, unsigned_abs, Bool, false, ◌||◌, eqb, List, [], ◌∷◌, length, get_or, refl, sym, ap, subst, ◌∙◌, arith}
+use Rattle.std.specs.List.{list_any, AllByRecursion}
 use Rattle.std.proofs.lemmas.Int.{ints}
 use Rattle.std.proofs.lemmas.Bool.Decides.{nat_tests}
 use Rattle.std.proofs.lemmas.Bool.{or_parts, or_from}
+use Rattle.ta_base.proofs.Booleans.{both_or_neither}
+use Rattle.ta_base.proofs.Integers.{cond_small}
+use Rattle.ta_base.proofs.Lists.{get_or_past}
 use Rattle.ta_linear.specs.Terms.{coefficient, IsNormal}
 use Rattle.ta_linear.specs.declared.form.Form.{Form}
 use Rattle.ta_linear.specs.declared.row.Row.{Row}
 use Rattle.ta_linear.proofs.TermLemmas.{coefficient-below}
-use Rattle.ta_automaton.specs.Lists.{Each}
 use Rattle.ta_automaton.specs.Forms.{FormOver}
 use Rattle.ta_meaning.specs.Linear.{Linear, FormOf, Pairwise, RowOf, is_large, is_large_linear, any_large}
-use Rattle.ta_meaning.specs.SumParts.{Within}
+use Rattle.ta_meaning.specs.SumParts.{FormWithin}
 use Rattle.ta_meaning.specs.Inside.SumParts.{is_large_form, any_large_term, any_large_row}
 use Rattle.ta_meaning.proofs.NormalTerms.{coefficient-first, coefficient-other}
 
@@ -21,13 +23,7 @@ small_tells z h = grind (arith, nat_tests)
 pub small_test : (z : ℤ) → unsigned_abs z ≤ 1000000000 → is_large z ≡ false
 small_test z h = grind (arith, nat_tests)
 
-both_or_neither : (a b : Bool) → (a ≡ false → b ≡ false) → (b ≡ false → a ≡ false) → a ≡ b
-both_or_neither false b f g = sym (f refl)
-both_or_neither true false f g = g refl
-both_or_neither true true f g = refl
-
 -- ---- lists of numbers
-
 numbers_small : (zs : List ℤ) (i : ℕ) → list_any is_large zs ≡ false → unsigned_abs (get_or zs i (pos 0)) ≤ 1000000000
 numbers_small [] i h = omega (arith, ints)
 numbers_small (z ∷ zs) zero h = small_tells z (or_parts (is_large z) (list_any is_large zs) h).0
@@ -36,12 +32,6 @@ numbers_small (z ∷ zs) (suc i) h = numbers_small zs i (or_parts (is_large z) (
 small_numbers : (zs : List ℤ) → ((i : ℕ) → unsigned_abs (get_or zs i (pos 0)) ≤ 1000000000) → list_any is_large zs ≡ false
 small_numbers [] h = refl
 small_numbers (z ∷ zs) h = or_from (is_large z) (list_any is_large zs) (small_test z (h zero)) (small_numbers zs (λ i. h (suc i)))
-
--- ---- terms
-
-cond_small : (b : Bool) (z c : ℤ) → (b ≡ true → c ≡ pos 0) → unsigned_abs z ≤ 1000000000 → unsigned_abs c ≤ 1000000000 → unsigned_abs (cond b z (pos 0) +ℤ c) ≤ 1000000000
-cond_small true z c e h k = let none : c ≡ pos 0 = e refl in omega (arith, ints, none)
-cond_small false z c e h k = omega (arith, ints)
 
 terms_small : (low high : ℕ) (ts : List (ℕ × ℤ)) (x : ℕ) → IsNormal low high ts → any_large_term ts ≡ false → unsigned_abs (coefficient ts x) ≤ 1000000000
 terms_small low high [] x n h = omega (arith, ints)
@@ -59,23 +49,22 @@ small_terms low high (t ∷ ts) n h =
     (small_terms (t.0 + 1) high ts n.2 (λ x k. subst (λ (z : ℤ). unsigned_abs z ≤ 1000000000) (coefficient-other t ts x (omega arith)) (h x (omega (arith, n.0)))))
 
 -- ---- forms
-
-pub small_within : (form : Form) → is_large_form form ≡ false → Within 1000000000 form
+pub small_within : (form : Form) → is_large_form form ≡ false → FormWithin 1000000000 form
 small_within form h = record {
   constant = small_tells form.constant (or_parts (is_large form.constant) (any_large_term form.terms) h).0;
   coefficients = λ x. terms_small 0 (2 ^ 32) form.terms x form.normal (or_parts (is_large form.constant) (any_large_term form.terms) h).1;
 }
 
-pub within_small : (form : Form) → Within 1000000000 form → is_large_form form ≡ false
+pub within_small : (form : Form) → FormWithin 1000000000 form → is_large_form form ≡ false
 within_small form w = or_from (is_large form.constant) (any_large_term form.terms) (small_test form.constant w.constant) (small_terms 0 (2 ^ 32) form.terms form.normal (λ x h. w.coefficients x))
 
-pub linear_small : (l : Linear) (form : Form) → FormOf l form → Within 1000000000 form → is_large_linear l ≡ false
+pub linear_small : (l : Linear) (form : Form) → FormOf l form → FormWithin 1000000000 form → is_large_linear l ≡ false
 linear_small l form is w =
     or_from (is_large l.constant) (list_any is_large l.coefficients)
     (small_test l.constant (subst (λ (z : ℤ). unsigned_abs z ≤ 1000000000) is.constant w.constant))
     (small_numbers l.coefficients (λ i. subst (λ (z : ℤ). unsigned_abs z ≤ 1000000000) (is.coefficients i) (w.coefficients i)))
 
-small_linear : (l : Linear) (form : Form) → FormOf l form → is_large_linear l ≡ false → Within 1000000000 form
+small_linear : (l : Linear) (form : Form) → FormOf l form → is_large_linear l ≡ false → FormWithin 1000000000 form
 small_linear l form is h = record {
   constant = subst (λ (z : ℤ). unsigned_abs z ≤ 1000000000) (sym is.constant) (small_tells l.constant (or_parts (is_large l.constant) (list_any is_large l.coefficients) h).0);
   coefficients = λ i. subst (λ (z : ℤ). unsigned_abs z ≤ 1000000000) (sym (is.coefficients i)) (numbers_small l.coefficients i (or_parts (is_large l.constant) (list_any is_large l.coefficients) h).1);
@@ -95,8 +84,7 @@ same_large_rows [] (r ∷ rows) h = absurd h
 same_large_rows (l ∷ ls) [] h = absurd h
 
 -- ---- forms over the first places
-
-each_small : (ts : List (ℕ × ℤ)) → any_large_term ts ≡ false → Each (λ (t : ℕ × ℤ). unsigned_abs t.1 ≤ 1000000000) ts
+each_small : (ts : List (ℕ × ℤ)) → any_large_term ts ≡ false → AllByRecursion (λ (t : ℕ × ℤ). unsigned_abs t.1 ≤ 1000000000) ts
 each_small [] h = tt
 each_small (t ∷ ts) h = (small_tells t.1 (or_parts (is_large t.1) (any_large_term ts) h).0, each_small ts (or_parts (is_large t.1) (any_large_term ts) h).1)
 
@@ -111,11 +99,6 @@ narrow low high places (t ∷ ts) h n none =
     by_contradiction : (a b : ℕ) → (b ≤ a → ⊥) → a < b
     by_contradiction a b f = omega (arith, f)
 
-get_or_past : (zs : List ℤ) (i : ℕ) → length zs ≤ i → get_or zs i (pos 0) ≡ pos 0
-get_or_past [] i h = refl
-get_or_past (z ∷ zs) zero h = absurd (omega (arith, h))
-get_or_past (z ∷ zs) (suc i) h = get_or_past zs i (omega (arith, h))
-
 pub form_over : (l : Linear) (places : ℕ) (form : Form) → FormOf l form → length l.coefficients ≡ places → is_large_form form ≡ false → FormOver places form
 form_over l places form is e small = record {
   below = narrow 0 (2 ^ 32) places form.terms (omega arith) form.normal (λ x h. is.coefficients x ∙ get_or_past l.coefficients x (omega (arith, e)));
@@ -125,7 +108,7 @@ form_over l places form is e small = record {
   };
 }
 
-pub rows_over : (ls : List Linear) (places : ℕ) (rows : List Row) → Pairwise RowOf ls rows → Each (λ l. length l.coefficients ≡ places) ls → any_large_row rows ≡ false → Each (λ (r : Row). FormOver places r.form) rows
+pub rows_over : (ls : List Linear) (places : ℕ) (rows : List Row) → Pairwise RowOf ls rows → AllByRecursion (λ l. length l.coefficients ≡ places) ls → any_large_row rows ≡ false → AllByRecursion (λ (r : Row). FormOver places r.form) rows
 rows_over [] places [] h e small = tt
 rows_over (l ∷ ls) places (r ∷ rows) h e small = (form_over l places r.form h.0 e.0 (or_parts (is_large_form r.form) (any_large_row rows) small).0, rows_over ls places rows h.1 e.1 (or_parts (is_large_form r.form) (any_large_row rows) small).1)
 rows_over [] places (r ∷ rows) h e small = absurd h

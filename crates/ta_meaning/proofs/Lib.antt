@@ -2,8 +2,6 @@
 pub mod OneTree
 mod Answering
 mod Exits
-mod ListItems
-mod DistinctItems
 mod PairwiseItems
 mod ListedNames
 mod UsedNames

@@ -4,35 +4,18 @@ use Rattle.std.proofs.lemmas.Bool.Decides.{nat_tests}
 use Rattle.std.proofs.lemmas.Slice.Eq.{bytes_eq-Decides}
 use Rattle.std.proofs.lemmas.Bool.{false_from_ne_true}
 use Rattle.std.specs.Str.{bytes_eq}
+use Rattle.std.specs.List.{AllByRecursion}
+use Rattle.ta_base.proofs.Each.{distinct_at}
 use Rattle.ta_linear.specs.Terms.{coefficient}
 use Rattle.ta_syntax.specs.Grammar.{named}
-use Rattle.ta_automaton.specs.Lists.{Each, Distinct}
+use Rattle.ta_base.specs.Lists.{Distinct}
 use Rattle.ta_meaning.specs.Sums.{factor_coefficient}
-use Rattle.ta_meaning.proofs.DistinctItems.{distinct_at}
-
--- ---- numbers made one by one
-
-pub at_map : (op : ℤ → ℤ) → op (pos 0) ≡ pos 0 → (f : List ℕ → ℤ) (names : List (List ℕ)) (i : ℕ) → get_or (map (λ x. op (f x)) names) i (pos 0) ≡ op (get_or (map f names) i (pos 0))
-at_map op none f [] i = sym none
-at_map op none f (n ∷ names) zero = refl
-at_map op none f (n ∷ names) (suc i) = at_map op none f names i
-
-pub at_map_both : (op : ℤ → ℤ → ℤ) → op (pos 0) (pos 0) ≡ pos 0 → (f g : List ℕ → ℤ) (names : List (List ℕ)) (i : ℕ) → get_or (map (λ x. op (f x) (g x)) names) i (pos 0) ≡ op (get_or (map f names) i (pos 0)) (get_or (map g names) i (pos 0))
-at_map_both op none f g [] i = sym none
-at_map_both op none f g (n ∷ names) zero = refl
-at_map_both op none f g (n ∷ names) (suc i) = at_map_both op none f g names i
-
-pub at_map_none : (names : List (List ℕ)) (i : ℕ) → get_or (map (λ x. pos 0) names) i (pos 0) ≡ pos 0
-at_map_none [] i = refl
-at_map_none (n ∷ names) zero = refl
-at_map_none (n ∷ names) (suc i) = at_map_none names i
 
 -- ---- a name
-
 abbrev is_name : List ℕ → List ℕ → ℤ
 is_name n x = factor_coefficient x (named n)
 
-none_there : (names : List (List ℕ)) (n : List ℕ) → Each (λ y. n ≡ y → ⊥) names → (i : ℕ) → get_or (map (is_name n) names) i (pos 0) ≡ pos 0
+none_there : (names : List (List ℕ)) (n : List ℕ) → AllByRecursion (λ y. n ≡ y → ⊥) names → (i : ℕ) → get_or (map (is_name n) names) i (pos 0) ≡ pos 0
 none_there [] n d i = refl
 none_there (y ∷ names) n d zero = ap (λ (b : Bool). cond b (pos 1) (pos 0)) (false_from_ne_true (bytes_eq n y) (λ e. d.0 ((bytes_eq-Decides n y).0 e)))
 none_there (y ∷ names) n d (suc i) = none_there names n d.1 i
@@ -49,7 +32,7 @@ late_term i = grind (arith, nat_tests)
 pub name_numbers : (names : List (List ℕ)) (n : List ℕ) (i : ℕ) → Distinct names → slice_get names i ≡ Some n → (j : ℕ) → coefficient ((i, pos 1) ∷ []) j ≡ get_or (map (is_name n) names) j (pos 0)
 name_numbers [] n i d e j = cc
 name_numbers (m ∷ names) n zero d e zero = let same : n ≡ m = cc in let test = (bytes_eq-Decides n m).1 same in sym (ap (λ (b : Bool). cond b (pos 1) (pos 0)) test)
-name_numbers (m ∷ names) n zero d e (suc j) = let same : m ≡ n = cc in no_term j ∙ sym (none_there names n (subst (λ (x : List ℕ). Each (λ y. x ≡ y → ⊥) names) same d.0) j)
+name_numbers (m ∷ names) n zero d e (suc j) = let same : m ≡ n = cc in no_term j ∙ sym (none_there names n (subst (λ (x : List ℕ). AllByRecursion (λ y. x ≡ y → ⊥) names) same d.0) j)
 name_numbers (m ∷ names) n (suc i) d e zero =
     let differs : n ≡ m → ⊥ = λ same. absurd (let two : zero ≡ suc i = distinct_at (m ∷ names) zero (suc i) m d refl (e ∙ ap Some same) in omega arith) in
     late_term i ∙ sym (ap (λ (b : Bool). cond b (pos 1) (pos 0)) (false_from_ne_true (bytes_eq n m) (λ t. differs ((bytes_eq-Decides n m).0 t))))

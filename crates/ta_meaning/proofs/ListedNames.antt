@@ -3,19 +3,17 @@ use Rattle.std.proofs.Common.{◌≡◌, ℕ, zero, suc, ◌+◌, ◌-◌, ◌<�
 use Rattle.std.proofs.Common.{String, Global}
 use Rattle.std.specs.String.{string_bytes, string_eq}
 use Rattle.std.proofs.lemmas.Slice.Eq.{bytes_eq-Decides}
-use Rattle.std.proofs.lemmas.Bool.{false≢true}
-use Rattle.std.proofs.lemmas.Bool.Decides.{same_from_decides}
 use Rattle.std.proofs.lemmas.List.Quantifiers.{position-Some}
-use Rattle.std.proofs.lemmas.Map.Keys.{IsDistinct-head, IsDistinct-tail}
 use Rattle.std.specs.Option.{option_map}
 use Rattle.std.proofs.lemmas.Option.{slice_get-get_or, slice_get-map}
 use Rattle.std.proofs.lemmas.List.{map-append}
-use Rattle.std.specs.List.{IsDistinct, AllByRecursion, list_any}
+use Rattle.std.specs.List.{list_any}
 use Rattle.std.specs.Str.{bytes_eq}
-use Rattle.ta_automaton.specs.Lists.{Each, Distinct}
+use Rattle.ta_base.specs.Lists.{Distinct}
+use Rattle.ta_base.proofs.ByteLists.{bytes_eq_turned}
+use Rattle.ta_base.proofs.Each.{distinct_at}
+use Rattle.ta_base.proofs.Lists.{slice_get-drop, slice_get-take, slice_get-take_within}
 use Rattle.ta_meaning.specs.Sums.{has_name}
-use Rattle.ta_meaning.proofs.DistinctItems.{distinct_at}
-use Rattle.ta_meaning.proofs.ListItems.{slice_get-drop, slice_get-take, slice_get-take_within}
 
 -- ---- a name among names
 
@@ -36,16 +34,6 @@ has_name-where (m ∷ names) n e = first_or (bytes_eq m n) refl (λ h. has_name-
     first_or true h later e = (zero, ap Some ((bytes_eq-Decides m n).0 h))
     first_or false h later e = let w = later e in (suc w.0, w.1)
 
--- ---- a name at a place i of distinct names, among those from a place on and below another
-
-pub within_part : (names : List (List ℕ)) (n : List ℕ) (from to i : ℕ) → slice_get names i ≡ Some n → from ≤ i → i < to → slice_get (take (to - from) (drop from names)) (i - from) ≡ Some n
-within_part names n from to i e low high =
-    let same : from + (i - from) ≡ i = omega arith in
-    slice_get-take (drop from names) (to - from) (i - from) (omega arith)
-    ∙ slice_get-drop names from (i - from)
-    ∙ ap (λ (k : ℕ). slice_get names k) same
-    ∙ e
-
 pub outside_part : (names : List (List ℕ)) (n : List ℕ) (from to i : ℕ) → Distinct names → slice_get names i ≡ Some n → (from ≤ i → to ≤ i) → has_name (take (to - from) (drop from names)) n ≡ false
 outside_part names n from to i d e out = by (has_name (take (to - from) (drop from names)) n) refl
   where
@@ -58,16 +46,6 @@ outside_part names n from to i d e out = by (has_name (take (to - from) (drop fr
         let there : slice_get names (from + k) ≡ Some n = sym (slice_get-drop names from k) ∙ sym (slice_get-take (drop from names) (to - from) k within) ∙ w.1 in
         let same : from + k ≡ i = distinct_at names (from + k) i n d there e in
         absurd (omega (arith, out))
-
--- ---- names that are kept as strings
-
-each_other : (k : String Global) (ks : List (String Global)) → AllByRecursion (λ y. string_eq k y ≡ false) ks → Each (λ y. string_bytes k ≡ y → ⊥) (map string_bytes ks)
-each_other k [] h = tt
-each_other k (y ∷ ks) h = (λ e. false≢true (sym h.0 ∙ (bytes_eq-Decides (string_bytes k) (string_bytes y)).1 e), each_other k ks h.1)
-
-pub distinct_names : (keys : List (String Global)) → IsDistinct string_eq keys → Distinct (map string_bytes keys)
-distinct_names [] h = tt
-distinct_names (k ∷ ks) h = (each_other k ks (IsDistinct-head string_eq k ks h), distinct_names ks (IsDistinct-tail string_eq k ks h))
 
 -- the test by which a set looks a name up
 abbrev pub is_key : List ℕ → String Global → Bool
@@ -83,23 +61,13 @@ pub key_at : (n : List ℕ) (keys : List (String Global)) (i : ℕ) → position
 key_at n [] i e = cc
 key_at n (k ∷ ks) i e = found_key n (k ∷ ks) i k e
 
-turned : (m n : List ℕ) → bytes_eq m n ≡ bytes_eq n m
-turned m n = same_from_decides (bytes_eq m n) (bytes_eq n m) (bytes_eq-Decides m n) (λ e. sym ((bytes_eq-Decides n m).0 e), λ e. (bytes_eq-Decides n m).1 (sym e))
-
 pub has_key : (n : List ℕ) (keys : List (String Global)) → list_any (is_key n) keys ≡ has_name (map string_bytes keys) n
 has_key n [] = refl
-has_key n (k ∷ ks) = ap (λ (b : Bool). b || list_any (is_key n) ks) (turned n (string_bytes k)) ∙ ap (λ (b : Bool). bytes_eq (string_bytes k) n || b) (has_key n ks)
+has_key n (k ∷ ks) = ap (λ (b : Bool). b || list_any (is_key n) ks) (bytes_eq_turned n (string_bytes k)) ∙ ap (λ (b : Bool). bytes_eq (string_bytes k) n || b) (has_key n ks)
 
 -- ---- along equations
-
 pub has_name-along : (a b : List (List ℕ)) (m n : List ℕ) (t : Bool) → a ≡ b → m ≡ n → has_name a m ≡ t → has_name b n ≡ t
 has_name-along a b m n t e g h = subst (λ (x : List (List ℕ)). has_name x n ≡ t) e (subst (λ (y : List ℕ). has_name a y ≡ t) g h)
-
-pub place-along : (a b : List (List ℕ)) (m n : List ℕ) (i : ℕ) → a ≡ b → m ≡ n → slice_get a i ≡ Some m → slice_get b i ≡ Some n
-place-along a b m n i e g h = subst (λ (x : List (List ℕ)). slice_get x i ≡ Some n) e (subst (λ (y : List ℕ). slice_get a i ≡ Some y) g h)
-
-pub distinct-along : (a b : List (List ℕ)) → a ≡ b → Distinct a → Distinct b
-distinct-along a b e h = subst (λ (x : List (List ℕ)). Distinct x) e h
 
 -- a new name goes last
 pub inserted : (names : List (List ℕ)) (n : List ℕ) (keys : List (String Global)) (k : String Global) → map string_bytes keys ≡ names → string_bytes k ≡ n → has_name names n ≡ false → map string_bytes (if list_any (string_eq k) keys then keys else keys ++ k ∷ []) ≡ names ++ n ∷ []

@@ -6,10 +6,13 @@ use Rattle.std.proofs.lemmas.Option.{slice_get-get_or, get_or_from_slice_get}
 use Rattle.std.proofs.lemmas.Bool.{false≢true, or_cases, or_left, or_right, false_from_ne_true, not_from_true}
 use Rattle.std.proofs.Math.Seq.{take-length}
 use Rattle.std.proofs.lemmas.List.Elements.{Contains-append_right}
+use Rattle.std.specs.List.{AllByRecursion}
+use Rattle.ta_base.proofs.Each.{distinct_at, distinct_drop, distinct_take}
+use Rattle.ta_base.proofs.Lists.{get_of_drop, get_take}
 use Rattle.ta_syntax.specs.declared.names.Spelled.{Spelled}
 use Rattle.ta_syntax.specs.declared.fault.FileFault.{FileFault}
 use Rattle.ta_syntax.specs.declared.fault.FileFault.TheVariants as fault
-use Rattle.ta_automaton.specs.Lists.{Each, Distinct}
+use Rattle.ta_base.specs.Lists.{Distinct}
 use Rattle.ta_meaning.specs.Names.{all_names}
 use Rattle.ta_meaning.specs.Sums.{has_name}
 use Rattle.ta_meaning.specs.Faults.{First, where_, used_faults}
@@ -17,13 +20,10 @@ use Rattle.ta_meaning.specs.Inside.Resolved.{kinds_of}
 use Rattle.ta_meaning.specs.Inside.Updating.{names_at, variable_faults, IsNewVariable}
 use Rattle.ta_meaning.specs.declared.places.Places.{Places}
 use Rattle.ta_meaning.proofs.ListedNames.{has_name-at, has_name-where}
-use Rattle.ta_meaning.proofs.DistinctItems.{distinct_take, distinct_drop, distinct_at}
-use Rattle.ta_meaning.proofs.ListItems.{get_drop, get_take}
 use Rattle.ta_meaning.proofs.Answering.{where-false, where-leads, else-none, else-left-leads, else-right-leads}
 use Rattle.ta_meaning.proofs.PlaceNames.{all_names_are, locations_count}
 
 -- ---- names among names
-
 pub shared_distinct : (places : Places) → Distinct (kinds_of places).shared
 shared_distinct places = distinct_take places.shared (drop places.parameters places.names) (distinct_drop places.parameters places.names places.distinct)
 
@@ -32,7 +32,7 @@ shared_place : (places : Places) (n : List ℕ) → has_name (kinds_of places).s
 shared_place places n t =
     let w = has_name-where (kinds_of places).shared n t in
     subst (λ (names : List (List ℕ)). has_name names n ≡ true) (sym (all_names_are places))
-    (has_name-at places.names n (places.parameters + w.0) (get_drop places.parameters places.names w.0 n (get_take places.shared (drop places.parameters places.names) w.0 n w.1)))
+    (has_name-at places.names n (places.parameters + w.0) (get_of_drop places.parameters places.names w.0 n (get_take places.shared (drop places.parameters places.names) w.0 n w.1)))
 
 pub shared_used : (places : Places) (n : Spelled) → has_name (kinds_of places).shared n.name ≡ true → used_faults (all_names (kinds_of places)) (kinds_of places).shared n ≡ []
 shared_used places n t =
@@ -43,7 +43,7 @@ shared_used places n t =
 -- ---- variables seen
 
 -- a name seen is that of a number seen
-pub name_seen : (names : List (List ℕ)) (seen : List ℕ) (n : List ℕ) → Each (λ x. x < length names) seen → has_name (names_at names seen) n ≡ true → (x : ℕ) × Contains seen x × (slice_get names x ≡ Some n)
+pub name_seen : (names : List (List ℕ)) (seen : List ℕ) (n : List ℕ) → AllByRecursion (λ x. x < length names) seen → has_name (names_at names seen) n ≡ true → (x : ℕ) × Contains seen x × (slice_get names x ≡ Some n)
 name_seen names [] n known t = absurd (false≢true t)
 name_seen names (x ∷ seen) n known t = elim (or_cases (bytes_eq (get_or names x []) n) (has_name (names_at names seen) n) t) [
   | inl e ↦ (x, (0, omega arith, refl), slice_get-get_or names x [] known.0 ∙ ap Some ((bytes_eq-Decides (get_or names x []) n).0 e))
@@ -57,13 +57,13 @@ number_seen names (y ∷ seen) x n (zero, b, q) e =
 number_seen names (y ∷ seen) x n (suc k, b, q) e =
     or_right (bytes_eq (get_or names y []) n) (has_name (names_at names seen) n) (number_seen names seen x n (k, omega arith, q) e)
 
-no_first : (places : Places) (seen : List ℕ) (n : Spelled) (e : FileFault) {rest : List FileFault} → Each (λ x. x < length (kinds_of places).shared) seen → has_name (names_at (kinds_of places).shared seen) n.name ≡ true → used_faults (all_names (kinds_of places)) (kinds_of places).shared n ≡ e ∷ rest → ⊥
+no_first : (places : Places) (seen : List ℕ) (n : Spelled) (e : FileFault) {rest : List FileFault} → AllByRecursion (λ x. x < length (kinds_of places).shared) seen → has_name (names_at (kinds_of places).shared seen) n.name ≡ true → used_faults (all_names (kinds_of places)) (kinds_of places).shared n ≡ e ∷ rest → ⊥
 no_first places seen n e known t h =
     let w = name_seen (kinds_of places).shared seen n.name known t in
     let none = shared_used places n (has_name-at (kinds_of places).shared n.name w.0 w.2) in
     cc
 
-pub variable_first : (places : Places) (seen : List ℕ) (n : Spelled) (e : FileFault) → Each (λ x. x < length (kinds_of places).shared) seen → First (used_faults (all_names (kinds_of places)) (kinds_of places).shared n) e → First (variable_faults (kinds_of places) (names_at (kinds_of places).shared seen) n) e
+pub variable_first : (places : Places) (seen : List ℕ) (n : Spelled) (e : FileFault) → AllByRecursion (λ x. x < length (kinds_of places).shared) seen → First (used_faults (all_names (kinds_of places)) (kinds_of places).shared n) e → First (variable_faults (kinds_of places) (names_at (kinds_of places).shared seen) n) e
 variable_first places seen n e known h =
     let ns = kinds_of places in
     let before = names_at ns.shared seen in
@@ -77,7 +77,7 @@ variable_again places seen n x c e =
     else-left-leads (where_ (has_name before n.name) (fault.Duplicate n.at)) (used_faults (all_names ns) ns.shared n) (fault.Duplicate n.at)
     (where-leads (has_name before n.name) (fault.Duplicate n.at) (number_seen ns.shared seen x n.name c e))
 
-pub variable_new : (places : Places) (seen : List ℕ) (n : Spelled) (x : ℕ) → Each (λ y. y < length (kinds_of places).shared) seen → (Contains seen x → ⊥) → used_faults (all_names (kinds_of places)) (kinds_of places).shared n ≡ [] → slice_get (kinds_of places).shared x ≡ Some n.name
+pub variable_new : (places : Places) (seen : List ℕ) (n : Spelled) (x : ℕ) → AllByRecursion (λ y. y < length (kinds_of places).shared) seen → (Contains seen x → ⊥) → used_faults (all_names (kinds_of places)) (kinds_of places).shared n ≡ [] → slice_get (kinds_of places).shared x ≡ Some n.name
     → (variable_faults (kinds_of places) (names_at (kinds_of places).shared seen) n ≡ []) × IsNewVariable (kinds_of places).shared seen n.name x
 variable_new places seen n x known new used named =
     let ns = kinds_of places in
@@ -90,7 +90,6 @@ variable_new places seen n x known new used named =
     )
 
 -- ---- numbers in a part of the names
-
 pub shared_part_is : (places : Places) → take ((places.parameters + places.shared) - places.parameters) (drop places.parameters places.names) ≡ (kinds_of places).shared
 shared_part_is places = ap (λ k. take k (drop places.parameters places.names)) (let e : (places.parameters + places.shared) - places.parameters ≡ places.shared = omega arith in e)
 

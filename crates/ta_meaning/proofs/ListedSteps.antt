@@ -8,28 +8,21 @@ use Rattle.std.proofs.lemmas.Nat.{or_lt, pow_below, pow_pos}
 use Rattle.std.proofs.lemmas.Nat.Bits.{bit_at_set_same, bit_at_set_other}
 use Rattle.std.proofs.lemmas.List.{append_assoc, append-nil, take-append-drop, length-take-le, length-drop}
 use Rattle.std.proofs.lemmas.List.Elements.{Contains-append_left, Contains-append_right, Contains-push, Contains-push_cases}
-use Rattle.std.proofs.lemmas.Option.{slice_get_within, slice_get-get_or, same_Some}
+use Rattle.std.proofs.lemmas.Option.{slice_get_within, same_Some}
 use Rattle.std.proofs.lemmas.Slice.Eq.{bytes_eq-Decides}
+use Rattle.ta_base.proofs.Bits.{at_set, no_bit, set_at}
+use Rattle.ta_base.proofs.Each.{distinct_at, distinct_drop, distinct_take, each_append, each_contains}
+use Rattle.ta_base.proofs.Members.{contains-later, contains_at}
 use Rattle.ta_syntax.specs.PlainTrees.{plain_name}
 use Rattle.ta_syntax.specs.declared.names.Spelled.{Spelled}
 use Rattle.ta_syntax.specs.declared.fault.FileFault.{FileFault}
 use Rattle.ta_syntax.specs.declared.fault.FileFault.TheVariants as fault
-use Rattle.ta_automaton.specs.Lists.{Each, Distinct}
-use Rattle.ta_automaton.proofs.Thresholds.{each_at}
-use Rattle.ta_scope.proofs.Reaching.{set_at, at_set}
+use Rattle.ta_base.specs.Lists.{Distinct}
 use Rattle.ta_meaning.specs.Sums.{has_name}
 use Rattle.ta_meaning.specs.Inside.Listed.{between, ListedMask}
 use Rattle.ta_meaning.specs.Faults.{where_, else_, First, used_faults, listed_faults}
-use Rattle.ta_meaning.proofs.GuardMasks.{none_set}
-use Rattle.ta_meaning.proofs.DistinctItems.{distinct_take, distinct_drop, distinct_at}
-use Rattle.ta_meaning.proofs.ListItems.{contains_at, each_append}
 use Rattle.ta_meaning.proofs.Answering.{where-false, append-left-none, append-left-leads, else-left-leads, else-right-leads, else-none, where-leads}
 use Rattle.ta_meaning.proofs.UsedNames.{rightly_used}
-
--- ---- names among names
-
-pub contains-later : {X : Type 0} (y x : X) (xs : List X) → Contains xs x → Contains (y ∷ xs) x
-contains-later y x xs c = (suc c.0, (let b = c.1 in omega arith), c.2)
 
 -- the test decides the relation
 pub has_name-Decides : (names : List (List ℕ)) (n : List ℕ) → Decides (has_name names n) (Contains names n)
@@ -45,11 +38,7 @@ has_name-Decides (m ∷ names) n =
     cases m n names (zero, b, e) = inl e
     cases m n names (suc k, b, e) = inr (k, omega arith, e)
 
-each_contains : {X : Type 0} (P : X → Type 0) (xs : List X) (x : X) → Each P xs → Contains xs x → P x
-each_contains P xs x each c = each_at P xs c.0 x each (slice_get-get_or xs c.0 x c.1 ∙ ap Some c.2)
-
 -- ---- the names between two numbers
-
 pub between-distinct : (from to : ℕ) (names : List (List ℕ)) → Distinct names → Distinct (between from to names)
 between-distinct from to names d = distinct_take (to - from) (drop from names) (distinct_drop from names d)
 
@@ -71,7 +60,7 @@ pub no_mask : (names : List (List ℕ)) → ListedMask names [] 0
 no_mask names = record {
   bits = record {
     known = tt;
-    bits = λ i. ((λ b. absurd (none_set i b)), λ w. absurd (let c = (w.2).1 in omega arith));
+    bits = λ i. ((λ b. absurd (no_bit i b)), λ w. absurd (let c = (w.2).1 in omega arith));
   };
   below = pow_pos (length names);
 }

@@ -1,14 +1,14 @@
 -- A tree without faults of meaning means a file.
-use Rattle.std.proofs.Common.{◌≡◌, ℕ, ◌+◌, ◌≤◌, false, List, [], ◌∷◌, ◌++◌, map, length, refl, arith}
+use Rattle.std.proofs.Common.{◌≡◌, ◌≤◌, [], ◌++◌, map, length, refl, arith}
 use Rattle.std.proofs.lemmas.List.{length-map}
+use Rattle.ta_base.proofs.Each.{distinct_right}
 use Rattle.ta_syntax.specs.PlainSums.{plain_sum}
 use Rattle.ta_syntax.specs.PlainTrees.{plain_location, plain_tree}
 use Rattle.ta_syntax.specs.declared.tree.Tree.{Tree}
 use Rattle.ta_syntax.specs.declared.fault.FileFault.TheVariants as fault
-use Rattle.ta_automaton.specs.Lists.{Distinct}
 use Rattle.ta_automaton.specs.declared.automaton.Automaton.{Automaton}
 use Rattle.ta_automaton.specs.declared.file.File.{File}
-use Rattle.ta_meaning.specs.Names.{Names, names_of, all_names}
+use Rattle.ta_meaning.specs.Names.{names_of}
 use Rattle.ta_meaning.specs.Guards.{no_guards}
 use Rattle.ta_meaning.specs.Linear.{linear_sum, is_large_linear}
 use Rattle.ta_meaning.specs.Meaning.{initial_from, MeansAutomaton, MeansTree}
@@ -22,17 +22,13 @@ use Rattle.ta_meaning.proofs.MadeForms.{sum_exists, condition_exists}
 use Rattle.ta_meaning.proofs.MadePatterns.{FineNames, patterns_exist}
 use Rattle.ta_meaning.proofs.MadeRules.{rules_exist}
 
-distinct_behind : {X : Type 0} (a b : List X) → Distinct (a ++ b) → Distinct b
-distinct_behind [] b d = d
-distinct_behind (x ∷ a) b d = distinct_behind a b d.1
-
 fine_names : (t : Tree) → names_faults (names_of t) t ≡ [] → FineNames (names_of t)
 fine_names t none =
     let ns = names_of t in
     let distinct = names-distinct t none in
     record {
       distinct = distinct;
-      locations_distinct = distinct_behind (ns.parameters ++ ns.shared) ns.locations distinct;
+      locations_distinct = distinct_right (ns.parameters ++ ns.shared) ns.locations distinct;
       parameters = rw length-map t.few_parameters;
       shared = rw length-map t.few_shared;
       locations = rw (length-map, length-map) t.few_locations;

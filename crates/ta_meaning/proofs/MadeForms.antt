@@ -1,8 +1,8 @@
 -- Numbers that are not too large are those of a form, and sums and comparisons without a fault mean forms and rows.
-use Rattle.std.proofs.Common.{◌≡◌, ◌≢◌, ℕ, zero, suc, ℤ, pos, negsuc, ◌+◌, ◌^◌, ◌<◌, ◌≤◌, unsigned_abs, Bool, true, false, ◌&&◌, List, [], ◌∷◌, ◌++◌, map, length, get_or, IsTrue, Some, None, refl, sym, ap, subst, ◌∙◌, arith}
-use Rattle.std.specs.List.{list_any}
+use Rattle.std.proofs.Common.{◌≡◌, ◌≢◌, ℕ, zero, suc, ℤ, pos, negsuc, ◌+◌, ◌^◌, ◌≤◌, unsigned_abs, true, false, List, [], ◌∷◌, ◌++◌, map, length, get_or, IsTrue, Some, None, refl, sym, ap, subst, ◌∙◌, arith}
+use Rattle.std.specs.List.{list_any, AllByRecursion}
 use Rattle.std.proofs.lemmas.Int.{ints}
-use Rattle.std.proofs.lemmas.Bool.{or_parts}
+use Rattle.std.proofs.lemmas.Bool.{or_parts, and_from}
 use Rattle.std.proofs.lemmas.List.{length-map}
 use Rattle.ta_linear.specs.Terms.{coefficient, IsNormal, IsTerm}
 use Rattle.ta_linear.specs.declared.form.Form.{Form}
@@ -16,13 +16,12 @@ use Rattle.ta_syntax.specs.declared.tokens.Relation.TheVariants as relation
 use Rattle.ta_syntax.specs.declared.sums.TreeSum.{TreeSum}
 use Rattle.ta_syntax.specs.declared.tree.TreeComparison.{TreeComparison}
 use Rattle.ta_syntax.specs.declared.fault.FileFault.TheVariants as fault
-use Rattle.ta_automaton.specs.Lists.{Each}
 use Rattle.ta_automaton.specs.Forms.{RowOver}
 use Rattle.ta_automaton.specs.declared.condition.Comparison.{Comparison}
 use Rattle.ta_automaton.specs.declared.condition.Condition.{Condition}
-use Rattle.ta_meaning.specs.Sums.{sum_uses, term_uses, factor_uses, has_name}
-use Rattle.ta_meaning.specs.Linear.{Linear, FormOf, RowOf, Pairwise, UsesNames, MeansComparison, linear_sum, differences_by, linear_difference, comparison_rows, is_large, is_large_linear, any_large}
-use Rattle.ta_meaning.specs.Faults.{Scope, Judged, where_, linear_term, sum_faults, comparison_faults, condition_faults, number_faults}
+use Rattle.ta_meaning.specs.Sums.{sum_uses, term_uses, factor_uses}
+use Rattle.ta_meaning.specs.Linear.{Linear, FormOf, RowOf, Pairwise, MeansComparison, linear_sum, differences_by, linear_difference, comparison_rows, is_large, is_large_linear, any_large}
+use Rattle.ta_meaning.specs.Faults.{Scope, WithFaults, where_, linear_term, sum_faults, comparison_faults, condition_faults, number_faults}
 use Rattle.ta_meaning.specs.Inside.Resolved.{ResolvedForm, ResolvedComparison, ResolvedCondition}
 use Rattle.ta_meaning.proofs.Answering.{not-where, none-else-left, none-else-right, none-append-left, none-append-right}
 use Rattle.ta_meaning.proofs.NormalTerms.{coefficient-first, coefficient-other}
@@ -82,7 +81,6 @@ terms_are high k (negsuc n ∷ zs) (suc i) x small fits e =
     coefficient-other (k, negsuc n) (terms_from (k + 1) zs) x (λ q. absurd (omega arith)) ∙ terms_are high (k + 1) zs i x s.1 (omega arith) (omega arith)
 
 -- ---- forms and rows
-
 pub form_exists : (l : Linear) → is_large_linear l ≡ false → length l.coefficients ≤ 64 → (form : Form) × FormOf l form
 form_exists l small few =
     let s = or_parts (is_large l.constant) (list_any is_large l.coefficients) small in
@@ -96,7 +94,7 @@ form_exists l small few =
       record { constant = refl; coefficients = λ i. terms_are (2 ^ 32) 0 l.coefficients i i s.1 (omega arith) (omega arith) },
     )
 
-pub rows_exist : (ls : List Linear) → any_large ls ≡ false → Each (λ l. length l.coefficients ≤ 64) ls → (rows : List Row) × Pairwise RowOf ls rows
+pub rows_exist : (ls : List Linear) → any_large ls ≡ false → AllByRecursion (λ l. length l.coefficients ≤ 64) ls → (rows : List Row) × Pairwise RowOf ls rows
 rows_exist [] small few = ([], tt)
 rows_exist (l ∷ ls) small few =
     let s = or_parts (is_large_linear l) (any_large ls) small in
@@ -104,15 +102,10 @@ rows_exist (l ∷ ls) small few =
     let more = rows_exist ls s.1 few.1 in
     (record { form = f.0 } ∷ more.0, (f.1, more.1))
 
--- ---- names
-
-both_true : (a b : Bool) → a ≡ true → b ≡ true → (a && b) ≡ true
-both_true a b e f = rw (e, f) refl
-
 mutual
   terms_known : (s : Scope) (ts : SeenTerms) → (judged_of_terms s ts).faults ≡ [] → sum_uses s.allowed (plain_of_terms ts) ≡ true
   terms_known s seen_none none = refl
-  terms_known s (seen_more sign t ts) none = both_true (term_uses s.allowed (plain_of_term t)) (sum_uses s.allowed (plain_of_terms ts)) (term_known s t (none-append-left (judged_of_term s t).faults (judged_of_terms s ts).faults none)) (terms_known s ts (none-append-right (judged_of_term s t).faults (judged_of_terms s ts).faults none))
+  terms_known s (seen_more sign t ts) none = and_from (term_uses s.allowed (plain_of_term t)) (sum_uses s.allowed (plain_of_terms ts)) (term_known s t (none-append-left (judged_of_term s t).faults (judged_of_terms s ts).faults none)) (terms_known s ts (none-append-right (judged_of_term s t).faults (judged_of_terms s ts).faults none))
 
   term_known : (s : Scope) (t : SeenTerm) → (judged_of_term s t).faults ≡ [] → term_uses s.allowed (plain_of_term t) ≡ true
   term_known s (seen_number at d) none = refl
@@ -132,10 +125,9 @@ mutual
 pub sum_known : (s : Scope) (t : TreeSum) → sum_faults s t ≡ [] → IsTrue (sum_uses s.allowed (plain_sum t))
 sum_known s t none =
     let seen = every_sum_seen t in
-    subst (λ (p : Terms). sum_uses s.allowed p ≡ true) (sym seen.plain) (terms_known s (seen_sum t) (sym (ap (λ (j : Judged Terms). j.faults) (seen.judged s)) ∙ none))
+    subst (λ (p : Terms). sum_uses s.allowed p ≡ true) (sym seen.plain) (terms_known s (seen_sum t) (sym (ap (λ (j : WithFaults Terms). j.faults) (seen.judged s)) ∙ none))
 
 -- ---- sums, comparisons and conditions
-
 pub sum_exists : (s : Scope) (t : TreeSum) → length s.allowed ≤ 64 → sum_faults s t ≡ [] → is_large_linear (linear_sum s.allowed (plain_sum t)) ≡ false → (form : Form) × ResolvedForm s.allowed (plain_sum t) form
 sum_exists s t few none small =
     let l = linear_sum s.allowed (plain_sum t) in
@@ -150,11 +142,11 @@ one_or_two relation.Equal l r = (omega arith, omega arith)
 one_or_two relation.AtLeast l r = (omega arith, omega arith)
 one_or_two relation.More l r = (omega arith, omega arith)
 
-all_few : (n : ℕ) (ls : List Linear) → n ≤ 64 → Each (λ l. length l.coefficients ≡ n) ls → Each (λ l. length l.coefficients ≤ 64) ls
+all_few : (n : ℕ) (ls : List Linear) → n ≤ 64 → AllByRecursion (λ l. length l.coefficients ≡ n) ls → AllByRecursion (λ l. length l.coefficients ≤ 64) ls
 all_few n [] few h = tt
 all_few n (l ∷ ls) few h = (subst (λ m. m ≤ 64) (sym h.0) few, all_few n ls few h.1)
 
-paired_length : {A B : Type 0} (R : A → B → Type 0) (xs : List A) (ys : List B) → Pairwise R xs ys → length ys ≡ length xs
+pub paired_length : {A B : Type 0} (R : A → B → Type 0) (xs : List A) (ys : List B) → Pairwise R xs ys → length ys ≡ length xs
 paired_length R [] [] h = refl
 paired_length R [] (y ∷ ys) h = absurd h
 paired_length R (x ∷ xs) [] h = absurd h
@@ -180,7 +172,7 @@ record MadeComparisons (s : Scope) (cs : List TreeComparison) : Type 0 where
   items : List Comparison
   count : length items ≡ length cs
   means : Pairwise (MeansComparison s.allowed) (map plain_comparison cs) items
-  over : Each (λ (k : Comparison). Each (RowOver (length s.allowed)) k.rows) items
+  over : AllByRecursion (λ (k : Comparison). AllByRecursion (RowOver (length s.allowed)) k.rows) items
 
 comparisons_exist : (s : Scope) (cs : List TreeComparison) → length s.allowed ≤ 64 → condition_faults s cs ≡ [] → MadeComparisons s cs
 comparisons_exist s [] few none = record { items = []; count = refl; means = tt; over = tt }

@@ -1,13 +1,12 @@
 -- Patterns without a fault mean patterns.
-use Rattle.std.proofs.Common.{◌≡◌, ℕ, suc, ◌+◌, ◌*◌, ◌%◌, ◌^◌, ◌<◌, ◌≤◌, true, false, not, bit_or, List, [], ◌∷◌, ◌++◌, map, length, slice_get, Some, Contains, IsBitSet, refl, sym, ap, subst, ◌∙◌, arith}
-use Rattle.std.proofs.lemmas.Bool.{false_from_ne_true}
+use Rattle.std.proofs.Common.{◌≡◌, ℕ, ◌*◌, ◌%◌, ◌^◌, ◌<◌, ◌≤◌, true, bit_or, List, [], ◌∷◌, ◌++◌, map, length, Contains, IsBitSet, refl, sym, subst, ◌∙◌, arith}
 use Rattle.std.proofs.lemmas.Option.{same_Some}
-use Rattle.ta_syntax.specs.PlainTrees.{plain_name, plain_comparison, plain_event, plain_pattern}
+use Rattle.ta_syntax.specs.PlainTrees.{plain_name, plain_event, plain_pattern}
 use Rattle.ta_syntax.specs.declared.names.Spelled.{Spelled}
 use Rattle.ta_syntax.specs.declared.tree.TreeEvent.{TreeEvent}
 use Rattle.ta_syntax.specs.declared.tree.TreePattern.{TreePattern}
 use Rattle.ta_syntax.specs.declared.fault.FileFault.TheVariants as fault
-use Rattle.ta_automaton.specs.Lists.{Distinct}
+use Rattle.ta_base.specs.Lists.{Distinct}
 use Rattle.ta_automaton.specs.declared.pattern.Event.{Event}
 use Rattle.ta_automaton.specs.declared.pattern.Pattern.{Pattern}
 use Rattle.ta_meaning.specs.Names.{Names, all_names}
@@ -33,7 +32,6 @@ pub record FineNames (ns : Names) : Type 0 where
   pub all : length (all_names ns) ≤ 64
 
 -- ---- masks of names
-
 mask_from : (declared allowed : List (List ℕ)) (all rest : List Spelled) (mask : ℕ) → Distinct allowed → length allowed ≤ 32 → listed_faults declared allowed [] all ≡ [] → ListedTo declared allowed all rest mask → (m : ℕ) × ListedMask allowed (map plain_name all) m
 mask_from declared allowed all [] mask distinct few none to = (mask, (listing_ends declared allowed all mask to).1)
 mask_from declared allowed all (n ∷ rest) mask distinct few none to =
@@ -55,7 +53,6 @@ mask_exists : (declared allowed : List (List ℕ)) (listed : List Spelled) → D
 mask_exists declared allowed listed distinct few none = mask_from declared allowed listed listed 0 distinct few none (listing_begins declared allowed listed)
 
 -- ---- events and patterns
-
 module _ (ns : Names) (fine : FineNames ns) where
   event_exists : (before : List (List ℕ)) (e : TreeEvent) → Distinct before → length before < 8 → event_faults ns before e ≡ [] → (event : Event) × ResolvedEvent ns before (plain_event e) (before ++ e.name.name ∷ []) event
   event_exists before e distinct few none =

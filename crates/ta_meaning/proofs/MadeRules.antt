@@ -1,30 +1,29 @@
 -- Rules without a fault mean rules and guards.
-use Rattle.std.proofs.Common.{◌≡◌, ◌⊎◌, inl, inr, ⊎_elim, ℕ, ℤ, pos, suc, ◌+◌, ◌*◌, ◌%◌, ◌^◌, ◌<◌, ◌≤◌, Bool, true, false, not, ltb, ◌&&◌, cond, eqb, bit_or, List, [], ◌∷◌, ◌++◌, map, length, slice_get, Some, Ok, Contains, refl, sym, ap, subst, ◌∙◌, arith, w8, w16}
+use Rattle.std.proofs.Common.{◌≡◌, ◌⊎◌, inl, inr, ⊎_elim, ℕ, ℤ, pos, ◌*◌, ◌%◌, ◌^◌, ◌<◌, ◌≤◌, Bool, true, false, not, ltb, ◌&&◌, cond, eqb, bit_or, List, [], ◌∷◌, ◌++◌, map, length, Ok, Contains, refl, sym, ap, ◌∙◌, arith, w8, w16}
 use Rattle.std.specs.Global.{Vec}
-use Rattle.std.proofs.lemmas.Bool.{lt-ltb, le-ltb, and_from}
+use Rattle.std.proofs.lemmas.Bool.{cases_Bool}
 use Rattle.std.proofs.lemmas.Bool.Decides.{nat_tests}
 use Rattle.std.proofs.lemmas.List.{length-map, length-append}
 use Rattle.std.proofs.lemmas.Nat.Bits.{bit_at_set_same, bit_at_set_other}
 use denote.RawPtr.{null_ptr}
+use Rattle.ta_base.proofs.Booleans.{second_false}
 use Rattle.ta_linear.specs.Terms.{IsNormal}
 use Rattle.ta_linear.specs.declared.row.Row.{Row}
 use Rattle.ta_syntax.specs.PlainTrees.{plain_comparison, plain_update, plain_rule}
-use Rattle.ta_syntax.specs.declared.names.Spelled.{Spelled}
 use Rattle.ta_syntax.specs.declared.tree.TreeComparison.{TreeComparison}
 use Rattle.ta_syntax.specs.declared.tree.TreeUpdate.{TreeUpdate}
 use Rattle.ta_syntax.specs.declared.tree.TreeRule.{TreeRule}
 use Rattle.ta_syntax.specs.declared.fault.FileFault.TheVariants as fault
-use Rattle.ta_automaton.specs.declared.condition.Comparison.{Comparison}
 use Rattle.ta_automaton.specs.declared.rule.Rule.{Rule}
 use Rattle.ta_meaning.specs.Names.{Names, all_names, guard_names}
 use Rattle.ta_meaning.specs.Sums.{has_name, number_of}
-use Rattle.ta_meaning.specs.Guards.{no_guards, with_guards, is_negative, is_positive, falls, has_row, is_no_threshold, is_one_more, is_past_limit}
+use Rattle.ta_meaning.specs.Guards.{no_guards, is_negative, is_positive, falls, has_row, is_no_threshold, is_one_more, is_past_limit}
 use Rattle.ta_meaning.specs.Linear.{Linear, comparison_rows}
 use Rattle.ta_meaning.specs.Faults.{where_, else_, in_guards, comparison_faults, guard_faults, guards_faults, guards_with, declared_faults, used_faults, digits_faults, updates_faults, rule_faults, rules_faults, guards_then}
-use Rattle.ta_meaning.specs.Inside.Numbering.{any_shared, is_no_guard, SameAt, Has, RowAnswers, linear_of, guards_so_far, GuardsKept, GuardNumbered, GuardsNumbered, NumberFits, WithNumber}
-use Rattle.ta_meaning.specs.Inside.Updating.{names_at, variable_faults, UpdatesRead}
+use Rattle.ta_meaning.specs.Inside.Numbering.{any_shared, is_no_guard, Has, RowAnswers, linear_of, guards_so_far, GuardsKept, GuardNumbered, GuardsNumbered, NumberFits, WithNumber}
+use Rattle.ta_meaning.specs.Inside.Updating.{names_at, UpdatesRead}
 use Rattle.ta_meaning.specs.Inside.RuleReading.{RuleRead}
-use Rattle.ta_meaning.specs.Inside.Resolved.{ResolvedComparison, ResolvedRules}
+use Rattle.ta_meaning.specs.Inside.Resolved.{ResolvedRules}
 use Rattle.ta_meaning.specs.declared.guards.GuardList.{GuardList}
 use Rattle.ta_meaning.specs.declared.guards.GuardMasks.{GuardMasks}
 use Rattle.ta_meaning.specs.declared.guards.GuardNumber.{GuardNumber}
@@ -47,12 +46,7 @@ use Rattle.ta_meaning.proofs.MadePatterns.{FineNames}
 abbrev vec_of : {A : Type 0} (xs : List A) → length xs < 2 ^ 63 → Vec A
 vec_of xs small = record { ptr = null_ptr; len = length xs; cap = length xs; alloc = record { memory = record { seal = tt } }; items = xs; ok = (refl, omega arith); small = small }
 
-true_or_false : (b : Bool) → (b ≡ true) ⊎ (b ≡ false)
-true_or_false true = inl refl
-true_or_false false = inr refl
-
 -- ---- updates
-
 module _ (ns : Names) where
   updates_from : (all left : List TreeUpdate) (seen : List ℕ) (updates : List (ℕ × ℤ)) → updates_faults ns [] all ≡ [] → UpdatesReading ns all left seen updates → (read : List (ℕ × ℤ)) × UpdatesRead ns (map plain_update all) read
   updates_from all [] seen updates none r = (updates, (updates_end ns all [] seen updates refl r).1)
@@ -100,7 +94,7 @@ there_or_room places limit rows row there no_more =
     let none : ¬ Has rows row = λ has. let told = has_linear places rows row has in absurd cc in
     let room : not (ltb (length (map (linear_of places) rows)) limit) ≡ false = rw h at no_more in
     inr (none, has_room (length (map (linear_of places) rows)) (length rows) limit count room))
-    (true_or_false (has_row (map (linear_of places) rows) (linear_of places row)))
+    (cases_Bool (has_row (map (linear_of places) rows) (linear_of places row)))
   where
     has_room : (m n limit : ℕ) → m ≡ n → not (ltb m limit) ≡ false → n < limit
     has_room m n limit e h = grind (arith, nat_tests)
@@ -113,11 +107,6 @@ only_row parameters (r ∷ q ∷ rows) h = absurd (let e : true ≡ false = h in
 
 abbrev MadeGuard : Names → GuardList → TreeComparison → Type 0
 MadeGuard ns before c = (after : GuardList) × (n : GuardNumber) × GuardNumbered ns before (plain_comparison c) after n
-
--- a test of two, the first of which holds
-second_false : (a b : Bool) → a ≡ true → (a && b) ≡ false → b ≡ false
-second_false true b e h = h
-second_false false b e h = absurd (let f : false ≡ true = e in cc)
 
 module _ (ns : Names) (before : GuardList) (kept : GuardsKept ns before) (c : TreeComparison) (row : Row) (one : OneRow ns c row) where
   abbrev parameters : ℕ
@@ -154,7 +143,7 @@ module _ (ns : Names) (before : GuardList) (kept : GuardsKept ns before) (c : Tr
       (λ (h : any_shared is_negative parameters row.form.terms ≡ false).
       let rising : falls parameters linear ≡ false = sym same ∙ h in
       made_rise h (rw rising at no_more))
-      (true_or_false (any_shared is_negative parameters row.form.terms))
+      (cases_Bool (any_shared is_negative parameters row.form.terms))
 
 few_guard_names : (ns : Names) → FineNames ns → length (guard_names ns) ≤ 64
 few_guard_names ns fine = omega (arith, length-append ns.parameters ns.shared, fine.parameters, fine.shared)

@@ -1,15 +1,17 @@
 -- normal terms are determined by their coefficients, and a row by its numbers over the first places
-use Rattle.std.proofs.Common.{◌≡◌, ◌≢◌, inl, inr, ℕ, ℤ, pos, zero, suc, ◌+◌, ◌<◌, List, [], ◌∷◌, map, length, get_or, arith, sym, ap, ◌∙◌, refl, subst}
+use Rattle.std.proofs.Common.{◌≡◌, ◌≢◌, inl, inr, ℕ, ℤ, pos, ◌+◌, ◌<◌, List, [], ◌∷◌, map, length, get_or, arith, sym, ap, ◌∙◌, refl, subst}
 use Rattle.std.proofs.lemmas.Int.{ints}
 use Rattle.std.proofs.lemmas.Bool.{cases_lt, cases_eq, cases_order}
 use Rattle.std.proofs.lemmas.Bool.Decides.{nat_tests}
 use Rattle.std.proofs.lemmas.List.{ext_get_or, get_or_past}
+use Rattle.ta_base.proofs.Lists.{same_cons}
+use Rattle.ta_base.proofs.Ranges.{length-numbers, number_get}
 use Rattle.ta_linear.specs.Terms.{coefficient, IsNormal}
 use Rattle.ta_linear.specs.declared.row.Row.{Row}
 use Rattle.ta_linear.proofs.TermLemmas.{coefficient-below, coefficient-above}
-use Rattle.ta_automaton.specs.Masks.{numbers_from}
+use Rattle.ta_base.specs.Masks.{numbers_from}
 use Rattle.ta_meaning.specs.Linear.{Linear, RowOf}
-use Rattle.ta_meaning.specs.Inside.Numbering.{linear_of, SameRow}
+use Rattle.ta_meaning.specs.Inside.Numbering.{linear_of, HasSameTerms}
 
 pub coefficient-first : (high : ℕ) (t : ℕ × ℤ) (ts : List (ℕ × ℤ)) → IsNormal (t.0 + 1) high ts → coefficient (t ∷ ts) t.0 ≡ t.1
 coefficient-first high t ts n =
@@ -18,9 +20,6 @@ coefficient-first high t ts n =
 
 pub coefficient-other : (t : ℕ × ℤ) (ts : List (ℕ × ℤ)) (x : ℕ) → t.0 ≢ x → coefficient (t ∷ ts) x ≡ coefficient ts x
 coefficient-other t ts x ne = grind (arith, ints, nat_tests)
-
-same_cons : (s t : ℕ × ℤ) (a b : List (ℕ × ℤ)) → s.0 ≡ t.0 → s.1 ≡ t.1 → a ≡ b → s ∷ a ≡ t ∷ b
-same_cons (x, c) (y, d) a b p q r = cc
 
 -- two normal lists with the same coefficients are the same
 pub normal_unique : (low high : ℕ) (a b : List (ℕ × ℤ)) → IsNormal low high a → IsNormal low high b → ((x : ℕ) → coefficient a x ≡ coefficient b x) → a ≡ b
@@ -43,19 +42,8 @@ normal_unique low high (s ∷ a) (t ∷ b) m n h = elim (cases_order s.0 t.0) [
   ]
 ]
 
--- ---- a row's numbers
-
-pub length-numbers : (f : ℕ → ℤ) (k n : ℕ) → length (map f (numbers_from k n)) ≡ n
-length-numbers f k zero = refl
-length-numbers f k (suc n) = ap suc (length-numbers f (k + 1) n)
-
-numbers_at : (f : ℕ → ℤ) (k n i : ℕ) → i < n → get_or (map f (numbers_from k n)) i (pos 0) ≡ f (k + i)
-numbers_at f k zero i h = absurd (omega arith)
-numbers_at f k (suc n) zero h = ap f (let e : k ≡ k + 0 = omega arith in e)
-numbers_at f k (suc n) (suc i) h = numbers_at f (k + 1) n i (omega arith) ∙ ap f (let e : (k + 1) + i ≡ k + suc i = omega arith in e)
-
 pub linear_at : (row : Row) (places i : ℕ) → i < places → get_or (linear_of places row).coefficients i (pos 0) ≡ coefficient row.form.terms i
-linear_at row places i h = numbers_at (coefficient row.form.terms) 0 places i h ∙ ap (coefficient row.form.terms) (let e : 0 + i ≡ i = omega arith in e)
+linear_at row places i h = number_get (coefficient row.form.terms) 0 places i h ∙ ap (coefficient row.form.terms) (let e : 0 + i ≡ i = omega arith in e)
 
 pub linear_same : (a b : Linear) → a.constant ≡ b.constant → a.coefficients ≡ b.coefficients → a ≡ b
 linear_same a b p q =
@@ -78,12 +66,12 @@ linear_row row places normal = record {
   ];
 }
 
-pub same_linear : (a b : Row) (places : ℕ) → SameRow a b → linear_of places a ≡ linear_of places b
+pub same_linear : (a b : Row) (places : ℕ) → HasSameTerms a b → linear_of places a ≡ linear_of places b
 same_linear a b places same =
     linear_same (linear_of places a) (linear_of places b) same.constant (ap (λ (ts : List (ℕ × ℤ)). map (coefficient ts) (numbers_from 0 places)) same.terms)
 
 -- rows with the same numbers have the same terms
-pub linear_unique : (a b : Row) (places : ℕ) → IsNormal 0 places a.form.terms → IsNormal 0 places b.form.terms → linear_of places a ≡ linear_of places b → SameRow a b
+pub linear_unique : (a b : Row) (places : ℕ) → IsNormal 0 places a.form.terms → IsNormal 0 places b.form.terms → linear_of places a ≡ linear_of places b → HasSameTerms a b
 linear_unique a b places m n e = record {
   constant = ap (λ (l : Linear). l.constant) e;
   terms = normal_unique 0 places a.form.terms b.form.terms m n (λ x. elim (cases_lt x places) [

@@ -1,8 +1,9 @@
 -- A text has at most one first fault.
-use Rattle.std.proofs.Common.{◌≡◌, ℕ, List, [], ◌∷◌, ◌++◌, length, ◌⊎◌, inl, inr, ⊎_elim, Some, slice_get, ◌<◌, refl, sym, ap, subst, ◌∙◌, append_assoc, arith}
+use Rattle.std.proofs.Common.{◌≡◌, ℕ, List, [], ◌∷◌, ◌++◌, length, ◌⊎◌, inl, inr, ⊎_elim, ◌<◌, refl, sym, ap, subst, ◌∙◌, append_assoc, arith}
+use Rattle.ta_base.proofs.Lists.{heads}
 use Rattle.ta_syntax.specs.Grammar.{FileText}
-use Rattle.ta_syntax.specs.Limits.{Counts, at_start, run, after, Within, IsDeep, IsMany}
-use Rattle.ta_syntax.specs.Faults.{kinds, SameStart, Begins, offset_of, IsWrong, IsPast, Stopped, FaultOfTokens}
+use Rattle.ta_syntax.specs.Limits.{Counts, at_start, run, counted_after, StaysWithin, IsDeep, IsMany}
+use Rattle.ta_syntax.specs.Faults.{kinds, SameStart, Begins, offset_of, IsWrong, IsPast, IsStopped, FaultOfTokens}
 use Rattle.ta_syntax.specs.Tokens.{AreTokens, IsRefused}
 use Rattle.ta_syntax.specs.declared.tokens.Kind.{Kind}
 use Rattle.ta_syntax.specs.declared.placed.Token.{Token}
@@ -16,7 +17,6 @@ use Rattle.ta_scope.specs.Faults as scope
 use Rattle.ta_meaning.specs.Meaning.{Means}
 use Rattle.ta_meaning.specs.FirstFault as first
 use Rattle.ta_meaning.specs.FirstFault.{OfText, OfMeaning, OfScope, FirstFault}
-use Rattle.ta_meaning.proofs.SameOffsets.{heads}
 use Rattle.ta_meaning.proofs.OneTree.{one_meaning, one_meant}
 use Rattle.ta_meaning.proofs.OneReading.{no-text, no-meaning}
 use Rattle.ta_meaning.proofs.CommasOutside.{not-both}
@@ -48,7 +48,6 @@ two-splits (t ∷ front) bad (u ∷ later) rest e =
     r
 
 -- ---- a wrong token, and a text that goes on with it
-
 begins-less : (L : List Kind → Type 0) (a b : List Kind) → Begins L (a ++ b) → Begins L a
 begins-less L a b h = (b ++ h.0, subst L (append_assoc a b h.0) h.1)
 
@@ -74,11 +73,11 @@ wrong-wrong L c end a b ts w v =
 
 -- such tokens are none within the limits
 pub record IsOver (over : Counts → Kind → Type 0) : Type 0 where
-  pub none : (c : Counts) (k : Kind) (ks : List Kind) → Within c (k ∷ ks) → over c k → ⊥
+  pub none : (c : Counts) (k : Kind) (ks : List Kind) → StaysWithin c (k ∷ ks) → over c k → ⊥
 
-over-within : (over : Counts → Kind → Type 0) → IsOver over → (c : Counts) (front : List Kind) (k : Kind) (rest : List Kind) → Within c (front ++ k ∷ rest) → over (run c front) k → ⊥
+over-within : (over : Counts → Kind → Type 0) → IsOver over → (c : Counts) (front : List Kind) (k : Kind) (rest : List Kind) → StaysWithin c (front ++ k ∷ rest) → over (run c front) k → ⊥
 over-within over o c [] k rest w h = o.none c k rest w h
-over-within over o c (x ∷ front) k rest w h = over-within over o (after c x) front k rest w.2 h
+over-within over o c (x ∷ front) k rest w h = over-within over o (counted_after c x) front k rest w.2 h
 
 deep-over : IsOver IsDeep
 deep-over = record { none = λ c k ks w h. w.0 h }
@@ -87,11 +86,11 @@ many-over : IsOver IsMany
 many-over = record { none = λ c k ks w h. w.1 h }
 
 -- no token past a limit stands in what is within the limits
-past-before : (over : Counts → Kind → Type 0) → IsOver over → (L : List Kind → Type 0) (c : Counts) (ts : List Token) (at : ℕ) (p : IsPast over L c ts at) (later rest : List Token) → Behind p.front (p.first ∷ p.bad) later rest → Within c (kinds later) → ⊥
+past-before : (over : Counts → Kind → Type 0) → IsOver over → (L : List Kind → Type 0) (c : Counts) (ts : List Token) (at : ℕ) (p : IsPast over L c ts at) (later rest : List Token) → Behind p.front (p.first ∷ p.bad) later rest → StaysWithin c (kinds later) → ⊥
 past-before over o L c ts at p later rest b w =
     let whole : kinds later ≡ kinds p.front ++ b.first.kind ∷ kinds b.middle = ap kinds b.front_is ∙ kinds-append p.front (b.first ∷ b.middle) in
     let same : p.first ≡ b.first = let h = b.bad_is in cc in
-    over-within over o c (kinds p.front) b.first.kind (kinds b.middle) (subst (Within c) whole w) (subst (λ (t : Token). over (run c (kinds p.front)) t.kind) same p.past)
+    over-within over o c (kinds p.front) b.first.kind (kinds b.middle) (subst (StaysWithin c) whole w) (subst (λ (t : Token). over (run c (kinds p.front)) t.kind) same p.past)
 
 wrong-past : (over : Counts → Kind → Type 0) → IsOver over → (L : List Kind → Type 0) (c : Counts) (end a b : ℕ) (ts : List Token) → IsWrong L c end ts a → IsPast over L c ts b → ⊥
 wrong-past over o L c end a b ts w p =
@@ -123,16 +122,15 @@ deep-many a b ts p q =
     not-both (kinds p.front) p.first.kind p.begins.0 text.0 (text.2 ∙ append_assoc (kinds p.front) (p.first.kind ∷ []) p.begins.0) p.within p.past many'
 
 -- ---- texts
-
-on-same : (bytes : List ℕ) (e : FileFault) (ts : List Token) → AreTokens bytes ts → FaultOfTokens bytes e → Stopped FileText at_start (length bytes) ts e
-on-same bytes e ts are f = subst (λ (z : List Token). Stopped FileText at_start (length bytes) z e) (tokens_unique bytes f.tokens ts f.are are) f.stopped
+on-same : (bytes : List ℕ) (e : FileFault) (ts : List Token) → AreTokens bytes ts → FaultOfTokens bytes e → IsStopped FileText at_start (length bytes) ts e
+on-same bytes e ts are f = subst (λ (z : List Token). IsStopped FileText at_start (length bytes) z e) (tokens_unique bytes f.tokens ts f.are are) f.stopped
 
 -- two faults of one list of tokens, none of them want of memory
 abbrev IsOfTokens : FileFault → Type 0
 IsOfTokens fault.Memory = ⊥
 IsOfTokens e = Unit {0}
 
-stopped-once : (end : ℕ) (ts : List Token) (e d : FileFault) → IsOfTokens e → IsOfTokens d → Stopped FileText at_start end ts e → Stopped FileText at_start end ts d → e ≡ d
+stopped-once : (end : ℕ) (ts : List Token) (e d : FileFault) → IsOfTokens e → IsOfTokens d → IsStopped FileText at_start end ts e → IsStopped FileText at_start end ts d → e ≡ d
 stopped-once end ts (fault.Syntax a) (fault.Syntax b) i j h k = ap fault.Syntax (wrong-wrong FileText at_start end a b ts h k)
 stopped-once end ts (fault.Syntax a) (fault.TooDeep b) i j h k = absurd (wrong-past IsDeep deep-over FileText at_start end a b ts h k)
 stopped-once end ts (fault.Syntax a) (fault.TooMany b) i j h k = absurd (wrong-past IsMany many-over FileText at_start end a b ts h k)
@@ -173,7 +171,7 @@ text-once bytes e d h k = both (text-cases bytes e h) (text-cases bytes d k)
 -- ---- rules
 
 -- the first rule at fault is one
-first-number : (a : Automaton) (r s : ℕ) → scope.FirstFault a r → scope.FirstFault a s → r ≡ s
+first-number : (a : Automaton) (r s : ℕ) → scope.FirstRuleFault a r → scope.FirstRuleFault a s → r ≡ s
 first-number a r s p q =
     let not-less : ¬ (r < s) = λ less. q.first r p.rule less p.named p.at_fault in
     let not-more : ¬ (s < r) = λ less. p.first s q.rule less q.named q.at_fault in
@@ -185,7 +183,6 @@ scope-once a (fault.CycleUpdates r) _ p q = absurd q
 scope-once a _ d p q = absurd p
 
 -- ---- files
-
 meaning-once : (bytes : List ℕ) (e d : FileFault) → OfMeaning bytes e → OfMeaning bytes d → e ≡ d
 meaning-once bytes e d h k = heads e d h.later k.later (sym h.first ∙ one_meaning bytes h.tree k.tree h.is_tree k.is_tree ∙ k.first)
 

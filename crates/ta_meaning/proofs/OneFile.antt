@@ -1,12 +1,10 @@
 -- A tree means at most one file.
-use Rattle.std.proofs.Common.{◌≡◌, ◌↔◌, inl, inr, ℕ, ℤ, pos, ◌^◌, List, [], ◌∷◌, ◌++◌, IsBitSet, sym, ap, ◌∙◌, refl, subst}
-use Rattle.std.specs.Int.{bit_at}
-use Rattle.std.proofs.lemmas.Nat.Bits.{same_from_bits}
-use Rattle.std.proofs.lemmas.Bool.{cases_eq}
-use Rattle.ta_scope.proofs.Reaching.{set_at, at_set}
+use Rattle.std.proofs.Common.{◌≡◌, inl, inr, ℕ, ℤ, pos, ◌^◌, List, [], ◌∷◌, ◌++◌, sym, ap, ◌∙◌, refl, subst}
+use Rattle.ta_base.proofs.Bits.{mask-one}
+use Rattle.ta_base.proofs.Each.{distinct_at, distinct_left, distinct_right}
 use Rattle.ta_linear.specs.declared.form.Form.{Form}
 use Rattle.ta_syntax.specs.Grammar.{PlainEvent, PlainTree}
-use Rattle.ta_automaton.specs.Lists.{Distinct}
+use Rattle.ta_base.specs.Lists.{Distinct}
 use Rattle.ta_automaton.specs.declared.pattern.Event.{Event}
 use Rattle.ta_automaton.specs.declared.automaton.Automaton.{Automaton}
 use Rattle.ta_automaton.specs.declared.file.File.{File}
@@ -15,8 +13,6 @@ use Rattle.ta_meaning.specs.Names.{Names, guard_names, all_names, plain_names}
 use Rattle.ta_meaning.specs.Linear.{Linear, Pairwise, FormOf, RowOf, linear_sum, comparison_rows, MeansComparison, MeansCondition}
 use Rattle.ta_meaning.specs.Guards.{Guards}
 use Rattle.ta_meaning.specs.Meaning.{MeansUpdates, MeansRule, MeansAutomaton, MeansEvent, MeansEvents, MeansPattern, MeansTree, guards_of}
-use Rattle.ta_meaning.proofs.GuardMasks.{not_set}
-use Rattle.ta_meaning.proofs.DistinctItems.{distinct_at, distinct_left, distinct_right}
 use Rattle.ta_meaning.proofs.NormalTerms.{normal_unique}
 use Rattle.ta_meaning.proofs.EqualParts.{form-equal, row-equal, comparison-equal, condition-equal, rule-equal, event-equal, pattern-equal, automaton-equal, file-equal}
 
@@ -38,17 +34,7 @@ pairwise-one R one (a ∷ more) (x ∷ xs) (y ∷ ys) p q =
     let rest : xs ≡ ys = pairwise-one R one more xs ys p.1 q.1 in
     cc
 
--- ---- masks
-
--- a mask is determined by its bits
-pub mask-one : (IsIn : ℕ → Type 0) (m n : ℕ) → ((i : ℕ) → IsBitSet m i ↔ IsIn i) → ((i : ℕ) → IsBitSet n i ↔ IsIn i) → m ≡ n
-mask-one IsIn m n p q = same_from_bits m n (λ i. elim (cases_eq (bit_at m i) 1) [
-  | inl e ↦ e ∙ sym (set_at n i ((q i).1 ((p i).0 (at_set m i e))))
-  | inr ne ↦ not_set m i (λ b. ne (set_at m i b)) ∙ sym (not_set n i (λ b. ne (set_at m i ((p i).1 ((q i).0 b)))))
-])
-
 -- ---- forms, rows and conditions
-
 pub form-one : (linear : Linear) (a b : Form) → FormOf linear a → FormOf linear b → a ≡ b
 form-one linear a b p q =
     form-equal a b (p.constant ∙ sym q.constant)
@@ -64,7 +50,6 @@ pub condition-one : (names : List (List ℕ)) → AtMostOne (MeansCondition name
 condition-one names cs a b p q = condition-equal a b (pairwise-one (MeansComparison names) (comparison-one names) cs a.comparisons b.comparisons p q)
 
 -- ---- rules
-
 pub updates-one : (shared : List (List ℕ)) → Distinct shared → AtMostOne (MeansUpdates shared)
 updates-one shared d [] a b p q = p ∙ sym q
 updates-one shared d (u ∷ us) a b (inl p) (inl q) = updates-one shared d us a b p.2 q.2
@@ -89,7 +74,6 @@ rule-one ns guards shared locations r a b p q = rule-equal a b (record {
 })
 
 -- ---- patterns
-
 pub event-one : (ns : Names) (before : List (List ℕ)) → AtMostOne (MeansEvent ns before)
 event-one ns before e a b p q =
     event-equal a b (p.name ∙ sym q.name) (mask-one _ a.after b.after p.after.bits q.after.bits)

@@ -41,7 +41,7 @@ pub one_meaning : (bytes : List ℕ) (t u : Tree) → IsTreeOf bytes t → IsTre
 one_meaning bytes t u p q = meaning-faults t u (one_plain_tree bytes t u p q) (same-parts bytes t u p q)
 
 -- a text that has a tree has no fault of the text
-pub no_text_fault : (bytes : List ℕ) (t : Tree) (e : FileFault) → IsTreeOf bytes t → syntax.FirstFault bytes e → e ≡ fault.Memory
+pub no_text_fault : (bytes : List ℕ) (t : Tree) (e : FileFault) → IsTreeOf bytes t → syntax.FirstGrammarFault bytes e → e ≡ fault.Memory
 no_text_fault bytes t e is first = no_fault bytes (plain_tree t) e (text-of bytes t is) is.within first
 
 -- ---- one file

@@ -1,13 +1,7 @@
 -- Items of two lists, pair by pair.
-use Rattle.std.proofs.Common.{◌≡◌, List, [], ◌∷◌, ◌++◌, length, suc, ap, refl}
-use Rattle.ta_automaton.specs.Lists.{Each}
+use Rattle.std.proofs.Common.{List, [], ◌∷◌, ◌++◌}
+use Rattle.std.specs.List.{AllByRecursion}
 use Rattle.ta_meaning.specs.Linear.{Pairwise}
-
-pub pairwise_length : {A B : Type 0} (R : A → B → Type 0) (xs : List A) (ys : List B) → Pairwise R xs ys → length ys ≡ length xs
-pairwise_length R [] [] h = refl
-pairwise_length R (x ∷ xs) (y ∷ ys) h = ap suc (pairwise_length R xs ys h.1)
-pairwise_length R [] (y ∷ ys) h = absurd h
-pairwise_length R (x ∷ xs) [] h = absurd h
 
 pub pairwise_with : {A B : Type 0} (R S : A → B → Type 0) (xs : List A) (ys : List B) → ((x : A) (y : B) → R x y → S x y) → Pairwise R xs ys → Pairwise S xs ys
 pairwise_with R S [] [] f h = tt
@@ -21,7 +15,7 @@ pairwise_push R [] (v ∷ ys) x y h r = absurd h
 pairwise_push R (u ∷ xs) [] x y h r = absurd h
 pairwise_push R (u ∷ xs) (v ∷ ys) x y h r = (h.0, pairwise_push R xs ys x y h.1 r)
 
-pub pairwise_each : {A B : Type 0} (R : A → B → Type 0) (P : B → Type 0) (xs : List A) (ys : List B) → ((x : A) (y : B) → R x y → P y) → Pairwise R xs ys → Each P ys
+pub pairwise_each : {A B : Type 0} (R : A → B → Type 0) (P : B → Type 0) (xs : List A) (ys : List B) → ((x : A) (y : B) → R x y → P y) → Pairwise R xs ys → AllByRecursion P ys
 pairwise_each R P [] [] f h = tt
 pairwise_each R P [] (y ∷ ys) f h = absurd h
 pairwise_each R P (x ∷ xs) [] f h = absurd h

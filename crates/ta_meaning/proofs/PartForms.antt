@@ -1,7 +1,10 @@
 -- Forms of the parts of a sum, and how they make the form of the whole.
-use Rattle.std.proofs.Common.{◌≡◌, ℕ, ℤ, pos, ◌+◌, ◌*◌, ◌^◌, ◌<◌, ◌≤◌, ◌+ℤ◌, ◌*ℤ◌, unsigned_abs, Bool, true, false, ◌&&◌, IsTrue, List, [], ◌∷◌, ◌++◌, map, get_or, slice_get, Option, Some, None, Result, refl, sym, ap, subst, ◌∙◌, arith}
+use Rattle.std.proofs.Common.{◌≡◌, ℕ, ℤ, pos, ◌+◌, ◌*◌, ◌^◌, ◌<◌, ◌≤◌, ◌+ℤ◌, ◌*ℤ◌, unsigned_abs, Bool, IsTrue, List, [], ◌∷◌, ◌++◌, map, get_or, slice_get, Option, Some, None, Result, refl, sym, ap, subst, ◌∙◌, arith}
 use Rattle.std.proofs.lemmas.Int.{ints}
 use Rattle.std.proofs.lemmas.Bool.Decides.{nat_tests}
+use Rattle.ta_base.proofs.Booleans.{and_known}
+use Rattle.ta_base.proofs.Integers.{add_moved, minus_within, more_within, one_times, small_constant, times_none, zero_left, zero_right}
+use Rattle.ta_base.proofs.Lists.{at_map, at_map_both, at_map_none}
 use Rattle.ta_linear.specs.Terms.{coefficient}
 use Rattle.ta_linear.specs.Forms.{IsMultiple}
 use Rattle.ta_linear.specs.declared.form.Form.{Form}
@@ -15,23 +18,21 @@ use Rattle.ta_syntax.specs.declared.sums.TreeFactor.{TreeFactor}
 use Rattle.ta_syntax.specs.declared.sums.TreeFactor.TheViews.{out-TreeTerm}
 use Rattle.ta_syntax.specs.declared.fault.FileFault.TheVariants as fault
 use Rattle.ta_syntax.specs.declared.fault.FileFault.{FileFault}
-use Rattle.ta_automaton.specs.Lists.{Distinct}
-use Rattle.ta_automaton.proofs.Sums.{one_times}
+use Rattle.ta_base.specs.Lists.{Distinct}
 use Rattle.ta_meaning.specs.Sums.{signed, number_of, sum_coefficient, term_coefficient, factor_coefficient, sum_constant, term_constant, sum_uses, term_uses, factor_uses}
-use Rattle.ta_meaning.specs.Linear.{Linear, FormOf, linear_sum, is_large_linear}
+use Rattle.ta_meaning.specs.Linear.{FormOf, linear_sum, is_large_linear}
 use Rattle.ta_meaning.specs.Faults.{Scope, FirstOrMemory, Answers, where_, else_, linear_term, number_faults}
-use Rattle.ta_meaning.specs.SumParts.{Within}
+use Rattle.ta_meaning.specs.SumParts.{FormWithin}
 use Rattle.ta_meaning.specs.Inside.SumParts.{judged_term, judged_factor, is_large_form, linear_factor, number_or, PartOf, IsSignedSum}
 use Rattle.ta_meaning.proofs.Answering.{append-left-none, append-none, append-left-first, else-none, else-left-first, where-false, not-where, answers-along, answers-knowing, answers-otherwise}
 use Rattle.ta_meaning.proofs.LargeNumbers.{small_within, linear_small, same_large}
 use Rattle.ta_meaning.proofs.ListedNames.{has_name-at}
 use Rattle.ta_meaning.proofs.WrittenNumbers.{number_is_small}
-use Rattle.ta_meaning.proofs.SmallForms.{add_within, within_more, minus_within}
-use Rattle.ta_meaning.proofs.LinearSums.{at_map, at_map_both, at_map_none, name_numbers}
+use Rattle.ta_meaning.proofs.SmallForms.{within_more}
+use Rattle.ta_meaning.proofs.LinearSums.{name_numbers}
 use Rattle.ta_meaning.proofs.TreeSums.{terms_faults, large_term, term_faults_none, term_faults_some, plain_term_none, plain_term_some}
 
 -- ---- names
-
 one_small : (i x : ℕ) → unsigned_abs (coefficient ((i, pos 1) ∷ []) x) ≤ 1
 one_small i x = grind (arith, ints, nat_tests)
 
@@ -44,14 +45,6 @@ name_part names n i form d e constant terms = record {
     coefficients = λ j. subst (λ (ts : List (ℕ × ℤ)). unsigned_abs (coefficient ts j) ≤ 1) (sym terms) (one_small i j);
   };
 }
-
-pub part_within : (known : Bool) (l : Linear) (p q : ℕ) (form : Form) → p ≤ q → PartOf known l p form → PartOf known l q form
-part_within known l p q form h part = record { known = part.known; numbers = part.numbers; within = within_more p q form h part.within }
-
--- ---- terms
-
-small_constant : (n : ℕ) → n ≤ 1000000000 → unsigned_abs (pos n) ≤ 1000000000
-small_constant n h = h
 
 number_alone : (names : List (List ℕ)) (t : Term) (n : ℕ) (form : Form) → IsTrue (term_uses names t) → term_constant t ≡ pos n → ((i : ℕ) → get_or (map (λ x. term_coefficient x t) names) i (pos 0) ≡ pos 0) → n ≤ 1000000000 → form.constant ≡ pos n → form.terms ≡ [] → PartOf (term_uses names t) (linear_term names t) 1000000000 form
 number_alone names t n form known is none small constant terms = record {
@@ -67,9 +60,6 @@ number_alone names t n form known is none small constant terms = record {
 pub alone_part : (names : List (List ℕ)) (factor : Option Digits) (n : ℕ) (form : Form) → number_faults factor ≡ [] → n ≡ number_or 0 factor → form.constant ≡ pos n → form.terms ≡ [] → PartOf (term_uses names (term_of factor None)) (linear_term names (term_of factor None)) 1000000000 form
 alone_part names None n form none is constant terms = number_alone names blank n form refl (ap pos (sym is)) (λ i. at_map_none names i) (omega (arith, is)) constant terms
 alone_part names (Some d) n form none is constant terms = number_alone names (number d.text) n form refl (ap pos (sym is)) (λ i. at_map_none names i) (omega (arith, is, number_is_small d none)) constant terms
-
-times_none : (d : ℕ) → (pos d *ℤ pos 0) ≡ pos 0
-times_none d = omega (arith, ints)
 
 -- a factor with a number before it, or none
 pub product_numbers : (names : List (List ℕ)) (factor : Option Digits) (f : Factor) (n : ℕ) (inner product : Form) → n ≡ number_or 1 factor → FormOf (linear_factor names f) inner → IsMultiple product inner (pos n) → FormOf (linear_term names (term_of factor (Some f))) product
@@ -93,7 +83,6 @@ product_known names None f h = h
 product_known names (Some d) f h = h
 
 -- ---- sums
-
 pub signed_zero : (s : Sign) → (signed s (pos 0) +ℤ pos 0) ≡ pos 0
 signed_zero sign.Plus = omega (arith, ints)
 signed_zero sign.Minus = omega (arith, ints)
@@ -112,20 +101,10 @@ pub record Summing (s : Scope) (all left : List (Sign × TreeTerm)) (count : ℕ
   pub known : sum_uses s.allowed (plain_terms all) ≡ sum_uses s.allowed (plain_terms left)
   pub constant : (form.constant +ℤ sum_constant (plain_terms left)) ≡ sum_constant (plain_terms all)
   pub coefficients : (i : ℕ) → (coefficient form.terms i +ℤ sum_at s.allowed (plain_terms left) i) ≡ sum_at s.allowed (plain_terms all) i
-  pub within : Within (1000000000 * count) form
-
-add_moved : (f g t l a : ℤ) → (f +ℤ (t +ℤ l)) ≡ a → g ≡ (f +ℤ t) → (g +ℤ l) ≡ a
-add_moved f g t l a e h = omega (arith, ints, e, h)
-
-and_known : (a b : Bool) → IsTrue a → (a && b) ≡ b
-and_known true b h = refl
-and_known false b h = cc
+  pub within : FormWithin (1000000000 * count) form
 
 signed_same : (s : Sign) (a b : ℤ) → a ≡ b → signed s a ≡ signed s b
 signed_same s a b e = ap (λ (z : ℤ). signed s z) e
-
-more_within : (count : ℕ) (x y : ℤ) → unsigned_abs x ≤ 1000000000 * count → unsigned_abs y ≤ 1000000000 → unsigned_abs (x +ℤ y) ≤ 1000000000 * (count + 1)
-more_within count x y h k = omega (arith, add_within (1000000000 * count) 1000000000 x y h k)
 
 pub sum_more : (s : Scope) (all left : List (Sign × TreeTerm)) (t : Sign × TreeTerm) (count : ℕ) (form next sum : Form) → Summing s all (t ∷ left) count form → (judged_term s t.1).faults ≡ [] → PartOf (term_uses s.allowed (plain_term t.1)) (linear_term s.allowed (plain_term t.1)) 1000000000 next → IsSignedSum sum form t.0 next → Summing s all left (count + 1) sum
 sum_more s all left t count form next sum so_far none part is = record {
@@ -142,12 +121,6 @@ sum_more s all left t count form next sum so_far none part is = record {
     coefficients = λ i. subst (λ (z : ℤ). unsigned_abs z ≤ 1000000000 * (count + 1)) (sym (is.coefficients i)) (more_within count (coefficient form.terms i) (signed t.0 (coefficient next.terms i)) (so_far.within.coefficients i) (signed_within t.0 1000000000 (coefficient next.terms i) (part.within.coefficients i)));
   };
 }
-
-zero_left : (z : ℤ) → (pos 0 +ℤ z) ≡ z
-zero_left z = omega (arith, ints)
-
-zero_right : (z : ℤ) → (z +ℤ pos 0) ≡ z
-zero_right z = omega (arith, ints)
 
 pub sum_begins : (s : Scope) (all : List (Sign × TreeTerm)) (form : Form) → form.constant ≡ pos 0 → form.terms ≡ [] → Summing s all all 0 form
 sum_begins s all form constant terms = record {
@@ -174,7 +147,7 @@ sum_ends s all count form so_far few = (
   },
 )
 
-pub sum_within : (s : Scope) (all left : List (Sign × TreeTerm)) (count : ℕ) (form : Form) → Summing s all left count form → count < 2 ^ 63 → Within (2 ^ 93) form
+pub sum_within : (s : Scope) (all left : List (Sign × TreeTerm)) (count : ℕ) (form : Form) → Summing s all left count form → count < 2 ^ 63 → FormWithin (2 ^ 93) form
 sum_within s all left count form so_far few = within_more (1000000000 * count) (2 ^ 93) form (omega (arith, few)) so_far.within
 
 -- the first fault of a term is the first of the sum

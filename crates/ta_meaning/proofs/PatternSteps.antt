@@ -1,6 +1,8 @@
 -- Patterns and their events, one after another.
 use Rattle.std.proofs.Common.{◌≡◌, ℕ, ◌+◌, ◌<◌, ◌≤◌, List, [], ◌∷◌, ◌++◌, length, map, refl, sym, ap, subst, ◌∙◌, append_assoc, arith}
 use Rattle.std.proofs.lemmas.List.{append-nil, length-map, length_push, map_push}
+use Rattle.std.specs.List.{AllByRecursion}
+use Rattle.ta_base.proofs.Each.{each_append, each_from-push}
 use Rattle.ta_syntax.specs.Grammar.{PlainEvent, PlainPattern}
 use Rattle.ta_syntax.specs.PlainTrees.{plain_name, plain_comparison, plain_event, plain_pattern}
 use Rattle.ta_syntax.specs.declared.names.Spelled.{Spelled}
@@ -10,7 +12,7 @@ use Rattle.ta_syntax.specs.declared.tree.TreePattern.{TreePattern}
 use Rattle.ta_syntax.specs.declared.fault.FileFault.{FileFault}
 use Rattle.ta_automaton.specs.declared.pattern.Event.{Event}
 use Rattle.ta_automaton.specs.declared.pattern.Pattern.{Pattern}
-use Rattle.ta_automaton.specs.Lists.{Each, EachFrom, Distinct}
+use Rattle.ta_base.specs.Lists.{EachFrom, Distinct}
 use Rattle.ta_automaton.specs.Names.{Name}
 use Rattle.ta_automaton.specs.Patterns.{EventWithin, event_name, PatternWithin, pattern_name}
 use Rattle.ta_meaning.specs.Names.{Names, all_names}
@@ -21,7 +23,6 @@ use Rattle.ta_meaning.specs.Inside.Resolved.{ResolvedCondition, ResolvedPatterns
 use Rattle.ta_meaning.specs.Inside.Listed.{ListedMask}
 use Rattle.ta_meaning.specs.Inside.PatternParts.{DeclaredNext, ResolvedEvent, ResolvedEvents, ResolvedPattern}
 use Rattle.ta_meaning.proofs.PairwiseItems.{pairwise_push}
-use Rattle.ta_meaning.proofs.ListItems.{each_append}
 use Rattle.ta_meaning.proofs.Answering.{append-none, append-left-none, append-left-first, append-right-first}
 use Rattle.ta_meaning.proofs.Declared.{declared-legal, declared-distinct}
 
@@ -33,7 +34,6 @@ copied_legal : (before : List (List ℕ)) (n : Spelled) (text : List ℕ) → de
 copied_legal before n text none is = subst Name (sym is) (declared-legal before n none)
 
 -- ---- one event
-
 module _ (ns : Names) (before : List (List ℕ)) (e : TreeEvent) (after : List Spelled) (is_after : after ≡ e.after) (condition : List TreeComparison) (is_condition : condition ≡ e.condition) where
   pub event_stops_at_after : (f : FileFault) → declared_faults before e.name ≡ [] → FirstOrMemory (listed_faults before before [] after) f → FirstOrMemory (event_faults ns before e) f
   event_stops_at_after f name first =
@@ -56,13 +56,6 @@ module _ (ns : Names) (before : List (List ℕ)) (e : TreeEvent) (after : List S
         within = record { name = copied_legal before e.name event.name none name; after = listed.below; condition = resolved.over };
         declared = declared_next before e.name names d none is;
       }
-
--- ---- events one after another
-
--- one more item with its number
-each_from-push : {X : Type 0} (P : ℕ → X → Type 0) (k : ℕ) (xs : List X) (x : X) → EachFrom P k xs → P (k + length xs) x → EachFrom P k (xs ++ x ∷ [])
-each_from-push P k [] x each here = (subst (λ n. P n x) (omega arith) here, tt)
-each_from-push P k (y ∷ ys) x each here = (each.0, each_from-push P (k + 1) ys x each.1 (subst (λ n. P n x) (omega arith) here))
 
 means_events-push : (ns : Names) (before : List (List ℕ)) (es : List PlainEvent) (events : List Event) (e : PlainEvent) (event : Event) → MeansEvents ns before es events → MeansEvent ns (before ++ map event_name events) e event → MeansEvents ns before (es ++ e ∷ []) (events ++ event ∷ [])
 means_events-push ns before [] [] e event means here = (subst (λ (z : List (List ℕ)). MeansEvent ns z e event) (append-nil before) here, tt)
@@ -122,7 +115,6 @@ events_end ns all names resolved few to = (
 )
 
 -- ---- one pattern
-
 module _ (ns : Names) (before : List (List ℕ)) (p : TreePattern) (start : List TreeComparison) (is_start : start ≡ p.start) (empty : List Spelled) (is_empty : empty ≡ p.empty) (events : List TreeEvent) (is_events : events ≡ p.events) where
   pub pattern_stops_at_start : (f : FileFault) → declared_faults before p.name ≡ [] → FirstOrMemory (condition_faults (in_conditions ns) start) f → FirstOrMemory (pattern_faults ns before p) f
   pattern_stops_at_start f name first =
@@ -167,7 +159,7 @@ pub record PatternsTo (ns : Names) (all rest : List TreePattern) (names : List (
   pub done : List PlainPattern
   pub done_are : map plain_pattern all ≡ done ++ map plain_pattern rest
   pub means : Pairwise (MeansPattern ns) done resolved
-  pub within : Each (PatternWithin (length (all_names ns)) (length ns.locations)) resolved
+  pub within : AllByRecursion (PatternWithin (length (all_names ns)) (length ns.locations)) resolved
   pub count : length resolved + length rest ≡ length all
 
 pub patterns_begin : (ns : Names) (all : List TreePattern) (names : List (List ℕ)) (resolved : List Pattern) → names ≡ [] → resolved ≡ [] → PatternsTo ns all all names resolved

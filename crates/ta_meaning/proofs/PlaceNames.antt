@@ -28,13 +28,5 @@ in_guards_are places =
 pub parameters_count : (places : Places) → length (kinds_of places).parameters ≡ places.parameters
 parameters_count places = let h = places.within in length-take-le places.parameters places.names (omega arith)
 
-pub shared_count : (places : Places) → length (kinds_of places).shared ≡ places.shared
-shared_count places =
-    let h = places.within in
-    length-take-le places.shared (drop places.parameters places.names) (let e = length-drop places.parameters places.names in omega arith)
-
 pub locations_count : (places : Places) → length (kinds_of places).locations ≡ length places.names - (places.parameters + places.shared)
 locations_count places = length-drop (places.parameters + places.shared) places.names
-
-pub guards_count : (places : Places) → length (guard_names (kinds_of places)) ≡ places.parameters + places.shared
-guards_count places = let h = places.within in ap (λ (ns : List (List ℕ)). length ns) (guard_names_are places) ∙ length-take-le (places.parameters + places.shared) places.names h

@@ -2,16 +2,17 @@
 use Rattle.std.proofs.Common.{◌≡◌, ℕ, ◌≤◌, List, [], ◌∷◌, ◌++◌, map, length, Bool, true, false, arith, sym, ap, ◌∙◌, refl, subst}
 use Rattle.std.proofs.lemmas.List.{append-nil, append_assoc, map_push}
 use Rattle.std.proofs.lemmas.Bool.{true≢false, cond-true, cond-false}
+use Rattle.std.specs.List.{AllByRecursion}
+use Rattle.ta_base.proofs.Each.{distinct_push, distinct_unmap, each_at, each_weaker}
 use Rattle.ta_linear.specs.declared.row.Row.{Row}
 use Rattle.ta_syntax.specs.Grammar.{PlainRule}
 use Rattle.ta_syntax.specs.PlainTrees.{plain_rule}
 use Rattle.ta_syntax.specs.declared.tree.TreeRule.{TreeRule}
 use Rattle.ta_syntax.specs.declared.fault.FileFault.{FileFault}
-use Rattle.ta_automaton.specs.Lists.{Each, Distinct}
+use Rattle.ta_base.specs.Lists.{Distinct}
 use Rattle.ta_automaton.specs.Forms.{RiseRow, FallRow}
 use Rattle.ta_automaton.specs.Shape.{RuleWithin, name_of}
 use Rattle.ta_automaton.specs.declared.rule.Rule.{Rule}
-use Rattle.ta_automaton.proofs.Thresholds.{each_at}
 use Rattle.ta_meaning.specs.Names.{Names, guard_names, all_names}
 use Rattle.ta_meaning.specs.Linear.{Linear, Pairwise, RowOf}
 use Rattle.ta_meaning.specs.Guards.{Guards, no_guards, falls, has_row, with_guards, rows_of, guards_after, NamesGuards}
@@ -23,8 +24,6 @@ use Rattle.ta_meaning.specs.Inside.RuleReading.{RuleSoFar, RuleRead}
 use Rattle.ta_meaning.specs.declared.guards.GuardList.{GuardList}
 use Rattle.ta_meaning.proofs.Declared.{declared-new}
 use Rattle.ta_meaning.proofs.PairwiseItems.{pairwise_with, pairwise_push, pairwise_each}
-use Rattle.ta_meaning.proofs.DistinctItems.{distinct_push, distinct_unmap}
-use Rattle.ta_meaning.proofs.ListItems.{each_with}
 use Rattle.ta_meaning.proofs.Answering.{append-left-none, append-left-first, none-append-left, none-append-right}
 use Rattle.ta_meaning.proofs.NormalTerms.{linear_row}
 use Rattle.ta_meaning.proofs.GuardRows.{at_has}
@@ -34,22 +33,20 @@ use Rattle.ta_meaning.proofs.ListedNames.{has_name-at}
 use Rattle.ta_meaning.proofs.RuleSteps.{rows_fit}
 
 -- ---- pairs
-
-pairwise_rows : (places : ℕ) (rows : List Row) → Each (Normal places) rows → Pairwise RowOf (map (linear_of places) rows) rows
+pairwise_rows : (places : ℕ) (rows : List Row) → AllByRecursion (Normal places) rows → Pairwise RowOf (map (linear_of places) rows) rows
 pairwise_rows places [] h = tt
 pairwise_rows places (r ∷ rows) h = (linear_row r places h.0, pairwise_rows places rows h.1)
 
 -- ---- later guards
-
-kind_later : (parameters : ℕ) (kind : Bool) (guards more after rows : List Linear) (mask : ℕ) → after ≡ guards ++ more → Distinct after → Each (λ (r : Linear). falls parameters r ≡ kind) after
+kind_later : (parameters : ℕ) (kind : Bool) (guards more after rows : List Linear) (mask : ℕ) → after ≡ guards ++ more → Distinct after → AllByRecursion (λ (r : Linear). falls parameters r ≡ kind) after
     → ((r : Linear) → falls parameters r ≡ kind → has_row rows r ≡ true → has_row guards r ≡ true) → NamesGuards guards rows mask → NamesGuards after rows mask
 kind_later parameters kind guards more after rows mask grown distinct kinds among names =
-    let kinds_all = subst (λ (zs : List Linear). Each (λ (r : Linear). falls parameters r ≡ kind) zs) grown kinds in
+    let kinds_all = subst (λ (zs : List Linear). AllByRecursion (λ (r : Linear). falls parameters r ≡ kind) zs) grown kinds in
     subst (λ (zs : List Linear). NamesGuards zs rows mask) (sym grown) (mask_later guards more rows mask (subst (λ (zs : List Linear). Distinct zs) grown distinct) (λ i r at has.
     among r (each_at (λ (q : Linear). falls parameters q ≡ kind) (guards ++ more) i r kinds_all at) has) names)
 
 -- each of some rows is among the guards of its kind
-among_row : (parameters : ℕ) (g : Guards) (rows : List Linear) (r : Linear) → Each (AmongGuards parameters g) rows → has_row rows r ≡ true → AmongGuards parameters g r
+among_row : (parameters : ℕ) (g : Guards) (rows : List Linear) (r : Linear) → AllByRecursion (AmongGuards parameters g) rows → has_row rows r ≡ true → AmongGuards parameters g r
 among_row parameters g rows r among has = let w = at_has rows r has in each_at (AmongGuards parameters g) rows w.0 r among w.1
 
 -- a rule keeps its meaning when guards come after its own
@@ -74,7 +71,7 @@ rule_later ns before after r rule x kept h =
         fall = fall_names;
         updates = h.means.updates;
       };
-      among = each_with (AmongGuards parameters g) (AmongGuards parameters k) rows (λ q a. among_extends parameters g k q x a) h.among;
+      among = each_weaker (AmongGuards parameters g) (AmongGuards parameters k) rows (λ q a. among_extends parameters g k q x a) h.among;
       within = record {
         name = h.within.name;
         from = h.within.from;
@@ -112,12 +109,12 @@ no_guards_kept ns guards r f =
     record {
       rise_limit = subst (λ (zs : List Row). length zs ≤ 16) (sym r) (omega arith);
       fall_limit = subst (λ (zs : List Row). length zs ≤ 6) (sym f) (omega arith);
-      rise_rows = subst (λ (zs : List Row). Each (RiseRow parameters shared) zs) (sym r) tt;
-      fall_rows = subst (λ (zs : List Row). Each (FallRow parameters shared) zs) (sym f) tt;
+      rise_rows = subst (λ (zs : List Row). AllByRecursion (RiseRow parameters shared) zs) (sym r) tt;
+      fall_rows = subst (λ (zs : List Row). AllByRecursion (FallRow parameters shared) zs) (sym f) tt;
       rise_distinct = subst (λ (zs : List Row). Distinct (map (linear_of places) zs)) (sym r) tt;
       fall_distinct = subst (λ (zs : List Row). Distinct (map (linear_of places) zs)) (sym f) tt;
-      rise_kind = subst (λ (zs : List Row). Each (λ (q : Linear). falls parameters q ≡ false) (map (linear_of places) zs)) (sym r) tt;
-      fall_kind = subst (λ (zs : List Row). Each (λ (q : Linear). falls parameters q ≡ true) (map (linear_of places) zs)) (sym f) tt;
+      rise_kind = subst (λ (zs : List Row). AllByRecursion (λ (q : Linear). falls parameters q ≡ false) (map (linear_of places) zs)) (sym r) tt;
+      fall_kind = subst (λ (zs : List Row). AllByRecursion (λ (q : Linear). falls parameters q ≡ true) (map (linear_of places) zs)) (sym f) tt;
     }
 
 pub rules_begin : (ns : Names) (all : List TreeRule) (names : List (List ℕ)) (guards : GuardList) (rules : List Rule) → names ≡ [] → guards.rise.items ≡ [] → guards.fall.items ≡ [] → rules ≡ [] → RulesReading ns all all names guards rules

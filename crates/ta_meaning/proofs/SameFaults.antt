@@ -18,7 +18,7 @@ use Rattle.ta_syntax.specs.declared.fault.FileFault.TheVariants as fault
 use Rattle.ta_meaning.specs.Names.{Names, guard_names, all_names, names_of, plain_names}
 use Rattle.ta_meaning.specs.Linear.{Pairwise, comparison_rows, any_large, is_large_linear, linear_sum}
 use Rattle.ta_meaning.specs.Guards.{Guards, no_guards, with_guards, is_no_threshold, is_one_more}
-use Rattle.ta_meaning.specs.Faults.{Scope, Judged, where_, else_, is_long, declared_faults, declarations_faults, used_faults, listed_faults, sum_faults, comparison_faults, condition_faults, guard_faults, guards_faults, guards_with, in_parameters, in_guards, in_conditions, updates_faults, rule_faults, rules_faults, event_faults, events_faults, pattern_faults, patterns_faults, location_spelled, any_initial, processes_faults, names_faults, meaning_faults, counted, guards_then}
+use Rattle.ta_meaning.specs.Faults.{Scope, WithFaults, where_, else_, is_long, declared_faults, declarations_faults, used_faults, listed_faults, sum_faults, comparison_faults, condition_faults, guard_faults, guards_faults, guards_with, in_parameters, in_guards, in_conditions, updates_faults, rule_faults, rules_faults, event_faults, events_faults, pattern_faults, patterns_faults, location_spelled, any_initial, processes_faults, names_faults, meaning_faults, counted, guards_then}
 use Rattle.ta_meaning.proofs.RuleSteps.{when_faults}
 use Rattle.ta_meaning.proofs.OneSum.{SameSum, same_sum-plain, same_sum-judged}
 use Rattle.ta_meaning.proofs.OnePart.{SameComparison, same_comparison-plain, SameRule, SameEvent, SamePattern, SameParts}
@@ -26,7 +26,7 @@ use Rattle.ta_meaning.proofs.OnePart.{SameComparison, same_comparison-plain, Sam
 -- ---- sums and comparisons
 
 sum-faults : (sc : Scope) (s r : TreeSum) → SameSum s r → sum_faults sc s ≡ sum_faults sc r
-sum-faults sc s r h = ap (λ (j : Judged Terms). j.faults) (same_sum-judged sc s r h)
+sum-faults sc s r h = ap (λ (j : WithFaults Terms). j.faults) (same_sum-judged sc s r h)
 
 abbrev comparison-by : Scope → List FileFault → List FileFault → PlainComparison → ℕ → List FileFault
 comparison-by sc l r c at = else_ (l ++ r) (where_ (any_large (comparison_rows sc.allowed c)) (fault.TooLarge at))

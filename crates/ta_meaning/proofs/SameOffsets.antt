@@ -1,6 +1,7 @@
 -- Two lists of stated offsets that are placed on the same tokens, and what they say of parts that come one after another.
 use Rattle.std.proofs.Common.{◌≡◌, ℕ, List, [], ◌∷◌, ◌++◌, map, refl, sym, ap, subst, ◌∙◌, append_assoc}
 use Rattle.std.specs.List.{AllByRecursion}
+use Rattle.ta_base.proofs.Lists.{empty-not, heads, tails}
 use Rattle.ta_syntax.specs.Grammar.{further, listed, led, ended, each}
 use Rattle.ta_syntax.specs.Stated.{Offsets, unplaced, at_first, IsPlaced}
 use Rattle.ta_syntax.specs.declared.tokens.Mark.{Mark}
@@ -66,15 +67,6 @@ at_first-agree a b (z ∷ p) (w ∷ q) x y s t h =
 pub record IsOnce {A P : Type 0} (plain : A → P) (stated : A → List Offsets) (Same : A → A → Type 0) : Type 0 where
   pub once : (a b : A) (x y : List Offsets) → plain a ≡ plain b → Agree (stated a ++ x) (stated b ++ y) → Same a b × Agree x y
 
-pub heads : {P : Type 0} (p q : P) (ps qs : List P) → p ∷ ps ≡ q ∷ qs → p ≡ q
-heads p q ps qs e = cc
-
-tails : {P : Type 0} (p q : P) (ps qs : List P) → p ∷ ps ≡ q ∷ qs → ps ≡ qs
-tails p q ps qs e = cc
-
-empty-not : {P : Type 0} (p : P) (ps : List P) → [] ≡ p ∷ ps → ⊥
-empty-not p ps e = cc
-
 pub further-once : {A P : Type 0} (plain : A → P) (stated : A → List Offsets) (Same : A → A → Type 0) → IsOnce plain stated Same → (firsts seconds : List A) (x y : List Offsets) → map plain firsts ≡ map plain seconds → Agree (further unplaced stated firsts ++ x) (further unplaced stated seconds ++ y) → Pairwise Same firsts seconds × Agree x y
 further-once plain stated Same o [] [] x y e h = (tt, h)
 further-once plain stated Same o [] (b ∷ seconds) x y e h = absurd (empty-not (plain b) (map plain seconds) e)
@@ -124,7 +116,6 @@ pairwise-equal (a ∷ firsts) [] h = absurd h
 pairwise-equal (a ∷ firsts) (b ∷ seconds) h = ap (λ z. z ∷ firsts) h.0 ∙ ap (λ zs. b ∷ zs) (pairwise-equal firsts seconds h.1)
 
 -- what is stated of a list whose items state the same
-
 pub further-stated : {A : Type 0} (stated : A → List Offsets) (Same : A → A → Type 0) → ((a b : A) → Same a b → stated a ≡ stated b) → (firsts seconds : List A) → Pairwise Same firsts seconds → further unplaced stated firsts ≡ further unplaced stated seconds
 further-stated stated Same s [] [] h = refl
 further-stated stated Same s [] (b ∷ seconds) h = absurd h

@@ -1,10 +1,12 @@
 -- What an automaton's type keeps, of the parts that a tree resolves to
 use Rattle.std.proofs.Common.{ℕ, ◌+◌, ◌≤◌, ◌<◌, ◌≡◌, true, false, ◌||◌, if◌then◌else◌, List, [], ◌∷◌, length, map, arith}
 use Rattle.std.proofs.lemmas.List.{length-map}
+use Rattle.ta_base.proofs.Ranges.{rises-from}
+use Rattle.ta_meaning.proofs.MadeForms.{paired_length}
 use Rattle.ta_syntax.specs.Grammar.{PlainLocation}
 use Rattle.ta_syntax.specs.PlainTrees.{plain_location}
 use Rattle.ta_syntax.specs.declared.tree.TreeLocation.{TreeLocation}
-use Rattle.ta_automaton.specs.Lists.{Rises}
+use Rattle.ta_base.specs.Lists.{Rises}
 use Rattle.ta_meaning.specs.Meaning.{initial_from}
 use Rattle.ta_syntax.specs.PlainSums.{plain_sum}
 use Rattle.ta_syntax.specs.PlainTrees.{plain_comparison, plain_rule}
@@ -17,12 +19,7 @@ use Rattle.ta_automaton.specs.Shape.{AutomatonShape}
 use Rattle.ta_meaning.specs.Names.{names_of, location_name}
 use Rattle.ta_meaning.specs.Inside.Resolved.{ResolvedForm, ResolvedCondition, ResolvedRules}
 use Rattle.ta_meaning.specs.Faults.{any_initial, names_faults}
-use Rattle.ta_meaning.proofs.PairwiseItems.{pairwise_length}
 use Rattle.ta_meaning.proofs.Declared.{name-legal, names-legal, names-distinct, some_initial}
-
-rises-from : (low high : ℕ) (xs : List ℕ) → Rises (low + 1) high xs → Rises low high xs
-rises-from low high [] h = tt
-rises-from low high (x ∷ xs) h = (omega (arith, h.0), h.1, h.2)
 
 -- the numbers of the marked locations rise
 pub initial-rises : (k high : ℕ) (ls : List PlainLocation) → k + length ls ≤ high → Rises k high (initial_from k ls)
@@ -53,7 +50,7 @@ automaton_shape t processes resilience rise fall rules none p r rs = record {
     locations_limit = rw (length-map, length-map) t.few_locations;
     rise_limit = rs.guards.rise_limit;
     fall_limit = rs.guards.fall_limit;
-    rules_limit = rw (pairwise_length _ _ _ rs.means, length-map) t.few_rules;
+    rules_limit = rw (paired_length _ _ _ rs.means, length-map) t.few_rules;
   };
   name_legal = name-legal t none;
   names_legal = names-legal t none;

@@ -14,7 +14,7 @@ use Rattle.ta_syntax.specs.declared.fault.FileFault.TheVariants as fault
 use Rattle.std.specs.Prelude.{Bool, not, ltb}
 use Rattle.ta_meaning.specs.Sums.{number_of, has_name}
 use Rattle.ta_meaning.specs.Linear.{linear_sum, comparison_rows, is_large_linear, any_large}
-use Rattle.ta_meaning.specs.Faults.{Scope, Judged, where_, else_, is_long, declared_faults, used_faults, digits_faults, sum_faults, linear_term, comparison_faults, condition_faults}
+use Rattle.ta_meaning.specs.Faults.{Scope, WithFaults, where_, else_, is_long, declared_faults, used_faults, digits_faults, sum_faults, linear_term, comparison_faults, condition_faults}
 use Rattle.ta_meaning.proofs.StartedParts.{factor-starts, sum-starts, Starts, starts-append}
 use Rattle.ta_meaning.specs.Seen.{SeenTerms, SeenTerm, SeenFactor, seen_none, seen_more, seen_number, seen_times, seen_alone, seen_blank, seen_named, seen_nested, plain_of_terms, plain_of_term, plain_of_factor, seen_sum}
 use Rattle.ta_meaning.proofs.SeenSums.{offsets_of_sum, offsets_of_more, offsets_of_term, offsets_of_factor, judged_of_terms, judged_of_term, judged_of_factor, SeenSum, every_sum_seen}
@@ -95,7 +95,7 @@ sum-in_order sc s is =
     let p : SeenSum s = every_sum_seen s in
     let seen : InOrder (offsets_of_sum (seen_sum s)) (judged_of_terms sc (seen_sum s)).faults = sum-rises sc (seen_sum s) (subst IsSum p.plain is) in
     subst (λ (z : List Offsets). InOrder z (sum_faults sc s)) (sym p.stated)
-    (subst (λ (z : Judged Terms). InOrder (offsets_of_sum (seen_sum s)) z.faults) (sym (p.judged sc)) seen)
+    (subst (λ (z : WithFaults Terms). InOrder (offsets_of_sum (seen_sum s)) z.faults) (sym (p.judged sc)) seen)
 
 -- the sum of `processes`
 pub whole_sum-in_order : (sc : Scope) (at : ℕ) (s : TreeSum) → IsSum (plain_sum s) → InOrder (at_first at (sum_stated s)) (else_ (sum_faults sc s) (where_ (is_large_linear (linear_sum sc.allowed (plain_sum s))) (fault.TooLarge at)))

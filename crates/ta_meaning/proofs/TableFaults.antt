@@ -1,18 +1,22 @@
--- Each fault in the list of a tree's faults is a fault of the table.
-use Rattle.std.proofs.Common.{◌≡◌, ◌⊎◌, inl, inr, ℕ, ◌+◌, ◌<◌, ◌≤◌, Bool, true, false, not, ltb, ◌&&◌, ◌||◌, cond, List, [], ◌∷◌, ◌++◌, length, map, refl, sym, ap, subst, ◌∙◌, arith, append_assoc}
+-- AllByRecursion fault in the list of a tree's faults is a fault of the table.
+use Rattle.std.proofs.Common.{◌≡◌, inl, inr, ℕ, ◌≤◌, Bool, true, false, not, ltb, ◌&&◌, List, [], ◌∷◌, ◌++◌, length, map, refl, sym, ap, subst, ◌∙◌, arith, append_assoc}
 use Rattle.std.specs.Prelude.{flat_map}
 use Rattle.std.specs.Str.{bytes_eq}
-use Rattle.std.proofs.lemmas.Bool.{false≢true, true≢false, or_cases, not-false, cases_Bool, cond-true, cond-false}
+use Rattle.std.proofs.lemmas.Bool.{false≢true, true≢false, or_cases, not-false, cases_Bool, cond-true, cond-false, not-true}
 use Rattle.std.proofs.lemmas.Bool.Decides.{nat_tests, Decides-ltb}
 use Rattle.std.proofs.lemmas.List.{append-nil, map-append, map_push}
 use Rattle.std.proofs.lemmas.Slice.Eq.{bytes_eq-Decides}
 use Rattle.std.proofs.lemmas.Grind.{flat_map-append}
+use Rattle.std.specs.List.{AllByRecursion}
+use Rattle.ta_base.proofs.Booleans.{and-left, and_left, or-left-false, or-right-false}
+use Rattle.ta_base.proofs.Each.{distinct_push_apart, each_append, each_push, each_weaker}
+use Rattle.ta_base.proofs.Lists.{push-split}
+use Rattle.ta_base.proofs.Members.{In-left, In-map, In-right, in-here}
 use Rattle.ta_syntax.specs.PlainSums.{plain_sum}
 use Rattle.ta_syntax.specs.PlainTrees.{plain_name, plain_comparison}
-use Rattle.ta_syntax.specs.Grammar.{Terms, Term, Factor, done, term, number, times, alone, blank, named, nested}
+use Rattle.ta_syntax.specs.Grammar.{Terms, Term, Factor, term, number, times, alone, blank, nested}
 use Rattle.ta_syntax.specs.declared.names.Spelled.{Spelled}
 use Rattle.ta_syntax.specs.declared.names.Digits.{Digits}
-use Rattle.ta_syntax.specs.declared.sums.Sign.{Sign}
 use Rattle.ta_syntax.specs.declared.sums.TreeSum.{TreeSum}
 use Rattle.ta_syntax.specs.declared.tree.TreeComparison.{TreeComparison}
 use Rattle.ta_syntax.specs.declared.tree.TreeUpdate.{TreeUpdate}
@@ -22,59 +26,28 @@ use Rattle.ta_syntax.specs.declared.tree.TreePattern.{TreePattern}
 use Rattle.ta_syntax.specs.declared.tree.Tree.{Tree}
 use Rattle.ta_syntax.specs.declared.fault.FileFault.{FileFault}
 use Rattle.ta_syntax.specs.declared.fault.FileFault.TheVariants as fault
-use Rattle.ta_automaton.specs.Lists.{Each, Distinct}
-use Rattle.ta_automaton.specs.Masks.{In}
-use Rattle.ta_automaton.proofs.MaskTests.{In-left, In-right, In-map}
+use Rattle.ta_base.specs.Lists.{Distinct}
+use Rattle.ta_base.specs.Masks.{In}
 use Rattle.ta_meaning.specs.Sums.{number_of, has_name}
 use Rattle.ta_meaning.specs.Linear.{Linear, linear_sum, comparison_rows, is_large_linear, any_large}
 use Rattle.ta_meaning.specs.Names.{guard_names, all_names, names_of}
-use Rattle.ta_meaning.specs.Guards.{Guards, no_guards, is_positive, falls, same_row, has_row, with_row, with_guard, with_guards, is_no_threshold, is_past_limit, is_one_more}
-use Rattle.ta_meaning.specs.Faults.{Scope, Judged, where_, else_, is_long, declared_faults, declarations_faults, used_faults, listed_faults, digits_faults, linear_term, sum_faults, comparison_faults, condition_faults, counted, guards_then, guard_faults, guards_faults, guards_with, in_parameters, in_guards, in_conditions, updates_faults, rule_faults, rules_faults, event_faults, events_faults, pattern_faults, patterns_faults, location_spelled, any_initial, processes_faults, names_faults, meaning_faults}
+use Rattle.ta_meaning.specs.Guards.{Guards, no_guards, falls, same_row, has_row, with_row, with_guards, is_no_threshold, is_past_limit, is_one_more}
+use Rattle.ta_meaning.specs.Faults.{Scope, WithFaults, where_, else_, is_long, declared_faults, declarations_faults, used_faults, listed_faults, digits_faults, linear_term, sum_faults, comparison_faults, condition_faults, counted, guards_then, guard_faults, guards_faults, guards_with, in_parameters, in_guards, in_conditions, updates_faults, rule_faults, rules_faults, event_faults, events_faults, pattern_faults, patterns_faults, location_spelled, any_initial, processes_faults, names_faults, meaning_faults}
 use Rattle.ta_meaning.specs.Seen.{SeenTerms, SeenTerm, SeenFactor, seen_none, seen_more, seen_number, seen_times, seen_alone, seen_blank, seen_named, seen_nested, seen_sum, plain_of_terms, plain_of_term, plain_of_factor, names_of_terms, names_of_term, names_of_factor, numbers_of_terms, numbers_of_term, numbers_of_factor, PlacedTerm, placed, terms_of_terms, terms_of_term, terms_of_factor}
-use Rattle.ta_meaning.specs.Table.{Repeats, rule_name, pattern_name, event_name, updated_name, place_names, AreApart, apart_places, apart_rules, apart_patterns, apart_events, apart_updates, apart_empty, apart_after, IsDeclared, declared_file, declared_place, declared_rule, declared_pattern, declared_event, HasComparison, in_resilience, in_guard, in_start, in_event, HasSum, sum_of_processes, sum_at_left, sum_at_right, at_locations, at_shared, at_events, IsUsed, used_from, used_to, used_update, used_empty, used_after, used_sum, IsNumberOf, number_of_update, number_in_sum, guards_of_rule, tree_guards, guard_rows, IsThreshold, IsRowAmong, IsOneMore, IsFaultOf, repeated, unknown, wrong_kind, long, large_number, large_term, large_row, large_sum, one_more, no_threshold, no_initial, FaultsAreOfTheTable}
+use Rattle.ta_meaning.specs.Table.{Repeats, rule_name, tree_pattern_name, tree_event_name, updated_name, place_names, AreApart, apart_places, apart_rules, apart_patterns, apart_events, apart_updates, apart_empty, apart_after, IsDeclared, declared_file, declared_place, declared_rule, declared_pattern, declared_event, HasComparison, in_resilience, in_guard, in_start, in_event, HasSum, sum_of_processes, sum_at_left, sum_at_right, at_locations, at_shared, at_events, IsUsed, used_from, used_to, used_update, used_empty, used_after, used_sum, IsNumberOf, number_of_update, number_in_sum, guards_of_rule, tree_guards, tree_guard_rows, IsRowAmong, IsOneMore, IsFaultOf, repeated, unknown, wrong_kind, long, large_number, large_term, large_row, large_sum, one_more, no_threshold, no_initial, FaultsAreOfTheTable}
 use Rattle.ta_meaning.proofs.Answering.{not-where, none-else-left, none-else-right}
-use Rattle.ta_meaning.proofs.ListItems.{each_with, each_append, each_push}
-use Rattle.ta_meaning.proofs.DistinctItems.{distinct_push_apart}
 use Rattle.ta_meaning.proofs.GuardRows.{row_decides}
 use Rattle.ta_meaning.proofs.GuardSteps.{guard_falls, guard_rises}
 use Rattle.ta_meaning.proofs.SeenSums.{judged_of_terms, judged_of_term, judged_of_factor, SeenSum, every_sum_seen}
 
 -- ---- lists of faults
-
-each-where : (P : FileFault → Type 0) (test : Bool) (f : FileFault) → (test ≡ true → P f) → Each P (where_ test f)
+each-where : (P : FileFault → Type 0) (test : Bool) (f : FileFault) → (test ≡ true → P f) → AllByRecursion P (where_ test f)
 each-where P true f h = (h refl, tt)
 each-where P false f h = tt
 
-each-else : (P : FileFault → Type 0) (a b : List FileFault) → Each P a → (a ≡ [] → Each P b) → Each P (else_ a b)
+each-else : (P : FileFault → Type 0) (a b : List FileFault) → AllByRecursion P a → (a ≡ [] → AllByRecursion P b) → AllByRecursion P (else_ a b)
 each-else P [] b ha hb = hb refl
 each-else P (f ∷ a) b ha hb = ha
-
-not-true : (b : Bool) → not b ≡ true → b ≡ false
-not-true true e = absurd (false≢true e)
-not-true false e = refl
-
-and-left : (a b : Bool) → (a && b) ≡ true → a ≡ true
-and-left true b e = refl
-and-left false b e = absurd (false≢true e)
-
-and-right : (a b : Bool) → (a && b) ≡ true → b ≡ true
-and-right true b e = e
-and-right false b e = absurd (false≢true e)
-
-or-left-false : (a b : Bool) → (a || b) ≡ false → a ≡ false
-or-left-false true b e = absurd (true≢false e)
-or-left-false false b e = refl
-
-or-right-false : (a b : Bool) → (a || b) ≡ false → b ≡ false
-or-right-false true b e = absurd (true≢false e)
-or-right-false false b e = e
-
-in-here : {X : Type 0} (earlier later : List X) (x : X) → In x (earlier ++ x ∷ later)
-in-here earlier later x = In-right x earlier (x ∷ later) (inl refl)
-
--- the same list with one item more of it behind
-push-split : {X : Type 0} (all earlier rest : List X) (x : X) → all ≡ earlier ++ x ∷ rest → all ≡ (earlier ++ x ∷ []) ++ rest
-push-split all earlier rest x e = e ∙ sym (append_assoc earlier (x ∷ []) rest)
 
 -- ---- names
 
@@ -91,7 +64,7 @@ module _ (t : Tree) where
   P = IsFaultOf t
 
   abbrev AllOf : List FileFault → Type 0
-  AllOf fs = Each (IsFaultOf t) fs
+  AllOf fs = AllByRecursion (IsFaultOf t) fs
 
   together : (a b : List FileFault) → AllOf a → AllOf b → AllOf (a ++ b)
   together a b ha hb = each_append (IsFaultOf t) a b ha hb
@@ -220,7 +193,7 @@ module _ (t : Tree) where
         number = λ d i. number_in_sum s sum h i;
         large = λ x i e. large_term s sum x h i e refl;
       } in
-      subst (λ (z : Judged Terms). AllOf z.faults) (sym (seen.judged s)) (terms-faults s (seen_sum sum) part)
+      subst (λ (z : WithFaults Terms). AllOf z.faults) (sym (seen.judged s)) (terms-faults s (seen_sum sum) part)
 
   comparison-fault : (s : Scope) (c : TreeComparison) → HasComparison t s c → AllOf (comparison_faults s c)
   comparison-fault s c h =
@@ -245,30 +218,30 @@ module _ (t : Tree) where
 
   -- the guards so far are distinct rows of threshold guards of the text so far
   record Counted (cs : List TreeComparison) (g : Guards) : Type 0 where
-    rise : Each (IsRowAmong t cs false) g.rise
-    fall : Each (IsRowAmong t cs true) g.fall
+    rise : AllByRecursion (IsRowAmong t cs false) g.rise
+    fall : AllByRecursion (IsRowAmong t cs true) g.fall
     rise_distinct : Distinct g.rise
     fall_distinct : Distinct g.fall
 
   counted-more : (cs ds : List TreeComparison) (g : Guards) → Counted cs g → Counted (cs ++ ds) g
   counted-more cs ds g h = record {
-    rise = each_with (IsRowAmong t cs false) (IsRowAmong t (cs ++ ds) false) g.rise (among-more cs ds false) h.rise;
-    fall = each_with (IsRowAmong t cs true) (IsRowAmong t (cs ++ ds) true) g.fall (among-more cs ds true) h.fall;
+    rise = each_weaker (IsRowAmong t cs false) (IsRowAmong t (cs ++ ds) false) g.rise (among-more cs ds false) h.rise;
+    fall = each_weaker (IsRowAmong t cs true) (IsRowAmong t (cs ++ ds) true) g.fall (among-more cs ds true) h.fall;
     rise_distinct = h.rise_distinct;
     fall_distinct = h.fall_distinct;
   }
 
-  apart-rows : (rows : List Linear) (r : Linear) → has_row rows r ≡ false → Each (λ other. other ≡ r → ⊥) rows
+  apart-rows : (rows : List Linear) (r : Linear) → has_row rows r ≡ false → AllByRecursion (λ other. other ≡ r → ⊥) rows
   apart-rows [] r h = tt
   apart-rows (q ∷ rows) r h = (
     λ e. true≢false (sym ((row_decides q r).1 e) ∙ or-left-false (same_row q r) (has_row rows r) h),
     apart-rows rows r (or-right-false (same_row q r) (has_row rows r) h),
   )
 
-  row-pushed : (Q : Linear → Type 0) (rows : List Linear) (r : Linear) → Each Q rows → Q r → Each Q (with_row rows r)
+  row-pushed : (Q : Linear → Type 0) (rows : List Linear) (r : Linear) → AllByRecursion Q rows → Q r → AllByRecursion Q (with_row rows r)
   row-pushed Q rows r h q = elim (cases_Bool (has_row rows r)) [
-    | inl e ↦ subst (λ (z : List Linear). Each Q z) (sym (cond-true (has_row rows r) rows (rows ++ r ∷ []) e)) h
-    | inr e ↦ subst (λ (z : List Linear). Each Q z) (sym (cond-false (has_row rows r) rows (rows ++ r ∷ []) e)) (each_push Q rows r h q)
+    | inl e ↦ subst (λ (z : List Linear). AllByRecursion Q z) (sym (cond-true (has_row rows r) rows (rows ++ r ∷ []) e)) h
+    | inr e ↦ subst (λ (z : List Linear). AllByRecursion Q z) (sym (cond-false (has_row rows r) rows (rows ++ r ∷ []) e)) (each_push Q rows r h q)
   ]
 
   row-distinct : (rows : List Linear) (r : Linear) → Distinct rows → Distinct (with_row rows r)
@@ -278,7 +251,7 @@ module _ (t : Tree) where
   ]
 
   -- a guard that counts is one row, whose kind has it then
-  counted-row : (cs : List TreeComparison) (g : Guards) (c : TreeComparison) (rows : List Linear) → guard_rows t c ≡ rows → is_no_threshold count rows ≡ false → In c cs → Counted cs g → Counted cs (with_guards count g rows)
+  counted-row : (cs : List TreeComparison) (g : Guards) (c : TreeComparison) (rows : List Linear) → tree_guard_rows t c ≡ rows → is_no_threshold count rows ≡ false → In c cs → Counted cs g → Counted cs (with_guards count g rows)
   counted-row cs g c [] is threshold i h = absurd (true≢false threshold)
   counted-row cs g c (r ∷ q ∷ rows) is threshold i h = absurd (true≢false threshold)
   counted-row cs g c (r ∷ []) is threshold i h = elim (cases_Bool (falls count r)) [
@@ -301,23 +274,23 @@ module _ (t : Tree) where
   counted-either cs (f ∷ fs) before after h k = k
 
   -- what is no fault of a guard
-  is-threshold : (g : Guards) (c : TreeComparison) → guard_faults count scope g c ≡ [] → is_no_threshold count (guard_rows t c) ≡ false
+  is-threshold : (g : Guards) (c : TreeComparison) → guard_faults count scope g c ≡ [] → is_no_threshold count (tree_guard_rows t c) ≡ false
   is-threshold g c none =
-      let threshold = where_ (is_no_threshold count (guard_rows t c)) (fault.NotThreshold c.at) in
-      let more = where_ (is_one_more count g (guard_rows t c)) (fault.TooMany c.at) in
-      not-where (is_no_threshold count (guard_rows t c)) (fault.NotThreshold c.at) (none-else-left threshold more (none-else-right (comparison_faults scope c) (else_ threshold more) none))
+      let threshold = where_ (is_no_threshold count (tree_guard_rows t c)) (fault.NotThreshold c.at) in
+      let more = where_ (is_one_more count g (tree_guard_rows t c)) (fault.TooMany c.at) in
+      not-where (is_no_threshold count (tree_guard_rows t c)) (fault.NotThreshold c.at) (none-else-left threshold more (none-else-right (comparison_faults scope c) (else_ threshold more) none))
 
   counted-then : (cs : List TreeComparison) (g : Guards) (c : TreeComparison) → Counted cs g → Counted (cs ++ c ∷ []) (guards_then count scope g c)
   counted-then cs g c h =
       let more = counted-more cs (c ∷ []) g h in
-      counted-either (cs ++ c ∷ []) (guard_faults count scope g c) g (with_guards count g (guard_rows t c))
-      (λ none. counted-row (cs ++ c ∷ []) g c (guard_rows t c) refl (is-threshold g c none) (in-here cs [] c) more) more
+      counted-either (cs ++ c ∷ []) (guard_faults count scope g c) g (with_guards count g (tree_guard_rows t c))
+      (λ none. counted-row (cs ++ c ∷ []) g c (tree_guard_rows t c) refl (is-threshold g c none) (in-here cs [] c) more) more
 
   not-less : (n m : ℕ) → not (ltb n m) ≡ true → m ≤ n
   not-less n m e = let f : ltb n m ≡ false = not-true (ltb n m) e in grind (arith, nat_tests)
 
   -- a row past the limit
-  past-limit : (cs later : List TreeComparison) (g : Guards) (c : TreeComparison) (r : Linear) → tree_guards t ≡ cs ++ c ∷ later → guard_rows t c ≡ r ∷ [] → is_no_threshold count (r ∷ []) ≡ false → is_past_limit count g r ≡ true → Counted cs g → IsOneMore t c
+  past-limit : (cs later : List TreeComparison) (g : Guards) (c : TreeComparison) (r : Linear) → tree_guards t ≡ cs ++ c ∷ later → tree_guard_rows t c ≡ r ∷ [] → is_no_threshold count (r ∷ []) ≡ false → is_past_limit count g r ≡ true → Counted cs g → IsOneMore t c
   past-limit cs later g c r place is threshold past h = elim (cases_Bool (falls count r)) [
     | inl f ↦ (
         let e : (not (has_row g.fall r) && not (ltb (length g.fall) 6)) ≡ true = sym (cond-true (falls count r) (not (has_row g.fall r) && not (ltb (length g.fall) 6)) (not (has_row g.rise r) && not (ltb (length g.rise) 16)) f) ∙ past in
@@ -331,7 +304,7 @@ module _ (t : Tree) where
           others = g.fall;
           distinct = h.fall_distinct;
           before = h.fall;
-          full = not-less (length g.fall) 6 (and-right (not (has_row g.fall r)) (not (ltb (length g.fall) 6)) e);
+          full = not-less (length g.fall) 6 (and_left (not (has_row g.fall r)) (not (ltb (length g.fall) 6)) e);
           new = apart-rows g.fall r (not-true (has_row g.fall r) (and-left (not (has_row g.fall r)) (not (ltb (length g.fall) 6)) e));
         })
     | inr f ↦ (
@@ -346,20 +319,20 @@ module _ (t : Tree) where
           others = g.rise;
           distinct = h.rise_distinct;
           before = h.rise;
-          full = not-less (length g.rise) 16 (and-right (not (has_row g.rise r)) (not (ltb (length g.rise) 16)) e);
+          full = not-less (length g.rise) 16 (and_left (not (has_row g.rise r)) (not (ltb (length g.rise) 16)) e);
           new = apart-rows g.rise r (not-true (has_row g.rise r) (and-left (not (has_row g.rise r)) (not (ltb (length g.rise) 16)) e));
         })
   ]
 
-  more-than-allowed : (cs later : List TreeComparison) (g : Guards) (c : TreeComparison) (rows : List Linear) → tree_guards t ≡ cs ++ c ∷ later → guard_rows t c ≡ rows → is_one_more count g rows ≡ true → Counted cs g → IsOneMore t c
+  more-than-allowed : (cs later : List TreeComparison) (g : Guards) (c : TreeComparison) (rows : List Linear) → tree_guards t ≡ cs ++ c ∷ later → tree_guard_rows t c ≡ rows → is_one_more count g rows ≡ true → Counted cs g → IsOneMore t c
   more-than-allowed cs later g c [] place is e h = absurd (false≢true e)
   more-than-allowed cs later g c (r ∷ q ∷ rows) place is e h = absurd (false≢true e)
   more-than-allowed cs later g c (r ∷ []) place is e h =
-      past-limit cs later g c r place is (not-true (is_no_threshold count (r ∷ [])) (and-left (not (is_no_threshold count (r ∷ []))) (is_past_limit count g r) e)) (and-right (not (is_no_threshold count (r ∷ []))) (is_past_limit count g r) e) h
+      past-limit cs later g c r place is (not-true (is_no_threshold count (r ∷ [])) (and-left (not (is_no_threshold count (r ∷ []))) (is_past_limit count g r) e)) (and_left (not (is_no_threshold count (r ∷ []))) (is_past_limit count g r) e) h
 
   guard-fault : (cs later : List TreeComparison) (g : Guards) (c : TreeComparison) → tree_guards t ≡ cs ++ c ∷ later → HasComparison t scope c → Counted cs g → AllOf (guard_faults count scope g c)
   guard-fault cs later g c place has h =
-      let rows = guard_rows t c in
+      let rows = tree_guard_rows t c in
       let threshold = where_ (is_no_threshold count rows) (fault.NotThreshold c.at) in
       let more = where_ (is_one_more count g rows) (fault.TooMany c.at) in
       let here : In c (tree_guards t) = subst (λ (z : List TreeComparison). In c z) (sym place) (in-here cs later c) in
@@ -429,50 +402,50 @@ module _ (t : Tree) where
 
   -- ---- patterns
 
-  event-fault : (p : TreePattern) (earlier later : List TreeEvent) (e : TreeEvent) → In p t.patterns → p.events ≡ earlier ++ e ∷ later → AllOf (event_faults (names_of t) (map plain_name (map event_name earlier)) e)
+  event-fault : (p : TreePattern) (earlier later : List TreeEvent) (e : TreeEvent) → In p t.patterns → p.events ≡ earlier ++ e ∷ later → AllOf (event_faults (names_of t) (map plain_name (map tree_event_name earlier)) e)
   event-fault p earlier later e i place =
-      let before = map plain_name (map event_name earlier) in
+      let before = map plain_name (map tree_event_name earlier) in
       let conditions = condition_faults (in_conditions (names_of t)) e.condition in
       let here : In e p.events = subst (λ (z : List TreeEvent). In e z) (sym place) (in-here earlier later e) in
-      let names : map event_name p.events ≡ map event_name earlier ++ e.name ∷ map event_name later = ap (map event_name) place ∙ map-append event_name earlier (e ∷ later) in
+      let names : map tree_event_name p.events ≡ map tree_event_name earlier ++ e.name ∷ map tree_event_name later = ap (map tree_event_name) place ∙ map-append tree_event_name earlier (e ∷ later) in
       together (declared_faults before e.name) (listed_faults before before [] e.after ++ conditions)
-      (declared-name (map event_name p.events) (map event_name earlier) (map event_name later) e.name (apart_events p i refl) names (declared_event p i (In-map event_name e p.events here)))
+      (declared-name (map tree_event_name p.events) (map tree_event_name earlier) (map tree_event_name later) e.name (apart_events p i refl) names (declared_event p i (In-map tree_event_name e p.events here)))
       (together (listed_faults before before [] e.after) conditions
       (listed-names (at_events earlier) e.after [] e.after (apart_after p e i here refl) refl (λ n k. used_after p earlier later e i place refl k))
       (condition-fault (in_conditions (names_of t)) e.condition (λ c k. in_event p e refl i here k)))
 
-  events-fault : (p : TreePattern) (earlier rest : List TreeEvent) → In p t.patterns → p.events ≡ earlier ++ rest → AllOf (events_faults (names_of t) (map plain_name (map event_name earlier)) rest)
+  events-fault : (p : TreePattern) (earlier rest : List TreeEvent) → In p t.patterns → p.events ≡ earlier ++ rest → AllOf (events_faults (names_of t) (map plain_name (map tree_event_name earlier)) rest)
   events-fault p earlier [] i place = tt
   events-fault p earlier (e ∷ rest) i place =
-      let before = map plain_name (map event_name earlier) in
+      let before = map plain_name (map tree_event_name earlier) in
       together (event_faults (names_of t) before e) (events_faults (names_of t) (before ++ e.name.name ∷ []) rest)
       (event-fault p earlier rest e i place)
-      (subst (λ (z : List (List ℕ)). AllOf (events_faults (names_of t) z rest)) (ap (map plain_name) (map_push event_name earlier e) ∙ map_push plain_name (map event_name earlier) e.name)
+      (subst (λ (z : List (List ℕ)). AllOf (events_faults (names_of t) z rest)) (ap (map plain_name) (map_push tree_event_name earlier e) ∙ map_push plain_name (map tree_event_name earlier) e.name)
       (events-fault p (earlier ++ e ∷ []) rest i (push-split p.events earlier rest e place)))
 
-  pattern-fault : (earlier later : List TreePattern) (p : TreePattern) → t.patterns ≡ earlier ++ p ∷ later → AllOf (pattern_faults (names_of t) (map plain_name (map pattern_name earlier)) p)
+  pattern-fault : (earlier later : List TreePattern) (p : TreePattern) → t.patterns ≡ earlier ++ p ∷ later → AllOf (pattern_faults (names_of t) (map plain_name (map tree_pattern_name earlier)) p)
   pattern-fault earlier later p place =
       let ns = names_of t in
-      let before = map plain_name (map pattern_name earlier) in
+      let before = map plain_name (map tree_pattern_name earlier) in
       let here : In p t.patterns = subst (λ (z : List TreePattern). In p z) (sym place) (in-here earlier later p) in
-      let names : map pattern_name t.patterns ≡ map pattern_name earlier ++ p.name ∷ map pattern_name later = ap (map pattern_name) place ∙ map-append pattern_name earlier (p ∷ later) in
+      let names : map tree_pattern_name t.patterns ≡ map tree_pattern_name earlier ++ p.name ∷ map tree_pattern_name later = ap (map tree_pattern_name) place ∙ map-append tree_pattern_name earlier (p ∷ later) in
       let start = condition_faults (in_conditions ns) p.start in
       let empty = listed_faults (all_names ns) ns.locations [] p.empty in
       let events = events_faults ns [] p.events in
       together (declared_faults before p.name) (start ++ (empty ++ events))
-      (declared-name (map pattern_name t.patterns) (map pattern_name earlier) (map pattern_name later) p.name (apart_patterns refl) names (declared_pattern (In-map pattern_name p t.patterns here)))
+      (declared-name (map tree_pattern_name t.patterns) (map tree_pattern_name earlier) (map tree_pattern_name later) p.name (apart_patterns refl) names (declared_pattern (In-map tree_pattern_name p t.patterns here)))
       (together start (empty ++ events) (condition-fault (in_conditions ns) p.start (λ c k. in_start p refl here k))
       (together empty events
       (listed-names (at_locations t) p.empty [] p.empty (apart_empty p here refl) refl (λ n k. used_empty p here refl k))
       (events-fault p [] p.events here refl)))
 
-  patterns-fault : (earlier rest : List TreePattern) → t.patterns ≡ earlier ++ rest → AllOf (patterns_faults (names_of t) (map plain_name (map pattern_name earlier)) rest)
+  patterns-fault : (earlier rest : List TreePattern) → t.patterns ≡ earlier ++ rest → AllOf (patterns_faults (names_of t) (map plain_name (map tree_pattern_name earlier)) rest)
   patterns-fault earlier [] place = tt
   patterns-fault earlier (p ∷ rest) place =
-      let before = map plain_name (map pattern_name earlier) in
+      let before = map plain_name (map tree_pattern_name earlier) in
       together (pattern_faults (names_of t) before p) (patterns_faults (names_of t) (before ++ p.name.name ∷ []) rest)
       (pattern-fault earlier rest p place)
-      (subst (λ (z : List (List ℕ)). AllOf (patterns_faults (names_of t) z rest)) (ap (map plain_name) (map_push pattern_name earlier p) ∙ map_push plain_name (map pattern_name earlier) p.name)
+      (subst (λ (z : List (List ℕ)). AllOf (patterns_faults (names_of t) z rest)) (ap (map plain_name) (map_push tree_pattern_name earlier p) ∙ map_push plain_name (map tree_pattern_name earlier) p.name)
       (patterns-fault (earlier ++ p ∷ []) rest (push-split t.patterns earlier rest p place)))
 
   -- ---- the whole

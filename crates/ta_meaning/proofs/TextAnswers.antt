@@ -1,25 +1,22 @@
 -- A text is a legal file, or has a first fault.
 use Rattle.std.proofs.Common.{◌≡◌, ◌≢◌, ℕ, ◌≤◌, List, [], ◌∷◌, length, inl, inr, refl}
-use Rattle.ta_syntax.specs.PlainTrees.{plain_tree}
 use Rattle.ta_syntax.specs.TreeOf.{IsTreeOf}
 use Rattle.ta_syntax.specs.Faults as syntax
-use Rattle.ta_syntax.specs.AnswerLaws.{Either, HasTree, HasTextFault}
+use Rattle.ta_syntax.specs.AnswerLaws.{Either, HasTree, HasGrammarFault}
 use Rattle.ta_syntax.specs.declared.tree.Tree.{Tree}
 use Rattle.ta_syntax.specs.declared.fault.FileFault.{FileFault}
 use Rattle.ta_syntax.specs.declared.fault.FileFault.TheVariants as fault
 use Rattle.ta_syntax.proofs.TextTrees.{texts_have_trees}
 use Rattle.ta_automaton.specs.Runs.{InScope}
-use Rattle.ta_automaton.specs.declared.file.File.{File}
 use Rattle.ta_scope.specs.Faults as scope
 use Rattle.ta_scope.proofs.ScopeAnswers.{scope_answers}
-use Rattle.ta_meaning.specs.Meaning.{MeansTree}
 use Rattle.ta_meaning.specs.Faults.{meaning_faults}
 use Rattle.ta_meaning.specs.FirstFault.{OfText}
 use Rattle.ta_meaning.specs.Answers.{HasFile, HasFault}
 use Rattle.ta_meaning.proofs.OneReading.{is-legal}
 use Rattle.ta_meaning.proofs.MadeFiles.{file_exists}
 
-of_text : (bytes : List ℕ) (e : FileFault) → e ≢ fault.Memory → syntax.FirstFault bytes e → OfText bytes e
+of_text : (bytes : List ℕ) (e : FileFault) → e ≢ fault.Memory → syntax.FirstGrammarFault bytes e → OfText bytes e
 of_text bytes fault.Memory some f = absurd (some refl)
 of_text bytes _ some f = f
 
@@ -30,10 +27,10 @@ by_meaning bytes t [] is none no_file no_fault =
     let f = file_exists t none in
     scope_answers f.0.automaton
     (λ (within : InScope f.0.automaton). no_file (f.0, is-legal bytes t f.0 (record { file = f.0; in_scope = within }) is none f.1 refl))
-    (λ (w : (number : ℕ) × scope.FirstFault f.0.automaton number). no_fault (fault.CycleUpdates w.0, inr (inr (record { tree = t; is_tree = is; none_of_meaning = none; file = f.0; means = f.1; fault = w.1 }))))
+    (λ (w : (number : ℕ) × scope.FirstRuleFault f.0.automaton number). no_fault (fault.CycleUpdates w.0, inr (inr (record { tree = t; is_tree = is; none_of_meaning = none; file = f.0; means = f.1; fault = w.1 }))))
 
 pub texts_have_answers : (bytes : List ℕ) → length bytes ≤ 1048576 → Either (HasFile bytes) (HasFault bytes)
 texts_have_answers bytes small no_file no_fault =
     texts_have_trees bytes small
     (λ (h : HasTree bytes). by_meaning bytes h.0 (meaning_faults h.0) h.1 refl no_file no_fault)
-    (λ (h : HasTextFault bytes). no_fault (h.0, inl (of_text bytes h.0 h.1 h.2)))
+    (λ (h : HasGrammarFault bytes). no_fault (h.0, inl (of_text bytes h.0 h.1 h.2)))

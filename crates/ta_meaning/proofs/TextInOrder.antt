@@ -1,6 +1,7 @@
 -- The tokens of a text lie one after another in it, and so the faults of what it means rise.
 use Rattle.std.proofs.Common.{ℕ, ◌+◌, ◌≤◌, ◌<◌, ◌≡◌, List, [], ◌∷◌, ◌++◌, length, length-append, map, inl, inr, sym, ap, subst, ◌∙◌, arith}
 use Rattle.std.specs.List.{AllByRecursion}
+use Rattle.ta_base.proofs.Each.{each_weaker}
 use Rattle.ta_syntax.specs.Kinds.{kind_bytes}
 use Rattle.ta_syntax.specs.Tokens.{ScansTo, IsLastGap}
 use Rattle.ta_syntax.specs.Stated.{Offsets, IsPlaced, tree_stated}
@@ -9,10 +10,9 @@ use Rattle.ta_syntax.specs.declared.placed.Token.{Token}
 use Rattle.ta_syntax.specs.declared.tree.Tree.{Tree}
 use Rattle.ta_syntax.specs.declared.fault.FileFault.{FileFault}
 use Rattle.ta_syntax.proofs.Scans.{kind_some}
-use Rattle.ta_automaton.specs.Lists.{Each, Rises}
+use Rattle.ta_base.specs.Lists.{Rises}
 use Rattle.ta_meaning.specs.Faults.{meaning_faults}
-use Rattle.ta_meaning.specs.Offsets.{offset_of, IsOfMeaning, IsTokenAt}
-use Rattle.ta_meaning.proofs.ListItems.{each_with}
+use Rattle.ta_meaning.specs.Offsets.{fault_offset, IsOfMeaning, IsTokenAt}
 use Rattle.ta_meaning.proofs.InOrder.{Lies, lies-wider, Within, IsAmong, IsStated}
 use Rattle.ta_meaning.proofs.TreesInOrder.{tree-in_order}
 
@@ -31,14 +31,13 @@ text-lies end at bytes (x ∷ s) (t ∷ ts) scans placed =
     let behind : ℕ = t.at + length (kind_bytes t.kind) in
     (t.at, omega arith, placed.0, lies-wider behind (behind + length rest) (t.at + 1) (at + length bytes) s (omega arith) (omega arith) (text-lies end behind rest s ts scans.7 placed.1))
 
-pub faults-rise : (bytes : List ℕ) (t : Tree) → IsTreeOf bytes t → Rises 0 (length bytes) (map offset_of (meaning_faults t))
+pub faults-rise : (bytes : List ℕ) (t : Tree) → IsTreeOf bytes t → Rises 0 (length bytes) (map fault_offset (meaning_faults t))
 faults-rise bytes t is =
     let h = tree-in_order t in
     h.rise 0 (length bytes)
     (lies-wider 0 (0 + length bytes) 0 (length bytes) (tree_stated t) (omega arith) (omega arith) (text-lies (λ at rest. IsLastGap rest) 0 bytes (tree_stated t) is.tokens is.are is.placed))
 
 -- ---- tokens
-
 among-same : (at here : ℕ) (x : Offsets) → AllByRecursion (λ a. a ≡ here) x → IsAmong at x → here ≡ at
 among-same at here [] all h = absurd h
 among-same at here (a ∷ x) all (inl h) = sym all.0 ∙ h
@@ -51,24 +50,23 @@ stated-token at (x ∷ s) [] placed h = absurd placed
 stated-token at (x ∷ s) (t ∷ ts) placed (inl h) = inl (among-same at t.at x placed.0 h)
 stated-token at (x ∷ s) (t ∷ ts) placed (inr h) = inr (stated-token at s ts placed.1 h)
 
-pub faults-tokens : (bytes : List ℕ) (t : Tree) (is : IsTreeOf bytes t) → Each (λ f. IsTokenAt (offset_of f) is.tokens) (meaning_faults t)
+pub faults-tokens : (bytes : List ℕ) (t : Tree) (is : IsTreeOf bytes t) → AllByRecursion (λ f. IsTokenAt (fault_offset f) is.tokens) (meaning_faults t)
 faults-tokens bytes t is =
     let h = tree-in_order t in
-    each_with (λ f. IsStated (offset_of f) (tree_stated t)) (λ f. IsTokenAt (offset_of f) is.tokens) (meaning_faults t) (λ f k. stated-token (offset_of f) (tree_stated t) is.tokens is.placed k) h.tokens
+    each_weaker (λ f. IsStated (fault_offset f) (tree_stated t)) (λ f. IsTokenAt (fault_offset f) is.tokens) (meaning_faults t) (λ f k. stated-token (fault_offset f) (tree_stated t) is.tokens is.placed k) h.tokens
 
 -- ---- kinds
-
-pub faults-kinds : (t : Tree) → Each IsOfMeaning (meaning_faults t)
+pub faults-kinds : (t : Tree) → AllByRecursion IsOfMeaning (meaning_faults t)
 faults-kinds t = let h = tree-in_order t in h.kinds
 
 -- ---- the first
 
 -- where numbers rise, each that comes later is larger
-later-above : (low n high : ℕ) (fs : List FileFault) → n < low → Within low high fs → Each (λ f. n < offset_of f) fs
+later-above : (low n high : ℕ) (fs : List FileFault) → n < low → Within low high fs → AllByRecursion (λ f. n < fault_offset f) fs
 later-above low n high [] below h = tt
-later-above low n high (f ∷ fs) below h = let here : low ≤ offset_of f = h.0 in (omega arith, later-above (offset_of f + 1) n high fs (omega arith) h.2)
+later-above low n high (f ∷ fs) below h = let here : low ≤ fault_offset f = h.0 in (omega arith, later-above (fault_offset f + 1) n high fs (omega arith) h.2)
 
-pub first-least : (bytes : List ℕ) (t : Tree) (first : FileFault) (later : List FileFault) → IsTreeOf bytes t → meaning_faults t ≡ first ∷ later → Each (λ f. offset_of first < offset_of f) later
+pub first-least : (bytes : List ℕ) (t : Tree) (first : FileFault) (later : List FileFault) → IsTreeOf bytes t → meaning_faults t ≡ first ∷ later → AllByRecursion (λ f. fault_offset first < fault_offset f) later
 first-least bytes t first later is e =
     let rise : Within 0 (length bytes) (first ∷ later) = subst (λ (fs : List FileFault). Within 0 (length bytes) fs) e (faults-rise bytes t is) in
-    later-above (offset_of first + 1) (offset_of first) (length bytes) later (omega arith) rise.2
+    later-above (fault_offset first + 1) (fault_offset first) (length bytes) later (omega arith) rise.2

@@ -2,7 +2,6 @@
 use Rattle.std.proofs.Common.{◌≡◌, ℕ, List, [], ◌∷◌, ◌++◌, map, Option, Some, None, refl, sym, ap, subst, ◌∙◌}
 use Rattle.ta_syntax.specs.Grammar.{Terms, Term, Factor, term, nested}
 use Rattle.ta_syntax.specs.PlainSums.{plain_sum, plain_term, plain_factor, terms_of, term_of, factor_layer, sum_layer, term_layer}
-use Rattle.ta_syntax.specs.declared.names.Spelled.{Spelled}
 use Rattle.ta_syntax.specs.declared.names.Digits.{Digits}
 use Rattle.ta_syntax.specs.declared.sums.Sign.{Sign}
 use Rattle.ta_syntax.specs.declared.sums.TreeSum.{TreeSum}
@@ -10,10 +9,10 @@ use Rattle.ta_syntax.specs.declared.sums.TreeTerm.{TreeTerm}
 use Rattle.ta_syntax.specs.declared.sums.TreeFactor.{TreeFactor, Named, Nested}
 use Rattle.ta_syntax.specs.declared.sums.TreeFactor.TheOpen.{TreeFactor-F, TreeSum-F, TreeTerm-F}
 use Rattle.ta_syntax.specs.declared.sums.TreeFactor.TheOpen as open_factor
-use Rattle.ta_syntax.specs.declared.sums.TreeFactor.TheViews.{rolls-Named, rolls-Nested, roll-TreeSum, roll-TreeTerm, roll-TreeFactor, out-TreeSum, out-TreeTerm}
-use Rattle.ta_syntax.specs.declared.sums.TreeFactor.TheFolds.{map-TreeFactor, map-TreeSum, map-TreeTerm, fold-roll-TreeSum, fold-roll-TreeTerm, fold-roll-TreeFactor, fold_out-TreeSum, fold_out-TreeTerm, ind-TreeFactor, ind-TreeSum}
+use Rattle.ta_syntax.specs.declared.sums.TreeFactor.TheViews.{roll-TreeSum, roll-TreeTerm, roll-TreeFactor, out-TreeSum, out-TreeTerm}
+use Rattle.ta_syntax.specs.declared.sums.TreeFactor.TheFolds.{map-TreeFactor, map-TreeSum, map-TreeTerm, fold-roll-TreeSum, fold-roll-TreeTerm, fold-roll-TreeFactor, fold_out-TreeSum, fold_out-TreeTerm, ind-TreeFactor}
 use Rattle.ta_syntax.specs.declared.fault.FileFault.{FileFault}
-use Rattle.ta_meaning.specs.Faults.{Scope, Judged, judged_sum, judged_terms, factor_judged, sum_judged, term_judged, sum_faults, used_faults, number_faults, else_, where_, linear_term}
+use Rattle.ta_meaning.specs.Faults.{Scope, WithFaults, judged_sum, judged_terms, factor_judged, sum_judged, term_judged, sum_faults, number_faults, else_, where_, linear_term}
 use Rattle.ta_meaning.specs.Linear.{is_large_linear}
 use Rattle.ta_syntax.specs.declared.fault.FileFault.TheVariants as fault
 use Rattle.ta_meaning.specs.Inside.SumParts.{judged_term, judged_factor}
@@ -30,9 +29,9 @@ SameTerm s t = (judged_term s t).plain ≡ plain_term t
 
 module _ (s : Scope) {A B C : Type 0} (a : A → TreeFactor) (b : B → TreeSum) (c : C → TreeTerm) (same_a : (e : A) → SameFactor s (a e)) (same_b : (e : B) → SameSum s (b e)) (same_c : (e : C) → SameTerm s (c e)) where
   factor_step : (y : TreeFactor-F A B C) → SameFactor s (roll-TreeFactor (map-TreeFactor A B C TreeFactor TreeSum TreeTerm a b c y))
-  factor_step (open_factor.Named n) = ap (λ (j : Judged Factor). j.plain) (fold-roll-TreeFactor (Judged Factor) (Judged Terms) (Judged Term) (factor_judged s) (sum_judged s) (term_judged s) (open_factor.Named n)) ∙ sym (fold-roll-TreeFactor Factor Terms Term factor_layer sum_layer term_layer (open_factor.Named n))
+  factor_step (open_factor.Named n) = ap (λ (j : WithFaults Factor). j.plain) (fold-roll-TreeFactor (WithFaults Factor) (WithFaults Terms) (WithFaults Term) (factor_judged s) (sum_judged s) (term_judged s) (open_factor.Named n)) ∙ sym (fold-roll-TreeFactor Factor Terms Term factor_layer sum_layer term_layer (open_factor.Named n))
   factor_step (open_factor.Nested e) =
-      ap (λ (j : Judged Factor). j.plain) (fold-roll-TreeFactor (Judged Factor) (Judged Terms) (Judged Term) (factor_judged s) (sum_judged s) (term_judged s) (open_factor.Nested (b e)))
+      ap (λ (j : WithFaults Factor). j.plain) (fold-roll-TreeFactor (WithFaults Factor) (WithFaults Terms) (WithFaults Term) (factor_judged s) (sum_judged s) (term_judged s) (open_factor.Nested (b e)))
       ∙ ap nested (same_b e)
       ∙ sym (fold-roll-TreeFactor Factor Terms Term factor_layer sum_layer term_layer (open_factor.Nested (b e)))
 
@@ -44,16 +43,16 @@ module _ (s : Scope) {A B C : Type 0} (a : A → TreeFactor) (b : B → TreeSum)
 
   sum_step : (y : TreeSum-F A B C) → SameSum s (roll-TreeSum (map-TreeSum A B C TreeFactor TreeSum TreeTerm a b c y))
   sum_step y =
-      ap (λ (j : Judged Terms). j.plain) (fold-roll-TreeSum (Judged Factor) (Judged Terms) (Judged Term) (factor_judged s) (sum_judged s) (term_judged s) (map-TreeSum A B C TreeFactor TreeSum TreeTerm a b c y))
+      ap (λ (j : WithFaults Terms). j.plain) (fold-roll-TreeSum (WithFaults Factor) (WithFaults Terms) (WithFaults Term) (factor_judged s) (sum_judged s) (term_judged s) (map-TreeSum A B C TreeFactor TreeSum TreeTerm a b c y))
       ∙ sum_items y.terms.items
       ∙ sym (fold-roll-TreeSum Factor Terms Term factor_layer sum_layer term_layer (map-TreeSum A B C TreeFactor TreeSum TreeTerm a b c y))
 
   term_at : (at : ℕ) (factor : Option Digits) (body : Option A) → SameTerm s (roll-TreeTerm (map-TreeTerm A B C TreeFactor TreeSum TreeTerm a b c (record { at = at; factor = factor; body = body })))
   term_at at factor None =
-      ap (λ (j : Judged Term). j.plain) (fold-roll-TreeTerm (Judged Factor) (Judged Terms) (Judged Term) (factor_judged s) (sum_judged s) (term_judged s) (record { at = at; factor = factor; body = None }))
+      ap (λ (j : WithFaults Term). j.plain) (fold-roll-TreeTerm (WithFaults Factor) (WithFaults Terms) (WithFaults Term) (factor_judged s) (sum_judged s) (term_judged s) (record { at = at; factor = factor; body = None }))
       ∙ sym (fold-roll-TreeTerm Factor Terms Term factor_layer sum_layer term_layer (record { at = at; factor = factor; body = None }))
   term_at at factor (Some e) =
-      ap (λ (j : Judged Term). j.plain) (fold-roll-TreeTerm (Judged Factor) (Judged Terms) (Judged Term) (factor_judged s) (sum_judged s) (term_judged s) (record { at = at; factor = factor; body = Some (a e) }))
+      ap (λ (j : WithFaults Term). j.plain) (fold-roll-TreeTerm (WithFaults Factor) (WithFaults Terms) (WithFaults Term) (factor_judged s) (sum_judged s) (term_judged s) (record { at = at; factor = factor; body = Some (a e) }))
       ∙ ap (λ (p : Factor). term_of factor (Some p)) (same_a e)
       ∙ sym (fold-roll-TreeTerm Factor Terms Term factor_layer sum_layer term_layer (record { at = at; factor = factor; body = Some (a e) }))
 
@@ -66,21 +65,6 @@ same_factor s = ind-TreeFactor (SameFactor s) (SameSum s) (SameTerm s)
     (λ x y is. subst (λ (z : TreeSum-F TreeFactor TreeSum TreeTerm). SameSum s (roll-TreeSum z)) is (sum_step s (λ e. e.0) (λ e. e.0) (λ e. e.0) (λ e. e.1) (λ e. e.1) (λ e. e.1) y))
     (λ x y is. subst (λ (z : TreeTerm-F TreeFactor TreeSum TreeTerm). SameTerm s (roll-TreeTerm z)) is (term_step s (λ e. e.0) (λ e. e.0) (λ e. e.0) (λ e. e.1) (λ e. e.1) (λ e. e.1) y))
 
--- same for sums
-pub same_sum : (s : Scope) (t : TreeSum) → SameSum s t
-same_sum s = ind-TreeSum (SameFactor s) (SameSum s) (SameTerm s)
-    (λ x y is. subst (λ (z : TreeFactor-F TreeFactor TreeSum TreeTerm). SameFactor s (roll-TreeFactor z)) is (factor_step s (λ e. e.0) (λ e. e.0) (λ e. e.0) (λ e. e.1) (λ e. e.1) (λ e. e.1) y))
-    (λ x y is. subst (λ (z : TreeSum-F TreeFactor TreeSum TreeTerm). SameSum s (roll-TreeSum z)) is (sum_step s (λ e. e.0) (λ e. e.0) (λ e. e.0) (λ e. e.1) (λ e. e.1) (λ e. e.1) y))
-    (λ x y is. subst (λ (z : TreeTerm-F TreeFactor TreeSum TreeTerm). SameTerm s (roll-TreeTerm z)) is (term_step s (λ e. e.0) (λ e. e.0) (λ e. e.0) (λ e. e.1) (λ e. e.1) (λ e. e.1) y))
-
--- ---- the faults of parts
-
-pub judged_named : (s : Scope) (n : Spelled) → (judged_factor s (Named n)).faults ≡ used_faults s.places s.allowed n
-judged_named s n = ap (λ (f : TreeFactor). (judged_factor s f).faults) (sym (rolls-Named n)) ∙ ap (λ (j : Judged Factor). j.faults) (fold-roll-TreeFactor (Judged Factor) (Judged Terms) (Judged Term) (factor_judged s) (sum_judged s) (term_judged s) (open_factor.Named n))
-
-pub judged_nested : (s : Scope) (t : TreeSum) → (judged_factor s (Nested t)).faults ≡ sum_faults s t
-judged_nested s t = ap (λ (f : TreeFactor). (judged_factor s f).faults) (sym (rolls-Nested t)) ∙ ap (λ (j : Judged Factor). j.faults) (fold-roll-TreeFactor (Judged Factor) (Judged Terms) (Judged Term) (factor_judged s) (sum_judged s) (term_judged s) (open_factor.Nested t))
-
 -- the faults of terms one after another
 abbrev pub terms_faults : Scope → List (Sign × TreeTerm) → List FileFault
 terms_faults s [] = []
@@ -91,10 +75,10 @@ items_faults s [] = refl
 items_faults s (t ∷ ts) = ap (λ (fs : List FileFault). (judged_term s t.1).faults ++ fs) (items_faults s ts)
 
 pub sum_faults_out : (s : Scope) (t : TreeSum) → sum_faults s t ≡ terms_faults s (out-TreeSum t).terms.items
-sum_faults_out s t = ap (λ (j : Judged Terms). j.faults) (fold_out-TreeSum (Judged Factor) (Judged Terms) (Judged Term) (factor_judged s) (sum_judged s) (term_judged s) t) ∙ items_faults s (out-TreeSum t).terms.items
+sum_faults_out s t = ap (λ (j : WithFaults Terms). j.faults) (fold_out-TreeSum (WithFaults Factor) (WithFaults Terms) (WithFaults Term) (factor_judged s) (sum_judged s) (term_judged s) t) ∙ items_faults s (out-TreeSum t).terms.items
 
-abbrev judged_layer : Scope → TreeTerm-F TreeFactor TreeSum TreeTerm → TreeTerm-F (Judged Factor) (Judged Terms) (Judged Term)
-judged_layer s x = map-TreeTerm TreeFactor TreeSum TreeTerm (Judged Factor) (Judged Terms) (Judged Term) (judged_factor s) (judged_sum s) (judged_term s) x
+abbrev judged_layer : Scope → TreeTerm-F TreeFactor TreeSum TreeTerm → TreeTerm-F (WithFaults Factor) (WithFaults Terms) (WithFaults Term)
+judged_layer s x = map-TreeTerm TreeFactor TreeSum TreeTerm (WithFaults Factor) (WithFaults Terms) (WithFaults Term) (judged_factor s) (judged_sum s) (judged_term s) x
 
 abbrev plain_layer : TreeTerm-F TreeFactor TreeSum TreeTerm → TreeTerm-F Factor Terms Term
 plain_layer x = map-TreeTerm TreeFactor TreeSum TreeTerm Factor Terms Term plain_factor plain_sum plain_term x
@@ -105,17 +89,16 @@ large_term s at t = where_ (is_large_linear (linear_term s.allowed t)) (fault.To
 
 pub term_faults_none : (s : Scope) (t : TreeTerm) → (out-TreeTerm t).body ≡ None → (judged_term s t).faults ≡ else_ (number_faults (out-TreeTerm t).factor ++ []) (large_term s (out-TreeTerm t).at (term_of (out-TreeTerm t).factor None))
 term_faults_none s t none =
-    ap (λ (j : Judged Term). j.faults) (fold_out-TreeTerm (Judged Factor) (Judged Terms) (Judged Term) (factor_judged s) (sum_judged s) (term_judged s) t)
+    ap (λ (j : WithFaults Term). j.faults) (fold_out-TreeTerm (WithFaults Factor) (WithFaults Terms) (WithFaults Term) (factor_judged s) (sum_judged s) (term_judged s) t)
     ∙ ap (λ (b : Option TreeFactor). (term_judged s (judged_layer s (record { at = (out-TreeTerm t).at; factor = (out-TreeTerm t).factor; body = b }))).faults) none
 
 pub term_faults_some : (s : Scope) (t : TreeTerm) (f : TreeFactor) → (out-TreeTerm t).body ≡ Some f → (judged_term s t).faults ≡ else_ (number_faults (out-TreeTerm t).factor ++ (judged_factor s f).faults) (large_term s (out-TreeTerm t).at (term_of (out-TreeTerm t).factor (Some (plain_factor f))))
 term_faults_some s t f some =
-    ap (λ (j : Judged Term). j.faults) (fold_out-TreeTerm (Judged Factor) (Judged Terms) (Judged Term) (factor_judged s) (sum_judged s) (term_judged s) t)
+    ap (λ (j : WithFaults Term). j.faults) (fold_out-TreeTerm (WithFaults Factor) (WithFaults Terms) (WithFaults Term) (factor_judged s) (sum_judged s) (term_judged s) t)
     ∙ ap (λ (b : Option TreeFactor). (term_judged s (judged_layer s (record { at = (out-TreeTerm t).at; factor = (out-TreeTerm t).factor; body = b }))).faults) some
     ∙ ap (λ (p : Factor). else_ (number_faults (out-TreeTerm t).factor ++ (judged_factor s f).faults) (large_term s (out-TreeTerm t).at (term_of (out-TreeTerm t).factor (Some p)))) (same_factor s f)
 
 -- ---- and what they are
-
 pub plain_term_none : (t : TreeTerm) → (out-TreeTerm t).body ≡ None → plain_term t ≡ term_of (out-TreeTerm t).factor None
 plain_term_none t none =
     fold_out-TreeTerm Factor Terms Term factor_layer sum_layer term_layer t

@@ -18,13 +18,12 @@ use Rattle.std.specs.Prelude.{not}
 use Rattle.ta_meaning.specs.Sums.{has_name}
 use Rattle.ta_meaning.specs.Linear.{Linear, comparison_rows}
 use Rattle.ta_meaning.specs.Names.{Names, guard_names, all_names, names_of}
-use Rattle.ta_meaning.specs.Guards.{Guards, no_guards, with_guards, is_no_threshold, is_one_more}
+use Rattle.ta_meaning.specs.Guards.{Guards, no_guards, is_no_threshold, is_one_more}
 use Rattle.ta_meaning.specs.Faults.{Scope, where_, else_, is_long, declared_faults, declarations_faults, used_faults, listed_faults, digits_faults, comparison_faults, condition_faults, guard_faults, guards_faults, guards_with, in_parameters, in_guards, in_conditions, updates_faults, rule_faults, rules_faults, event_faults, events_faults, pattern_faults, patterns_faults, location_spelled, any_initial, processes_faults, meaning_faults, guards_then}
 use Rattle.ta_meaning.proofs.InOrder.{InOrder, inside-name, one, either, along, together, after_token, before_tokens, Items, listed-in_order, led-in_order, ended-in_order, each-in_order}
 use Rattle.ta_meaning.proofs.SumsInOrder.{token, declared-in_order, used-in_order, once-in_order, digits-in_order, whole_sum-in_order, inside-comparison, comparison-in_order, condition-items}
 
 -- ---- lists of names
-
 names-items : (before : List (List ℕ)) (ns : List Spelled) → Items name_stated ns (declarations_faults before ns)
 names-items before [] = refl
 names-items before (n ∷ ns) =
@@ -51,7 +50,6 @@ used_names-items declared allowed before (n ∷ ns) = (
 )
 
 -- ---- guards and updates
-
 guard-in_order : (parameters : ℕ) (s : Scope) (g : Guards) (c : TreeComparison) → InOrder (comparison_stated c) (guard_faults parameters s g c)
 guard-in_order parameters s g c =
     let rows : List Linear = comparison_rows s.allowed (plain_comparison c) in
@@ -88,7 +86,6 @@ updates-items ns before (u ∷ us) = (
 )
 
 -- ---- rules
-
 rule-in_order : (ns : Names) (before : List (List ℕ)) (g : Guards) (r : TreeRule) → InOrder (rule_stated r) (rule_faults ns before g r)
 rule-in_order ns before g r =
     let when : List Offsets = led unplaced mark.When comparison_stated r.guards in
@@ -117,7 +114,6 @@ rules-items ns before g (r ∷ rs) =
     (rule_faults ns before g r, rules_faults ns (before ++ r.name.name ∷ []) after rs, refl, rule-in_order ns before g r, rules-items ns (before ++ r.name.name ∷ []) after rs)
 
 -- ---- patterns
-
 event-in_order : (ns : Names) (before : List (List ℕ)) (e : TreeEvent) → InOrder (event_stated e) (event_faults ns before e)
 event-in_order ns before e =
     let later : List Offsets = led unplaced mark.After name_stated e.after in

@@ -6,31 +6,31 @@ use Rattle.std.proofs.lemmas.List.Elements.{Contains-append_left, Contains-appen
 use Rattle.std.proofs.lemmas.Option.{slice_get_within, get_or_from_slice_get}
 use Rattle.std.proofs.lemmas.Bool.{ltb-false}
 use Rattle.std.proofs.lemmas.Bool.Decides.{eqb_tells}
+use Rattle.std.specs.List.{AllByRecursion}
+use Rattle.ta_base.proofs.Each.{distinct_push, each_at, each_push, each_weaker}
+use Rattle.ta_base.proofs.Members.{contains_at}
 use Rattle.ta_syntax.specs.Grammar.{PlainUpdate}
 use Rattle.ta_syntax.specs.PlainTrees.{plain_update}
 use Rattle.ta_syntax.specs.declared.tree.TreeUpdate.{TreeUpdate}
 use Rattle.ta_syntax.specs.declared.fault.FileFault.{FileFault}
 use Rattle.ta_syntax.specs.declared.fault.FileFault.TheVariants as fault
-use Rattle.ta_automaton.specs.Lists.{Each, Distinct}
+use Rattle.ta_base.specs.Lists.{Distinct}
 use Rattle.ta_automaton.specs.Shape.{Update, variable_of}
-use Rattle.ta_automaton.proofs.Thresholds.{each_at}
 use Rattle.ta_meaning.specs.Names.{Names}
 use Rattle.ta_meaning.specs.Sums.{number_of}
 use Rattle.ta_meaning.specs.Faults.{FirstOrMemory, digits_faults, updates_faults}
 use Rattle.ta_meaning.specs.Meaning.{MeansUpdates}
 use Rattle.ta_meaning.specs.Inside.Updating.{names_at, variable_faults, IsNewVariable, UpdatesRead}
-use Rattle.ta_meaning.proofs.DistinctItems.{distinct_push}
-use Rattle.ta_meaning.proofs.ListItems.{contains_at, each_push, each_with}
 use Rattle.ta_meaning.proofs.Answering.{append-left-none, append-left-first, append-right-first, not-where}
 
 -- the updates so far are read, and the faults of all are those of the updates left
 pub record UpdatesReading (ns : Names) (all left : List TreeUpdate) (seen : List ℕ) (updates : List (ℕ × ℤ)) : Type 0 where
   pub faults : updates_faults ns [] all ≡ updates_faults ns (names_at ns.shared seen) left
-  pub known : Each (λ x. x < length ns.shared) seen
+  pub known : AllByRecursion (λ x. x < length ns.shared) seen
   pub means : (rest : List (ℕ × ℤ)) → MeansUpdates ns.shared (map plain_update left) rest → MeansUpdates ns.shared (map plain_update all) (updates ++ rest)
-  pub each : Each (Update (length ns.shared)) updates
+  pub each : AllByRecursion (Update (length ns.shared)) updates
   pub distinct : Distinct (map variable_of updates)
-  pub from_seen : Each (λ x. Contains seen x) (map variable_of updates)
+  pub from_seen : AllByRecursion (λ x. Contains seen x) (map variable_of updates)
   pub few : length updates + length left ≤ length all
 
 pub updates_begin : (ns : Names) (all : List TreeUpdate) → UpdatesReading ns all all [] []
@@ -81,7 +81,7 @@ updates_more ns all left u seen updates after x amount reading none new small is
     let names : names_at shared (seen ++ x ∷ []) ≡ before ++ u.name.name ∷ [] =
     map_push (λ y. get_or shared y []) seen x ∙ ap (λ (n : List ℕ). before ++ n ∷ []) (get_or_from_slice_get shared x u.name.name [] new.named) in
     let within = slice_get_within shared x u.name.name new.named in
-    let old_seen = each_with (λ y. Contains seen y) (λ y. Contains (seen ++ x ∷ []) y) (map variable_of updates) (λ y c. Contains-append_left seen (x ∷ []) y c) reading.from_seen in
+    let old_seen = each_weaker (λ y. Contains seen y) (λ y. Contains (seen ++ x ∷ []) y) (map variable_of updates) (λ y c. Contains-append_left seen (x ∷ []) y c) reading.from_seen in
     let last_seen : Contains (seen ++ x ∷ []) x = Contains-append_right seen (x ∷ []) x (0, omega arith, refl) in
     record {
       faults = reading.faults
@@ -91,8 +91,8 @@ updates_more ns all left u seen updates after x amount reading none new small is
       known = each_push (λ y. y < length shared) seen x reading.known within;
       means = means_more shared (map plain_update left) (plain_update u) x amount updates after (map plain_update all) new.named (contains_at shared x u.name.name new.named) is grown reading.means;
       each = elim (eqb_tells amount 0) [
-        | inl e ↦ subst (λ (zs : List (ℕ × ℤ)). Each (Update (length shared)) zs) (sym (grown ∙ ap (λ b. cond b updates (updates ++ (x, pos amount) ∷ [])) e.0)) reading.each
-        | inr ne ↦ subst (λ (zs : List (ℕ × ℤ)). Each (Update (length shared)) zs) (sym (grown ∙ ap (λ b. cond b updates (updates ++ (x, pos amount) ∷ [])) ne.0))
+        | inl e ↦ subst (λ (zs : List (ℕ × ℤ)). AllByRecursion (Update (length shared)) zs) (sym (grown ∙ ap (λ b. cond b updates (updates ++ (x, pos amount) ∷ [])) e.0)) reading.each
+        | inr ne ↦ subst (λ (zs : List (ℕ × ℤ)). AllByRecursion (Update (length shared)) zs) (sym (grown ∙ ap (λ b. cond b updates (updates ++ (x, pos amount) ∷ [])) ne.0))
             (each_push (Update (length shared)) updates (x, pos amount) reading.each (
             let most = ltb-false 1000000000 (number_of u.amount.text) (not-where (ltb 1000000000 (number_of u.amount.text)) (fault.TooLarge u.amount.at) small) in
             let some = ne.1 in
@@ -105,9 +105,9 @@ updates_more ns all left u seen updates after x amount reading none new small is
             (distinct_push (map variable_of updates) x reading.distinct (λ i q. new.new (each_at (λ y. Contains seen y) (map variable_of updates) i x reading.from_seen q))))
       ];
       from_seen = elim (eqb_tells amount 0) [
-        | inl e ↦ subst (λ (zs : List (ℕ × ℤ)). Each (λ y. Contains (seen ++ x ∷ []) y) (map variable_of zs)) (sym (grown ∙ ap (λ b. cond b updates (updates ++ (x, pos amount) ∷ [])) e.0)) old_seen
-        | inr ne ↦ subst (λ (zs : List (ℕ × ℤ)). Each (λ y. Contains (seen ++ x ∷ []) y) (map variable_of zs)) (sym (grown ∙ ap (λ b. cond b updates (updates ++ (x, pos amount) ∷ [])) ne.0))
-            (subst (λ (zs : List ℕ). Each (λ y. Contains (seen ++ x ∷ []) y) zs) (sym (map_push variable_of updates (x, pos amount)))
+        | inl e ↦ subst (λ (zs : List (ℕ × ℤ)). AllByRecursion (λ y. Contains (seen ++ x ∷ []) y) (map variable_of zs)) (sym (grown ∙ ap (λ b. cond b updates (updates ++ (x, pos amount) ∷ [])) e.0)) old_seen
+        | inr ne ↦ subst (λ (zs : List (ℕ × ℤ)). AllByRecursion (λ y. Contains (seen ++ x ∷ []) y) (map variable_of zs)) (sym (grown ∙ ap (λ b. cond b updates (updates ++ (x, pos amount) ∷ [])) ne.0))
+            (subst (λ (zs : List ℕ). AllByRecursion (λ y. Contains (seen ++ x ∷ []) y) zs) (sym (map_push variable_of updates (x, pos amount)))
             (each_push (λ y. Contains (seen ++ x ∷ []) y) (map variable_of updates) x old_seen last_seen))
       ];
       few = elim (eqb_tells amount 0) [

@@ -91,22 +91,22 @@ pub record Scope : Type 0 where
   pub allowed : List (List ℕ)
 
 -- a part of a sum, with its faults
-pub record Judged (X : Type 0) : Type 0 where
+pub record WithFaults (X : Type 0) : Type 0 where
   pub plain : X
   pub faults : List FileFault
 
-abbrev pub judged_terms : List (Sign × Judged Term) → Judged Terms
+abbrev pub judged_terms : List (Sign × WithFaults Term) → WithFaults Terms
 judged_terms [] = record { plain = done; faults = [] }
 judged_terms (t ∷ ts) = record { plain = term t.0 t.1.plain (judged_terms ts).plain; faults = t.1.faults ++ (judged_terms ts).faults }
 
-abbrev pub factor_judged : Scope → TreeFactor-F (Judged Factor) (Judged Terms) (Judged Term) → Judged Factor
+abbrev pub factor_judged : Scope → TreeFactor-F (WithFaults Factor) (WithFaults Terms) (WithFaults Term) → WithFaults Factor
 factor_judged s (Named n) = record { plain = named n.name; faults = used_faults s.places s.allowed n }
 factor_judged s (Nested t) = record { plain = nested t.plain; faults = t.faults }
 
-abbrev pub sum_judged : Scope → TreeSum-F (Judged Factor) (Judged Terms) (Judged Term) → Judged Terms
+abbrev pub sum_judged : Scope → TreeSum-F (WithFaults Factor) (WithFaults Terms) (WithFaults Term) → WithFaults Terms
 sum_judged s t = judged_terms t.terms.items
 
-abbrev pub plain_part : Option (Judged Factor) → Option Factor
+abbrev pub plain_part : Option (WithFaults Factor) → Option Factor
 plain_part None = None
 plain_part (Some f) = Some f.plain
 
@@ -114,7 +114,7 @@ abbrev pub number_faults : Option Digits → List FileFault
 number_faults None = []
 number_faults (Some d) = digits_faults d
 
-abbrev pub part_faults : Option (Judged Factor) → List FileFault
+abbrev pub part_faults : Option (WithFaults Factor) → List FileFault
 part_faults None = []
 part_faults (Some f) = f.faults
 
@@ -123,14 +123,14 @@ abbrev pub linear_term : List (List ℕ) → Term → Linear
 linear_term names t = record { constant = term_constant t; coefficients = map (λ x. term_coefficient x t) names }
 
 -- F6 of a term where none of its tokens and inner terms is at fault
-abbrev pub term_judged : Scope → TreeTerm-F (Judged Factor) (Judged Terms) (Judged Term) → Judged Term
+abbrev pub term_judged : Scope → TreeTerm-F (WithFaults Factor) (WithFaults Terms) (WithFaults Term) → WithFaults Term
 term_judged s t = record {
   plain = term_of t.factor (plain_part t.body);
   faults = else_ (number_faults t.factor ++ part_faults t.body) (where_ (is_large_linear (linear_term s.allowed (term_of t.factor (plain_part t.body)))) (fault.TooLarge t.at));
 }
 
-abbrev pub judged_sum : Scope → TreeSum → Judged Terms
-judged_sum s = fold-TreeSum (Judged Factor) (Judged Terms) (Judged Term) (factor_judged s) (sum_judged s) (term_judged s)
+abbrev pub judged_sum : Scope → TreeSum → WithFaults Terms
+judged_sum s = fold-TreeSum (WithFaults Factor) (WithFaults Terms) (WithFaults Term) (factor_judged s) (sum_judged s) (term_judged s)
 
 -- the faults of a sum's terms
 abbrev pub sum_faults : Scope → TreeSum → List FileFault

@@ -15,7 +15,7 @@ use Rattle.ta_meaning.specs.Faults.{meaning_faults}
 -- the first byte at which no token begins, or the first token that is wrong or past a limit
 abbrev pub OfText : List ℕ → FileFault → Type 0
 OfText bytes fault.Memory = ⊥
-OfText bytes e = syntax.FirstFault bytes e
+OfText bytes e = syntax.FirstGrammarFault bytes e
 
 -- the text is a tree, and this is the first fault of what it means
 pub record OfMeaning (bytes : List ℕ) (e : FileFault) : Type 0 where
@@ -26,7 +26,7 @@ pub record OfMeaning (bytes : List ℕ) (e : FileFault) : Type 0 where
 
 -- the first rule that puts an automaton out of scope
 abbrev pub ScopeFault : Automaton → FileFault → Type 0
-ScopeFault a (fault.CycleUpdates r) = scope.FirstFault a r
+ScopeFault a (fault.CycleUpdates r) = scope.FirstRuleFault a r
 ScopeFault a _ = ⊥
 
 -- the text means a file whose automaton is out of scope

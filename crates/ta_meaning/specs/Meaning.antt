@@ -1,5 +1,6 @@
 -- What an automaton file means: places in place of names, normal rows in place of comparisons (this project's profile)
 use Rattle.std.specs.Prelude.{ℕ, ℤ, pos, ◌+◌, ◌≡◌, ◌≢◌, ◌↔◌, ◌⊎◌, List, [], ◌∷◌, ◌++◌, length, map, slice_get, Contains, Some, IsBitSet, if◌then◌else◌}
+use Rattle.std.specs.List.{AllByRecursion}
 use Rattle.ta_syntax.specs.Grammar.{PlainLocation, PlainUpdate, PlainRule, PlainEvent, PlainPattern, PlainTree}
 use Rattle.ta_syntax.specs.TreeOf.{IsTreeOf}
 use Rattle.ta_syntax.specs.PlainTrees.{plain_tree}
@@ -13,7 +14,6 @@ use Rattle.ta_meaning.specs.Sums.{number_of}
 use Rattle.ta_meaning.specs.Names.{Names, guard_names, all_names, location_name, plain_names}
 use Rattle.ta_meaning.specs.Linear.{Pairwise, RowOf, MeansForm, UsesNames, MeansCondition}
 use Rattle.ta_meaning.specs.Guards.{Guards, no_guards, guards_after, rows_of, NamesGuards}
-use Rattle.ta_automaton.specs.Lists.{Each}
 
 -- the guards of rules, in the order of the text
 abbrev pub guards_of : Names → List PlainRule → Guards
@@ -31,7 +31,7 @@ pub record MeansRule (ns : Names) (guards : Guards) (r : PlainRule) (rule : Rule
   pub name : rule.name ≡ r.name
   pub from : slice_get ns.locations rule.from ≡ Some r.from
   pub to : slice_get ns.locations rule.to ≡ Some r.to
-  pub known : Each (UsesNames (guard_names ns)) r.guards
+  pub known : AllByRecursion (UsesNames (guard_names ns)) r.guards
   pub rise : NamesGuards guards.rise (rows_of (guard_names ns) r.guards) rule.rise
   pub fall : NamesGuards guards.fall (rows_of (guard_names ns) r.guards) rule.fall
   pub updates : MeansUpdates ns.shared r.updates rule.updates
@@ -56,7 +56,7 @@ pub record MeansAutomaton (t : PlainTree) (a : Automaton) : Type 0 where
 
 -- the bits of a mask are the numbers of the names that are listed, and each of these is a name
 pub record NamesBits (names listed : List (List ℕ)) (mask : ℕ) : Type 0 where
-  pub known : Each (Contains names) listed
+  pub known : AllByRecursion (Contains names) listed
   pub bits : (i : ℕ) → IsBitSet mask i ↔ ((n : List ℕ) × (slice_get names i ≡ Some n) × Contains listed n)
 
 -- an event after some others: the ones that it comes after, and its condition

@@ -1,5 +1,6 @@
 -- The table of the faults of meaning: what each code says is wrong, and at which token, whatever else is wrong in the text (this project's profile)
-use Rattle.std.specs.Prelude.{ℕ, ◌<◌, ◌≤◌, ◌≡◌, ◌⊎◌, Bool, true, false, if◌then◌else◌, List, [], ◌∷◌, ◌++◌, length, map, flat_map}
+use Rattle.std.specs.Prelude.{◌<◌, ◌≤◌, ◌≡◌, ◌⊎◌, Bool, true, false, if◌then◌else◌, List, [], ◌∷◌, ◌++◌, length, map, flat_map}
+use Rattle.std.specs.List.{AllByRecursion}
 use Rattle.ta_syntax.specs.PlainSums.{plain_sum}
 use Rattle.ta_syntax.specs.PlainTrees.{plain_name, plain_comparison}
 use Rattle.ta_syntax.specs.declared.names.Spelled.{Spelled}
@@ -13,8 +14,8 @@ use Rattle.ta_syntax.specs.declared.tree.TreePattern.{TreePattern}
 use Rattle.ta_syntax.specs.declared.tree.Tree.{Tree}
 use Rattle.ta_syntax.specs.declared.fault.FileFault.{FileFault}
 use Rattle.ta_syntax.specs.declared.fault.FileFault.TheVariants as fault
-use Rattle.ta_automaton.specs.Lists.{Each, Distinct}
-use Rattle.ta_automaton.specs.Masks.{In}
+use Rattle.ta_base.specs.Lists.{Distinct}
+use Rattle.ta_base.specs.Masks.{In}
 use Rattle.ta_meaning.specs.Sums.{number_of, has_name}
 use Rattle.ta_meaning.specs.Linear.{Linear, linear_sum, comparison_rows, is_large_linear, any_large}
 use Rattle.ta_meaning.specs.Names.{guard_names, all_names, names_of}
@@ -32,11 +33,11 @@ Repeats (m ∷ ns) n = ((m.name ≡ n.name) × In n ns) ⊎ Repeats ns n
 abbrev pub rule_name : TreeRule → Spelled
 rule_name r = r.name
 
-abbrev pub pattern_name : TreePattern → Spelled
-pattern_name p = p.name
+abbrev pub tree_pattern_name : TreePattern → Spelled
+tree_pattern_name p = p.name
 
-abbrev pub event_name : TreeEvent → Spelled
-event_name e = e.name
+abbrev pub tree_event_name : TreeEvent → Spelled
+tree_event_name e = e.name
 
 abbrev pub updated_name : TreeUpdate → Spelled
 updated_name u = u.name
@@ -50,8 +51,8 @@ place_names t = t.parameters ++ (t.shared ++ map location_spelled t.locations)
 pub data AreApart (t : Tree) (ns : List Spelled) : Type 0 where
   apart_places : ns ≡ place_names t → AreApart t ns
   apart_rules : ns ≡ map rule_name t.rules → AreApart t ns
-  apart_patterns : ns ≡ map pattern_name t.patterns → AreApart t ns
-  apart_events : (p : TreePattern) → In p t.patterns → ns ≡ map event_name p.events → AreApart t ns
+  apart_patterns : ns ≡ map tree_pattern_name t.patterns → AreApart t ns
+  apart_events : (p : TreePattern) → In p t.patterns → ns ≡ map tree_event_name p.events → AreApart t ns
   apart_updates : (r : TreeRule) → In r t.rules → ns ≡ map updated_name r.updates → AreApart t ns
   apart_empty : (p : TreePattern) → In p t.patterns → ns ≡ p.empty → AreApart t ns
   apart_after : (p : TreePattern) (e : TreeEvent) → In p t.patterns → In e p.events → ns ≡ e.after → AreApart t ns
@@ -61,8 +62,8 @@ pub data IsDeclared (t : Tree) (n : Spelled) : Type 0 where
   declared_file : n ≡ t.name → IsDeclared t n
   declared_place : In n (place_names t) → IsDeclared t n
   declared_rule : In n (map rule_name t.rules) → IsDeclared t n
-  declared_pattern : In n (map pattern_name t.patterns) → IsDeclared t n
-  declared_event : (p : TreePattern) → In p t.patterns → In n (map event_name p.events) → IsDeclared t n
+  declared_pattern : In n (map tree_pattern_name t.patterns) → IsDeclared t n
+  declared_event : (p : TreePattern) → In p t.patterns → In n (map tree_event_name p.events) → IsDeclared t n
 
 -- ---- sums and comparisons
 
@@ -89,7 +90,7 @@ abbrev pub at_shared : Tree → Scope
 at_shared t = record { places = all_names (names_of t); allowed = (names_of t).shared }
 
 abbrev pub at_events : List TreeEvent → Scope
-at_events earlier = record { places = map plain_name (map event_name earlier); allowed = map plain_name (map event_name earlier) }
+at_events earlier = record { places = map plain_name (map tree_event_name earlier); allowed = map plain_name (map tree_event_name earlier) }
 
 -- a name that is used, with the names that may stand there
 pub data IsUsed (t : Tree) (s : Scope) (n : Spelled) : Type 0 where
@@ -108,7 +109,6 @@ pub data IsNumberOf (t : Tree) (d : Digits) : Type 0 where
   number_in_sum : (s : Scope) (sum : TreeSum) → HasSum t s sum → In d (numbers_of_terms (seen_sum sum)) → IsNumberOf t d
 
 -- ---- F7 and F9: guards
-
 abbrev pub guards_of_rule : TreeRule → List TreeComparison
 guards_of_rule r = r.guards
 
@@ -117,12 +117,12 @@ abbrev pub tree_guards : Tree → List TreeComparison
 tree_guards t = flat_map guards_of_rule t.rules
 
 -- the rows of a guard
-abbrev pub guard_rows : Tree → TreeComparison → List Linear
-guard_rows t c = comparison_rows (guard_names (names_of t)) (plain_comparison c)
+abbrev pub tree_guard_rows : Tree → TreeComparison → List Linear
+tree_guard_rows t c = comparison_rows (guard_names (names_of t)) (plain_comparison c)
 
 -- a threshold guard, which is this row: a fall guard or not
 pub record IsThreshold (t : Tree) (fall : Bool) (row : Linear) (c : TreeComparison) : Type 0 where
-  pub rows : guard_rows t c ≡ row ∷ []
+  pub rows : tree_guard_rows t c ≡ row ∷ []
   pub threshold : is_no_threshold (length (names_of t).parameters) (row ∷ []) ≡ false
   pub kind : falls (length (names_of t).parameters) row ≡ fall
 
@@ -140,12 +140,11 @@ pub record IsOneMore (t : Tree) (c : TreeComparison) : Type 0 where
   pub is : IsThreshold t fall row c
   pub others : List Linear
   pub distinct : Distinct others
-  pub before : Each (IsRowAmong t earlier fall) others
+  pub before : AllByRecursion (IsRowAmong t earlier fall) others
   pub full : (if fall then 6 else 16) ≤ length others
-  pub new : Each (λ other. other ≡ row → ⊥) others
+  pub new : AllByRecursion (λ other. other ≡ row → ⊥) others
 
 -- ---- the table
-
 pub data IsFaultOf (t : Tree) (e : FileFault) : Type 0 where
   -- F3: a name that stands twice where names are apart
   repeated : (ns : List Spelled) (n : Spelled) → AreApart t ns → Repeats ns n → e ≡ fault.Duplicate n.at → IsFaultOf t e
@@ -166,10 +165,10 @@ pub data IsFaultOf (t : Tree) (e : FileFault) : Type 0 where
   -- F7: a guard that is one more than 16 distinct rise guards or 6 distinct fall guards
   one_more : (c : TreeComparison) → IsOneMore t c → e ≡ fault.TooMany c.at → IsFaultOf t e
   -- F9: a guard that is no threshold guard
-  no_threshold : (c : TreeComparison) → In c (tree_guards t) → is_no_threshold (length (names_of t).parameters) (guard_rows t c) ≡ true → e ≡ fault.NotThreshold c.at → IsFaultOf t e
+  no_threshold : (c : TreeComparison) → In c (tree_guards t) → is_no_threshold (length (names_of t).parameters) (tree_guard_rows t c) ≡ true → e ≡ fault.NotThreshold c.at → IsFaultOf t e
   -- F12: no location is initial
   no_initial : any_initial t.locations ≡ false → e ≡ fault.NoInitial t.locations_at → IsFaultOf t e
 
 -- each entry of the list of faults of meaning is a fault of the table
 abbrev pub FaultsAreOfTheTable : Type 0
-FaultsAreOfTheTable = (t : Tree) → Each (IsFaultOf t) (meaning_faults t)
+FaultsAreOfTheTable = (t : Tree) → AllByRecursion (IsFaultOf t) (meaning_faults t)

@@ -7,14 +7,15 @@ ghost use Rattle.ta_syntax.specs.PlainTrees.{plain_comparison};
 ghost use Rattle.ta_meaning.specs.Linear.{Pairwise, linear_sum, is_large_linear};
 ghost use Rattle.ta_meaning.specs.Faults.{Judges, Answers, else_, where_, sum_faults, comparison_faults, condition_faults};
 ghost use Rattle.ta_meaning.specs.Inside.Resolved.{first_places, ResolvedForm, ResolvedComparison, ResolvedCondition};
-ghost use Rattle.ta_meaning.specs.SumParts.{Within};
+ghost use Rattle.ta_meaning.specs.SumParts.{FormWithin};
 ghost use Rattle.ta_meaning.specs.Inside.SumParts.{any_large_row, form_differences, RowOfDifference};
 
 use crate::forms::{difference, is_large_form};
 use crate::places::Places;
 use crate::sums::{small_form, sum_form};
 use std::alloc::Global;
-use ta_automaton::{Comparison, Condition, List};
+use ta_automaton::{Comparison, Condition};
+use ta_base::List;
 use ta_linear::{Form, Row};
 use ta_syntax::{FileFault, Relation, TreeComparison, TreeSum};
 
@@ -41,8 +42,8 @@ fn normal_rows(
     relation: Relation,
     right: &Form,
 ) -> Result<Vec<Row>, FileFault>
-    requires left { Within (2 ^ 93) left.now }
-    requires right { Within (2 ^ 93) right.now }
+    requires left { FormWithin (2 ^ 93) left.now }
+    requires right { FormWithin (2 ^ 93) right.now }
     ensures { MatchResult result (λ rows. Pairwise RowOfDifference (form_differences relation left.now right.now) rows.items) (λ e. e ≡ FileFault.Memory) }
 {
     let mut rows = Vec::new(alloc);

@@ -14,7 +14,8 @@ use crate::declarations::declare_places;
 use crate::patterns::resolve_patterns;
 use crate::rules::{Rules, resolve_rules};
 use std::alloc::{AllocError, Global};
-use ta_automaton::{Automaton, Condition, File, List, Text};
+use ta_automaton::{Automaton, Condition, File};
+use ta_base::{List, Text};
 use ta_linear::Form;
 use ta_syntax::{FileFault, Spelled, Tree, TreeLocation};
 

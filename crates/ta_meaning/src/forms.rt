@@ -3,7 +3,7 @@
 
 ghost use Rattle.std.specs.Prelude.{◌≡◌, ◌≤◌, ◌^◌, pos, negsuc, MatchResult};
 ghost use Rattle.ta_linear.specs.Forms.{IsSum, IsMultiple};
-ghost use Rattle.ta_meaning.specs.SumParts.{Within, IsDifference};
+ghost use Rattle.ta_meaning.specs.SumParts.{FormWithin, IsDifference};
 ghost use Rattle.ta_meaning.specs.Inside.SumParts.{is_large_form};
 ghost use Rattle.ta_meaning.specs.Linear.{is_large};
 
@@ -14,8 +14,8 @@ use ta_syntax::FileFault;
 
 /// The sum of two small forms.
 pub(crate) fn plus(alloc: Global, a: &Form, b: &Form) -> Result<Form, FileFault>
-    requires a { Within (2 ^ 120) a.now }
-    requires b { Within (2 ^ 120) b.now }
+    requires a { FormWithin (2 ^ 120) a.now }
+    requires b { FormWithin (2 ^ 120) b.now }
     ensures { MatchResult result (λ sum. IsSum sum a.now b.now) (λ e. e ≡ FileFault.Memory) }
 {
     match a.add(alloc, b) {
@@ -27,7 +27,7 @@ pub(crate) fn plus(alloc: Global, a: &Form, b: &Form) -> Result<Form, FileFault>
 
 /// The product of a small form and a small number.
 pub(crate) fn times(alloc: Global, a: &Form, factor: u32) -> Result<Form, FileFault>
-    requires form { Within (2 ^ 94) a.now }
+    requires form { FormWithin (2 ^ 94) a.now }
     requires factor { factor ≤ 1000000000 }
     ensures { MatchResult result (λ product. IsMultiple product a.now (pos factor)) (λ e. e ≡ FileFault.Memory) }
 {
@@ -78,8 +78,8 @@ pub(crate) fn difference(
     less: &Form,
     shift: u32,
 ) -> Result<Row, FileFault>
-    requires greater { Within (2 ^ 93) greater.now }
-    requires less { Within (2 ^ 93) less.now }
+    requires greater { FormWithin (2 ^ 93) greater.now }
+    requires less { FormWithin (2 ^ 93) less.now }
     requires shift { shift ≤ 1 }
     ensures { MatchResult result (λ row. IsDifference row.form greater.now less.now (pos shift)) (λ e. e ≡ FileFault.Memory) }
 {

@@ -5,7 +5,7 @@ ghost use Rattle.std.specs.Prelude.{◌≡◌, ◌<◌, ◌≤◌, ◌↔◌, Is
 ghost use Rattle.ta_syntax.specs.PlainTrees.{plain_comparison};
 ghost use Rattle.ta_meaning.specs.Faults.{Answers, in_guards, guard_faults, guards_faults};
 ghost use Rattle.ta_meaning.specs.Inside.Resolved.{kinds_of};
-ghost use Rattle.ta_meaning.specs.Inside.Numbering.{SameRow, Has, SameAt, RowAnswers, guards_so_far, GuardsKept, GuardNumbered, GuardsNumbered, NumberFits, WithNumber};
+ghost use Rattle.ta_meaning.specs.Inside.Numbering.{HasSameTerms, Has, SameAt, RowAnswers, guards_so_far, GuardsKept, GuardNumbered, GuardsNumbered, NumberFits, WithNumber};
 
 use crate::conditions::resolve_comparison;
 use crate::places::Places;
@@ -113,7 +113,7 @@ fn find_row(rows: &[Row], row: &Row) -> Option<u32>
 
 /// Whether two rows have the same constant and the same terms.
 fn is_same(left: &Row, right: &Row) -> bool
-    ensures { IsTrue result ↔ SameRow left.now right.now }
+    ensures { IsTrue result ↔ HasSameTerms left.now right.now }
 {
     is_same_number(left.form.constant, right.form.constant)
         && left.form.terms.as_slice() == right.form.terms.as_slice()

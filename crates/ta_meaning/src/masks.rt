@@ -3,11 +3,12 @@
 
 ghost use Rattle.std.specs.Prelude.{◌-◌, ◌<◌, ◌≤◌, ◌↔◌, [], length, map, IsTrue, IsBitSet};
 ghost use Rattle.ta_syntax.specs.PlainTrees.{plain_name};
-ghost use Rattle.ta_automaton.specs.Lists.{Distinct};
+ghost use Rattle.ta_base.specs.Lists.{Distinct};
 ghost use Rattle.ta_meaning.specs.Faults.{Judges, listed_faults};
 ghost use Rattle.ta_meaning.specs.Inside.Listed.{between, ListedMask};
 
 use crate::names::NameList;
+use ta_base::masks::contains;
 use ta_syntax::{FileFault, Spelled};
 
 /// The mask of the names that are listed, among those from one number on and below another: bit i
@@ -34,12 +35,4 @@ pub fn listed_mask(
         mask |= 1 << number;
     }
     Ok(mask)
-}
-
-/// Whether a mask has the bit of a number.
-fn contains(mask: u32, number: u32) -> bool
-    requires { number < 32 }
-    ensures { IsTrue result ↔ IsBitSet mask number }
-{
-    mask & (1 << number) != 0
 }

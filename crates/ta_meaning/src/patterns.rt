@@ -3,7 +3,7 @@
 
 ghost use Rattle.std.specs.Prelude.{◌≡◌, ◌+◌, ◌<◌, ◌≤◌, [], length, map};
 ghost use Rattle.ta_syntax.specs.PlainTrees.{plain_name, plain_comparison, plain_event, plain_pattern};
-ghost use Rattle.ta_automaton.specs.Lists.{Distinct};
+ghost use Rattle.ta_base.specs.Lists.{Distinct};
 ghost use Rattle.ta_meaning.specs.Names.{all_names};
 ghost use Rattle.ta_meaning.specs.Faults.{Judges, Answers, in_conditions, condition_faults, listed_faults, event_faults, events_faults, pattern_faults, patterns_faults};
 ghost use Rattle.ta_meaning.specs.Inside.Resolved.{kinds_of, ResolvedCondition, ResolvedPatterns};
@@ -16,7 +16,8 @@ use crate::masks::listed_mask;
 use crate::names::NameList;
 use crate::places::Places;
 use std::alloc::Global;
-use ta_automaton::{Condition, Event, List, Pattern};
+use ta_automaton::{Condition, Event, Pattern};
+use ta_base::List;
 use ta_syntax::{FileFault, Spelled, TreeComparison, TreeEvent, TreePattern};
 
 /// The patterns that a tree's patterns mean.

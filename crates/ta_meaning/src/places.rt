@@ -2,7 +2,7 @@
 #![tactic(auto)]
 
 ghost use Rattle.std.specs.Prelude.{◌+◌, ◌≤◌, length};
-ghost use Rattle.ta_automaton.specs.Lists.{Distinct, Distinct-prop};
+ghost use Rattle.ta_base.specs.Lists.{Distinct, Distinct-prop};
 
 use crate::names::NameList;
 

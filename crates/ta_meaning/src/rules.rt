@@ -16,7 +16,8 @@ use crate::names::NameList;
 use crate::places::Places;
 use crate::updates::read_updates;
 use std::alloc::Global;
-use ta_automaton::{List, Rule};
+use ta_automaton::Rule;
+use ta_base::List;
 use ta_linear::Row;
 use ta_syntax::{FileFault, Spelled, TreeRule};
 

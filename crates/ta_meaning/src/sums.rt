@@ -8,14 +8,15 @@ ghost use Rattle.ta_meaning.specs.Sums.{sum_uses, term_uses, factor_uses};
 ghost use Rattle.ta_meaning.specs.Linear.{linear_sum};
 ghost use Rattle.ta_meaning.specs.Faults.{Judges, Answers, where_, used_faults, number_faults, linear_term, sum_faults};
 ghost use Rattle.ta_meaning.specs.Inside.Resolved.{first_places};
-ghost use Rattle.ta_meaning.specs.SumParts.{Within};
+ghost use Rattle.ta_meaning.specs.SumParts.{FormWithin};
 ghost use Rattle.ta_meaning.specs.Inside.SumParts.{judged_term, judged_factor, linear_factor, number_or, PartOf, IsSignedSum, is_large_form};
 
 use crate::forms::{is_large_form, negative, plus, times};
 use crate::numbers::read_number;
 use crate::places::Places;
 use std::alloc::Global;
-use ta_linear::{Form, List};
+use ta_base::List;
+use ta_linear::Form;
 use ta_syntax::{Digits, FileFault, Sign, Spelled, TreeFactor, TreeSum, TreeTerm};
 
 /// The form of a name, which is one of the first places.
@@ -60,8 +61,8 @@ pub(crate) fn small_form(form: Form, at: u32) -> Result<Form, FileFault>
 
 /// The sum of small forms, the second with its sign.
 fn plus_signed(alloc: Global, a: &Form, sign: Sign, b: &Form) -> Result<Form, FileFault>
-    requires a { Within (2 ^ 93) a.now }
-    requires b { Within 1000000000 b.now }
+    requires a { FormWithin (2 ^ 93) a.now }
+    requires b { FormWithin 1000000000 b.now }
     ensures { MatchResult result (λ sum. IsSignedSum sum a.now sign b.now) (λ e. e ≡ FileFault.Memory) }
 {
     match sign {

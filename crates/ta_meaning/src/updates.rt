@@ -2,8 +2,8 @@
 #![tactic(auto)]
 
 ghost use Rattle.std.specs.Prelude.{◌≡◌, ◌<◌, ◌≤◌, [], ◌∷◌, ◌++◌, length, map, slice_get, Some, OnOk};
+ghost use Rattle.std.specs.List.{AllByRecursion};
 ghost use Rattle.ta_syntax.specs.PlainTrees.{plain_update};
-ghost use Rattle.ta_automaton.specs.Lists.{Each};
 ghost use Rattle.ta_meaning.specs.Names.{all_names};
 ghost use Rattle.ta_meaning.specs.Faults.{Judges, Answers, else_, where_, used_faults, updates_faults};
 ghost use Rattle.ta_meaning.specs.Inside.Resolved.{kinds_of};
@@ -36,7 +36,7 @@ pub(crate) fn read_updates(
 /// The number of a shared variable that is none of those seen: F3 where it was seen, F4 where it
 /// isn't declared, F5 where it is no shared variable.
 fn variable_in(places: &Places, seen: &[u32], name: &Spelled) -> Result<u32, FileFault>
-    requires { Each (λ x. x < length (kinds_of places.now).shared) seen.now }
+    requires { AllByRecursion (λ x. x < length (kinds_of places.now).shared) seen.now }
     ensures { Judges (variable_faults (kinds_of places.now) (names_at (kinds_of places.now).shared seen.now) name.now) (λ variable. IsNewVariable (kinds_of places.now).shared seen.now name.now.name variable) result }
 {
     let shared = places.parameters + places.shared;

@@ -1,5 +1,5 @@
 -- a configuration and the model's agree
-use Rattle.std.proofs.Common.{◌≡◌, ℕ, ℤ, pos, Bool, true, false, Option, Some, None, is_some, not, Ok, IfNone, IfSome, IsBitSet, arith, sym, ◌∙◌, subst, get_or}
+use Rattle.std.proofs.Common.{◌≡◌, ℕ, ℤ, pos, Bool, true, false, Option, Some, None, is_some, not, Ok, IsBitSet, arith, sym, ◌∙◌, subst, get_or}
 use Rattle.std.proofs.lemmas.Int.{ints}
 use Rattle.std.proofs.lemmas.Bool.{false≢true}
 use Rattle.ta_linear.specs.Values.{point_of}
@@ -36,14 +36,6 @@ pub counter_there : (a : Automaton) (c : Config) → IsOf a c → (l : ℕ) → 
 counter_there a c is l =
     sym (value_at-location a (config_of a c) l (whole_fits a (config_of a c) (model_whole a c.values.items is.places)))
     ∙ model_at a c.values.items c.natural (location_place a l)
-
-pub none_weaker : {P Q : Type 0} (first : Option ℕ) → (P → Q) → IfNone first P → IfNone first Q
-none_weaker None f h = f h
-none_weaker (Some k) f h = h
-
-pub some_weaker : {P Q : Type 0} (first : Option ℕ) → (P → Q) → IfSome first (λ k. P) → IfSome first (λ k. Q)
-some_weaker None f h = h
-some_weaker (Some k) f h = f h
 
 -- where each location of the mask has value 0, no process is there, and the other way
 pub keeps_empty : (a : Automaton) (c : Config) (mask : ℕ) → IsOf a c → ((l : ℕ) → IsBitSet mask l → point_of c.values.items (location_place a l) ≡ pos 0) → KeepsEmpty mask (config_of a c)

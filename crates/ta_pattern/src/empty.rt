@@ -6,6 +6,7 @@ ghost use Rattle.ta_counter.specs.Configs.{IsOf, config_of};
 ghost use Rattle.ta_pattern.specs.Empty.{KeepsEmpty};
 
 use ta_automaton::{Automaton, Pattern};
+use ta_base::masks::contains;
 use ta_counter::Config;
 
 /// Whether each location of the pattern's mask has no process.
@@ -22,12 +23,4 @@ pub fn holds_empty(automaton: &Automaton, pattern: &Pattern, config: &Config) ->
         }
     }
     true
-}
-
-/// Whether a mask has a number.
-fn contains(mask: u32, number: u32) -> bool
-    requires { number < 32 }
-    ensures { IsTrue result ↔ IsBitSet mask number }
-{
-    mask & (1 << number) != 0
 }

@@ -1,5 +1,5 @@
 -- what `bench` makes and says
-use Rattle.std.proofs.Common.{◌≡◌, ◌∙◌, ◌<◌, ◌+◌, ◌++◌, List, [], ◌∷◌, ℕ, false, sym, ap, subst, slice_get, Some, Result, Ok, Err, length, take, get_or, arith}
+use Rattle.std.proofs.Common.{◌≡◌, ◌∙◌, ◌<◌, ◌+◌, ◌++◌, List, [], ◌∷◌, ℕ, false, sym, ap, subst, slice_get, Some, Result, Ok, Err, length, take, get_or}
 use Rattle.std.specs.Prelude.{IfOk}
 use Rattle.std.specs.declared.alloc.AllocError.{AllocError}
 use Rattle.std.proofs.lemmas.List.{take_more}
@@ -7,7 +7,7 @@ use Rattle.ta_automaton.specs.declared.file.File.{File}
 use Rattle.ta_automaton.specs.declared.pattern.Pattern.{Pattern}
 use Rattle.ta_cert.specs.declared.fault.CertFault.{CertFault}
 use Rattle.ta_check.specs.Certificate.{Certificate}
-use Rattle.ta_check.specs.Checkers.{Finished}
+use Rattle.ta_check.specs.Checkers.{CheckerFinishAnswers}
 use Rattle.ta_check.specs.declared.accepted.Accepted.{Accepted}
 use Rattle.ta_maker.specs.Family.{family}
 use Rattle.ta_meaning.specs.Reading.{Legal}
@@ -20,7 +20,7 @@ use Rattle.ta_syntax.specs.Grammar.{PlainTree, file_kinds}
 use Rattle.ta_syntax.specs.Printed.{printed}
 use Rattle.ta_claim.specs.declared.claim.Claim.TheVariants as claim
 use Rattle.ta_check.specs.Subjects.{claiming}
-use Rattle.ta_program.specs.Bench.{BUDGET, IsBench, SaysBench, bench_status, bench_text, family_text}
+use Rattle.ta_program.specs.Bench.{BUDGET, SaysBench, bench_status, bench_text, family_text}
 use Rattle.ta_verdict.specs.Certificates.{CertificateOf, safe_numbers}
 use Rattle.ta_verdict.specs.Verdicts.{AreVerdicts, is_unsafe}
 
@@ -59,6 +59,6 @@ pub one_more_piece : (texts : List (List ℕ)) (k : ℕ) (text : List ℕ) → k
 one_more_piece texts k text below is = sym (ap texts_joined (take_more texts k text below ∙ ap (λ (t : List ℕ). take k texts ++ t ∷ []) is) ∙ joined_more (take k texts) text)
 
 -- what ends well is a certificate
-pub ends_well : (file : File) (text : List ℕ) (result : Result Accepted CertFault) → Finished (claiming claim.Safe file) text result → IfOk result (λ accepted. Certificate file text accepted.patterns)
+pub ends_well : (file : File) (text : List ℕ) (result : Result Accepted CertFault) → CheckerFinishAnswers (claiming claim.Safe file) text result → IfOk result (λ accepted. Certificate file text accepted.patterns)
 ends_well file text (Ok accepted) h = h
 ends_well file text (Err fault) h = tt

@@ -11,7 +11,7 @@ use Rattle.ta_shell.specs.declared.answer.Put.{Put}
 use Rattle.ta_shell.specs.declared.answer.Refusal.{Refusal}
 use Rattle.ta_shell.specs.declared.answer.Refusal.TheVariants.{Refused, ReadFailed, PutFailed, Memory}
 use Rattle.ta_shell.specs.Commands.{Says}
-use Rattle.ta_shell.specs.Puts.{Within}
+use Rattle.ta_shell.specs.Puts.{PutsWithin}
 use Rattle.ta_verdict.specs.Certificates.{CertificateOf, safe_numbers}
 use Rattle.ta_program.specs.Inside.Certifying.{Certifies}
 use Rattle.ta_program.specs.Inside.Reported.{SampleReported}
@@ -24,10 +24,10 @@ low_by true unknown = omega arith
 low_by false true = omega arith
 low_by false false = omega arith
 
-pub puts_within : (out : List ℕ) (put : Put) (puts : List Put) → puts ≡ put ∷ [] → put.name ≡ out → Within (out ∷ []) puts
+pub puts_within : (out : List ℕ) (put : Put) (puts : List Put) → puts ≡ put ∷ [] → put.name ≡ out → PutsWithin (out ∷ []) puts
 puts_within out put puts only named =
     let among : Contains (out ∷ []) out = search rules in
-    subst (Within (out ∷ [])) (sym only) (subst (Contains (out ∷ [])) (sym named) among, tt)
+    subst (PutsWithin (out ∷ [])) (sym only) (subst (Contains (out ∷ [])) (sym named) among, tt)
 
 module _ (file : File) (budget : ℕ) (json : Bool) (out : List ℕ) (vs : List Verdict) (are : AreVerdicts file budget vs) (text : List ℕ) (certificate : CertificateOf file budget vs text) (accepted : Certificate file text (safe_numbers file vs)) (number : ℕ) (report : List ℕ) (numbered : number ≡ verdicts_number vs) (reported : SampleReported json file budget vs report) (files : Option Told) where
   pub certified_says : (result : Result Answer Refusal) → Certifies number report out text result → Says (report_meaning file budget json (Some out)) files result []

@@ -1,12 +1,11 @@
 -- from how a run ends to its clauses
-use Rattle.std.proofs.Common.{◌≡◌, ◌≢◌, ◌≤◌, ◌+◌, ◌||◌, ℕ, zero, suc, nat_eq, Bool, true, false, List, [], ◌∷◌, Option, None, Some, slice_get, refl, sym, ap, subst, ◌∙◌, inl, inr, arith, rules}
-use Rattle.std.specs.Prelude.{◌⊎◌, IsSome, codes, if◌then◌else◌}
-use Rattle.std.specs.List.{list_any}
+use Rattle.std.proofs.Common.{◌≡◌, ◌≢◌, ◌≤◌, ◌+◌, ◌||◌, ℕ, zero, nat_eq, Bool, true, false, List, [], ◌∷◌, Option, None, Some, slice_get, refl, sym, ap, subst, ◌∙◌, inl, arith, rules}
+use Rattle.std.specs.Prelude.{codes, if◌then◌else◌}
+use Rattle.std.specs.List.{list_any, AllByRecursion}
 use Rattle.std.specs.Str.{bytes_eq}
-use Rattle.std.proofs.lemmas.Bool.{eqb-true}
+use Rattle.std.proofs.lemmas.Bool.{eqb-true, or_parts}
 use Rattle.ta_automaton.specs.declared.file.File.{File}
 use Rattle.ta_automaton.specs.declared.pattern.Pattern.{Pattern}
-use Rattle.ta_automaton.specs.Lists.{Each}
 use Rattle.ta_automaton.specs.Runs as runs
 use Rattle.ta_check.specs.Certificate.{PatternSafe}
 use Rattle.ta_meaning.proofs.OneTree.{one_legal}
@@ -21,28 +20,26 @@ use Rattle.ta_shelf.specs.Calls.{Grew}
 use Rattle.ta_shelf.specs.Put.{OthersStay, Told, WhereTold}
 use Rattle.ta_shelf.specs.Sink.{with_text}
 use Rattle.ta_shell.proofs.Clauses.{answered, hindered, kept_refused, never_five}
-use Rattle.ta_shell.proofs.Read.{no_hindrance}
 use Rattle.ta_shell.proofs.Views.{whole_one}
 use Rattle.ta_shell.specs.Commands.{Decides, Meaning}
-use Rattle.ta_shell.specs.Ends.{Answered, Performs, Quiet, ShelfState, SinkState, State}
-use Rattle.ta_shell.specs.Puts.{Holds, HoldsText, KeptBut, Stand, put_bytes}
+use Rattle.ta_shell.specs.Ends.{IsAnswered, Performs, Quiet, ShelfState, SinkState, State}
+use Rattle.ta_shell.specs.Puts.{HoldsPut, HoldsText, KeptBut, Stand, put_bytes}
 use Rattle.ta_shell.specs.Sights.{View, in_files, seen}
-use Rattle.ta_shell.specs.Stages.{Hinders}
 use Rattle.ta_replay.specs.RunText.{run_text}
+use Rattle.ta_replay.specs.Shows.{unit_steps}
 use Rattle.ta_shell.specs.declared.answer.Answer.{Answer}
 use Rattle.ta_shell.specs.declared.answer.Put.{Put}
 use Rattle.ta_syntax.specs.PlainTrees.{plain_tree}
 use Rattle.ta_program.specs.Asked.{Asked, LegalFile, Runs, ask, ask_where}
 use Rattle.ta_program.specs.Asked.Asked.{Command, NoCommand}
 use Rattle.ta_program.specs.Bench.{BenchHolds, bench_meaning, bench_of, bench_status, bench_words}
-use Rattle.ta_program.specs.Certified.{LongCertificate, long_line, may_put}
 use Rattle.ta_program.specs.Check.{CheckHolds, check_meaning, check_of}
 use Rattle.ta_program.specs.Headline.{EachPatternSafe, EachPrinted, HoldsFile, SomePatternOccurs, StatusTells}
 use Rattle.ta_program.specs.Kinds.{IsFile, file_kind}
-use Rattle.ta_program.specs.Printed.{EachPrintedUnsafe, EachToldSafe}
-use Rattle.ta_program.specs.Admit.{AdmitAsked, AdmitHolds, IsAdmitted, admit_meaning, admit_of, admit_words}
+use Rattle.ta_program.specs.Printed.{EachPrintedUnsafe, EachToldSafe, rest_telling, verify_telling}
+use Rattle.ta_program.specs.Admit.{AdmitAsked, AdmitHolds, admit_meaning, admit_of, admit_words}
 use Rattle.ta_program.specs.Export.{ExportHolds, export_meaning, export_of, export_words}
-use Rattle.ta_program.specs.Program.{Admitting, Benches, CertificateWritten, CheckProves, Completes, ExactlySo, Exports, KeepsFiles, Opens, PassesLegal, PrintedHolds, ReplayShows, RestProves, RestsReport, RunShortens, Searches, Tellings, UsageExactly, VerifyReports, put_by}
+use Rattle.ta_program.specs.Program.{Admitting, Benches, CertificateWritten, CheckProves, ExactlySo, Exports, KeepsFiles, PassesLegal, PrintedHolds, ReplayShows, RestProves, RestsReport, RunShortens, Searches, VerifyReports, put_by}
 use Rattle.ta_program.specs.Compress.{CompressHolds, compress_meaning, compress_of}
 use Rattle.ta_program.specs.Replay.{ReplayHolds, replay_meaning, replay_of}
 use Rattle.ta_program.specs.Requests.{request_of}
@@ -50,29 +47,24 @@ use Rattle.ta_check.proofs.OwnPatterns.{all_own}
 use Rattle.ta_check.specs.Subjects.{ClaimHolds, claiming}
 use Rattle.ta_claim.specs.declared.claim.Claim.TheVariants as claim
 use Rattle.ta_report.specs.Report.{rest_text}
-use Rattle.ta_rest.specs.Rest.{RestSafe}
-use Rattle.ta_resting.specs.Verdicts.{RestVerdictHolds, RestVerdictsHold}
+use Rattle.ta_rest.specs.Rest.{RestOccurs, RestSafe}
 use Rattle.ta_program.specs.Rest.{RestCertificateStands, RestReportHolds, rest_meaning}
 use Rattle.ta_program.specs.RestCheck.{RestCheckHolds, rest_check_meaning}
 use Rattle.ta_program.specs.RestEnds.{LegalAtRest}
 use Rattle.ta_program.specs.RestWords.{rest_check_of, rest_of, rest_words}
-use Rattle.ta_program.specs.Reporting.{CertificateStands, ReportHolds, Reports, report_meaning, verify_meaning}
-use Rattle.ta_verdict.specs.Verdicts.{IsKnown, VerdictHolds, VerdictsHold, is_unsafe, is_unknown}
+use Rattle.ta_program.specs.Reporting.{CertificateStands, ReportHolds, verify_meaning}
+use Rattle.ta_verdict.specs.Verdicts.{VerdictHolds, VerdictsHold, is_unsafe, is_unknown}
 use Rattle.ta_program.specs.Search.{LegalTemplate, SearchHolds, end_number, leaves_unknown, search_meaning}
 use Rattle.ta_program.specs.SearchWords.{SearchWords, search_of, search_words}
 use Rattle.ta_program.specs.Values.{TwoNames, two_names}
 use Rattle.ta_program.specs.VerifyWords.{VerifyWords, verify_of, verify_words}
 use Rattle.ta_program.specs.WordAsked.{WordAsked}
 use Rattle.ta_program.specs.Words.{behind_name}
-use Rattle.ta_program.proofs.FoundStands.{Apart, found_stands, names_apart}
+use Rattle.ta_program.proofs.AtRest.{rest_safe_at, rest_unsafe_printed}
+use Rattle.ta_program.proofs.FoundStands.{found_stands}
+use Rattle.ta_program.proofs.WordsDiffer.{Apart, names_apart}
 use Rattle.ta_program.proofs.UnsafePrinted.{hold_at, run_within, some_occurs, unsafe_printed}
 use Rattle.ta_program.proofs.WordMeanings.{admit_decides}
-use Rattle.ta_program.proofs.Meanings.{hinders_long, report_monotone, verify_decides}
-
--- one of two tests fails only where both fail
-neither : (a b : Bool) → (a || b) ≡ false → (a ≡ false) × (b ≡ false)
-neither true b e = absurd (cc)
-neither false b e = (refl, e)
 
 -- the number of a report is 0 only where nothing is unsafe and nothing unknown, 1 only where something is unsafe, and 2 only where
 -- something is unknown
@@ -88,7 +80,7 @@ kind_of_one true unknown e = refl
 kind_of_one false true e = absurd (omega (arith, e))
 kind_of_one false false e = absurd (omega (arith, e))
 
-kinds_of_two : (found unknown : Bool) → number_by found unknown ≡ 2 → unknown ≡ true
+pub kinds_of_two : (found unknown : Bool) → number_by found unknown ≡ 2 → unknown ≡ true
 kinds_of_two true unknown e = absurd (omega (arith, e))
 kinds_of_two false true e = refl
 kinds_of_two false false e = absurd (omega (arith, e))
@@ -113,35 +105,20 @@ safe_of file budget number p (Unsafe nodes run) f u h = absurd (cc)
 safe_of file budget number p (Spent nodes) f u h = absurd (cc)
 safe_of file budget number p (Overflow node kind) f u h = absurd (cc)
 
-each_safe : (file : File) (budget number : ℕ) (ps : List Pattern) (vs : List Verdict) → list_any is_unsafe vs ≡ false → list_any is_unknown vs ≡ false → VerdictsHold file budget number ps vs → Each (runs.Safe file.automaton) ps
+each_safe : (file : File) (budget number : ℕ) (ps : List Pattern) (vs : List Verdict) → list_any is_unsafe vs ≡ false → list_any is_unknown vs ≡ false → VerdictsHold file budget number ps vs → AllByRecursion (runs.Safe file.automaton) ps
 each_safe file budget number [] vs f u h = tt
 each_safe file budget number (p ∷ ps) [] f u h = absurd h
 each_safe file budget number (p ∷ ps) (v ∷ vs) f u h =
-    let found = neither (is_unsafe v) (list_any is_unsafe vs) f in
-    let unknown = neither (is_unknown v) (list_any is_unknown vs) u in
+    let found = or_parts (is_unsafe v) (list_any is_unsafe vs) f in
+    let unknown = or_parts (is_unknown v) (list_any is_unknown vs) u in
     (safe_of file budget number p v found.0 unknown.0 h.0, each_safe file budget (number + 1) ps vs found.1 unknown.1 h.1)
-
--- some pattern is unknown only where a verdict that holds says so
-some_unknown : (file : File) (budget number : ℕ) (ps : List Pattern) (vs : List Verdict) → VerdictsHold file budget number ps vs → ((k : ℕ) (p : Pattern) (v : Verdict) → slice_get ps k ≡ Some p → is_unknown v ≡ true → ¬ VerdictHolds file budget (number + k) p v) → list_any is_unknown vs ≡ false
-some_unknown file budget number [] [] h known = refl
-some_unknown file budget number [] (v ∷ vs) h known = absurd h
-some_unknown file budget number (p ∷ ps) [] h known = absurd h
-some_unknown file budget number (p ∷ ps) (v ∷ vs) h known =
-    let here : number ≡ number + 0 = omega arith in
-    let head = not_true (is_unknown v) (λ unknown. known 0 p v refl unknown (subst (λ (n : ℕ). VerdictHolds file budget n p v) here h.0)) in
-    let tail = some_unknown file budget (number + 1) ps vs h.1 (λ k q w named unknown holds. let there : (number + 1) + k ≡ number + suc k = omega arith in known (suc k) q w named unknown (subst (λ (n : ℕ). VerdictHolds file budget n q w) there holds)) in
-    rw (head, tail) refl
-  where
-    not_true : (b : Bool) → ¬ (b ≡ true) → b ≡ false
-    not_true true never = absurd (never refl)
-    not_true false never = refl
 
 -- a pattern that is among the proved ones is safe
 listed_in : (P : ℕ → Type 0) (x y : ℕ) (rest first : Bool) → first ≡ nat_eq y x → P y → (rest ≡ true → P x) → (first || rest) ≡ true → P x
 listed_in P x y rest true is here later among = subst P (eqb-true y x (sym is)) here
 listed_in P x y rest false is here later among = later among
 
-listed : (P : ℕ → Type 0) (x : ℕ) (xs : List ℕ) → Each P xs → list_any (λ y. nat_eq y x) xs ≡ true → P x
+listed : (P : ℕ → Type 0) (x : ℕ) (xs : List ℕ) → AllByRecursion P xs → list_any (λ y. nat_eq y x) xs ≡ true → P x
 listed P x [] each among = absurd (cc)
 listed P x (y ∷ xs) each among = listed_in P x y (list_any (λ z. nat_eq z x) xs) (nat_eq y x) refl each.0 (listed P x xs each.1) among
 
@@ -169,19 +146,8 @@ holds_file view name file h =
       means = h.means.means.means;
     }
 
--- a pattern that a verdict says is safe at rest is so
-rest_safe_at : (file ending : File) (added budget number : ℕ) (owns ps : List Pattern) (vs : List Verdict) → RestVerdictsHold file ending added budget number owns ps vs → (k : ℕ) (own : Pattern) (nodes leaves : ℕ) → slice_get owns k ≡ Some own → slice_get vs k ≡ Some (Safe nodes leaves) → RestSafe file.automaton own
-rest_safe_at file ending added budget number [] ps vs hold k own nodes leaves at said = absurd (cc)
-rest_safe_at file ending added budget number (o ∷ owns) [] vs hold k own nodes leaves at said = absurd hold
-rest_safe_at file ending added budget number (o ∷ owns) (p ∷ ps) [] hold k own nodes leaves at said = absurd hold
-rest_safe_at file ending added budget number (o ∷ owns) (p ∷ ps) (v ∷ vs) hold zero own nodes leaves at said =
-    let here : o ≡ own = cc in
-    let is : v ≡ Safe nodes leaves = cc in
-    subst (RestSafe file.automaton) here (subst (λ (w : Verdict). RestVerdictHolds file ending added budget number o p w) is hold.0).safe
-rest_safe_at file ending added budget number (o ∷ owns) (p ∷ ps) (v ∷ vs) hold (suc k) own nodes leaves at said = rest_safe_at file ending added budget (number + 1) owns ps vs hold.1 k own nodes leaves at said
-
 -- a put file holds its text
-holds_text : (put : Put) (out : List ℕ) → put.name ≡ out → (before after : Option Told) → WhereTold (Holds put) before after → WhereTold (HoldsText out (put_bytes put)) before after
+holds_text : (put : Put) (out : List ℕ) → put.name ≡ out → (before after : Option Told) → WhereTold (HoldsPut put) before after → WhereTold (HoldsText out (put_bytes put)) before after
 holds_text put out named None None h = tt
 holds_text put out named None (Some a) h = absurd h
 holds_text put out named (Some b) None h = absurd h
@@ -207,15 +173,15 @@ module _ (words : List (List ℕ)) (number : ℕ) (before after : State) (h : Ru
   as_bench k is = performed (codes "bench") bench_words (λ k. None) bench_meaning number before after (λ rest r. r) words k is h
 
   -- what an answer of a command says, of what is seen in the calls of the run and in the files
-  gives : (m : Meaning) → Performs m number before after → number ≤ 2 → (Of : View → Type 0) → ((view : View) → Answered m view number before after → Of view) → Grew (λ read. Of (seen before.shelf.files read)) before.shelf.calls after.shelf.calls
+  gives : (m : Meaning) → Performs m number before after → number ≤ 2 → (Of : View → Type 0) → ((view : View) → IsAnswered m view number before after → Of view) → Grew (λ read. Of (seen before.shelf.files read)) before.shelf.calls after.shelf.calls
   gives m performs low Of from =
       let ends = performs.ends in
       record { added = ends.read; grown = ends.grown; such = from (seen before.shelf.files ends.read) (answered m (seen before.shelf.files ends.read) number before after ends.end low) }
 
-  gives_verify : (asked : VerifyWords) → verify_of words ≡ Some asked → number ≤ 2 → (Of : View → Type 0) → ((view : View) → Answered (verify_meaning asked.file asked.nodes asked.json asked.out) view number before after → Of view) → Grew (λ read. Of (seen before.shelf.files read)) before.shelf.calls after.shelf.calls
+  gives_verify : (asked : VerifyWords) → verify_of words ≡ Some asked → number ≤ 2 → (Of : View → Type 0) → ((view : View) → IsAnswered (verify_meaning asked.file asked.nodes asked.json asked.out) view number before after → Of view) → Grew (λ read. Of (seen before.shelf.files read)) before.shelf.calls after.shelf.calls
   gives_verify asked is low Of from = gives (verify_meaning asked.file asked.nodes asked.json asked.out) (as_verify asked is) low Of from
 
-  reported : (name : List ℕ) (budget : ℕ) (json : Bool) (out : Option (List ℕ)) (view : View) → Answered (verify_meaning name budget json out) view number before after → ReportHolds number view name budget json before.out.written after.out.written
+  reported : (name : List ℕ) (budget : ℕ) (json : Bool) (out : Option (List ℕ)) (view : View) → IsAnswered (verify_meaning name budget json out) view number before after → ReportHolds number view name budget json before.out.written after.out.written
   reported name budget json out view a =
       let file = a.holds.holds.0 in
       let reports = a.holds.holds.2 in
@@ -224,7 +190,7 @@ module _ (words : List (List ℕ)) (number : ℕ) (before after : State) (h : Ru
   pub verify_reports : VerifyReports number words before.shelf.files before.shelf.calls after.shelf.calls before.out.written after.out.written
   verify_reports asked is low = gives_verify asked is low (λ view. ReportHolds number view asked.file asked.nodes asked.json before.out.written after.out.written) (reported asked.file asked.nodes asked.json asked.out)
 
-  certified : (name : List ℕ) (budget : ℕ) (json : Bool) (out : List ℕ) (view : View) → Answered (verify_meaning name budget json (Some out)) view number before after → CertificateStands number view name budget json out before.shelf.files after.shelf.files before.out.written after.out.written
+  certified : (name : List ℕ) (budget : ℕ) (json : Bool) (out : List ℕ) (view : View) → IsAnswered (verify_meaning name budget json (Some out)) view number before after → CertificateStands number view name budget json out before.shelf.files after.shelf.files before.out.written after.out.written
   certified name budget json out view a =
       let file = a.holds.holds.0 in
       let reports = a.holds.holds.2 in
@@ -235,7 +201,7 @@ module _ (words : List (List ℕ)) (number : ℕ) (before after : State) (h : Ru
         text = put_bytes puts.put;
         certificate = puts.certificate;
         within = puts.within;
-        stands = holds_text puts.put out puts.named before.shelf.files after.shelf.files (subst (λ (o : Option Told). WhereTold (Holds puts.put) before.shelf.files o) (sym stand.2) stand.1);
+        stands = holds_text puts.put out puts.named before.shelf.files after.shelf.files (subst (λ (o : Option Told). WhereTold (HoldsPut puts.put) before.shelf.files o) (sym stand.2) stand.1);
         accepted = puts.accepted;
       }
 
@@ -246,7 +212,7 @@ module _ (words : List (List ℕ)) (number : ℕ) (before after : State) (h : Ru
       let performs = subst (λ (o : Option (List ℕ)). Performs (verify_meaning name budget asked.json o) number before after) given (as_verify asked is) in
       gives (verify_meaning name budget asked.json (Some out)) performs low (λ view. CertificateStands number view name budget asked.json out before.shelf.files after.shelf.files before.out.written after.out.written) (certified name budget asked.json out)
 
-  proved : (name certificate : List ℕ) (view : View) → Answered (check_meaning name certificate) view number before after → CheckHolds view name certificate before.out.written after.out.written
+  proved : (name certificate : List ℕ) (view : View) → IsAnswered (check_meaning name certificate) view number before after → CheckHolds view name certificate before.out.written after.out.written
   proved name certificate view a =
       let rest = a.holds.holds.2 in
       record { file = a.holds.holds.0; is_file = a.holds.holds.1; numbers = rest.0; certificate = rest.1; wrote = a.written ∙ ap (with_text before.out.written) rest.2.written }
@@ -254,7 +220,7 @@ module _ (words : List (List ℕ)) (number : ℕ) (before after : State) (h : Ru
   pub check_proves : CheckProves number words before.shelf.files before.shelf.calls after.shelf.calls before.out.written after.out.written
   check_proves asked is none = gives (check_meaning asked.file asked.other) (as_check asked is) (omega (arith, none)) (λ view. CheckHolds view asked.file asked.other before.out.written after.out.written) (proved asked.file asked.other)
 
-  shortened : (name run : List ℕ) (view : View) → Answered (compress_meaning name run) view number before after → CompressHolds view name run before.out.written after.out.written
+  shortened : (name run : List ℕ) (view : View) → IsAnswered (compress_meaning name run) view number before after → CompressHolds view name run before.out.written after.out.written
   shortened name run view a =
       let rest = a.holds.holds.2 in
       record { file = a.holds.holds.0; is_file = a.holds.holds.1; run = rest.0; is_run = rest.1; short = rest.2.short; is_short = rest.2.is; wrote = a.written ∙ ap (with_text before.out.written) rest.2.writes.written }
@@ -262,7 +228,7 @@ module _ (words : List (List ℕ)) (number : ℕ) (before after : State) (h : Ru
   pub run_shortens : RunShortens number words before.shelf.files before.shelf.calls after.shelf.calls before.out.written after.out.written
   run_shortens asked is none = gives (compress_meaning asked.file asked.other) (as_compress asked is) (omega (arith, none)) (λ view. CompressHolds view asked.file asked.other before.out.written after.out.written) (shortened asked.file asked.other)
 
-  shown : (name run : List ℕ) (view : View) → Answered (replay_meaning name run) view number before after → ReplayHolds view name run before.out.written after.out.written
+  shown : (name run : List ℕ) (view : View) → IsAnswered (replay_meaning name run) view number before after → ReplayHolds view name run before.out.written after.out.written
   shown name run view a =
       let rest = a.holds.holds.2 in
       record { file = a.holds.holds.0; is_file = a.holds.holds.1; run = rest.0; is_run = rest.1; pattern = rest.2.pattern; named = rest.2.named; wrote = a.written ∙ ap (with_text before.out.written) rest.2.writes.written }
@@ -298,7 +264,7 @@ module _ (words : List (List ℕ)) (number : ℕ) (before after : State) (h : Ru
   as_admit : (all : AdmitAsked) → admit_of words ≡ Some all → Performs (admit_meaning all) number before after
   as_admit all is = performed (codes "admit") admit_words (λ a. Some a.asked.file) admit_meaning number before after (λ rest r. r) words all is h
 
-  exported : (asked : WordAsked) (view : View) → Answered (export_meaning asked) view number before after → ExportHolds view asked before.out.written after.out.written
+  exported : (asked : WordAsked) (view : View) → IsAnswered (export_meaning asked) view number before after → ExportHolds view asked before.out.written after.out.written
   exported asked view a =
       let found = a.holds.holds.2 in
       let says = found.2 in
@@ -307,7 +273,7 @@ module _ (words : List (List ℕ)) (number : ℕ) (before after : State) (h : Ru
   pub exports : Exports number words before.shelf.files before.shelf.calls after.shelf.calls before.out.written after.out.written
   exports asked is none = gives (export_meaning asked) (as_export asked is) (omega (arith, none)) (λ view. ExportHolds view asked before.out.written after.out.written) (exported asked)
 
-  admitted : (all : AdmitAsked) (view : View) → Answered (admit_meaning all) view number before after → AdmitHolds view all before.out.written after.out.written
+  admitted : (all : AdmitAsked) (view : View) → IsAnswered (admit_meaning all) view number before after → AdmitHolds view all before.out.written after.out.written
   admitted all view a =
       let file = a.holds.holds.0 in
       let found = a.holds.holds.2 in
@@ -335,19 +301,19 @@ module _ (words : List (List ℕ)) (number : ℕ) (before after : State) (h : Ru
         (inl (answer, refl, (had.file, had.is_file, (had.word, had.is_word, (had.run, had.is_run, record { numbered = refl; written = refl; no_put = refl })))));
   }
 
-  as_rest : (asked : VerifyWords) → rest_of words ≡ Some asked → Performs (rest_meaning asked.file asked.nodes asked.out) number before after
+  pub as_rest : (asked : VerifyWords) → rest_of words ≡ Some asked → Performs (rest_meaning asked.file asked.nodes asked.out) number before after
   as_rest asked is = performed_where (codes "rest") rest_words (λ a. LegalAtRest a.file) (λ a. rest_meaning a.file a.nodes a.out) number before after (λ rest r. r) words asked is h
 
-  as_rest_check : (asked : TwoNames) → rest_check_of words ≡ Some asked → Performs (rest_check_meaning asked.file asked.other) number before after
+  pub as_rest_check : (asked : TwoNames) → rest_check_of words ≡ Some asked → Performs (rest_check_meaning asked.file asked.other) number before after
   as_rest_check asked is = performed_where (codes "rest-check") two_names (λ a. LegalAtRest a.file) (λ a. rest_check_meaning a.file a.other) number before after (λ rest r. r) words asked is h
 
-  at_rest : (name : List ℕ) (budget : ℕ) (out : Option (List ℕ)) (view : View) → Answered (rest_meaning name budget out) view number before after → RestReportHolds number view name budget before.out.written after.out.written
+  at_rest : (name : List ℕ) (budget : ℕ) (out : Option (List ℕ)) (view : View) → IsAnswered (rest_meaning name budget out) view number before after → RestReportHolds number view name budget before.out.written after.out.written
   at_rest name budget out view a =
       let found = a.holds.holds.2 in
       let reports = found.2 in
       record { file = a.holds.holds.0; is_file = a.holds.holds.1; ends = found.0; are_ends = found.1; sample = reports.sample; is_sample = reports.is_sample; verdicts = reports.verdicts; are = reports.are; numbered = sym reports.numbered ∙ sym a.numbered; wrote = a.written ∙ ap (with_text before.out.written) reports.written }
 
-  rest_certified : (name : List ℕ) (budget : ℕ) (out : List ℕ) (view : View) → Answered (rest_meaning name budget (Some out)) view number before after → RestCertificateStands number view name budget out before.shelf.files after.shelf.files before.out.written after.out.written
+  rest_certified : (name : List ℕ) (budget : ℕ) (out : List ℕ) (view : View) → IsAnswered (rest_meaning name budget (Some out)) view number before after → RestCertificateStands number view name budget out before.shelf.files after.shelf.files before.out.written after.out.written
   rest_certified name budget out view a =
       let found = a.holds.holds.2 in
       let reports = found.2 in
@@ -358,7 +324,7 @@ module _ (words : List (List ℕ)) (number : ℕ) (before after : State) (h : Ru
         text = put_bytes puts.put;
         certificate = puts.certificate;
         within = puts.within;
-        stands = holds_text puts.put out puts.named before.shelf.files after.shelf.files (subst (λ (o : Option Told). WhereTold (Holds puts.put) before.shelf.files o) (sym stand.2) stand.1);
+        stands = holds_text puts.put out puts.named before.shelf.files after.shelf.files (subst (λ (o : Option Told). WhereTold (HoldsPut puts.put) before.shelf.files o) (sym stand.2) stand.1);
         accepted = puts.accepted;
       }
 
@@ -370,7 +336,7 @@ module _ (words : List (List ℕ)) (number : ℕ) (before after : State) (h : Ru
         gives (rest_meaning asked.file asked.nodes (Some out)) performs low (λ view. RestCertificateStands number view asked.file asked.nodes out before.shelf.files after.shelf.files before.out.written after.out.written) (rest_certified asked.file asked.nodes out);
   }
 
-  rest_checked : (name certificate : List ℕ) (view : View) → Answered (rest_check_meaning name certificate) view number before after → RestCheckHolds view name certificate before.out.written after.out.written
+  rest_checked : (name certificate : List ℕ) (view : View) → IsAnswered (rest_check_meaning name certificate) view number before after → RestCheckHolds view name certificate before.out.written after.out.written
   rest_checked name certificate view a =
       let found = a.holds.holds.2 in
       let rest = found.2 in
@@ -392,7 +358,7 @@ module _ (words : List (List ℕ)) (number : ℕ) (before after : State) (h : Ru
   as_search : (asked : SearchWords) → search_of words ≡ Some asked → Performs (search_meaning asked) number before after
   as_search asked is = performed_where (codes "search") search_words LegalTemplate search_meaning number before after (λ rest r. r) words asked is h
 
-  searched : (asked : SearchWords) → Apart asked.filled asked.out → (view : View) → Answered (search_meaning asked) view number before after → SearchHolds number view asked before.shelf.files after.shelf.files before.out.written after.out.written
+  searched : (asked : SearchWords) → Apart asked.filled asked.out → (view : View) → IsAnswered (search_meaning asked) view number before after → SearchHolds number view asked before.shelf.files after.shelf.files before.out.written after.out.written
   searched asked apart view a =
       let t = a.holds.holds.0 in
       let finds = a.holds.holds.2 in
@@ -416,7 +382,7 @@ module _ (words : List (List ℕ)) (number : ℕ) (before after : State) (h : Ru
 
   pub searches : Searches number words before.shelf.files after.shelf.files before.shelf.calls after.shelf.calls before.out.written after.out.written
   searches asked is low =
-      gives (search_meaning asked) (as_search asked is) low (λ view. SearchHolds number view asked before.shelf.files after.shelf.files before.out.written after.out.written) (searched asked (names_apart words asked is))
+      gives (search_meaning asked) (as_search asked is) low (λ view. SearchHolds number view asked before.shelf.files after.shelf.files before.out.written after.out.written) (searched asked (names_apart words asked is).puts)
 
   printed_verify : (name : List ℕ) (budget : ℕ) (json : Bool) (view : View) → ReportHolds number view name budget json before.out.written after.out.written → EachToldSafe json view name before.out.written after.out.written
   printed_verify name budget json view r = record {
@@ -442,20 +408,13 @@ module _ (words : List (List ℕ)) (number : ℕ) (before after : State) (h : Ru
         subst (runs.Safe r.file.automaton) is found.safe;
   }
 
-  printed_unsafes : (name : List ℕ) (budget : ℕ) (json : Bool) (view : View) → ReportHolds number view name budget json before.out.written after.out.written → EachPrintedUnsafe json view name before.out.written after.out.written
+  printed_unsafes : (name : List ℕ) (budget : ℕ) (json : Bool) (view : View) → ReportHolds number view name budget json before.out.written after.out.written → EachPrintedUnsafe runs.Occurs (verify_telling json) view name before.out.written after.out.written
   printed_unsafes name budget json view r = record {
     file = r.file;
     holds = holds_file view name r.file r.is_file;
     text = report_of json r.file r.sample r.verdicts;
     gained = r.wrote;
     unsafe_ = unsafe_printed json r.file budget r.sample r.is_sample r.verdicts r.are;
-  }
-
-  pub printed_holds : PrintedHolds number words before.shelf.files before.shelf.calls after.shelf.calls before.out.written after.out.written
-  printed_holds = record {
-    safe = λ asked is low. gives_verify asked is low (λ view. EachToldSafe asked.json view asked.file before.out.written after.out.written) (λ view a. printed_verify asked.file asked.nodes asked.json view (reported asked.file asked.nodes asked.json asked.out view a));
-    unsafe_ = λ asked is low. gives_verify asked is low (λ view. EachPrintedUnsafe asked.json view asked.file before.out.written after.out.written) (λ view a. printed_unsafes asked.file asked.nodes asked.json view (reported asked.file asked.nodes asked.json asked.out view a));
-    proved = λ asked is none. gives (check_meaning asked.file asked.other) (as_check asked is) (omega (arith, none)) (λ view. EachPrinted runs.Safe (codes "proved") view asked.file before.out.written after.out.written) (λ view a. printed_check asked.file asked.other view (proved asked.file asked.other view a));
   }
 
   printed_rest : (name : List ℕ) (budget : ℕ) (view : View) → RestReportHolds number view name budget before.out.written after.out.written → EachPrinted RestSafe (codes "rest safe, ") view name before.out.written after.out.written
@@ -466,7 +425,7 @@ module _ (words : List (List ℕ)) (number : ℕ) (before after : State) (h : Ru
     gained = r.wrote;
     holds_of = λ k p named line.
         let said = printed_rest_safe r.file r.sample r.verdicts k p named r.is_sample.fits r.are.fit line in
-        rest_safe_at r.file r.ends.ending r.ends.added budget 0 r.file.patterns r.ends.ending.patterns r.verdicts r.are.hold k p said.0 said.1 named said.2;
+        rest_safe_at r.file r.ends.ending r.ends.added budget r.verdicts r.are k p said.0 said.1 named said.2;
   }
 
   printed_rest_check : (name certificate : List ℕ) (view : View) → RestCheckHolds view name certificate before.out.written after.out.written → EachPrinted RestSafe (codes "rest proved") view name before.out.written after.out.written
@@ -482,6 +441,25 @@ module _ (words : List (List ℕ)) (number : ℕ) (before after : State) (h : Ru
         subst (RestSafe r.file.automaton) is found.safe;
   }
 
+  printed_rest_unsafes : (name : List ℕ) (budget : ℕ) (view : View) → RestReportHolds number view name budget before.out.written after.out.written → EachPrintedUnsafe RestOccurs rest_telling view name before.out.written after.out.written
+  printed_rest_unsafes name budget view r = record {
+    file = r.file;
+    holds = holds_file view name r.file r.is_file;
+    text = rest_text r.file r.sample r.verdicts;
+    gained = r.wrote;
+    unsafe_ = rest_unsafe_printed r.file r.ends.ending r.ends.added budget r.sample r.is_sample r.verdicts r.are;
+  }
+
+  pub printed_holds : PrintedHolds number words before.shelf.files before.shelf.calls after.shelf.calls before.out.written after.out.written
+  printed_holds = record {
+    safe = λ asked is low. gives_verify asked is low (λ view. EachToldSafe asked.json view asked.file before.out.written after.out.written) (λ view a. printed_verify asked.file asked.nodes asked.json view (reported asked.file asked.nodes asked.json asked.out view a));
+    unsafe_ = λ asked is low. gives_verify asked is low (λ view. EachPrintedUnsafe runs.Occurs (verify_telling asked.json) view asked.file before.out.written after.out.written) (λ view a. printed_unsafes asked.file asked.nodes asked.json view (reported asked.file asked.nodes asked.json asked.out view a));
+    rest_safe = λ asked is low. gives (rest_meaning asked.file asked.nodes asked.out) (as_rest asked is) low (λ view. EachPrinted RestSafe (codes "rest safe, ") view asked.file before.out.written after.out.written) (λ view a. printed_rest asked.file asked.nodes view (at_rest asked.file asked.nodes asked.out view a));
+    rest_unsafe = λ asked is low. gives (rest_meaning asked.file asked.nodes asked.out) (as_rest asked is) low (λ view. EachPrintedUnsafe RestOccurs rest_telling view asked.file before.out.written after.out.written) (λ view a. printed_rest_unsafes asked.file asked.nodes view (at_rest asked.file asked.nodes asked.out view a));
+    rest_proved = λ asked is none. gives (rest_check_meaning asked.file asked.other) (as_rest_check asked is) (omega (arith, none)) (λ view. EachPrinted RestSafe (codes "rest proved") view asked.file before.out.written after.out.written) (λ view a. printed_rest_check asked.file asked.other view (rest_checked asked.file asked.other view a));
+    proved = λ asked is none. gives (check_meaning asked.file asked.other) (as_check asked is) (omega (arith, none)) (λ view. EachPrinted runs.Safe (codes "proved") view asked.file before.out.written after.out.written) (λ view a. printed_check asked.file asked.other view (proved asked.file asked.other view a));
+  }
+
   -- some pattern of a file whose report has the number 1 occurs in a run
   some_occurring : (name : List ℕ) (budget : ℕ) (json : Bool) (view : View) → number ≡ 1 → ReportHolds number view name budget json before.out.written after.out.written → SomePatternOccurs view name
   some_occurring name budget json view one r =
@@ -495,7 +473,7 @@ module _ (words : List (List ℕ)) (number : ℕ) (before after : State) (h : Ru
         pattern = some.pattern;
         among = some.at;
         first = occurrence.first;
-        rules = occurrence.rules;
+        rules = unit_steps some.run.lines;
         occurs = occurrence.occurs;
       }
 
@@ -509,13 +487,9 @@ module _ (words : List (List ℕ)) (number : ℕ) (before after : State) (h : Ru
         record { file = r.file; holds = holds_file view name r.file r.is_file; safe = each_safe r.file budget 0 r.file.patterns r.verdicts kinds.0 kinds.1 r.are.hold });
     occurs = λ asked is one. gives_verify asked is (omega (arith, one)) (λ view. SomePatternOccurs view asked.file) (λ view a. some_occurring asked.file asked.nodes asked.json view one (reported asked.file asked.nodes asked.json asked.out view a));
     proved = printed_holds.proved;
-    rest_safe = λ asked is low. gives (rest_meaning asked.file asked.nodes asked.out) (as_rest asked is) low (λ view. EachPrinted RestSafe (codes "rest safe, ") view asked.file before.out.written after.out.written) (λ view a. printed_rest asked.file asked.nodes view (at_rest asked.file asked.nodes asked.out view a));
-    rest_proved = λ asked is none. gives (rest_check_meaning asked.file asked.other) (as_rest_check asked is) (omega (arith, none)) (λ view. EachPrinted RestSafe (codes "rest proved") view asked.file before.out.written after.out.written) (λ view a. printed_rest_check asked.file asked.other view (rest_checked asked.file asked.other view a));
+    rest_safe = printed_holds.rest_safe;
+    rest_proved = printed_holds.rest_proved;
   }
-
-pub usage_exactly : (asked : Asked) (number : ℕ) (before after : State) → Runs asked number before after → UsageExactly number asked
-usage_exactly NoCommand number before after h = record { no_command = λ five. tt; command = λ other none. other h.five }
-usage_exactly (Command legal m) number before after h = record { no_command = λ five. absurd (never_five m number before after h.performs.ends five); command = λ other none. none }
 
 pub quiet : (asked : Asked) (number : ℕ) (before after : State) → Runs asked number before after → Quiet number before after
 quiet NoCommand number before after h =
@@ -528,17 +502,9 @@ quiet NoCommand number before after h =
     }
 quiet (Command legal m) number before after h = h.performs.quiet
 
-pub tellings : (asked : Asked) (number : ℕ) (before after : State) → Runs asked number before after → Tellings asked number before after
-tellings NoCommand number before after h = (h.five, h.told)
-tellings (Command legal m) number before after h = h.performs.telling
-
 pub exactly_so : (asked : Asked) (number : ℕ) (before after : State) → Runs asked number before after → ExactlySo number asked before.shelf.files
 exactly_so NoCommand number before after h = tt
 exactly_so (Command legal m) number before after h = h.performs.exact h.decides
-
-pub opens : (asked : Asked) (number : ℕ) (before after : State) → Runs asked number before after → Opens asked before.shelf.calls after.shelf.calls
-opens NoCommand number before after h = ap (λ (s : ShelfState). s.calls) h.shelf
-opens (Command legal m) number before after h = let ends = h.performs.ends in record { added = ends.read; grown = ends.grown; such = ends.opened }
 
 kept_others : (asked : Asked) (number : ℕ) (before after : State) → Runs asked number before after → KeptBut (put_by asked) before.shelf.files after.shelf.files
 kept_others NoCommand number before after h = ap (λ (s : ShelfState). s.files) h.shelf
@@ -551,17 +517,13 @@ kept_by_refusal (Command legal m) number before after h three five = kept_refuse
 pub keeps_files : (words : List (List ℕ)) (number : ℕ) (before after : State) → Runs (request_of words) number before after → KeepsFiles number words before.shelf.files after.shelf.files
 keeps_files words number before after h = record { others = kept_others (request_of words) number before after h; refused = kept_by_refusal (request_of words) number before after h }
 
--- a legal FILE is no hindrance of `verify`
-legal_file : (told : Told) (name : List ℕ) (budget : ℕ) (json : Bool) (out : Option (List ℕ)) (file : File) (number : ℕ) (line : List ℕ) → IsFile (in_files told) name file → Hinders file_kind (in_files told) name number line → ⊥
-legal_file told name budget json out file number line is own = no_hindrance file_kind name (may_put out) (λ f. report_meaning f budget json out) (λ f. report_monotone f budget json out) told (λ bytes f fault legal found. legal.no_fault fault found) file number line is own
-
 -- what hinders in told files, by what is seen in them and in the calls
-hinders_told : (m : Meaning) (told : Told) (number : ℕ) (before after : State) → before.shelf.files ≡ Some told → Performs m number before after → Decides m → 3 ≤ number → number ≤ 4 → (line : List ℕ) × m.refuses (in_files told) number line
+pub hinders_told : (m : Meaning) (told : Told) (number : ℕ) (before after : State) → before.shelf.files ≡ Some told → Performs m number before after → Decides m → 3 ≤ number → number ≤ 4 → (line : List ℕ) × m.refuses (in_files told) number line
 hinders_told m told number before after is h decides three four =
     let hinders = hindered m number before after h.ends three four in
     (hinders.0, decides.refuses told h.ends.read number hinders.0 (subst (λ (o : Option Told). m.refuses (seen o h.ends.read) number hinders.0) is hinders.1))
 
-passes_legal : (asked : Asked) (number : ℕ) (before after : State) → Runs asked number before after → PassesLegal asked number before.shelf.files
+pub passes_legal : (asked : Asked) (number : ℕ) (before after : State) → Runs asked number before after → PassesLegal asked number before.shelf.files
 passes_legal NoCommand number before after h = tt
 passes_legal (Command legal m) number before after h = λ told is legal. (
   λ three.
@@ -573,46 +535,3 @@ passes_legal (Command legal m) number before after h = λ told is legal. (
 -- told files hold one file
 pub same_file : (told : Told) (name : List ℕ) (file other : File) → IsFile (in_files told) name other → IsFile (in_files told) name file → other ≡ file
 same_file told name file other h is = one_legal is.bytes other file (subst (λ (bytes : List ℕ). file_kind.means bytes other) (whole_one told name file_kind.limit.bytes h.bytes is.bytes h.had is.had) h.means) is.means
-
-known : (told : Told) (name : List ℕ) (budget : ℕ) (json : Bool) (out : Option (List ℕ)) (file : File) (number : ℕ) (before after : State) → before.shelf.files ≡ Some told → Performs (verify_meaning name budget json out) number before after → IsFile (in_files told) name file → IsKnown file budget → number ≢ 2
-known told name budget json out file number before after is h is_file none two =
-    let m = verify_meaning name budget json out in
-    let a = answered m (seen before.shelf.files h.ends.read) number before after h.ends.end (omega (arith, two)) in
-    let seen_told = subst (λ (o : Option Told). m.answers (seen o h.ends.read) a.answer) is a.holds.holds in
-    let answers = (verify_decides name budget json out).answers told h.ends.read a.answer seen_told in
-    let same : answers.0 ≡ file = same_file told name file answers.0 answers.1 is_file in
-    let r : Reports file budget json out a.answer = subst (λ (f : File). Reports f budget json out a.answer) same answers.2 in
-    let unknown = kinds_of_two (list_any is_unsafe r.verdicts) (list_any is_unknown r.verdicts) (sym r.numbered ∙ sym a.numbered ∙ two) in
-    let nothing = some_unknown file budget 0 file.patterns r.verdicts r.are.hold (λ k p v named is_one holds. let here : 0 + k ≡ k = omega arith in none k p v named is_one (subst (λ (n : ℕ). VerdictHolds file budget n p v) here holds)) in
-    let e : true ≡ false = sym unknown ∙ nothing in
-    cc
-
--- with 4 the certificate that is asked for is too long
-too_long : (told : Told) (name : List ℕ) (budget : ℕ) (json : Bool) (out : Option (List ℕ)) (file : File) (number : ℕ) (before after : State) → before.shelf.files ≡ Some told → Performs (verify_meaning name budget json out) number before after → IsFile (in_files told) name file → number ≡ 4 → IsSome out × LongCertificate file budget
-too_long told name budget json out file number before after is h is_file four =
-    let m = verify_meaning name budget json out in
-    let hinders = hinders_told m told number before after is h (verify_decides name budget json out) (omega (arith, four)) (omega (arith, four)) in
-    elim hinders.1 [
-      | inl own ↦ absurd (legal_file told name budget json out file number hinders.0 is_file own)
-      | inr rest ↦
-          let long = hinders_long rest.0 budget out number hinders.0 rest.2 in
-          (long.1, subst (λ (f : File). LongCertificate f budget) (same_file told name file rest.0 rest.1 is_file) long.2)
-    ]
-
--- and where it is too long, the number is 4, 6 and 7 aside
-four_where_long : (told : Told) (name : List ℕ) (budget : ℕ) (json : Bool) (out : List ℕ) (file : File) (number : ℕ) (before after : State) → before.shelf.files ≡ Some told → Performs (verify_meaning name budget json (Some out)) number before after → IsFile (in_files told) name file → LongCertificate file budget → (number ≡ 4) ⊎ ((number ≡ 6) ⊎ (number ≡ 7))
-four_where_long told name budget json out file number before after is h is_file long =
-    h.exact (verify_decides name budget json (Some out)) told is 4 (inr (long_line out, inr (file, is_file, record { numbered = refl; said = refl; long = long })))
-
-long_where : (told : Told) (name : List ℕ) (budget : ℕ) (json : Bool) (out : Option (List ℕ)) (file : File) (number : ℕ) (before after : State) → before.shelf.files ≡ Some told → Performs (verify_meaning name budget json out) number before after → IsSome out → IsFile (in_files told) name file → LongCertificate file budget → (number ≡ 4) ⊎ ((number ≡ 6) ⊎ (number ≡ 7))
-long_where told name budget json None file number before after is h some is_file long = absurd (cc)
-long_where told name budget json (Some out) file number before after is h some is_file long = four_where_long told name budget json out file number before after is h is_file long
-
-pub completes : (words : List (List ℕ)) (number : ℕ) (before after : State) → Runs (request_of words) number before after → Completes number words before after
-completes words number before after h = record {
-  passes = passes_legal (request_of words) number before after h;
-  calm = λ shelf out six. elim ((quiet (request_of words) number before after h).failed six) [ inl faulted ↦ shelf faulted | inr failed ↦ out failed ];
-  known = λ told asked file is asks is_file none. known told asked.file asked.nodes asked.json asked.out file number before after is (as_verify words number before after h asked asks) is_file none;
-  fits = λ told asked file is asks is_file four. too_long told asked.file asked.nodes asked.json asked.out file number before after is (as_verify words number before after h asked asks) is_file four;
-  long = λ told asked file is asks some is_file long. long_where told asked.file asked.nodes asked.json asked.out file number before after is (as_verify words number before after h asked asks) some is_file long;
-}

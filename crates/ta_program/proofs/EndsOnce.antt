@@ -1,14 +1,13 @@
 -- a file has one list of endings
-use Rattle.std.proofs.Common.{◌≡◌, inl, inr, ℕ, ◌+◌, List, [], ◌∷◌, ◌++◌, length, length-append, arith, sym, ap, ◌∙◌, refl}
-use Rattle.ta_automaton.specs.declared.automaton.Automaton.{Automaton}
+use Rattle.std.proofs.Common.{◌≡◌, inl, inr, List, [], ◌∷◌, ◌++◌, length, length-append, arith, sym, ap, ◌∙◌, refl}
+use Rattle.ta_base.proofs.Bits.{mask-one}
+use Rattle.ta_base.proofs.Lists.{same_parts}
 use Rattle.ta_automaton.specs.declared.pattern.Event.{Event}
 use Rattle.ta_automaton.specs.declared.pattern.Pattern.{Pattern}
 use Rattle.ta_automaton.specs.declared.file.File.{File}
 use Rattle.ta_meaning.proofs.EqualParts.{condition-equal, event-equal, file-equal, pattern-equal}
-use Rattle.ta_meaning.proofs.OneFile.{mask-one}
-use Rattle.ta_replay.proofs.ListSteps.{same_parts}
 use Rattle.ta_rest.specs.Endings.{Endings, IsEnding, LastMoved, RestAdded, events_below}
-use Rattle.ta_program.specs.RestEnds.{Ends, IsEnds}
+use Rattle.ta_program.specs.RestEnds.{FileEndings, IsEnds}
 
 -- the last events that are moved are the same
 moved_same : (old xs ys : List Event) → LastMoved old xs → LastMoved old ys → xs ≡ ys
@@ -50,7 +49,7 @@ endings_same (p ∷ ps) (q ∷ qs) [] h k = absurd k
 endings_same (p ∷ ps) (q ∷ qs) (r ∷ rs) h k =
     ap (λ (x : Pattern). x ∷ qs) (ending_same p q r h.0 k.0) ∙ ap (λ (xs : List Pattern). r ∷ xs) (endings_same ps qs rs h.1 k.1)
 
-pub ends_once : (file : File) (d e : Ends) → IsEnds file d → IsEnds file e → d ≡ e
+pub ends_once : (file : File) (d e : FileEndings) → IsEnds file d → IsEnds file e → d ≡ e
 ends_once file d e h k =
     let ending : d.ending ≡ e.ending = file-equal d.ending e.ending (h.endings.automaton ∙ sym k.endings.automaton) (endings_same file.patterns d.ending.patterns e.ending.patterns h.endings.patterns k.endings.patterns) in
     let added : d.added ≡ e.added = mask-one _ d.added e.added h.endings.added k.endings.added in

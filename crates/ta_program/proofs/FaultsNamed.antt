@@ -6,7 +6,6 @@ use Rattle.ta_automaton.specs.declared.file.File.{File}
 use Rattle.ta_meaning.proofs.OneTree.{one_legal}
 use Rattle.ta_meaning.specs.Laws.{FirstFaultsAreUnique}
 use Rattle.ta_report.specs.Check.{check_text, rest_check_text}
-use Rattle.ta_replay.specs.declared.run.Run.{Run}
 use Rattle.ta_replay.specs.RunText.{run_text}
 use Rattle.ta_search.specs.declared.template.Template.{Template}
 use Rattle.ta_search.proofs.OneFault.{one_fault}
@@ -20,16 +19,16 @@ use Rattle.ta_shell.specs.Sights.{in_files, seen}
 use Rattle.ta_shell.specs.Stages.{Writes, after, finds, replies}
 use Rattle.ta_smt.proofs.FaultsOnce.{whole_faults_once, word_faults_once}
 use Rattle.ta_smt.proofs.WordsNamed.{whole_exact, words_exact}
-use Rattle.ta_smt.specs.Admit.{Asked as Word}
+use Rattle.ta_smt.specs.Admit.{AskedWord as Word}
 use Rattle.ta_smt.specs.Named.{IsWholeWordOf, IsWordOf, Spelling, WholeFaultOf, WordFaultOf}
 use Rattle.ta_smt.specs.declared.fault.WordFault.{WordFault}
 use Rattle.ta_claim.specs.declared.claim.Claim.TheVariants as claim
 use Rattle.ta_check.specs.Subjects.{claiming}
 use Rattle.ta_program.specs.Admit.{AdmitAsked, admit_meaning, admit_words, run_meaning, values_kind, values_meaning}
-use Rattle.ta_program.specs.Asked.{Asked, LegalFile, Runs, ask, ask_where, choose, row}
+use Rattle.ta_program.specs.Asked.{Asked, LegalFile, Runs, ask, ask_where, choose}
 use Rattle.ta_program.specs.Asked.Asked.{Command, NoCommand}
-use Rattle.ta_program.specs.Bench.{SaysBench, bench_asked, bench_meaning, bench_words}
-use Rattle.ta_program.specs.Certified.{HindersCertificate, long_line, may_put}
+use Rattle.ta_program.specs.Bench.{SaysBench, bench_meaning, bench_words}
+use Rattle.ta_program.specs.Certified.{HindersCertificate, may_put}
 use Rattle.ta_program.specs.Check.{check_meaning, proved_meaning}
 use Rattle.ta_program.specs.Compress.{SaysShort, compress_meaning, long_kind, short_meaning}
 use Rattle.ta_program.specs.Export.{SaysSystem, WordHinders, export_meaning, export_words, system_meaning, word_fault_text}
@@ -40,7 +39,7 @@ use Rattle.ta_program.specs.Reporting.{Reports, report_meaning, verify_meaning}
 use Rattle.ta_program.specs.Requests.{request_of}
 use Rattle.ta_program.specs.Rest.{HindersRest, RestReports, rest_meaning, rest_report_meaning}
 use Rattle.ta_program.specs.RestCheck.{rest_check_meaning, rest_proved_meaning}
-use Rattle.ta_program.specs.RestEnds.{CycleHinders, Ends, IsEnds, LegalAtRest, cycle_text, with_ends}
+use Rattle.ta_program.specs.RestEnds.{CycleHinders, FileEndings, IsEnds, LegalAtRest, cycle_text, with_ends}
 use Rattle.ta_program.specs.RestWords.{rest_words}
 use Rattle.ta_program.proofs.EndsOnce.{ends_once}
 use Rattle.ta_program.proofs.RestMeanings.{cycle_rule, ends_monotone, hinders_rest, no_cycle, rest_proved_monotone, rest_report_monotone}
@@ -75,7 +74,7 @@ long_found : (t : Template) (budget : ℕ) (out : Option (List ℕ)) (line words
 long_found t budget None line words number other h k = absurd h
 long_found t budget (Some out) line words number other h k = h.said ∙ sym k.said
 
-long_rest : (file : File) (ends : Ends) (budget : ℕ) (out : Option (List ℕ)) (line words : List ℕ) (number other : ℕ) → HindersRest file ends budget out number line → HindersRest file ends budget out other words → line ≡ words
+long_rest : (file : File) (ends : FileEndings) (budget : ℕ) (out : Option (List ℕ)) (line words : List ℕ) (number other : ℕ) → HindersRest file ends budget out number line → HindersRest file ends budget out other words → line ≡ words
 long_rest file ends budget None line words number other h k = absurd h
 long_rest file ends budget (Some out) line words number other h k = h.said ∙ sym k.said
 
@@ -150,7 +149,7 @@ module _ (unique : FirstFaultsAreUnique) (told : Told) where
       after_once template_kind (settled template_kind (λ bytes f none. none) one_fault) asked.file (found_names asked) (found_meaning asked) (found_monotone asked) told 3 refl (omega arith) (omega arith) template_fits (found_once asked) one_text
 
   -- of a command that looks for the endings of FILE
-  ends_line : (name : List ℕ) (puts : List (List ℕ)) (rest : File → Ends → Meaning) → ((file : File) (ends : Ends) → Monotone (rest file ends)) → ((file : File) (ends : Ends) → HinderOnce (rest file ends) told) → HinderOnce (with_ends name puts rest) told
+  ends_line : (name : List ℕ) (puts : List (List ℕ)) (rest : File → FileEndings → Meaning) → ((file : File) (ends : FileEndings) → Monotone (rest file ends)) → ((file : File) (ends : FileEndings) → HinderOnce (rest file ends) told) → HinderOnce (with_ends name puts rest) told
   ends_line name puts rest rests later =
       file_first name puts (λ file. finds (IsEnds file) (CycleHinders name file) puts (rest file)) (ends_monotone name puts rest rests) (λ file.
       finds_once (IsEnds file) (CycleHinders name file) puts (rest file) told
@@ -160,7 +159,7 @@ module _ (unique : FirstFaultsAreUnique) (told : Told) where
       (λ d e is are. sym (ends_once file d e is are))
       (later file))
 
-  rest_report_once : (budget : ℕ) (out : Option (List ℕ)) (file : File) (ends : Ends) → HinderOnce (rest_report_meaning budget out file ends) told
+  rest_report_once : (budget : ℕ) (out : Option (List ℕ)) (file : File) (ends : FileEndings) → HinderOnce (rest_report_meaning budget out file ends) told
   rest_report_once budget out file ends =
       settles_once (may_put out) (RestReports file ends budget out) (HindersRest file ends budget out) told
       (λ number line h. let is = (hinders_rest file ends budget out number line h).0 in (omega (arith, is), omega (arith, is)))

@@ -1,6 +1,7 @@
 -- Bytes have one fault of each kind.
-use Rattle.std.proofs.Common.{◌≡◌, ◌∙◌, ◌++◌, ℕ, List, refl, sym, ap, subst, inl, inr}
+use Rattle.std.proofs.Common.{◌≡◌, ◌∙◌, ◌++◌, ℕ, List, sym, ap, subst, inl, inr}
 use Rattle.std.specs.Prelude.{◌≢◌}
+use Rattle.ta_check.proofs.Answering.{first_of_lasting}
 use Rattle.ta_automaton.specs.declared.file.File.{File}
 use Rattle.ta_cert.specs.declared.fault.CertFault.{CertFault}
 use Rattle.ta_cert.specs.declared.fault.CertFault.TheVariants as cert
@@ -11,8 +12,6 @@ use Rattle.ta_check.proofs.OneFault.{one_fault}
 use Rattle.ta_compress.specs.declared.fault.CompressFault.{CompressFault}
 use Rattle.ta_compress.specs.Faults.{CompressFaultOf}
 use Rattle.ta_compress.proofs.Once.{refusals_once as compressed_once}
-use Rattle.ta_meaning.specs.FirstFault.{FirstFault}
-use Rattle.ta_meaning.specs.Laws.{FirstFaultsAreUnique}
 use Rattle.ta_replay.specs.declared.fault.RunFault.{RunFault}
 use Rattle.ta_replay.specs.declared.fault.RunFault.TheVariants as runs
 use Rattle.ta_replay.specs.declared.run.Run.{Run}
@@ -22,12 +21,12 @@ use Rattle.ta_replay.specs.TextFaults.{TextFault}
 use Rattle.ta_replay.proofs.OneRefusal.{one_refusal}
 use Rattle.ta_replay.proofs.Once.{text_fault_once, texts_once}
 use Rattle.ta_shell.specs.Stages.{Kind}
-use Rattle.ta_smt.specs.Admit.{Asked}
+use Rattle.ta_smt.specs.Admit.{AskedWord}
 use Rattle.ta_smt.proofs.FaultsOnce.{admit_faults_once}
 use Rattle.ta_program.specs.Admit.{values_kind}
-use Rattle.ta_program.specs.Compress.{CompressFaultIn, IsRefused, IsTextFault, long_kind, of_run}
+use Rattle.ta_program.specs.Compress.{CompressFaultIn, IsRefusedRun, IsTextFault, long_kind, of_run}
 use Rattle.ta_program.specs.Faults.{OneFault}
-use Rattle.ta_program.specs.Kinds.{IsReplayFault, certificate_kind, file_kind, run_kind}
+use Rattle.ta_program.specs.Kinds.{IsReplayFault, certificate_kind, run_kind}
 use Rattle.ta_program.proofs.OneLine.{Settled}
 
 -- a text of a run has no fault as a text
@@ -49,7 +48,7 @@ run_once file bytes e f a b = elim a.first [
 no_memory : (file : File) (bytes : List ℕ) (f : CompressFault) → CompressFaultIn file bytes f → (s : IsTextFault file bytes f) → s.first ≢ runs.Memory
 no_memory file bytes f found s is = found.no_memory (s.is ∙ ap of_run is)
 
-refused_once : (file : File) (bytes : List ℕ) (e f : CompressFault) → CompressFaultIn file bytes e → CompressFaultIn file bytes f → IsRefused file bytes e → IsRefused file bytes f → e ≡ f
+refused_once : (file : File) (bytes : List ℕ) (e f : CompressFault) → CompressFaultIn file bytes e → CompressFaultIn file bytes f → IsRefusedRun file bytes e → IsRefusedRun file bytes f → e ≡ f
 refused_once file bytes e f a b s t =
     let same = texts_once.run file bytes s.run t.run s.text t.text in
     compressed_once.one file t.run e f a.no_memory b.no_memory t.text.fits (subst (λ (run : Run). CompressFaultOf file run e) same s.first) t.first
@@ -66,16 +65,11 @@ long_once file bytes e f a b = elim a.first [
   ]
 ]
 
-pub values_once : (file : File) (word : Asked) → OneFault (values_kind file word)
+pub values_once : (file : File) (word : AskedWord) → OneFault (values_kind file word)
 values_once file word bytes e f a b = admit_faults_once file word bytes e f a.no_memory b.no_memory a.first b.first
 
 pub certificate_once : (subject : Subject) → OneFault (certificate_kind subject)
 certificate_once subject bytes e f a b = one_fault subject bytes e f a.first b.first
-
--- a fault that lasts is a first fault, and so of each longer text
-lasting_first : (subject : Subject) (bytes : List ℕ) (f : CertFault) → IsLastingFor subject bytes f → IsFirstFaultFor subject bytes f
-lasting_first subject bytes (cert.Truncated n) h = absurd h
-lasting_first subject bytes f h = h
 
 lasting_lasts : (subject : Subject) (bytes more : List ℕ) (f : CertFault) → IsLastingFor subject bytes f → IsLastingFor subject (bytes ++ more) f
 lasting_lasts subject bytes more (cert.Truncated n) h = absurd h
@@ -86,7 +80,7 @@ certificate_settled subject = record {
   First = IsFirstFaultFor subject;
   one = one_fault subject;
   of_fault = λ bytes f h. h.first;
-  of_broken = lasting_first subject;
+  of_broken = first_of_lasting subject;
   lasts = lasting_lasts subject;
 }
 

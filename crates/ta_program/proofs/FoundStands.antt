@@ -1,76 +1,10 @@
 -- what the files hold where values were found
-use Rattle.std.proofs.Common.{◌≡◌, ◌≢◌, ◌∙◌, ℕ, Bool, true, false, ◌&&◌, not, List, [], ◌∷◌, length, map, Option, None, Some, refl, sym, ap, subst, rules}
-use Rattle.std.specs.Prelude.{nat_lt, if◌then◌else◌, option_and_then, option_map}
-use Rattle.std.specs.Str.{bytes_eq}
+use Rattle.std.proofs.Common.{◌≡◌, ◌≢◌, ◌∙◌, ℕ, List, [], ◌∷◌, map, Option, None, Some, refl, sym, ap, subst}
 use Rattle.ta_shelf.specs.Put.{Told, WhereTold}
 use Rattle.ta_shell.specs.Puts.{HoldsText, Stand}
 use Rattle.ta_shell.specs.declared.answer.Put.{Put}
 use Rattle.ta_program.specs.Search.{HoldFound, PutText, found_files, put_text}
-use Rattle.ta_program.specs.SearchWords.{SearchWords, search_form, search_of, search_taken, search_words}
-use Rattle.ta_program.specs.Values.{are_same, budget_of, filled_of, name_of, out_of}
-use Rattle.ta_program.specs.Words.{Taken, plain_of, taken_by, value_of}
-
--- ---- the names of the two files differ
-
--- two names that are both given differ
-abbrev pub Apart : Option (List ℕ) → Option (List ℕ) → Type 0
-Apart filled out = (name other : List ℕ) → filled ≡ Some name → out ≡ Some other → name ≢ other
-
-by_test : (test : Bool) (given : List ℕ) (result : Option (List ℕ)) → (if test then Some (Some given) else None) ≡ Some result → result ≡ Some given
-by_test true given result is = cc
-by_test false given result is = absurd (cc)
-
--- a name that is taken is the one that was given
-out_given : (file : List ℕ) (given result : Option (List ℕ)) → out_of file given ≡ Some result → result ≡ given
-out_given file None result is = cc
-out_given file (Some given) result is = by_test (nat_lt 0 (length given) && not (bytes_eq given file)) given result is
-
-by_same : (same : Bool) (answer : Option (Option (List ℕ))) (result : Option (List ℕ)) → (if same then None else answer) ≡ Some result → (same ≡ false) × (answer ≡ Some result)
-by_same true answer result is = absurd (cc)
-by_same false answer result is = (refl, is)
-
-differ : (out given : Option (List ℕ)) → are_same out given ≡ false → Apart given out
-differ None given differs = λ name other first second. absurd (cc)
-differ (Some out) None differs = λ name other first second. absurd (cc)
-differ (Some out) (Some given) differs = λ name other first second equal.
-    let same : out ≡ given = cc in
-    let e : bytes_eq out given ≡ true = search rules in
-    let f : true ≡ false = sym e ∙ differs in
-    absurd (cc)
-
-filled_apart : (file : List ℕ) (out given result : Option (List ℕ)) → filled_of file out given ≡ Some result → Apart result out
-filled_apart file out given result is =
-    let by = by_same (are_same out given) (out_of file given) result is in
-    subst (λ (o : Option (List ℕ)). Apart o out) (sym (out_given file given result by.1)) (differ out given by.0)
-
--- what was looked for first, where something came of it
-and_then_some : {A B : Type 0} (f : A → Option B) (o : Option A) (b : B) → option_and_then f o ≡ Some b → (a : A) × (f a ≡ Some b)
-and_then_some f None b is = absurd (cc)
-and_then_some f (Some a) b is = (a, is)
-
-by_filled : (file : List ℕ) (nodes : ℕ) (out : Option (List ℕ)) (given : Option (List ℕ)) (filled : Option (Option (List ℕ))) (asked : SearchWords) → filled_of file out given ≡ filled → option_map (λ f. record { file = file; nodes = nodes; out = out; filled = f }) filled ≡ Some asked → Apart asked.filled asked.out
-by_filled file nodes out given None asked from is = absurd (cc)
-by_filled file nodes out given (Some filled) asked from is =
-    let a : filled ≡ asked.filled = cc in
-    let b : out ≡ asked.out = cc in
-    subst (λ (o : Option (List ℕ)). Apart asked.filled o) b (subst (λ (o : Option (List ℕ)). Apart o out) a (filled_apart file out given filled from))
-
-taken_apart : (taken : Taken) (asked : SearchWords) → search_taken taken ≡ Some asked → Apart asked.filled asked.out
-taken_apart taken asked is =
-    let file = and_then_some _ (name_of (plain_of taken 0)) asked is in
-    let nodes = and_then_some _ (budget_of (value_of taken 0)) asked file.1 in
-    let out = and_then_some _ (out_of file.0 (value_of taken 1)) asked nodes.1 in
-    by_filled file.0 nodes.0 out.0 (value_of taken 2) (filled_of file.0 out.0 (value_of taken 2)) asked refl out.1
-
-by_name : (named : Bool) (words : List (List ℕ)) (asked : SearchWords) → (if named then search_words words else None) ≡ Some asked → Apart asked.filled asked.out
-by_name true words asked is = let taken = and_then_some search_taken (taken_by search_form words) asked is in taken_apart taken.0 asked taken.1
-by_name false words asked is = absurd (cc)
-
-pub names_apart : (words : List (List ℕ)) (asked : SearchWords) → search_of words ≡ Some asked → Apart asked.filled asked.out
-names_apart [] asked is = absurd (cc)
-names_apart (word ∷ words) asked is = by_name (bytes_eq word _) words asked is
-
--- ---- what was put
+use Rattle.ta_program.proofs.WordsDiffer.{Apart}
 
 -- these texts stand, one after the other
 abbrev Stands : List PutText → Option Told → Option Told → Type 0

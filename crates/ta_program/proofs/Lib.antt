@@ -10,10 +10,15 @@ mod RestMeanings
 mod Resting
 mod SearchMeanings
 mod SearchAnswers
-mod FoundStands
-mod Clauses
 mod WordsDiffer
+mod FoundStands
+mod AtRest
+mod Clauses
+mod Complete
+mod Accepting
 mod Accepted
+mod AcceptedAtRest
+mod AcceptedFound
 mod RunsReplayed
 mod PiecesJudged
 mod Benching

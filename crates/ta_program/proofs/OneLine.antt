@@ -1,13 +1,14 @@
 -- Told files hinder a command with one number and one line.
-use Rattle.std.proofs.Common.{◌≡◌, ◌∙◌, ◌+◌, ◌-◌, ◌<◌, ◌≤◌, ◌⊎◌, ℕ, List, ◌++◌, length, length-append, take, Option, None, Some, refl, sym, ap, subst, inl, inr, arith}
+use Rattle.std.proofs.Common.{◌≡◌, ◌∙◌, ◌+◌, ◌-◌, ◌<◌, ◌≤◌, ◌⊎◌, ℕ, List, ◌++◌, length, length-append, take, Option, None, Some, sym, ap, subst, inl, inr, arith}
 use Rattle.std.proofs.Math.Seq.{take-append-add}
 use Rattle.std.proofs.lemmas.List.{take-append-le}
+use Rattle.ta_base.proofs.Lists.{none_not_some, one_content}
 use Rattle.ta_shelf.specs.Put.{Told}
 use Rattle.ta_shell.specs.Commands.{Meaning}
 use Rattle.ta_shell.specs.Lines.{file_line, longer_than, missing}
 use Rattle.ta_shell.specs.Reading.{IsUnreadable}
 use Rattle.ta_shell.specs.Sights.{HasMore, in_files}
-use Rattle.ta_shell.specs.Stages.{GoesOn, Hinders, IsAtFault, IsBroken, Kind, after, finds, replies, settles}
+use Rattle.ta_shell.specs.Stages.{ReadingGoesOn, Hinders, FileIsAtFault, IsBroken, Kind, after, finds, replies, settles}
 use Rattle.ta_shell.specs.declared.answer.Answer.{Answer}
 use Rattle.ta_shell.proofs.Read.{no_hindrance}
 use Rattle.ta_shell.proofs.Views.{Monotone, whole_one}
@@ -26,7 +27,7 @@ record Long {A F : Type 0} (kind : Kind A F) (file : Option (List ℕ)) : Type 0
   content : List ℕ
   held : file ≡ Some content
   longer : kind.limit.bytes < length content
-  goes_on : GoesOn kind (take kind.limit.bytes content)
+  goes_on : ReadingGoesOn kind (take kind.limit.bytes content)
 
 -- a told file with a fault that is found within its limit
 record Faulty {A F : Type 0} (kind : Kind A F) (First : List ℕ → F → Type 0) (file : Option (List ℕ)) (words : List ℕ) : Type 0 where
@@ -43,14 +44,8 @@ data Cause {A F : Type 0} (kind : Kind A F) (First : List ℕ → F → Type 0) 
   TooLong : Long kind file → words ≡ longer_than kind.limit.bytes → Cause kind First file words
   AtFault : Faulty kind First file words → Cause kind First file words
 
-none_or_some : (file : Option (List ℕ)) (content : List ℕ) → file ≡ None → file ≡ Some content → ⊥
-none_or_some file content none some = let e : Some content ≡ None = sym some ∙ none in cc
-
-one_content : (file : Option (List ℕ)) (content other : List ℕ) → file ≡ Some content → file ≡ Some other → content ≡ other
-one_content file content other is are = let e : Some content ≡ Some other = sym is ∙ are in cc
-
 module _ {A F : Type 0} (kind : Kind A F) (settled : Settled kind) where
-  long : (told : Told) (name : List ℕ) → HasMore (in_files told) name kind.limit.bytes (GoesOn kind) → Long kind (told name)
+  long : (told : Told) (name : List ℕ) → HasMore (in_files told) name kind.limit.bytes (ReadingGoesOn kind) → Long kind (told name)
   long told name h =
       let more = h.more in
       let rest = h.seen.rest in
@@ -58,10 +53,10 @@ module _ {A F : Type 0} (kind : Kind A F) (settled : Settled kind) where
         content = h.bytes ++ rest;
         held = h.seen.held;
         longer = omega (arith, more, length-append h.bytes rest);
-        goes_on = subst (GoesOn kind) (sym (take-append-le kind.limit.bytes h.bytes rest (omega (arith, more)))) h.such;
+        goes_on = subst (ReadingGoesOn kind) (sym (take-append-le kind.limit.bytes h.bytes rest (omega (arith, more)))) h.such;
       }
 
-  faulty : (told : Told) (name words : List ℕ) → IsAtFault kind (in_files told) name words → Faulty kind settled.First (told name) words
+  faulty : (told : Told) (name words : List ℕ) → FileIsAtFault kind (in_files told) name words → Faulty kind settled.First (told name) words
   faulty told name words h = record { content = h.bytes; held = h.had.seen; fault = h.fault; first = settled.of_fault h.bytes h.fault h.found; place = inl h.had.within; said = h.words_are }
 
   broken : (told : Told) (name words : List ℕ) → IsBroken kind (in_files told) name words → Faulty kind settled.First (told name) words
@@ -80,7 +75,7 @@ module _ {A F : Type 0} (kind : Kind A F) (settled : Settled kind) where
         said = h.words_are;
       }
 
-  cause : (told : Told) (name words : List ℕ) → IsUnreadable (in_files told) name kind.limit.bytes (GoesOn kind) words ⊎ (IsAtFault kind (in_files told) name words ⊎ IsBroken kind (in_files told) name words) → Cause kind settled.First (told name) words
+  cause : (told : Told) (name words : List ℕ) → IsUnreadable (in_files told) name kind.limit.bytes (ReadingGoesOn kind) words ⊎ (FileIsAtFault kind (in_files told) name words ⊎ IsBroken kind (in_files told) name words) → Cause kind settled.First (told name) words
   cause told name words h = elim h [
     | inl u ↦ elim u [ inl absent ↦ NoFile absent.0 absent.1 | inr longer ↦ TooLong (long told name longer.0) longer.1 ]
     | inr f ↦ elim f [ inl at ↦ AtFault (faulty told name words at) | inr b ↦ AtFault (broken told name words b) ]
@@ -97,12 +92,12 @@ module _ {A F : Type 0} (kind : Kind A F) (settled : Settled kind) where
 
   one_cause : (file : Option (List ℕ)) (words other : List ℕ) → Cause kind settled.First file words → Cause kind settled.First file other → words ≡ other
   one_cause file words other (NoFile none is) (NoFile again are) = is ∙ sym are
-  one_cause file words other (NoFile none is) (TooLong l are) = absurd (none_or_some file l.content none l.held)
-  one_cause file words other (NoFile none is) (AtFault f) = absurd (none_or_some file f.content none f.held)
-  one_cause file words other (TooLong l is) (NoFile none are) = absurd (none_or_some file l.content none l.held)
+  one_cause file words other (NoFile none is) (TooLong l are) = absurd (none_not_some file l.content none l.held)
+  one_cause file words other (NoFile none is) (AtFault f) = absurd (none_not_some file f.content none f.held)
+  one_cause file words other (TooLong l is) (NoFile none are) = absurd (none_not_some file l.content none l.held)
   one_cause file words other (TooLong l is) (TooLong m are) = is ∙ sym are
   one_cause file words other (TooLong l is) (AtFault f) = absurd (apart file other l f)
-  one_cause file words other (AtFault f) (NoFile none are) = absurd (none_or_some file f.content none f.held)
+  one_cause file words other (AtFault f) (NoFile none are) = absurd (none_not_some file f.content none f.held)
   one_cause file words other (AtFault f) (TooLong l are) = absurd (apart file words l f)
   one_cause file words other (AtFault f) (AtFault g) =
       let same = one_content file f.content g.content f.held g.held in

@@ -1,7 +1,6 @@
 -- a certificate that is judged while it is read
-use Rattle.std.proofs.Common.{◌≡◌, ◌≢◌, ◌∙◌, ◌+◌, ◌-◌, ◌<◌, ◌≤◌, ◌⊎◌, ℕ, Bool, true, false, List, [], ◌∷◌, ◌++◌, length, nat_lt, take, drop, min, Option, None, Some, Result, Ok, Err, refl, sym, ap, subst, inl, inr, arith, append_assoc, length-append}
+use Rattle.std.proofs.Common.{◌≡◌, ◌∙◌, ◌+◌, ◌-◌, ◌<◌, ◌≤◌, ◌⊎◌, ℕ, Bool, true, false, List, [], ◌∷◌, ◌++◌, length, take, drop, min, Option, None, Some, Result, Ok, Err, refl, sym, ap, subst, inl, inr, arith, append_assoc, length-append, ltb-false, ltb-true}
 use Rattle.std.proofs.Math.Seq.{take-append-add}
-use Rattle.std.proofs.lemmas.Bool.Decides.{nat_tests}
 use Rattle.std.proofs.lemmas.List.{append-nil, length-drop, length-take-le, take-append-drop}
 use Rattle.std.specs.Option.{IfSome}
 use Rattle.std.specs.Result.{IsOk}
@@ -11,8 +10,8 @@ use Rattle.ta_cert.specs.declared.fault.CertFault.TheVariants as fault
 use Rattle.ta_cert.specs.Laws.{IsErrOrMemory}
 use Rattle.ta_check.specs.declared.accepted.Accepted.{Accepted}
 use Rattle.ta_check.specs.declared.checker.Checker.{Checker}
-use Rattle.ta_check.specs.Certificate.{AllHold}
-use Rattle.ta_check.specs.Checkers.{Fed, Finished, IsExactEnd, IsExactFeed, StandsFor, subject_of}
+use Rattle.ta_check.specs.Certificate.{AllClaimsHold}
+use Rattle.ta_check.specs.Checkers.{CheckerFeedAnswers, CheckerFinishAnswers, IsExactCheck, IsExactFeed, CheckerStandsFor, subject_of}
 use Rattle.ta_check.specs.Faults.{IsFirstFaultFor, IsLastingFor}
 use Rattle.ta_check.proofs.Lasting.{no_longer_certificate}
 use Rattle.ta_report.specs.Faults.{cert_fault_text}
@@ -20,33 +19,21 @@ use Rattle.ta_shelf.specs.Calls.{Call, Grew, PieceBy, ReadsFirst, Spells}
 use Rattle.ta_shelf.specs.Put.{Told}
 use Rattle.ta_shelf.specs.ReadPiece.{ReadsPiece}
 use Rattle.ta_shelf.specs.declared.fault.ShelfFault.{ShelfFault}
-use Rattle.ta_shelf.specs.declared.fault.ShelfFault.TheVariants as shelf
 use Rattle.ta_shell.specs.declared.answer.Refusal.{Refusal}
 use Rattle.ta_shell.specs.declared.answer.Refusal.TheVariants.{Refused, ReadFailed, PutFailed, Memory}
 use Rattle.ta_shell.specs.Lines.{longer_than}
 use Rattle.ta_shell.specs.Reading.{IsReading, ReadCause, SaysOfFile, UnreadBy}
-use Rattle.ta_shell.specs.Sights.{Absent, Begins, in_calls, seen, where_told}
-use Rattle.ta_shell.specs.Stages.{GoesOn, Stage}
+use Rattle.ta_shell.specs.Sights.{Begins, seen, where_told}
+use Rattle.ta_shell.specs.Stages.{Stage}
 use Rattle.ta_shell.proofs.PiecesSeen.{first_seen, first_spelled, piece_read, piece_refused, stage_faulty, stage_memory, stage_too_long, stage_unread, told_absent, told_front, told_more, told_whole, whole_spelled}
 use Rattle.ta_program.specs.declared.limits.TheConstants.{CERTIFICATE}
-use Rattle.ta_program.specs.Inside.Judged.{Allowed, Breaks, Judged, JudgedTo, JudgedWhole, PassesLimit, PieceFed, RefusedBy, Turn, Unproved}
-use Rattle.ta_program.specs.Kinds.{Proves, certificate_kind}
+use Rattle.ta_program.specs.Inside.Judged.{IsAllowed, Breaks, JudgedTo, JudgedWhole, PassesLimit, PieceFed, RefusedBy, Turn, IsUnproved}
+use Rattle.ta_program.specs.Kinds.{certificate_kind}
 
 -- the first line at fault lasts, or there was no memory
-fault_lasts : (subject : Subject) (name text piece : List ℕ) (new : Checker) (f : CertFault) (refusal : Refusal) → (subject_of new) ≡ subject → Fed text piece new (Err f) → RefusedBy name f refusal → (refusal ≡ Memory) ⊎ (IsLastingFor subject (text ++ piece) f × SaysOfFile CERTIFICATE name (cert_fault_text f) refusal)
+fault_lasts : (subject : Subject) (name text piece : List ℕ) (new : Checker) (f : CertFault) (refusal : Refusal) → (subject_of new) ≡ subject → CheckerFeedAnswers text piece new (Err f) → RefusedBy name f refusal → (refusal ≡ Memory) ⊎ (IsLastingFor subject (text ++ piece) f × SaysOfFile CERTIFICATE name (cert_fault_text f) refusal)
 fault_lasts subject name text piece new fault.Memory refusal same fed says = inl says
 fault_lasts subject name text piece new f refusal same fed says = inr (subst (λ (g : Subject). IsLastingFor g (text ++ piece) f) same fed, says)
-
--- what a test says
-pub less : (a b : ℕ) → nat_lt a b ≡ true → a < b
-less a b is = grind (arith, nat_tests)
-
-pub not_less : (a b : ℕ) → nat_lt a b ≡ false → b ≤ a
-not_less a b is = grind (arith, nat_tests)
-
--- how long a text is with a piece behind it
-pub piece_size : (text piece : List ℕ) (at : ℕ) → at ≡ length text → at + length piece ≡ length (text ++ piece)
-piece_size text piece at place = omega (arith, place, length-append text piece)
 
 -- the part of a piece that the limit allows
 module _ (subject : Subject) (name text piece : List ℕ) (at allowed : ℕ) (new : Checker) (place : at ≡ length text) (within : at ≤ CERTIFICATE.bytes) (part : allowed ≡ min (length piece) (CERTIFICATE.bytes - at)) where
@@ -60,10 +47,10 @@ module _ (subject : Subject) (name text piece : List ℕ) (at allowed : ℕ) (ne
   all_size = omega (arith, place, length-append text piece)
 
   -- all of it is allowed
-  pub piece_allowed : length piece ≤ allowed → StandsFor new (text ++ take allowed piece) → Allowed new (text ++ piece)
+  pub piece_allowed : length piece ≤ allowed → CheckerStandsFor new (text ++ take allowed piece) → IsAllowed new (text ++ piece)
   piece_allowed all stands =
       let whole : take allowed piece ≡ piece = (let none : length (drop allowed piece) ≡ 0 = omega (arith, length-drop allowed piece) in sym (append-nil (take allowed piece)) ∙ ap (λ (xs : List ℕ). take allowed piece ++ xs) (sym (nothing (drop allowed piece) none)) ∙ take-append-drop allowed piece) in
-      record { stands = subst (λ (xs : List ℕ). StandsFor new (text ++ xs)) whole stands; within = omega (arith, all_size, part) }
+      record { stands = subst (λ (xs : List ℕ). CheckerStandsFor new (text ++ xs)) whole stands; within = omega (arith, all_size, part) }
     where
       nothing : (xs : List ℕ) → length xs ≡ 0 → xs ≡ []
       nothing [] none = refl
@@ -71,7 +58,7 @@ module _ (subject : Subject) (name text piece : List ℕ) (at allowed : ℕ) (ne
 
   -- some of it isn't
   pub passes_limit : (refusal : Refusal) → allowed < length piece → IsExactFeed subject (text ++ take allowed piece) (Ok tt) → SaysOfFile CERTIFICATE name (longer_than CERTIFICATE.bytes) refusal → PassesLimit subject name (text ++ piece) refusal
-  passes_limit refusal less exact says =
+  passes_limit refusal ltb-true exact says =
       let end : CERTIFICATE.bytes ≡ length text + allowed = omega (arith, part, place) in
       let front : text ++ take allowed piece ≡ take CERTIFICATE.bytes (text ++ piece) = sym (ap (λ (n : ℕ). take n (text ++ piece)) end ∙ take-append-add text piece allowed) in
       record {
@@ -84,7 +71,7 @@ module _ (subject : Subject) (name text piece : List ℕ) (at allowed : ℕ) (ne
       no_fault f answer ok h = elim h [ inl is ↦ cc | inr is ↦ cc ]
 
   -- it breaks
-  pub piece_breaks : (f : CertFault) (refusal : Refusal) → (subject_of new) ≡ subject → Fed text (take allowed piece) new (Err f) → RefusedBy name f refusal → (refusal ≡ Memory) ⊎ (PassesLimit subject name (text ++ piece) refusal ⊎ Breaks subject name (text ++ piece) refusal)
+  pub piece_breaks : (f : CertFault) (refusal : Refusal) → (subject_of new) ≡ subject → CheckerFeedAnswers text (take allowed piece) new (Err f) → RefusedBy name f refusal → (refusal ≡ Memory) ⊎ (PassesLimit subject name (text ++ piece) refusal ⊎ Breaks subject name (text ++ piece) refusal)
   piece_breaks f refusal same fed says = elim (fault_lasts subject name text (take allowed piece) new f refusal same fed says) [
     | inl memory ↦ inl memory
     | inr lasts ↦ inr (inr (record {
@@ -121,9 +108,9 @@ module _ (subject : Subject) (files : Option Told) (name text buffer : List ℕ)
   size : length (text ++ take count buffer) ≡ at + count
   size = (let part = length-take-le count buffer few in omega (arith, place, part, length-append text (take count buffer)))
 
-  refuses : (refusal : Refusal) → (refusal ≡ Memory) ⊎ (PassesLimit subject name (text ++ take count buffer) refusal ⊎ Breaks subject name (text ++ take count buffer) refusal) → Unproved subject files name refusal (j.calls.added ++ log.added)
+  refuses : (refusal : Refusal) → (refusal ≡ Memory) ⊎ (PassesLimit subject name (text ++ take count buffer) refusal ⊎ Breaks subject name (text ++ take count buffer) refusal) → IsUnproved subject files name refusal (j.calls.added ++ log.added)
   refuses refusal h = elim h [
-    | inl memory ↦ subst (λ (r : Refusal). Unproved subject files name r (j.calls.added ++ log.added)) (sym memory) (stage_memory (certificate_kind subject) (λ (a : Accepted). a.patterns) files name _ reading)
+    | inl memory ↦ subst (λ (r : Refusal). IsUnproved subject files name r (j.calls.added ++ log.added)) (sym memory) (stage_memory (certificate_kind subject) (λ (a : Accepted). a.patterns) files name _ reading)
     | inr fed ↦ elim fed [
       | inl passes ↦ stage_too_long (certificate_kind subject) (λ (a : Accepted). a.patterns) files name _ refusal passes.says reading (record {
         bytes = text ++ take count buffer;
@@ -145,30 +132,30 @@ module _ (subject : Subject) (files : Option Told) (name text buffer : List ℕ)
 
   pub turn : (ended : Bool) → (ended ≡ true → count < length buffer) → (ended ≡ false → length buffer ≤ count) → (result : Result (Option ℕ) Refusal) → PieceFed subject name text (take count buffer) ended new result → Turn subject files name at first now new result
   turn ended short full (Ok (Some next)) fed =
-      let not_less = full fed.0 in (
-        omega (arith, some, not_less, size, fed.1),
+      let ltb-false = full fed.0 in (
+        omega (arith, some, ltb-false, size, fed.1),
         text ++ take count buffer,
         fed.1,
         record {
-          calls = record { added = j.calls.added ++ log.added; grown = grown; such = elim parts [ inl f ↦ f.1 | inr s ↦ absurd (let less = s.0 in omega arith) ] };
+          calls = record { added = j.calls.added ++ log.added; grown = grown; such = elim parts [ inl f ↦ f.1 | inr s ↦ absurd (let ltb-true = s.0 in omega arith) ] };
           there = λ more. told_more files name text buffer at count j.there place some reads;
           stands = fed.2.stands;
           within = fed.2.within;
         },
       )
   turn ended short full (Ok None) fed =
-      let less = short fed.0 in
+      let ltb-true = short fed.0 in
       record {
         added = j.calls.added ++ log.added;
         grown = grown;
-        such = whole (elim parts [ inl f ↦ absurd (let same = f.0 in omega arith) | inr s ↦ s.1 ]) less fed.1;
+        such = whole (elim parts [ inl f ↦ absurd (let same = f.0 in omega arith) | inr s ↦ s.1 ]) ltb-true fed.1;
       }
     where
-      whole : Spells name (j.calls.added ++ log.added) (text ++ take count buffer) → count < length buffer → Allowed new (text ++ take count buffer) → JudgedWhole files name new (j.calls.added ++ log.added)
-      whole spells less allowed = record {
+      whole : Spells name (j.calls.added ++ log.added) (text ++ take count buffer) → count < length buffer → IsAllowed new (text ++ take count buffer) → JudgedWhole files name new (j.calls.added ++ log.added)
+      whole spells ltb-true allowed = record {
         text = text ++ take count buffer;
         spells = spells;
-        had = record { seen = (whole_spelled name _ _ spells, told_whole files name text buffer at count j.there place some reads less few); within = allowed.within };
+        had = record { seen = (whole_spelled name _ _ spells, told_whole files name text buffer at count j.there place some reads ltb-true few); within = allowed.within };
         stands = allowed.stands;
       }
   turn ended short full (Err refusal) fed = record { added = j.calls.added ++ log.added; grown = grown; such = refuses refusal fed }
@@ -204,32 +191,23 @@ pub fault_only : (name : List ℕ) (f : CertFault) (refusal : Refusal) → Refus
 fault_only name fault.Memory refusal says = subst (λ (r : Refusal). ReadCause {T = Option ℕ} (Err r) 0 0) (sym says) refl
 fault_only name f refusal says = says_only name (cert_fault_text f) refusal says
 
--- before the first piece
-pub judged_nothing : (files : Option Told) (name : List ℕ) (first : List Call) (checker : Checker) → StandsFor checker [] → JudgedTo files name first first checker []
-judged_nothing files name first checker stands = record {
-  calls = record { added = []; grown = sym (append-nil first); such = record { in_order = tt; given = refl } };
-  there = λ more. absurd (omega arith);
-  stands = stands;
-  within = omega arith;
-}
-
 -- the end of a text
 module _ (subject : Subject) (files : Option Told) (name : List ℕ) (checker : Checker) (calls : List Call) (j : JudgedWhole files name checker calls) where
-  pub stage_proved : (accepted : Accepted) → Finished subject j.text (Ok accepted) → AllHold subject accepted.patterns → Stage (certificate_kind subject) (λ (a : Accepted). a.patterns) files name (Ok accepted) calls
+  pub stage_proved : (accepted : Accepted) → CheckerFinishAnswers subject j.text (Ok accepted) → AllClaimsHold subject accepted.patterns → Stage (certificate_kind subject) (λ (a : Accepted). a.patterns) files name (Ok accepted) calls
   stage_proved accepted finished safe = record {
     reading = inr (j.text, _, j.spells);
     yields = (j.text, j.spells, j.had, record { accepted = finished; safe = safe });
   }
 
-  first_at_end : (f : CertFault) → Finished subject j.text (Err f) → IsFirstFaultFor subject j.text f
+  first_at_end : (f : CertFault) → CheckerFinishAnswers subject j.text (Err f) → IsFirstFaultFor subject j.text f
   first_at_end (fault.Truncated n) h = h
   first_at_end _ h = absurd h
 
-  says_at_end : (f : CertFault) (refusal : Refusal) → Finished subject j.text (Err f) → RefusedBy name f refusal → SaysOfFile CERTIFICATE name (cert_fault_text f) refusal
+  says_at_end : (f : CertFault) (refusal : Refusal) → CheckerFinishAnswers subject j.text (Err f) → RefusedBy name f refusal → SaysOfFile CERTIFICATE name (cert_fault_text f) refusal
   says_at_end (fault.Truncated n) refusal h says = says
   says_at_end _ refusal h says = absurd h
 
-  pub stage_ended : (f : CertFault) (refusal : Refusal) → Finished subject j.text (Err f) → IsExactEnd subject j.text (Err f) → RefusedBy name f refusal → Unproved subject files name refusal calls
+  pub stage_ended : (f : CertFault) (refusal : Refusal) → CheckerFinishAnswers subject j.text (Err f) → IsExactCheck subject j.text (Err f) → RefusedBy name f refusal → IsUnproved subject files name refusal calls
   stage_ended f refusal finished exact says =
       stage_faulty (certificate_kind subject) (λ (a : Accepted). a.patterns) files name calls refusal (cert_fault_text f) (says_at_end f refusal finished says) (inr (j.text, _, j.spells)) (λ words is. inl (record {
         bytes = j.text;

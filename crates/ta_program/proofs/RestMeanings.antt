@@ -1,5 +1,6 @@
 -- what `rest` and `rest-check` say grows with what is seen, and told files leave one number
-use Rattle.std.proofs.Common.{◌≡◌, ◌∙◌, ℕ, List, [], length, Option, None, Some, Ok, Err, Result, refl, sym, ap, subst, inl, inr, arith}
+use Rattle.std.proofs.Common.{◌≡◌, ◌∙◌, ℕ, List, [], length, Option, None, Some, refl, sym, ap, subst, inl, inr, arith}
+use Rattle.std.specs.Prelude.{IsSome}
 use Rattle.std.proofs.lemmas.Bool.{cases_order}
 use Rattle.ta_automaton.specs.declared.automaton.Automaton.{Automaton}
 use Rattle.ta_automaton.specs.declared.file.File.{File}
@@ -15,9 +16,9 @@ use Rattle.ta_rest_verdict.specs.Certificates.{RestCertificateOf}
 use Rattle.ta_shelf.specs.Put.{Told}
 use Rattle.ta_shell.specs.Commands.{Decides, IsSo, Meaning}
 use Rattle.ta_shell.specs.Puts.{put_bytes}
-use Rattle.ta_shell.specs.Sights.{View, in_files}
+use Rattle.ta_shell.specs.Sights.{in_files}
 use Rattle.ta_shell.specs.declared.answer.Answer.{Answer}
-use Rattle.ta_shell.specs.Stages.{Writes, after, finds, replies}
+use Rattle.ta_shell.specs.Stages.{Writes, finds, replies}
 use Rattle.ta_shell.proofs.Read.{after_monotone, finds_monotone, finds_one, no_hindrance, one_number, replies_monotone, replies_one, settles_monotone}
 use Rattle.ta_shell.proofs.Views.{Monotone, whole_one}
 use Rattle.ta_program.specs.Asked.{PassesWhere}
@@ -25,7 +26,7 @@ use Rattle.ta_program.specs.Certified.{may_put}
 use Rattle.ta_program.specs.Kinds.{certificate_kind, file_kind}
 use Rattle.ta_program.specs.Rest.{HindersRest, LongRest, RestReports, rest_meaning, rest_report_meaning}
 use Rattle.ta_program.specs.RestCheck.{rest_check_meaning, rest_proved_meaning}
-use Rattle.ta_program.specs.RestEnds.{CycleHinders, Ends, IsEnds, LegalAtRest, with_ends}
+use Rattle.ta_program.specs.RestEnds.{CycleHinders, FileEndings, IsEnds, LegalAtRest, with_ends}
 use Rattle.ta_program.specs.Statuses.{verdicts_number}
 use Rattle.ta_program.proofs.EndsOnce.{ends_once}
 use Rattle.ta_program.proofs.Meanings.{file_decides, second_passes}
@@ -34,7 +35,7 @@ use Rattle.ta_program.proofs.Meanings.{file_decides, second_passes}
 cycle_number : (name : List ℕ) (file : File) (number other : ℕ) (line words : List ℕ) → CycleHinders name file number line → CycleHinders name file other words → number ≡ other
 cycle_number name file number other line words h k = h.numbered ∙ sym k.numbered
 
-pub no_cycle : (name : List ℕ) (file : File) (ends : Ends) (number : ℕ) (line : List ℕ) → IsEnds file ends → ¬ CycleHinders name file number line
+pub no_cycle : (name : List ℕ) (file : File) (ends : FileEndings) (number : ℕ) (line : List ℕ) → IsEnds file ends → ¬ CycleHinders name file number line
 no_cycle name file ends number line is h =
     let cycle = h.first.cycle in
     cycle.apart (is.loops h.rule h.first.rule h.first.named cycle.walk cycle.back)
@@ -46,18 +47,18 @@ cycle_rule a r q x y = elim (cases_order r q) [
 ]
 
 -- of commands that look for the endings of FILE
-module _ (name : List ℕ) (puts : List (List ℕ)) (rest : File → Ends → Meaning) (rests : (file : File) (ends : Ends) → Monotone (rest file ends)) where
+module _ (name : List ℕ) (puts : List (List ℕ)) (rest : File → FileEndings → Meaning) (rests : (file : File) (ends : FileEndings) → Monotone (rest file ends)) where
   pub ends_monotone : (file : File) → Monotone (finds (IsEnds file) (CycleHinders name file) puts (rest file))
   ends_monotone file = finds_monotone (IsEnds file) (CycleHinders name file) puts (rest file) (rests file)
 
-  pub ends_decides : ((file : File) (ends : Ends) → IsEnds file ends → (told : Told) (number other : ℕ) → IsSo (rest file ends) (in_files told) number → IsSo (rest file ends) (in_files told) other → number ≡ other) → Decides (with_ends name puts rest)
+  pub ends_decides : ((file : File) (ends : FileEndings) → IsEnds file ends → (told : Told) (number other : ℕ) → IsSo (rest file ends) (in_files told) number → IsSo (rest file ends) (in_files told) other → number ≡ other) → Decides (with_ends name puts rest)
   ends_decides ones =
       file_decides name puts (λ file. finds (IsEnds file) (CycleHinders name file) puts (rest file)) ends_monotone (λ file told.
       finds_one (IsEnds file) (CycleHinders name file) puts (rest file) (in_files told) (cycle_number name file) (λ ends number line is. no_cycle name file ends number line is) (λ d e is are number other so so'.
-      ones file d is told number other so (subst (λ (x : Ends). IsSo (rest file x) (in_files told) other) (sym (ends_once file d e is are)) so')))
+      ones file d is told number other so (subst (λ (x : FileEndings). IsSo (rest file x) (in_files told) other) (sym (ends_once file d e is are)) so')))
 
   -- a legal FILE without longer cycles is never refused with 3, if what comes then never is
-  pub ends_passes : ((file : File) (ends : Ends) (told : Told) (line : List ℕ) → ¬ (rest file ends).refuses (in_files told) 3 line) → PassesWhere (LegalAtRest name) (with_ends name puts rest)
+  pub ends_passes : ((file : File) (ends : FileEndings) (told : Told) (line : List ℕ) → ¬ (rest file ends).refuses (in_files told) 3 line) → PassesWhere (LegalAtRest name) (with_ends name puts rest)
   ends_passes never told line legal refuses = elim refuses [
     | inl own ↦ no_hindrance file_kind name puts (λ file. finds (IsEnds file) (CycleHinders name file) puts (rest file)) ends_monotone told (λ bytes f fault legal found. legal.no_fault fault found) legal.file 3 line legal.is_file own
     | inr r ↦ elim r.2 [
@@ -71,16 +72,16 @@ module _ (name : List ℕ) (puts : List (List ℕ)) (rest : File → Ends → Me
     ]
   ]
 
-pub rest_report_monotone : (budget : ℕ) (out : Option (List ℕ)) (file : File) (ends : Ends) → Monotone (rest_report_meaning budget out file ends)
+pub rest_report_monotone : (budget : ℕ) (out : Option (List ℕ)) (file : File) (ends : FileEndings) → Monotone (rest_report_meaning budget out file ends)
 rest_report_monotone budget out file ends = settles_monotone (may_put out) (RestReports file ends budget out) (HindersRest file ends budget out)
 
 -- only a certificate that is too long hinders a report at rest, with 4
-pub hinders_rest : (file : File) (ends : Ends) (budget : ℕ) (out : Option (List ℕ)) (number : ℕ) (line : List ℕ) → HindersRest file ends budget out number line → (number ≡ 4) × LongRest file ends budget
+pub hinders_rest : (file : File) (ends : FileEndings) (budget : ℕ) (out : Option (List ℕ)) (number : ℕ) (line : List ℕ) → HindersRest file ends budget out number line → (number ≡ 4) × IsSome out × LongRest file ends budget
 hinders_rest file ends budget None number line h = absurd h
-hinders_rest file ends budget (Some out) number line h = (h.numbered, h.long)
+hinders_rest file ends budget (Some out) number line h = (h.numbered, refl, h.long)
 
 -- no certificate is both put and too long
-not_both : (file : File) (ends : Ends) (budget : ℕ) (out : Option (List ℕ)) (answer : Answer) (number : ℕ) (line : List ℕ) → IsEnds file ends → RestReports file ends budget out answer → HindersRest file ends budget out number line → ⊥
+not_both : (file : File) (ends : FileEndings) (budget : ℕ) (out : Option (List ℕ)) (answer : Answer) (number : ℕ) (line : List ℕ) → IsEnds file ends → RestReports file ends budget out answer → HindersRest file ends budget out number line → ⊥
 not_both file ends budget None answer number line is r h = h
 not_both file ends budget (Some out) answer number line is r h =
     let long = h.long in
@@ -92,7 +93,7 @@ not_both file ends budget (Some out) answer number line is r h =
     let longer = long.longer in
     omega (arith, ap length same)
 
-rest_one : (budget : ℕ) (out : Option (List ℕ)) (file : File) (ends : Ends) → IsEnds file ends → (told : Told) (number other : ℕ) → IsSo (rest_report_meaning budget out file ends) (in_files told) number → IsSo (rest_report_meaning budget out file ends) (in_files told) other → number ≡ other
+rest_one : (budget : ℕ) (out : Option (List ℕ)) (file : File) (ends : FileEndings) → IsEnds file ends → (told : Told) (number other : ℕ) → IsSo (rest_report_meaning budget out file ends) (in_files told) number → IsSo (rest_report_meaning budget out file ends) (in_files told) other → number ≡ other
 rest_one budget out file ends is told number other so so' = elim so [
   | inl a ↦ elim so' [
     | inl b ↦ sym a.1 ∙ (a.2.numbered ∙ ap verdicts_number (verdicts_once file ends.ending ends.added budget is.endings a.2.verdicts b.2.verdicts a.2.are b.2.are) ∙ sym b.2.numbered) ∙ b.1
@@ -111,7 +112,7 @@ pub rest_passes : (name : List ℕ) (budget : ℕ) (out : Option (List ℕ)) →
 rest_passes name budget out =
     ends_passes name (may_put out) (rest_report_meaning budget out) (rest_report_monotone budget out) (λ file ends told line hinders. let four = (hinders_rest file ends budget out 3 line hinders).0 in absurd (omega (arith, four)))
 
-pub rest_proved_monotone : (name : List ℕ) (file : File) (ends : Ends) → Monotone (rest_proved_meaning name file ends)
+pub rest_proved_monotone : (name : List ℕ) (file : File) (ends : FileEndings) → Monotone (rest_proved_meaning name file ends)
 rest_proved_monotone name file ends =
     after_monotone (certificate_kind (claiming RestSafe ends.ending)) name [] (λ numbers. replies [] (Writes 0 (rest_check_text file numbers))) (λ numbers. replies_monotone [] (Writes 0 (rest_check_text file numbers)))
 

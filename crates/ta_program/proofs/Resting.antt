@@ -21,7 +21,7 @@ use Rattle.ta_shell.specs.declared.answer.Answer.{Answer}
 use Rattle.ta_shell.specs.declared.answer.Refusal.{Refusal}
 use Rattle.ta_shell.specs.declared.answer.Refusal.TheVariants.{Refused, ReadFailed, PutFailed, Memory}
 use Rattle.ta_shell.specs.Commands.{Meaning, Says}
-use Rattle.ta_shell.specs.Puts.{Within}
+use Rattle.ta_shell.specs.Puts.{PutsWithin}
 use Rattle.ta_shell.specs.Reading.{ReadCause}
 use Rattle.ta_shell.specs.Stages.{finds}
 use Rattle.ta_shell.proofs.Read.{finds_memory, finds_wrong}
@@ -33,12 +33,12 @@ use Rattle.ta_program.specs.Inside.Certifying.{Certifies}
 use Rattle.ta_program.specs.Inside.Found.{EndsRefused}
 use Rattle.ta_program.specs.Inside.Reported.{RestReported}
 use Rattle.ta_program.specs.Rest.{rest_report_meaning}
-use Rattle.ta_program.specs.RestEnds.{CycleHinders, Ends, IsEnds, ends_of}
+use Rattle.ta_program.specs.RestEnds.{CycleHinders, FileEndings, IsEnds, ends_of}
 use Rattle.ta_program.specs.Statuses.{verdicts_number}
 use Rattle.ta_program.proofs.Certifying.{low_by, puts_within}
 
 -- a file without endings is told of, and nothing more is read
-pub ends_refused : (name : List ℕ) (file : File) (puts : List (List ℕ)) (rest : Ends → Meaning) (files : Option Told) (refusal : Refusal) → EndsRefused name file refusal → Says (finds (IsEnds file) (CycleHinders name file) puts rest) files (Err refusal) []
+pub ends_refused : (name : List ℕ) (file : File) (puts : List (List ℕ)) (rest : FileEndings → Meaning) (files : Option Told) (refusal : Refusal) → EndsRefused name file refusal → Says (finds (IsEnds file) (CycleHinders name file) puts rest) files (Err refusal) []
 ends_refused name file puts rest files (Refused number who why) h = let three : number ≡ 3 = h.numbered in finds_wrong (IsEnds file) (CycleHinders name file) puts rest files number who why (omega (arith, three)) (omega (arith, three)) h
 ends_refused name file puts rest files (ReadFailed who) h = absurd h
 ends_refused name file puts rest files (PutFailed who) h = absurd h
@@ -96,7 +96,7 @@ module _ (rest : RestFile) (file : File) (ends : EndingsOf file rest.ending.file
         written = written ∙ text_own;
         puts = none;
       };
-      within = subst (Within []) (sym none) tt;
+      within = subst (PutsWithin []) (sym none) tt;
     };
   }
 

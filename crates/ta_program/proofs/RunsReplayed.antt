@@ -9,7 +9,7 @@ use Rattle.ta_shelf.specs.Put.{Told}
 use Rattle.ta_shell.specs.declared.answer.Answer.{Answer}
 use Rattle.ta_shell.specs.Ends.{Performs, State}
 use Rattle.ta_shell.specs.Sights.{in_files, seen}
-use Rattle.ta_shell.specs.Stages.{IsOf}
+use Rattle.ta_shell.specs.Stages.{FileMeans}
 use Rattle.ta_program.specs.declared.limits.TheConstants.{RUN}
 use Rattle.ta_program.specs.Kinds.{IsFile, ShowsRun, run_kind}
 use Rattle.ta_program.specs.Laws.{PrintedRunsAreReplayed}
@@ -27,7 +27,7 @@ shown_answer file run bytes shows =
     (answer, refl, record { pattern = p; named = shows.shows.named; writes = record { numbered = refl; written = refl; no_put = refl } })
 
 -- a run that shows its pattern is shown, 6 and 7 aside
-shown_number : (told : Told) (name run_name : List ℕ) (file : File) (run : Run) → IsFile (in_files told) name file → IsOf (run_kind file) (in_files told) run_name run → (number : ℕ) (before after : State) → before.shelf.files ≡ Some told → Performs (replay_meaning name run_name) number before after → (number ≡ 0) ⊎ ((number ≡ 6) ⊎ (number ≡ 7))
+shown_number : (told : Told) (name run_name : List ℕ) (file : File) (run : Run) → IsFile (in_files told) name file → FileMeans (run_kind file) (in_files told) run_name run → (number : ℕ) (before after : State) → before.shelf.files ≡ Some told → Performs (replay_meaning name run_name) number before after → (number ≡ 0) ⊎ ((number ≡ 6) ⊎ (number ≡ 7))
 shown_number told name run_name file run is_file is_run number before after is p =
     let answer = shown_answer file run is_run.bytes is_run.means in
     p.exact (replay_decides name run_name) told is 0 (inl (answer.0, answer.1, (file, is_file, (run, is_run, answer.2))))
@@ -49,6 +49,6 @@ runs_replayed words number before after h asked asks low told is =
           let shows : ShowsRun r.file bytes printed.run = subst (λ (bs : List ℕ). ShowsRun r.file bs printed.run) (sym (printed.only bytes part)) printed.shows in
           let within : length bytes ≤ RUN.bytes = subst (λ (bs : List ℕ). length bs ≤ RUN.bytes) (sym (printed.only bytes part)) printed.within in
           let is_file : IsFile (in_files later) name r.file = record { bytes = r.is_file.bytes; had = record { seen = same ∙ r.is_file.had.seen.1; within = r.is_file.had.within }; means = r.is_file.means } in
-          let is_run : IsOf (run_kind r.file) (in_files later) run_name printed.run = record { bytes = bytes; had = record { seen = has; within = within }; means = shows } in
+          let is_run : FileMeans (run_kind r.file) (in_files later) run_name printed.run = record { bytes = bytes; had = record { seen = has; within = within }; means = shows } in
           shown_number later name run_name r.file printed.run is_file is_run second begun ended begun_is performs;
     }

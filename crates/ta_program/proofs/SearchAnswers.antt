@@ -1,26 +1,19 @@
 -- what the answers of `search` say
-use Rattle.std.proofs.lemmas.List.{map-append}
-use Rattle.std.proofs.Common.{◌≡◌, ◌∙◌, ◌<◌, ◌≤◌, ◌+◌, ℕ, suc, Bool, true, false, List, [], ◌∷◌, ◌++◌, length, map, Option, None, Some, Result, Ok, Err, refl, sym, ap, subst, inl, inr, rules, arith}
-use Rattle.std.specs.Prelude.{Contains, IsSome, if◌then◌else◌}
-use Rattle.std.specs.List.{list_any}
-use Rattle.ta_automaton.specs.Lists.{Each}
-use Rattle.ta_automaton.specs.Masks.{numbers_from}
-use Rattle.ta_search.specs.declared.outcome.Outcome.{Outcome}
+use Rattle.std.proofs.Common.{◌≡◌, ◌∙◌, ◌<◌, ◌≤◌, ℕ, suc, Bool, true, false, List, [], ◌∷◌, ◌++◌, length, map, Option, None, Some, Ok, Err, refl, sym, ap, subst, inl, inr, rules, arith}
+use Rattle.std.specs.Prelude.{Contains, IsSome}
+use Rattle.std.specs.List.{AllByRecursion}
+use Rattle.ta_base.proofs.Each.{each_append, each_last}
 use Rattle.ta_search.specs.declared.outcome.Outcome.TheVariants.{Safe}
-use Rattle.ta_search.specs.declared.outcome.SearchEnd.{SearchEnd}
 use Rattle.ta_search.specs.declared.outcome.Tried.{Tried}
 use Rattle.ta_search.specs.declared.template.Hole.{Hole}
 use Rattle.ta_search.specs.declared.template.Template.{Template}
 use Rattle.ta_search.specs.Filling.{filled_text}
-use Rattle.ta_search.specs.Holes.{value_count}
-use Rattle.ta_search.specs.Searching.{AreTried, IsSearchEnd, LastIsFound}
-use Rattle.ta_search.specs.SearchText.{search_text}
+use Rattle.ta_search.specs.Searching.{AreTried, LastIsFound}
 use Rattle.ta_search.specs.Vectors.{each_before, hole_values, vectors}
 use Rattle.ta_shelf.specs.Put.{Told}
 use Rattle.ta_shell.specs.Commands.{Says}
 use Rattle.ta_shell.specs.Lines.{file_line, phrase_text}
-use Rattle.ta_shell.specs.Puts.{Within, put_bytes}
-use Rattle.ta_shell.specs.Stages.{Writes}
+use Rattle.ta_shell.specs.Puts.{PutsWithin}
 use Rattle.ta_shell.specs.declared.answer.Answer.{Answer}
 use Rattle.ta_shell.specs.declared.answer.Put.{Put}
 use Rattle.ta_shell.specs.declared.answer.Refusal.{Refusal}
@@ -29,41 +22,16 @@ use Rattle.ta_program.specs.Certified.{long_line, may_put}
 use Rattle.ta_program.specs.declared.limits.TheConstants.{CERTIFICATE}
 use Rattle.ta_program.specs.Inside.Certifying.{SaysLong}
 use Rattle.ta_program.specs.Inside.FoundFiles.{FoundBy}
-use Rattle.ta_program.specs.Search.{Finds, HindersFound, PutText, end_number, found_files, found_meaning, found_names, leaves_unknown, put_text, with_given}
+use Rattle.ta_program.specs.Search.{HindersFound, PutText, end_number, found_files, found_meaning, found_names, put_text}
 use Rattle.ta_program.specs.SearchWords.{SearchWords}
 use Rattle.ta_program.proofs.SearchMeanings.{one_last}
-
-low_by : (found unknown : Bool) → (if found then 0 else (if unknown then 2 else 1)) ≤ 2
-low_by true unknown = omega arith
-low_by false true = omega arith
-low_by false false = omega arith
-
--- nothing was found
-pub says_lost : (asked : SearchWords) (t : Template) (end : SearchEnd) → IsSearchEnd t asked.nodes end → end.found ≡ false → (number : ℕ) (text : List ℕ) → number ≡ end_number end → text ≡ search_text t end → (answer : Answer) → Writes number text answer → (files : Option Told) → Says (found_meaning asked t) files (Ok answer) []
-says_lost asked t end is_end lost number text numbered written answer writes files =
-    let low : answer.number ≤ 2 = subst (λ (n : ℕ). n ≤ 2) (sym (writes.numbered ∙ numbered)) (low_by end.found (list_any (λ x. leaves_unknown x.outcome) end.tried)) in
-    record {
-      opened = refl;
-      judges = record {
-        low = low;
-        holds = record {
-          end = end;
-          is_end = is_end;
-          numbered = writes.numbered ∙ numbered;
-          written = writes.written ∙ written;
-          found = λ found. let e : true ≡ false = sym found ∙ lost in absurd (cc);
-          nothing = λ none. writes.no_put;
-        };
-        within = rw writes.no_put tt;
-      };
-    }
 
 -- the names of these files are among those that may be put
 abbrev NamesIn : List (List ℕ) → List PutText → Type 0
 NamesIn names [] = Unit {0}
 NamesIn names (f ∷ fs) = Contains names f.name × NamesIn names fs
 
-within_of : (names : List (List ℕ)) (puts : List Put) (files : List PutText) → map put_text puts ≡ files → NamesIn names files → Within names puts
+within_of : (names : List (List ℕ)) (puts : List Put) (files : List PutText) → map put_text puts ≡ files → NamesIn names files → PutsWithin names puts
 within_of names [] files e in_names = tt
 within_of names (p ∷ ps) [] e in_names = absurd (cc)
 within_of names (p ∷ ps) (f ∷ fs) e in_names =
@@ -77,17 +45,9 @@ names_in None (Some out) text certificate = (search rules, tt)
 names_in (Some filled) None text certificate = (search rules, tt)
 names_in (Some filled) (Some out) text certificate = (search rules, ((1, omega arith, refl), tt))
 
-each_joined : {X : Type 0} (P : X → Type 0) (xs ys : List X) → Each P xs → Each P ys → Each P (xs ++ ys)
-each_joined P [] ys a b = b
-each_joined P (x ∷ xs) ys a b = (a.0, each_joined P xs ys a.1 b)
-
-each_last : {X : Type 0} (P : X → Type 0) (ys : List X) (x : X) → Each P (ys ++ x ∷ []) → P x
-each_last P [] x e = e.0
-each_last P (y ∷ ys) x e = each_last P ys x e.1
-
 -- a vector has a value for each hole
 abbrev Sized : ℕ → List (List ℕ) → Type 0
-Sized n vs = Each (λ (v : List ℕ). length v ≡ n) vs
+Sized n vs = AllByRecursion (λ (v : List ℕ). length v ≡ n) vs
 
 mapped_sized : (n value : ℕ) (vs : List (List ℕ)) → Sized n vs → Sized (suc n) (map (λ (v : List ℕ). value ∷ v) vs)
 mapped_sized n value [] sized = tt
@@ -95,19 +55,19 @@ mapped_sized n value (v ∷ vs) sized = (ap suc sized.0, mapped_sized n value vs
 
 before_sized : (n : ℕ) (values : List ℕ) (vs : List (List ℕ)) → Sized n vs → Sized (suc n) (each_before values vs)
 before_sized n [] vs sized = tt
-before_sized n (value ∷ values) vs sized = each_joined (λ (v : List ℕ). length v ≡ suc n) (map (λ (v : List ℕ). value ∷ v) vs) (each_before values vs) (mapped_sized n value vs sized) (before_sized n values vs sized)
+before_sized n (value ∷ values) vs sized = each_append (λ (v : List ℕ). length v ≡ suc n) (map (λ (v : List ℕ). value ∷ v) vs) (each_before values vs) (mapped_sized n value vs sized) (before_sized n values vs sized)
 
 vectors_sized : (hs : List Hole) → Sized (length hs) (vectors hs)
 vectors_sized [] = (refl, tt)
 vectors_sized (h ∷ hs) = before_sized (length hs) (hole_values h) (vectors hs) (vectors_sized hs)
 
-tried_sized : (t : Template) (budget n : ℕ) (vs : List (List ℕ)) (xs : List Tried) (found : Bool) → Sized n vs → AreTried t budget vs xs found → Each (λ (x : Tried). length x.values ≡ n) xs
+tried_sized : (t : Template) (budget n : ℕ) (vs : List (List ℕ)) (xs : List Tried) (found : Bool) → Sized n vs → AreTried t budget vs xs found → AllByRecursion (λ (x : Tried). length x.values ≡ n) xs
 tried_sized t budget n [] [] found sized are = tt
 tried_sized t budget n [] (x ∷ xs) found sized are = absurd are
 tried_sized t budget n (v ∷ vs) [] found sized are = absurd are
 tried_sized t budget n (v ∷ vs) (x ∷ xs) found sized are = (
   ap length are.0.values ∙ sized.0,
-  elim are.1 [ inl ends ↦ subst (Each (λ (x : Tried). length x.values ≡ n)) (sym ends.last) tt | inr more ↦ tried_sized t budget n vs xs found sized.1 more.1 ],
+  elim are.1 [ inl ends ↦ subst (AllByRecursion (λ (x : Tried). length x.values ≡ n)) (sym ends.last) tt | inr more ↦ tried_sized t budget n vs xs found sized.1 more.1 ],
 )
 
 -- what was tried last has the values and the certificate that are known
@@ -173,15 +133,4 @@ module _ (asked : SearchWords) (t : Template) (values certificate text : List �
   -- there is a value for each hole
   pub values_sized : length values ≡ length t.holes
   values_sized =
-      ap length (sym same_values) ∙ each_last (λ (x : Tried). length x.values ≡ length t.holes) last.before last.last (subst (Each (λ (x : Tried). length x.values ≡ length t.holes)) last.whole (tried_sized t asked.nodes (length t.holes) (vectors t.holes) h.end.tried h.end.found (vectors_sized t.holes) h.ends.is_end))
-
--- the file of a name with a text, and then others
-pub given_both : (filled out : Option (List ℕ)) (text certificate : List ℕ) → with_given filled text [] ++ with_given out certificate [] ≡ found_files filled out text certificate
-given_both None out text certificate = refl
-given_both (Some filled) out text certificate = refl
-
--- one more file is put
-pub put_more : (puts more : List Put) (put : Put) (name text : List ℕ) → more ≡ puts ++ put ∷ [] → put.name ≡ name → put_bytes put ≡ text → map put_text more ≡ map put_text puts ++ with_given (Some name) text []
-put_more puts more put name text is named holds =
-    let one : put_text put ≡ record { name = name; text = text } = λ i. record { name = named i; text = holds i } in
-    ap (map put_text) is ∙ map-append put_text puts (put ∷ []) ∙ ap (λ (f : PutText). map put_text puts ++ f ∷ []) one
+      ap length (sym same_values) ∙ each_last (λ (x : Tried). length x.values ≡ length t.holes) last.before last.last (subst (AllByRecursion (λ (x : Tried). length x.values ≡ length t.holes)) last.whole (tried_sized t asked.nodes (length t.holes) (vectors t.holes) h.end.tried h.end.found (vectors_sized t.holes) h.ends.is_end))

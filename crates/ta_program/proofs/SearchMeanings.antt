@@ -1,15 +1,14 @@
 -- what `search` says grows with what is seen, and told files leave one number
 use mathlib.Core.HLevel.{is_prop→PathP}
-use Rattle.std.proofs.Common.{◌≡◌, ◌∙◌, ◌<◌, ◌≤◌, ℕ, true, List, [], ◌∷◌, ◌++◌, length, Option, None, Some, refl, sym, ap, subst, inl, inr, arith}
+use Rattle.std.proofs.Common.{◌≡◌, ◌∙◌, ℕ, List, [], ◌∷◌, ◌++◌, length, Option, None, Some, refl, sym, ap, subst, inl, inr, arith}
 use Rattle.ta_search.specs.declared.fault.TemplateFault.{TemplateFault}
-use Rattle.ta_search.specs.declared.outcome.Outcome.{Outcome}
 use Rattle.ta_search.specs.declared.outcome.Outcome.TheVariants.{Safe}
 use Rattle.ta_search.specs.declared.outcome.SearchEnd.{SearchEnd}
 use Rattle.ta_search.specs.declared.outcome.Tried.{Tried}
 use Rattle.ta_search.specs.declared.template.Template.{Template}
 use Rattle.ta_search.specs.Holes.{AreHoles, AreHoles-prop, unknown_place, unknown-prop}
 use Rattle.ta_search.specs.Searching.{LastIsFound, SearchesAreDetermined}
-use Rattle.ta_search.specs.TemplateFaults.{FirstFault}
+use Rattle.ta_search.specs.TemplateFaults.{FirstTemplateFault}
 use Rattle.ta_search.proofs.OneFault.{no_fault, one_template}
 use Rattle.ta_shell.specs.Commands.{Decides, IsSo}
 use Rattle.ta_shell.specs.Sights.{View, in_files}
@@ -33,11 +32,11 @@ pub one_text : (bytes : List ℕ) (t u : Template) → IsTemplateText bytes t �
 one_text bytes t u is are = let same = one_template t u (is ∙ sym are) in template_equal t u same.0 same.1
 
 -- no template's text has a fault
-pub template_fits : (bytes : List ℕ) (t : Template) (e : TemplateFault) → IsTemplateText bytes t → FirstFault bytes e → ⊥
-template_fits bytes t e is fault = no_fault t e (subst (λ (b : List ℕ). FirstFault b e) (sym is) fault)
+pub template_fits : (bytes : List ℕ) (t : Template) (e : TemplateFault) → IsTemplateText bytes t → FirstTemplateFault bytes e → ⊥
+template_fits bytes t e is fault = no_fault t e (subst (λ (b : List ℕ). FirstTemplateFault b e) (sym is) fault)
 
 -- a list has one last item
-no_end : (ys : List Tried) (y : Tried) → [] ≡ ys ++ y ∷ [] → ⊥
+pub no_end : (ys : List Tried) (y : Tried) → [] ≡ ys ++ y ∷ [] → ⊥
 no_end [] y e = absurd (cc)
 no_end (b ∷ ys) y e = absurd (cc)
 

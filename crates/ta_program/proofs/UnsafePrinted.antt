@@ -1,75 +1,82 @@
 -- What the report says of unsafe patterns
 use Rattle.std.proofs.Common.{◌≡◌, ◌+◌, ◌≤◌, ℕ, zero, suc, true, length, map, List, [], ◌∷◌, Some, slice_get, Bool, refl, sym, ap, subst, ◌∙◌, arith}
 use Rattle.std.specs.List.{list_any}
+use Rattle.std.proofs.lemmas.Option.{same_Some}
 use Rattle.std.proofs.Math.Nat.{mul-le-mul_right}
+use Rattle.ta_base.proofs.Each.{each_at}
+use Rattle.ta_automaton.proofs.Thresholds.{pattern_within}
 use Rattle.ta_automaton.specs.declared.file.File.{File}
 use Rattle.ta_automaton.specs.declared.pattern.Pattern.{Pattern}
 use Rattle.ta_automaton.specs.Runs as runs
 use Rattle.ta_cert.specs.Certificates.{pair_of}
 use Rattle.ta_replay.specs.declared.run.Run.{Run}
 use Rattle.ta_replay.specs.RunText.{run_text}
-use Rattle.ta_replay.specs.Shows.{unit_steps}
 use Rattle.ta_replay.specs.Fits.{Fits}
-use Rattle.ta_replay.specs.Shows.{Shows, ShowsPattern}
+use Rattle.ta_replay.specs.Shows.{IsFirstConfig, Shows, ShowsPattern, unit_steps}
 use Rattle.ta_replay.proofs.Counting.{marks_are_events}
 use Rattle.ta_replay.proofs.Occurring.{shown_occurs}
-use Rattle.ta_replay.proofs.RunFacts.{pattern_within}
 use Rattle.ta_replay.proofs.TextsShort.{lines_counted, run_text_short}
 use Rattle.ta_report.specs.Report.{VerdictFits}
 use Rattle.ta_report.specs.Telling.{TellsUnsafe, report_of}
 use Rattle.ta_report.specs.declared.verdict.ReportSample.{ReportSample}
 use Rattle.ta_report.specs.declared.verdict.Verdict.{Verdict}
 use Rattle.ta_report.specs.declared.verdict.Verdict.TheVariants.{Safe, Unsafe, Spent, Overflow}
-use Rattle.ta_report.proofs.Printed.{each_at}
 use Rattle.ta_report.proofs.Tellings.{run_told, told_run, told_unsafe}
 use Rattle.ta_witness.specs.Witness.{IsShortRun}
 use Rattle.ta_program.specs.declared.limits.TheConstants.{RUN}
-use Rattle.ta_program.specs.Printed.{UnsafePrinted}
+use Rattle.ta_program.specs.Printed.{UnsafePrinted, verify_telling}
 use Rattle.ta_verdict.specs.Verdicts.{AreVerdicts, IsSample, UnsafeHolds, VerdictHolds, VerdictsHold, is_unsafe}
 
--- the verdict on the pattern of a number
-pub hold_at : (file : File) (budget number : ℕ) (ps : List Pattern) (vs : List Verdict) (k : ℕ) (p : Pattern) (v : Verdict) → VerdictsHold file budget number ps vs → slice_get ps k ≡ Some p → slice_get vs k ≡ Some v → VerdictHolds file budget (number + k) p v
-hold_at file budget number [] vs k p v h named given = absurd (cc)
-hold_at file budget number (q ∷ ps) [] k p v h named given = absurd h
-hold_at file budget number (q ∷ ps) (w ∷ vs) zero p v h named given =
-    let same : q ≡ p = cc in
+-- the verdict of a number is one on the pattern of the number, and holds
+pub held_at : (file : File) (budget number : ℕ) (ps : List Pattern) (vs : List Verdict) → VerdictsHold file budget number ps vs → (k : ℕ) (v : Verdict) → slice_get vs k ≡ Some v → (p : Pattern) × (slice_get ps k ≡ Some p) × VerdictHolds file budget (number + k) p v
+held_at file budget number [] [] h k v given = absurd (cc)
+held_at file budget number [] (w ∷ vs) h k v given = absurd h
+held_at file budget number (q ∷ ps) [] h k v given = absurd h
+held_at file budget number (q ∷ ps) (w ∷ vs) h zero v given =
     let said : w ≡ v = cc in
     let here : number ≡ number + 0 = omega arith in
-    subst (λ (n : ℕ). VerdictHolds file budget n p v) here (subst (VerdictHolds file budget number p) said (subst (λ (r : Pattern). VerdictHolds file budget number r w) same h.0))
-hold_at file budget number (q ∷ ps) (w ∷ vs) (suc k) p v h named given =
+    (q, refl, subst (λ (n : ℕ). VerdictHolds file budget n q v) here (subst (VerdictHolds file budget number q) said h.0))
+held_at file budget number (q ∷ ps) (w ∷ vs) h (suc k) v given =
     let there : (number + 1) + k ≡ number + suc k = omega arith in
-    subst (λ (n : ℕ). VerdictHolds file budget n p v) there (hold_at file budget (number + 1) ps vs k p v h.1 named given)
+    let later = held_at file budget (number + 1) ps vs h.1 k v given in
+    (later.0, later.1, subst (λ (n : ℕ). VerdictHolds file budget n later.0 v) there later.2)
 
--- a pattern occurs in a run
-pub record Occurrence (file : File) (p : Pattern) : Type 0 where
+pub hold_at : (file : File) (budget number : ℕ) (ps : List Pattern) (vs : List Verdict) (k : ℕ) (p : Pattern) (v : Verdict) → VerdictsHold file budget number ps vs → slice_get ps k ≡ Some p → slice_get vs k ≡ Some v → VerdictHolds file budget (number + k) p v
+hold_at file budget number ps vs k p v h named given =
+    let held = held_at file budget number ps vs h k v given in
+    subst (λ (q : Pattern). VerdictHolds file budget (number + k) q v) (same_Some held.0 p (sym held.1 ∙ named)) held.2
+
+-- a pattern occurs in the steps of a run, from a first configuration with its parameters and start counts
+pub record Occurrence (file : File) (p : Pattern) (run : Run) : Type 0 where
   pub first : runs.Config
-  pub rules : List ℕ
-  pub occurs : runs.Occurs file.automaton p first rules
+  pub begins : IsFirstConfig file.automaton run first
+  pub occurs : runs.Occurs file.automaton p first (unit_steps run.lines)
 
 -- the run of an unsafe pattern is an occurrence of it
 run_number : (file : File) (pairs : List (ℕ × ℕ)) (number : ℕ) (p : Pattern) (budget nodes : ℕ) (run : Run) → UnsafeHolds file pairs number p budget nodes run → run.pattern ≡ number
 run_number file pairs number p budget nodes run h = h.is.same_pattern ∙ h.node.holds.pattern
 
-pub unsafe_occurs : (file : File) (pairs : List (ℕ × ℕ)) (number : ℕ) (p : Pattern) (budget nodes : ℕ) (run : Run) → slice_get file.patterns number ≡ Some p → UnsafeHolds file pairs number p budget nodes run → Occurrence file p
+pub unsafe_occurs : (file : File) (pairs : List (ℕ × ℕ)) (number : ℕ) (p : Pattern) (budget nodes : ℕ) (run : Run) → slice_get file.patterns number ≡ Some p → UnsafeHolds file pairs number p budget nodes run → Occurrence file p run
 unsafe_occurs file pairs number p budget nodes run at h =
     let named : Some h.shows.pattern ≡ Some p = sym h.shows.named ∙ ap (slice_get file.patterns) (run_number file pairs number p budget nodes run h) ∙ at in
     let same : h.shows.pattern ≡ p = cc in
     let first = h.shows.shows.first in
-    let rules = unit_steps run.lines in
-    record { first = first; rules = rules; occurs = subst (λ (q : Pattern). runs.Occurs file.automaton q first rules) same (shown_occurs file run h.shows) }
+    record { first = first; begins = h.shows.shows.begins; occurs = subst (λ (q : Pattern). runs.Occurs file.automaton q first (unit_steps run.lines)) same (shown_occurs file run h.shows) }
 
 -- where some verdict says unsafe, some pattern occurs in a run
 pub record SomeOccurs (file : File) (number : ℕ) (ps : List Pattern) : Type 0 where
   pub place : ℕ
   pub pattern : Pattern
   pub at : slice_get ps place ≡ Some pattern
-  pub occurs : slice_get file.patterns (number + place) ≡ Some pattern → Occurrence file pattern
+  pub run : Run
+  pub occurs : slice_get file.patterns (number + place) ≡ Some pattern → Occurrence file pattern run
 
 some_later : (file : File) (number : ℕ) (p : Pattern) (ps : List Pattern) → SomeOccurs file (number + 1) ps → SomeOccurs file number (p ∷ ps)
 some_later file number p ps some = record {
   place = suc some.place;
   pattern = some.pattern;
   at = some.at;
+  run = some.run;
   occurs = λ named. let there : (number + 1) + some.place ≡ number + suc some.place = omega arith in some.occurs (ap (slice_get file.patterns) there ∙ named);
 }
 
@@ -82,13 +89,14 @@ some_occurs file budget number (p ∷ ps) (Unsafe nodes run ∷ vs) some h = rec
   place = 0;
   pattern = p;
   at = refl;
+  run = run;
   occurs = λ named. let here : number ≡ number + 0 = omega arith in unsafe_occurs file (map pair_of h.0.orders) number p budget nodes run (ap (slice_get file.patterns) here ∙ named) h.0.holds;
 }
 some_occurs file budget number (p ∷ ps) (Spent nodes ∷ vs) some h = some_later file number p ps (some_occurs file budget (number + 1) ps vs some h.1)
 some_occurs file budget number (p ∷ ps) (Overflow node kind ∷ vs) some h = some_later file number p ps (some_occurs file budget (number + 1) ps vs some h.1)
 
 -- the text of a short run is within the limit of RUN
-few_lines : (file : File) (run : Run) (fits : Fits file run) → Shows file run → IsShortRun file run → length run.lines ≤ 8000
+pub few_lines : (file : File) (run : Run) (fits : Fits file run) → Shows file run → IsShortRun file run → length run.lines ≤ 8000
 few_lines file run fits shows short =
     let a = file.automaton in
     let p = fits.pattern in
@@ -108,7 +116,7 @@ pub run_within : (file : File) (run : Run) → Fits file run → Shows file run 
 run_within file run fits shows short = let text = run_text_short file run fits (few_lines file run fits shows short) in omega (arith, text)
 
 -- a pattern that a report tells is unsafe, and its run
-pub unsafe_printed : (json : Bool) (file : File) (budget : ℕ) (x : ReportSample) → IsSample file budget x → (vs : List Verdict) → AreVerdicts file budget vs → (k : ℕ) (p : Pattern) → slice_get file.patterns k ≡ Some p → TellsUnsafe json p.name (report_of json file x vs) → UnsafePrinted json file k p (report_of json file x vs)
+pub unsafe_printed : (json : Bool) (file : File) (budget : ℕ) (x : ReportSample) → IsSample file budget x → (vs : List Verdict) → AreVerdicts file budget vs → (k : ℕ) (p : Pattern) → slice_get file.patterns k ≡ Some p → TellsUnsafe json p.name (report_of json file x vs) → UnsafePrinted runs.Occurs (verify_telling json) file k p (report_of json file x vs)
 unsafe_printed json file budget x sampled vs are k p named line =
     let said = told_unsafe file x vs k p named sampled.fits are.fit json line in
     let nodes = said.0 in
@@ -120,9 +128,6 @@ unsafe_printed json file budget x sampled vs are k p named line =
     let h = v.holds in
     let occurs = unsafe_occurs file pairs k p budget nodes run named h in
     record {
-      first = occurs.first;
-      rules = occurs.rules;
-      occurs = occurs.occurs;
       bytes = run_text file run;
       stands = run_told file x vs k p named sampled.fits are.fit json nodes run said.2 line;
       only = λ other part.
@@ -134,4 +139,7 @@ unsafe_printed json file budget x sampled vs are k p named line =
       of = run_number file pairs k p budget nodes run h;
       shows = record { text = record { fits = fit.1; text = refl }; shows = h.shows; stays = h.stays };
       within = run_within file run fit.1 h.shows h.short;
+      first = occurs.first;
+      begins = occurs.begins;
+      happens = occurs.occurs;
     }

@@ -1,45 +1,119 @@
--- the file of a certificate is not the file that is verified
-use Rattle.std.proofs.Common.{◌≡◌, ◌≢◌, ◌∙◌, ℕ, Bool, true, false, ◌&&◌, not, List, [], ◌∷◌, length, Option, None, Some, is_some, refl, sym, rules}
+-- the files that a command puts are not its FILE, and not each other
+use Rattle.std.proofs.Common.{◌≡◌, ◌≢◌, ◌∙◌, ℕ, Bool, true, false, ◌&&◌, not, List, [], ◌∷◌, codes, length, Option, None, Some, is_some, refl, sym, subst, rules}
+use Rattle.std.proofs.lemmas.Option.{option_and_then_some}
 use Rattle.std.specs.Prelude.{nat_lt, option_and_then, option_map, if◌then◌else◌}
 use Rattle.std.specs.Str.{bytes_eq}
-use Rattle.ta_program.specs.Values.{budget_of, name_of, out_of}
+use Rattle.ta_program.specs.RestWords.{rest_form, rest_of, rest_taken, rest_words}
+use Rattle.ta_program.specs.SearchWords.{SearchWords, search_form, search_of, search_taken, search_words}
+use Rattle.ta_program.specs.Values.{are_same, budget_of, filled_of, file_name_of, out_of}
 use Rattle.ta_program.specs.VerifyWords.{VerifyWords, verify_form, verify_of, verify_taken, verify_words}
-use Rattle.ta_program.specs.Words.{Taken, plain_of, taken_by, value_of}
+use Rattle.ta_program.specs.Words.{Taken, behind_name, plain_of, taken_by, option_value}
 
--- another file than FILE, where one is given
+-- two names that are both given differ
+abbrev pub Apart : Option (List ℕ) → Option (List ℕ) → Type 0
+Apart one two = (name other : List ℕ) → one ≡ Some name → two ≡ Some other → name ≢ other
+
+-- the name of OUT is not that of FILE
+by_test : (some differs : Bool) (file given : List ℕ) → (differs ≡ true → given ≢ file) → (result : Option (List ℕ)) → (if some && differs then Some (Some given) else None) ≡ Some result → Apart (Some file) result
+by_test true true file given apart result is = λ name other first second same.
+    let a : file ≡ name = cc in
+    let b : given ≡ other = cc in
+    apart refl (b ∙ sym same ∙ sym a)
+by_test true false file given apart result is = absurd (cc)
+by_test false differs file given apart result is = absurd (cc)
+
+file_apart : (file : List ℕ) (given result : Option (List ℕ)) → out_of file given ≡ Some result → Apart (Some file) result
+file_apart file None result is = λ name other first second. absurd (cc)
+file_apart file (Some given) result is = by_test (nat_lt 0 (length given)) (not (bytes_eq given file)) file given (λ differs same. search rules) result is
+
+-- what the words of a command say of what they ask for, where they are behind its name
+by_name : {W : Type 0} (Such : W → Type 0) (read : List (List ℕ) → Option W) → ((words : List (List ℕ)) (asked : W) → read words ≡ Some asked → Such asked) → (named : Bool) (words : List (List ℕ)) (asked : W) → (if named then read words else None) ≡ Some asked → Such asked
+by_name Such read such true words asked is = such words asked is
+by_name Such read such false words asked is = absurd (cc)
+
+-- OUT and OUT2 of `search` are not the same
+by_same : (same : Bool) (answer : Option (Option (List ℕ))) (result : Option (List ℕ)) → (if same then None else answer) ≡ Some result → (same ≡ false) × (answer ≡ Some result)
+by_same true answer result is = absurd (cc)
+by_same false answer result is = (refl, is)
+
+-- a name that is taken is the one that was given
+given_by : (test : Bool) (given : List ℕ) (result : Option (List ℕ)) → (if test then Some (Some given) else None) ≡ Some result → result ≡ Some given
+given_by true given result is = cc
+given_by false given result is = absurd (cc)
+
+behind : {W : Type 0} (Such : W → Type 0) (name : List ℕ) (read : List (List ℕ) → Option W) → ((words : List (List ℕ)) (asked : W) → read words ≡ Some asked → Such asked) → (words : List (List ℕ)) (asked : W) → behind_name name read words ≡ Some asked → Such asked
+behind Such name read such [] asked is = absurd (cc)
+behind Such name read such (word ∷ words) asked is = by_name Such read such (bytes_eq word name) words asked is
+
+-- ---- OUT of `verify` and of `rest`
 abbrev Differs : VerifyWords → Type 0
-Differs asked = (out : List ℕ) → asked.out ≡ Some out → out ≢ asked.file
+Differs asked = Apart (Some asked.file) asked.out
 
-by_test : (some differs : Bool) (file other : List ℕ) → (differs ≡ true → other ≢ file) → (out : List ℕ) (outs : Option (List ℕ)) → (if some && differs then Some (Some other) else None) ≡ Some outs → outs ≡ Some out → out ≢ file
-by_test true true file other apart out outs is at = λ same. apart refl (let a : other ≡ out = cc in a ∙ same)
-by_test true false file other apart out outs is at = absurd (cc)
-by_test false differs file other apart out outs is at = absurd (cc)
+by_out : (file : List ℕ) (nodes : ℕ) (json : Bool) (given : Option (List ℕ)) (out : Option (Option (List ℕ))) → out_of file given ≡ out → (asked : VerifyWords) → option_map (λ o. record { file = file; nodes = nodes; out = o; json = json }) out ≡ Some asked → Differs asked
+by_out file nodes json given None from asked is = absurd (cc)
+by_out file nodes json given (Some out) from asked is =
+    let words : VerifyWords = record { file = file; nodes = nodes; out = out; json = json } in
+    let same : words ≡ asked = cc in
+    subst Differs same (file_apart file given out from)
 
-by_out : (file : List ℕ) (given : Option (List ℕ)) (out : List ℕ) (outs : Option (List ℕ)) → out_of file given ≡ Some outs → outs ≡ Some out → out ≢ file
-by_out file None out outs is at = absurd (cc)
-by_out file (Some other) out outs is at = by_test (nat_lt 0 (length other)) (not (bytes_eq other file)) file other (λ differs same. search rules) out outs is at
+read_differs : (file : Option (List ℕ)) (nodes : Option ℕ) (json : Bool) (given : Option (List ℕ)) (asked : VerifyWords) → option_and_then (λ f. option_and_then (λ n. option_map (λ o. record { file = f; nodes = n; out = o; json = json }) (out_of f given)) nodes) file ≡ Some asked → Differs asked
+read_differs None nodes json given asked is = absurd (cc)
+read_differs (Some file) None json given asked is = absurd (cc)
+read_differs (Some file) (Some nodes) json given asked is = by_out file nodes json given (out_of file given) refl asked is
 
-by_answer : (file : List ℕ) (given : Option (List ℕ)) (nodes : ℕ) (json : Bool) (outs : Option (Option (List ℕ))) → outs ≡ out_of file given → (asked : VerifyWords) → option_map (λ out. record { file = file; nodes = nodes; out = out; json = json }) outs ≡ Some asked → Differs asked
-by_answer file given nodes json None from asked is = absurd (cc)
-by_answer file given nodes json (Some outs) from asked is = λ out at same.
-    by_out file given out outs (sym from) (let e : outs ≡ asked.out = cc in e ∙ at) (let f : asked.file ≡ file = cc in same ∙ f)
+verify_differs : (words : List (List ℕ)) (asked : VerifyWords) → verify_words words ≡ Some asked → Differs asked
+verify_differs words asked is = option_and_then_some verify_taken (taken_by verify_form words) asked is (λ taken by taken_is.
+    read_differs (file_name_of (plain_of taken 0)) (budget_of (option_value taken 0)) (is_some (option_value taken 2)) (option_value taken 1) asked taken_is)
 
-by_nodes : (file : List ℕ) (given : Option (List ℕ)) (json : Bool) (nodes : Option ℕ) (asked : VerifyWords) → option_and_then (λ n. option_map (λ out. record { file = file; nodes = n; out = out; json = json }) (out_of file given)) nodes ≡ Some asked → Differs asked
-by_nodes file given json None asked is = absurd (cc)
-by_nodes file given json (Some n) asked is = by_answer file given n json (out_of file given) refl asked is
+rest_differs : (words : List (List ℕ)) (asked : VerifyWords) → rest_words words ≡ Some asked → Differs asked
+rest_differs words asked is = option_and_then_some rest_taken (taken_by rest_form words) asked is (λ taken by taken_is.
+    read_differs (file_name_of (plain_of taken 0)) (budget_of (option_value taken 0)) false (option_value taken 1) asked taken_is)
 
-by_file : (taken : Taken) (file : Option (List ℕ)) (asked : VerifyWords) → option_and_then (λ f. option_and_then (λ n. option_map (λ out. record { file = f; nodes = n; out = out; json = is_some (value_of taken 2) }) (out_of f (value_of taken 1))) (budget_of (value_of taken 0))) file ≡ Some asked → Differs asked
-by_file taken None asked is = absurd (cc)
-by_file taken (Some file) asked is = by_nodes file (value_of taken 1) (is_some (value_of taken 2)) (budget_of (value_of taken 0)) asked is
+pub out_differs : (words : List (List ℕ)) (asked : VerifyWords) (out : List ℕ) → verify_of words ≡ Some asked → asked.out ≡ Some out → asked.file ≢ out
+out_differs words asked out is given = behind Differs (codes "verify") verify_words verify_differs words asked is asked.file out refl given
 
-by_taken : (taken : Option Taken) (asked : VerifyWords) → option_and_then verify_taken taken ≡ Some asked → Differs asked
-by_taken None asked is = absurd (cc)
-by_taken (Some taken) asked is = by_file taken (name_of (plain_of taken 0)) asked is
+pub rest_out_differs : (words : List (List ℕ)) (asked : VerifyWords) (out : List ℕ) → rest_of words ≡ Some asked → asked.out ≡ Some out → asked.file ≢ out
+rest_out_differs words asked out is given = behind Differs (codes "rest") rest_words rest_differs words asked is asked.file out refl given
 
-by_name : (named : Bool) (words : List (List ℕ)) (asked : VerifyWords) → (if named then verify_words words else None) ≡ Some asked → Differs asked
-by_name true words asked is = by_taken (taken_by verify_form words) asked is
-by_name false words asked is = absurd (cc)
+differ : (out given : Option (List ℕ)) → are_same out given ≡ false → Apart given out
+differ None given differs = λ name other first second. absurd (cc)
+differ (Some out) None differs = λ name other first second. absurd (cc)
+differ (Some out) (Some given) differs = λ name other first second equal.
+    let same : out ≡ given = cc in
+    let e : bytes_eq out given ≡ true = search rules in
+    let f : true ≡ false = sym e ∙ differs in
+    absurd (cc)
 
-pub out_differs : (words : List (List ℕ)) (asked : VerifyWords) (out : List ℕ) → verify_of words ≡ Some asked → asked.out ≡ Some out → out ≢ asked.file
-out_differs [] asked out is = absurd (cc)
-out_differs (word ∷ words) asked out is = by_name (bytes_eq word _) words asked is out
+out_given : (file : List ℕ) (given result : Option (List ℕ)) → out_of file given ≡ Some result → result ≡ given
+out_given file None result is = cc
+out_given file (Some given) result is = given_by (nat_lt 0 (length given) && not (bytes_eq given file)) given result is
+
+-- the names of FILE, OUT and OUT2, as far as they are given
+pub record AllApart (asked : SearchWords) : Type 0 where
+  pub puts : Apart asked.filled asked.out
+  pub out : Apart (Some asked.file) asked.out
+  pub filled : Apart (Some asked.file) asked.filled
+
+by_filled : (file : List ℕ) (nodes : ℕ) (first out given : Option (List ℕ)) → out_of file first ≡ Some out → (filled : Option (Option (List ℕ))) → filled_of file out given ≡ filled → (asked : SearchWords) → option_map (λ f. record { file = file; nodes = nodes; out = out; filled = f }) filled ≡ Some asked → AllApart asked
+by_filled file nodes first out given took None from asked is = absurd (cc)
+by_filled file nodes first out given took (Some filled) from asked is =
+    let words : SearchWords = record { file = file; nodes = nodes; out = out; filled = filled } in
+    let same : words ≡ asked = cc in
+    let by = by_same (are_same out given) (out_of file given) filled from in
+    subst AllApart same (record {
+      puts = subst (λ (o : Option (List ℕ)). Apart o out) (sym (out_given file given filled by.1)) (differ out given by.0);
+      out = file_apart file first out took;
+      filled = file_apart file given filled by.1;
+    })
+
+taken_apart : (taken : Taken) (asked : SearchWords) → search_taken taken ≡ Some asked → AllApart asked
+taken_apart taken asked is = option_and_then_some _ (file_name_of (plain_of taken 0)) asked is (λ file named file_is.
+    option_and_then_some _ (budget_of (option_value taken 0)) asked file_is (λ nodes counted nodes_is.
+    option_and_then_some _ (out_of file (option_value taken 1)) asked nodes_is (λ out took out_is.
+    by_filled file nodes (option_value taken 1) out (option_value taken 2) took (filled_of file out (option_value taken 2)) refl asked out_is)))
+
+search_apart : (words : List (List ℕ)) (asked : SearchWords) → search_words words ≡ Some asked → AllApart asked
+search_apart words asked is = option_and_then_some search_taken (taken_by search_form words) asked is (λ taken by taken_is. taken_apart taken asked taken_is)
+
+pub names_apart : (words : List (List ℕ)) (asked : SearchWords) → search_of words ≡ Some asked → AllApart asked
+names_apart words asked is = behind AllApart (codes "search") search_words search_apart words asked is

@@ -1,5 +1,5 @@
 -- The command `admit` (this project's profile)
-use Rattle.std.specs.Prelude.{ℕ, ◌≡◌, ◌≢◌, ◌≤◌, ◌⊎◌, ◌++◌, List, [], codes, decimal, length, Option, Some, option_and_then, option_map}
+use Rattle.std.specs.Prelude.{ℕ, ◌≡◌, ◌≢◌, ◌≤◌, ◌++◌, List, [], codes, decimal, length, Option, Some, option_and_then, option_map}
 use Rattle.ta_automaton.specs.declared.file.File.{File}
 use Rattle.ta_replay.specs.declared.run.Run.{Run}
 use Rattle.ta_replay.specs.RunText.{run_text}
@@ -7,16 +7,16 @@ use Rattle.ta_shelf.specs.Put.{Told}
 use Rattle.ta_shelf.specs.Sink.{with_text}
 use Rattle.ta_shell.specs.Commands.{Meaning}
 use Rattle.ta_shell.specs.Sights.{View, in_files}
-use Rattle.ta_shell.specs.Stages.{IsOf, Kind, Writes, after, finds, replies}
+use Rattle.ta_shell.specs.Stages.{FileMeans, Kind, Writes, after, finds, replies}
 use Rattle.ta_smt.specs.declared.fault.AdmitFault.{AdmitFault}
 use Rattle.ta_smt.specs.declared.fault.AdmitFault.TheVariants as fault
-use Rattle.ta_smt.specs.Admit.{Admits, AdmitFaultOf, Asked as Word}
+use Rattle.ta_smt.specs.Admit.{Admits, AdmitFaultOf, AskedWord as Word}
 use Rattle.ta_smt.specs.Named.{IsWholeWordOf, Spelling, WholeFaultOf}
 use Rattle.ta_program.specs.declared.limits.TheConstants.{RUN, VALUES}
 use Rattle.ta_program.specs.Asked.{Asked, ask}
 use Rattle.ta_program.specs.Export.{WordHinders}
 use Rattle.ta_program.specs.Kinds.{IsFile, ShowsRun, file_kind}
-use Rattle.ta_program.specs.Values.{name_of}
+use Rattle.ta_program.specs.Values.{file_name_of}
 use Rattle.ta_program.specs.WordAsked.{WordAsked, asked_of}
 use Rattle.ta_program.specs.Words.{Taken, behind_name, plain_of, taken_by}
 
@@ -31,14 +31,14 @@ admit_fault_text fault.Run = codes "V9 run outside 128 bits"
 admit_fault_text fault.Memory = codes "out of memory"
 
 -- the first fault of the bytes as values for a word; so no run is that of them
-pub record ValuesFault (file : File) (word : Word) (bytes : List ℕ) (found : AdmitFault) : Type 0 where
+pub record AdmitRefuses (file : File) (word : Word) (bytes : List ℕ) (found : AdmitFault) : Type 0 where
   pub no_memory : found ≢ fault.Memory
   pub first : AdmitFaultOf file word bytes found
   pub gives_no_run : (run : Run) → ¬ Admits file word bytes run
 
 -- VALUES, for a word of a file: bytes that give a run
 abbrev pub values_kind : File → Word → Kind Run AdmitFault
-values_kind file word = record { limit = VALUES; means = Admits file word; at_fault = ValuesFault file word; broken = λ bytes fault. ⊥; words = admit_fault_text }
+values_kind file word = record { limit = VALUES; means = Admits file word; at_fault = AdmitRefuses file word; broken = λ bytes fault. ⊥; words = admit_fault_text }
 
 -- VALUES for a word of a file is read, and the text of its run is written
 abbrev pub values_meaning : List ℕ → File → Word → Meaning
@@ -59,7 +59,7 @@ admit_meaning all = after file_kind all.asked.file [] (run_meaning all.asked.fil
 
 -- FILE PATTERN START WORD VALUES
 abbrev pub all_of : Taken → Option AdmitAsked
-all_of taken = option_and_then (λ asked. option_map (λ values. record { asked = asked; values = values }) (name_of (plain_of taken 4))) (asked_of taken)
+all_of taken = option_and_then (λ asked. option_map (λ values. record { asked = asked; values = values }) (file_name_of (plain_of taken 4))) (asked_of taken)
 
 abbrev pub admit_words : List (List ℕ) → Option AdmitAsked
 admit_words words = option_and_then all_of (taken_by (record { plain = 5; options = [] }) words)
@@ -80,7 +80,7 @@ pub record AdmitHolds (view : View) (all : AdmitAsked) (written written' : Optio
   pub word : Word
   pub is_word : IsWholeWordOf file all.asked.word word
   pub run : Run
-  pub is_run : IsOf (values_kind file word) view all.values run
+  pub is_run : FileMeans (values_kind file word) view all.values run
   pub shows : ShowsRun file (run_text file run) run
   pub within : length (run_text file run) ≤ RUN.bytes
   pub wrote : written' ≡ with_text written (run_text file run)
@@ -92,4 +92,4 @@ pub record IsAdmitted (told : Told) (all : AdmitAsked) : Type 0 where
   pub word : Word
   pub is_word : IsWholeWordOf file all.asked.word word
   pub run : Run
-  pub is_run : IsOf (values_kind file word) (in_files told) all.values run
+  pub is_run : FileMeans (values_kind file word) (in_files told) all.values run

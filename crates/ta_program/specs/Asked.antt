@@ -60,7 +60,7 @@ pub record OfNoCommand (number : ℕ) (before after : State) : Type 0 where
   pub told : Tells usage_line before.err after.err
 
 -- the command is done; told files leave it one answer, and a legal FILE passes
-pub record Obeyed (legal : Told → Type 0) (m : Meaning) (number : ℕ) (before after : State) : Type 0 where
+pub record IsObeyed (legal : Told → Type 0) (m : Meaning) (number : ℕ) (before after : State) : Type 0 where
   pub performs : Performs m number before after
   pub decides : Decides m
   pub passes : PassesWhere legal m
@@ -68,7 +68,7 @@ pub record Obeyed (legal : Told → Type 0) (m : Meaning) (number : ℕ) (before
 -- what is asked for is done
 abbrev pub Runs : Asked → ℕ → State → State → Type 0
 Runs NoCommand number before after = OfNoCommand number before after
-Runs (Command legal m) number before after = Obeyed legal m number before after
+Runs (Command legal m) number before after = IsObeyed legal m number before after
 
 -- the command that was read of words is the one that they ask for: who does it does what is asked for; and where none was, they are
 -- no command's

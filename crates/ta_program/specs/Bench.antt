@@ -1,5 +1,5 @@
 -- The command `bench` (this project's profile)
-use Rattle.std.specs.Prelude.{ℕ, ◌*◌, ◌-◌, ◌≡◌, ◌≢◌, ◌≤◌, ◌&&◌, nat_le, Bool, true, false, List, [], ◌∷◌, ◌++◌, codes, decimal, slice_get, Option, None, Some, if◌then◌else◌, option_and_then}
+use Rattle.std.specs.Prelude.{ℕ, ◌*◌, ◌-◌, ◌≡◌, ◌&&◌, nat_le, Bool, true, false, List, [], ◌∷◌, ◌++◌, codes, decimal, slice_get, Option, None, Some, if◌then◌else◌, option_and_then}
 use Rattle.ta_automaton.specs.declared.file.File.{File}
 use Rattle.ta_automaton.specs.declared.pattern.Pattern.{Pattern}
 use Rattle.ta_check.specs.Certificate.{Certificate}
@@ -16,7 +16,7 @@ use Rattle.ta_syntax.specs.Printed.{printed}
 use Rattle.ta_program.specs.Asked.{Asked, ask}
 use Rattle.ta_verdict.specs.Certificates.{CertificateOf, safe_numbers}
 use Rattle.ta_verdict.specs.Verdicts.{AreVerdicts, is_unknown, is_unsafe}
-use Rattle.ta_program.specs.Words.{Taken, behind_name, plain_of, taken_by}
+use Rattle.ta_program.specs.Words.{behind_name, plain_of, taken_by}
 
 -- K is one of the texts `1` to `7`
 abbrev pub family_number : List ℕ → Option ℕ

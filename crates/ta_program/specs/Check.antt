@@ -5,7 +5,7 @@ use Rattle.ta_report.specs.Check.{check_text}
 use Rattle.ta_shelf.specs.Sink.{with_text}
 use Rattle.ta_shell.specs.Commands.{Meaning}
 use Rattle.ta_shell.specs.Sights.{View}
-use Rattle.ta_shell.specs.Stages.{IsOf, Writes, after, replies}
+use Rattle.ta_shell.specs.Stages.{FileMeans, Writes, after, replies}
 use Rattle.ta_claim.specs.declared.claim.Claim.TheVariants as claim
 use Rattle.ta_check.specs.Subjects.{claiming}
 use Rattle.ta_program.specs.Asked.{Asked, ask}
@@ -34,5 +34,5 @@ pub record CheckHolds (view : View) (file_name certificate_name : List ℕ) (wri
   pub file : File
   pub is_file : IsFile view file_name file
   pub numbers : List ℕ
-  pub certificate : IsOf (certificate_kind (claiming claim.Safe file)) view certificate_name numbers
+  pub certificate : FileMeans (certificate_kind (claiming claim.Safe file)) view certificate_name numbers
   pub wrote : written' ≡ with_text written (check_text file numbers)

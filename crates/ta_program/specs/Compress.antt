@@ -18,7 +18,7 @@ use Rattle.ta_shelf.specs.Sink.{with_text}
 use Rattle.ta_shell.specs.declared.answer.Answer.{Answer}
 use Rattle.ta_shell.specs.Commands.{Meaning}
 use Rattle.ta_shell.specs.Sights.{View}
-use Rattle.ta_shell.specs.Stages.{IsOf, Kind, Writes, after, replies}
+use Rattle.ta_shell.specs.Stages.{FileMeans, Kind, Writes, after, replies}
 use Rattle.ta_program.specs.declared.limits.TheConstants.{RUN}
 use Rattle.ta_program.specs.Asked.{Asked, ask}
 use Rattle.ta_program.specs.Kinds.{IsFile, file_kind}
@@ -42,7 +42,7 @@ pub record IsTextFault (file : File) (bytes : List ℕ) (found : CompressFault) 
   pub text : TextFault file bytes first
 
 -- the bytes are the text of a run that is refused so
-pub record IsRefused (file : File) (bytes : List ℕ) (found : CompressFault) : Type 0 where
+pub record IsRefusedRun (file : File) (bytes : List ℕ) (found : CompressFault) : Type 0 where
   pub run : Run
   pub text : IsRunText file run bytes
   pub first : CompressFaultOf file run found
@@ -50,7 +50,7 @@ pub record IsRefused (file : File) (bytes : List ℕ) (found : CompressFault) : 
 -- the first fault of a text as a run of a file, of its replay, or of what it takes to compress it
 pub record CompressFaultIn (file : File) (bytes : List ℕ) (found : CompressFault) : Type 0 where
   pub no_memory : found ≢ fault.Memory
-  pub first : IsTextFault file bytes found ⊎ IsRefused file bytes found
+  pub first : IsTextFault file bytes found ⊎ IsRefusedRun file bytes found
   pub compresses_nothing : (run : Run) → ¬ Compresses file bytes run
 
 -- what is wrong in a run that is to be compressed
@@ -98,7 +98,7 @@ pub record CompressHolds (view : View) (file_name run_name : List ℕ) (written 
   pub file : File
   pub is_file : IsFile view file_name file
   pub run : Run
-  pub is_run : IsOf (long_kind file) view run_name run
+  pub is_run : FileMeans (long_kind file) view run_name run
   pub short : Run
   pub is_short : ShortOf file run short
   pub wrote : written' ≡ with_text written (run_text file short)

@@ -9,7 +9,7 @@ use Rattle.ta_shell.specs.Sights.{View}
 use Rattle.ta_shell.specs.Stages.{Writes, after, finds, replies}
 use Rattle.ta_smt.specs.declared.fault.WordFault.{WordFault}
 use Rattle.ta_smt.specs.declared.fault.WordFault.TheVariants as fault
-use Rattle.ta_smt.specs.Admit.{Asked as Word}
+use Rattle.ta_smt.specs.Admit.{AskedWord as Word}
 use Rattle.ta_smt.specs.Denotes.{Denotes}
 use Rattle.ta_smt.specs.Named.{IsWordOf, IsWordText, SolvesAsked, Spelling, WordFaultOf}
 use Rattle.ta_program.specs.declared.limits.TheConstants.{VALUES}

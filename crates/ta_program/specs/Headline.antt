@@ -4,12 +4,12 @@
 -- or proved so, no run in which it occurs comes to rest where its last event happens. Who believes this reads these definitions and those that they name, and
 -- no others.
 use Rattle.std.specs.Prelude.{ℕ, ◌≤◌, ◌≡◌, List, codes, slice_get, Option, Some}
+use Rattle.std.specs.List.{AllByRecursion}
 use Rattle.ta_syntax.specs.Grammar.{PlainTree}
 use Rattle.ta_syntax.specs.TreeOf.{IsTextOf}
 use Rattle.ta_automaton.specs.declared.automaton.Automaton.{Automaton}
 use Rattle.ta_automaton.specs.declared.file.File.{File}
 use Rattle.ta_automaton.specs.declared.pattern.Pattern.{Pattern}
-use Rattle.ta_automaton.specs.Lists.{Each}
 use Rattle.ta_automaton.specs.Runs as runs
 use Rattle.ta_meaning.specs.Meaning.{MeansTree}
 use Rattle.ta_report.specs.Printed.{HasLine, told_of}
@@ -35,7 +35,7 @@ pub record HoldsFile (view : View) (name : List ℕ) (file : File) : Type 0 wher
 pub record EachPatternSafe (view : View) (name : List ℕ) : Type 0 where
   pub file : File
   pub holds : HoldsFile view name file
-  pub safe : Each (runs.Safe file.automaton) file.patterns
+  pub safe : AllByRecursion (runs.Safe file.automaton) file.patterns
 
 -- a name holds a file, some pattern of which occurs in a run
 pub record SomePatternOccurs (view : View) (name : List ℕ) : Type 0 where

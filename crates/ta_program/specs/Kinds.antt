@@ -2,7 +2,7 @@
 use Rattle.std.specs.Prelude.{ℕ, ◌≢◌, ◌⊎◌, List}
 use Rattle.ta_automaton.specs.declared.file.File.{File}
 use Rattle.ta_cert.specs.declared.fault.CertFault.{CertFault}
-use Rattle.ta_check.specs.Certificate.{AllHold, CertificateFor}
+use Rattle.ta_check.specs.Certificate.{AllClaimsHold, CertificateFor}
 use Rattle.ta_check.specs.Faults.{IsFirstFaultFor, IsLastingFor}
 use Rattle.ta_check.specs.Subjects.{Subject}
 use Rattle.ta_syntax.specs.declared.fault.FileFault.{FileFault}
@@ -18,7 +18,7 @@ use Rattle.ta_replay.specs.Replays.{ReplayStays}
 use Rattle.ta_replay.specs.ReplayFaults.{ReplayFault}
 use Rattle.ta_report.specs.Faults.{cert_fault_text, file_fault_text, run_fault_text}
 use Rattle.ta_shell.specs.Sights.{View}
-use Rattle.ta_shell.specs.Stages.{IsOf, Kind}
+use Rattle.ta_shell.specs.Stages.{FileMeans, Kind}
 use Rattle.ta_program.specs.declared.limits.TheConstants.{CERTIFICATE, FILE, RUN}
 
 -- FILE: bytes that mean an automaton with patterns, or have a first fault
@@ -27,12 +27,12 @@ file_kind = record { limit = FILE; means = Legal; at_fault = FirstFault; broken 
 
 -- the bytes of a name mean this file
 abbrev pub IsFile : View → List ℕ → File → Type 0
-IsFile view name file = IsOf file_kind view name file
+IsFile view name file = FileMeans file_kind view name file
 
 -- the bytes are a certificate of what is claimed of the file's patterns of these numbers, and it holds of each
 pub record Proves (subject : Subject) (bytes numbers : List ℕ) : Type 0 where
   pub accepted : CertificateFor subject bytes numbers
-  pub safe : AllHold subject numbers
+  pub safe : AllClaimsHold subject numbers
 
 -- the first fault of the bytes, which are no certificate
 pub record CertificateFault (subject : Subject) (bytes : List ℕ) (found : CertFault) : Type 0 where

@@ -1,19 +1,31 @@
 -- What two runs of the program have to do with each other
-use Rattle.std.specs.Prelude.{ℕ, ◌≡◌, ◌≤◌, ◌⊎◌, Bool, List, slice_get, Some}
+use Rattle.std.specs.Prelude.{ℕ, ◌≡◌, ◌≤◌, ◌⊎◌, Bool, List, length, slice_get, Some}
 use Rattle.ta_automaton.specs.declared.file.File.{File}
 use Rattle.ta_automaton.specs.declared.pattern.Pattern.{Pattern}
-use Rattle.ta_report.specs.Check.{check_text}
+use Rattle.ta_base.specs.Masks.{numbers_from}
+use Rattle.ta_report.specs.Check.{check_text, rest_check_text}
+use Rattle.ta_report.specs.Report.{rest_text}
 use Rattle.ta_report.specs.Telling.{TellsRun, TellsUnsafe, report_of}
 use Rattle.ta_report.specs.declared.verdict.ReportSample.{ReportSample}
 use Rattle.ta_report.specs.declared.verdict.Verdict.{Verdict}
+use Rattle.ta_search.specs.declared.outcome.SearchEnd.{SearchEnd}
+use Rattle.ta_search.specs.declared.template.Template.{Template}
+use Rattle.ta_search.specs.Filling.{filled_text}
+use Rattle.ta_search.specs.Searching.{LastIsFound}
+use Rattle.ta_search.specs.SearchText.{search_text}
 use Rattle.ta_shelf.specs.Put.{Told}
 use Rattle.ta_shelf.specs.Sink.{with_text}
 use Rattle.ta_shell.specs.Ends.{State}
+use Rattle.ta_shell.specs.Sights.{in_files}
 use Rattle.ta_program.specs.Asked.{Runs}
 use Rattle.ta_verdict.specs.Certificates.{safe_numbers}
 use Rattle.ta_program.specs.Check.{check_of}
+use Rattle.ta_program.specs.Kinds.{IsFile}
 use Rattle.ta_program.specs.Replay.{replay_of}
 use Rattle.ta_program.specs.Requests.{request_of}
+use Rattle.ta_program.specs.RestWords.{rest_check_of, rest_of}
+use Rattle.ta_program.specs.Search.{IsTemplate}
+use Rattle.ta_program.specs.SearchWords.{SearchWords, search_of}
 use Rattle.ta_program.specs.Values.{TwoNames}
 use Rattle.ta_program.specs.VerifyWords.{VerifyWords, verify_of}
 
@@ -41,14 +53,19 @@ PrintedRunsAreReplayed =
     → (told : Told) → before.shelf.files ≡ Some told
     → PrintsReplayed asked.json told asked.file before after
 
--- a first run reported a sample and verdicts on a file, and a second one said that just the patterns are proved that are safe by these; or it
+-- a run ended with 0 and the output gained this text; or it ended with 6 or 7
+abbrev pub SaysOrFails : List ℕ → ℕ → State → State → Type 0
+SaysOrFails text number before after = ((number ≡ 0) × (after.out.written ≡ with_text before.out.written text)) ⊎ ((number ≡ 6) ⊎ (number ≡ 7))
+
+-- a first run reported a sample and verdicts on FILE, and a second one said that just the patterns are proved that are safe by these; or it
 -- ended with 6 or 7
-pub record SaysTheSame (json : Bool) (before after : State) (number : ℕ) (begun ended : State) : Type 0 where
+pub record SaysTheSame (report : File → ReportSample → List Verdict → List ℕ) (proved : File → List ℕ → List ℕ) (told : Told) (name : List ℕ) (before after : State) (number : ℕ) (begun ended : State) : Type 0 where
   pub file : File
+  pub is_file : IsFile (in_files told) name file
   pub sample : ReportSample
   pub verdicts : List Verdict
-  pub reported : after.out.written ≡ with_text before.out.written (report_of json file sample verdicts)
-  pub accepted : ((number ≡ 0) × (ended.out.written ≡ with_text begun.out.written (check_text file (safe_numbers file verdicts)))) ⊎ ((number ≡ 6) ⊎ (number ≡ 7))
+  pub reported : after.out.written ≡ with_text before.out.written (report file sample verdicts)
+  pub accepted : SaysOrFails (proved file (safe_numbers file verdicts)) number begun ended
 
 -- what `verify FILE --certificate OUT` put with status 0, 1 or 2 `check FILE OUT` accepts over the files as they were left: so it
 -- never ends with 3, 4 or 5, and with 0 it says that just the patterns are proved that were reported safe
@@ -59,4 +76,39 @@ WrittenIsAccepted =
     → (told : Told) → after.shelf.files ≡ Some told
     → (again : List (List ℕ)) → check_of again ≡ Some (record { file = asked.file; other = out })
     → (second : ℕ) (begun ended : State) → begun.shelf.files ≡ Some told → Runs (request_of again) second begun ended
-    → SaysTheSame asked.json before after second begun ended
+    → SaysTheSame (report_of asked.json) check_text told asked.file before after second begun ended
+
+-- what `rest FILE --certificate OUT` put with status 0, 1 or 2 `rest-check FILE OUT` accepts over the files as they were left: so it
+-- never ends with 3, 4 or 5, and with 0 it says that just the patterns are proved that were reported safe at rest
+abbrev pub WrittenAtRestIsAccepted : Type 0
+WrittenAtRestIsAccepted =
+    (words : List (List ℕ)) (first : ℕ) (before after : State) → Runs (request_of words) first before after
+    → (asked : VerifyWords) (out : List ℕ) → rest_of words ≡ Some asked → asked.out ≡ Some out → first ≤ 2
+    → (told : Told) → after.shelf.files ≡ Some told
+    → (again : List (List ℕ)) → rest_check_of again ≡ Some (record { file = asked.file; other = out })
+    → (second : ℕ) (begun ended : State) → begun.shelf.files ≡ Some told → Runs (request_of again) second begun ended
+    → SaysTheSame rest_text rest_check_text told asked.file before after second begun ended
+
+-- a first run reported the search of FILE, a template, whose last values were found; OUT2 holds FILE's body with these values, which means a
+-- file; and a second run said that each of its patterns is proved, or it ended with 6 or 7
+pub record ProvesFound (told : Told) (name filled : List ℕ) (before after : State) (number : ℕ) (begun ended : State) : Type 0 where
+  pub template : Template
+  pub is_template : IsTemplate (in_files told) name template
+  pub end : SearchEnd
+  pub reported : after.out.written ≡ with_text before.out.written (search_text template end)
+  pub last : LastIsFound template end
+  pub held : told filled ≡ Some (filled_text template last.last.values)
+  pub is_file : IsFile (in_files told) filled last.found.file
+  pub accepted : SaysOrFails (check_text last.found.file (numbers_from 0 (length last.found.file.patterns))) number begun ended
+
+-- what `search FILE --certificate OUT --filled OUT2` put with status 0 `check OUT2 OUT` accepts over the files as they were left: so it
+-- never ends with 3, 4 or 5, and with 0 it says that every pattern of OUT2 is proved. OUT, OUT2 and FILE differ: words in which two of these
+-- are the same are no command's
+abbrev pub FoundIsAccepted : Type 0
+FoundIsAccepted =
+    (words : List (List ℕ)) (before after : State) → Runs (request_of words) 0 before after
+    → (asked : SearchWords) (out filled : List ℕ) → search_of words ≡ Some asked → asked.out ≡ Some out → asked.filled ≡ Some filled
+    → (told : Told) → after.shelf.files ≡ Some told
+    → (again : List (List ℕ)) → check_of again ≡ Some (record { file = filled; other = out })
+    → (second : ℕ) (begun ended : State) → begun.shelf.files ≡ Some told → Runs (request_of again) second begun ended
+    → ProvesFound told asked.file filled before after second begun ended

@@ -1,36 +1,51 @@
--- What the output of `verify` says of a safe and of an unsafe pattern (this project's profile)
+-- What the output of `verify` and of `rest` says of a safe and of an unsafe pattern (this project's profile)
 use Rattle.std.specs.Prelude.{ℕ, ◌≡◌, ◌≤◌, Bool, List, length, slice_get, Option, Some}
+use Rattle.ta_automaton.specs.declared.automaton.Automaton.{Automaton}
 use Rattle.ta_automaton.specs.declared.file.File.{File}
 use Rattle.ta_automaton.specs.declared.pattern.Pattern.{Pattern}
 use Rattle.ta_automaton.specs.Runs as runs
 use Rattle.ta_replay.specs.declared.run.Run.{Run}
-use Rattle.ta_report.specs.Telling.{TellsRun, TellsSafe, TellsUnsafe}
+use Rattle.ta_replay.specs.Shows.{IsFirstConfig, unit_steps}
+use Rattle.ta_report.specs.Telling.{TellsRestRun, TellsRestUnsafe, TellsRun, TellsSafe, TellsUnsafe}
 use Rattle.ta_shelf.specs.Sink.{with_text}
 use Rattle.ta_shell.specs.Sights.{View}
 use Rattle.ta_program.specs.declared.limits.TheConstants.{RUN}
 use Rattle.ta_program.specs.Headline.{HoldsFile}
 use Rattle.ta_program.specs.Kinds.{ShowsRun}
 
--- the pattern of a number occurs in a run, and what a text tells as its run is the text of a run that shows it, within the limit of RUN
-pub record UnsafePrinted (json : Bool) (file : File) (number : ℕ) (p : Pattern) (text : List ℕ) : Type 0 where
-  pub first : runs.Config
-  pub rules : List ℕ
-  pub occurs : runs.Occurs file.automaton p first rules
+-- how a report tells of unsafe patterns: that the pattern of a name is unsafe, and that bytes are the text of its run
+pub record Telling : Type 1 where
+  pub unsafe_ : (name text : List ℕ) → Type 0
+  pub run : (name bytes text : List ℕ) → Type 0
+
+-- that of `verify`, as a line of JSON or as lines, and that of `rest`
+abbrev pub verify_telling : Bool → Telling
+verify_telling json = record { unsafe_ = TellsUnsafe json; run = TellsRun json }
+
+abbrev pub rest_telling : Telling
+rest_telling = record { unsafe_ = TellsRestUnsafe; run = TellsRestRun }
+
+-- what a text tells as the run of the pattern of a number is the text of a run that shows it, within the limit of RUN; and from a first
+-- configuration with its parameters and start counts the pattern happens so in its steps: it occurs, or it does and comes to rest
+pub record UnsafePrinted (Happens : Automaton → Pattern → runs.Config → List ℕ → Type 0) (telling : Telling) (file : File) (number : ℕ) (p : Pattern) (text : List ℕ) : Type 0 where
   pub bytes : List ℕ
-  pub stands : TellsRun json p.name bytes text
-  pub only : (other : List ℕ) → TellsRun json p.name other text → other ≡ bytes
+  pub stands : telling.run p.name bytes text
+  pub only : (other : List ℕ) → telling.run p.name other text → other ≡ bytes
   pub run : Run
   pub of : run.pattern ≡ number
   pub shows : ShowsRun file bytes run
   pub within : length bytes ≤ RUN.bytes
+  pub first : runs.Config
+  pub begins : IsFirstConfig file.automaton run first
+  pub happens : Happens file.automaton p first (unit_steps run.lines)
 
 -- a name holds a file, and each pattern of it that the output tells is unsafe is so
-pub record EachPrintedUnsafe (json : Bool) (view : View) (name : List ℕ) (written written' : Option (List ℕ)) : Type 0 where
+pub record EachPrintedUnsafe (Happens : Automaton → Pattern → runs.Config → List ℕ → Type 0) (telling : Telling) (view : View) (name : List ℕ) (written written' : Option (List ℕ)) : Type 0 where
   pub file : File
   pub holds : HoldsFile view name file
   pub text : List ℕ
   pub gained : written' ≡ with_text written text
-  pub unsafe_ : (number : ℕ) (p : Pattern) → slice_get file.patterns number ≡ Some p → TellsUnsafe json p.name text → UnsafePrinted json file number p text
+  pub unsafe_ : (number : ℕ) (p : Pattern) → slice_get file.patterns number ≡ Some p → telling.unsafe_ p.name text → UnsafePrinted Happens telling file number p text
 
 -- a name holds a file, and each pattern of it that the output tells is safe occurs in no run
 pub record EachToldSafe (json : Bool) (view : View) (name : List ℕ) (written written' : Option (List ℕ)) : Type 0 where

@@ -2,11 +2,12 @@
 use Rattle.std.specs.Prelude.{ℕ, ◌≡◌, ◌≢◌, ◌≤◌, ◌⊎◌, List, [], codes, Option, Some, IsSome}
 use Rattle.ta_automaton.specs.declared.file.File.{File}
 use Rattle.ta_automaton.specs.Runs as runs
+use Rattle.ta_rest.specs.Rest.{RestOccurs, RestSafe}
 use Rattle.ta_shelf.specs.Calls.{Call, Grew}
 use Rattle.ta_shelf.specs.Counts.{Faulted}
 use Rattle.ta_shelf.specs.Put.{Told}
 use Rattle.ta_shell.specs.Commands.{Exact}
-use Rattle.ta_shell.specs.Ends.{Failed, State, Telling, Tells}
+use Rattle.ta_shell.specs.Ends.{SinkFaltered, State, Telling, Tells}
 use Rattle.ta_shell.specs.Puts.{KeptBut}
 use Rattle.ta_shell.specs.Sights.{in_files, seen}
 use Rattle.ta_program.specs.Asked.{Asked, IsNoCommand, usage_line}
@@ -19,10 +20,10 @@ use Rattle.ta_program.specs.Compress.{CompressHolds, compress_of}
 use Rattle.ta_program.specs.Export.{ExportHolds, export_of}
 use Rattle.ta_program.specs.Headline.{EachPrinted}
 use Rattle.ta_program.specs.Kinds.{IsFile}
-use Rattle.ta_program.specs.Printed.{EachPrintedUnsafe, EachToldSafe}
+use Rattle.ta_program.specs.Printed.{EachPrintedUnsafe, EachToldSafe, rest_telling, verify_telling}
 use Rattle.ta_program.specs.Replay.{ReplayHolds, replay_of}
 use Rattle.ta_program.specs.Requests.{request_of}
-use Rattle.ta_program.specs.Rest.{RestCertificateStands, RestReportHolds}
+use Rattle.ta_program.specs.Rest.{IsKnownAtRest, LongAtRest, RestCertificateStands, RestReportHolds}
 use Rattle.ta_program.specs.RestCheck.{RestCheckHolds}
 use Rattle.ta_program.specs.RestWords.{rest_check_of, rest_of}
 use Rattle.ta_program.specs.Reporting.{CertificateStands, ReportHolds}
@@ -112,11 +113,16 @@ Searches number words files files' calls calls' written written' =
     → Grew (λ read. SearchHolds number (seen files read) asked files files' written written') calls calls'
 
 -- with status 0, 1 or 2 of `verify` a pattern that the report tells is safe is safe, by its line or in JSON, and one that it tells is
--- unsafe occurs in a run, the text of which stands there; with status 0 of `check` a pattern that is `proved` is safe
+-- unsafe occurs in a run, the text of which stands there; with status 0 of `check` a pattern that is `proved` is safe. The same of `rest` and
+-- `rest-check`, whose words are `rest safe`, `rest unsafe` and `rest proved`: the pattern comes to rest, its last event at the end, in no run, or
+-- in the run whose text stands there
 pub record PrintedHolds (number : ℕ) (words : List (List ℕ)) (files : Option Told) (calls calls' : List Call) (written written' : Option (List ℕ)) : Type 0 where
   pub safe : (asked : VerifyWords) → verify_of words ≡ Some asked → number ≤ 2 → Grew (λ read. EachToldSafe asked.json (seen files read) asked.file written written') calls calls'
-  pub unsafe_ : (asked : VerifyWords) → verify_of words ≡ Some asked → number ≤ 2 → Grew (λ read. EachPrintedUnsafe asked.json (seen files read) asked.file written written') calls calls'
+  pub unsafe_ : (asked : VerifyWords) → verify_of words ≡ Some asked → number ≤ 2 → Grew (λ read. EachPrintedUnsafe runs.Occurs (verify_telling asked.json) (seen files read) asked.file written written') calls calls'
   pub proved : (asked : TwoNames) → check_of words ≡ Some asked → number ≡ 0 → Grew (λ read. EachPrinted runs.Safe (codes "proved") (seen files read) asked.file written written') calls calls'
+  pub rest_safe : (asked : VerifyWords) → rest_of words ≡ Some asked → number ≤ 2 → Grew (λ read. EachPrinted RestSafe (codes "rest safe, ") (seen files read) asked.file written written') calls calls'
+  pub rest_unsafe : (asked : VerifyWords) → rest_of words ≡ Some asked → number ≤ 2 → Grew (λ read. EachPrintedUnsafe RestOccurs rest_telling (seen files read) asked.file written written') calls calls'
+  pub rest_proved : (asked : TwoNames) → rest_check_of words ≡ Some asked → number ≡ 0 → Grew (λ read. EachPrinted RestSafe (codes "rest proved") (seen files read) asked.file written written') calls calls'
 
 -- 5 exactly where the words are no command's
 pub record UsageExactly (number : ℕ) (asked : Asked) : Type 0 where
@@ -153,11 +159,24 @@ abbrev pub PassesLegal : Asked → ℕ → Option Told → Type 0
 PassesLegal NoCommand number files = Unit {0}
 PassesLegal (Command legal m) number files = (told : Told) → files ≡ Some told → legal told → (number ≢ 3) × (number ≢ 5)
 
--- a legal FILE passes: with told files, neither 3 nor 5; where no call failed or stood still, no 6; of `verify`, where no verdict
--- that leaves a pattern unknown holds, no 2; and 4 only where the certificate that is asked for is too long
+-- a report of verdicts ends with 2 only where a verdict that leaves a pattern unknown holds, and with 4 exactly where a certificate is asked
+-- for that is too long, 6 and 7 aside
+pub record EndsSo (number : ℕ) (out : Option (List ℕ)) (Known Long : Type 0) : Type 0 where
+  pub known : Known → number ≢ 2
+  pub fits : number ≡ 4 → IsSome out × Long
+  pub long : IsSome out → Long → (number ≡ 4) ⊎ ((number ≡ 6) ⊎ (number ≡ 7))
+
+-- so does that of a command with these words, where told files hold a legal FILE
+abbrev pub ReportEnds : ℕ → Option Told → Option VerifyWords → (Known Long : File → ℕ → Type 0) → Type 0
+ReportEnds number files words Known Long =
+    (told : Told) (asked : VerifyWords) (file : File) → files ≡ Some told → words ≡ Some asked → IsFile (in_files told) asked.file file
+    → EndsSo number asked.out (Known file asked.nodes) (Long file asked.nodes)
+
+-- a legal FILE, of `rest` and `rest-check` one whose cycles are self-loops, passes: with told files, neither 3 nor 5; where no call failed or
+-- stood still, no 6; of `verify` and of `rest`, where no verdict that leaves a pattern unknown holds, no 2; and 4 exactly where the
+-- certificate that is asked for is too long
 pub record Completes (number : ℕ) (words : List (List ℕ)) (before after : State) : Type 0 where
   pub passes : PassesLegal (request_of words) number before.shelf.files
-  pub calm : ¬ Faulted before.shelf.faults after.shelf.faults → ¬ Failed before.out after.out → number ≢ 6
-  pub known : (told : Told) (asked : VerifyWords) (file : File) → before.shelf.files ≡ Some told → verify_of words ≡ Some asked → IsFile (in_files told) asked.file file → IsKnown file asked.nodes → number ≢ 2
-  pub fits : (told : Told) (asked : VerifyWords) (file : File) → before.shelf.files ≡ Some told → verify_of words ≡ Some asked → IsFile (in_files told) asked.file file → number ≡ 4 → IsSome asked.out × LongCertificate file asked.nodes
-  pub long : (told : Told) (asked : VerifyWords) (file : File) → before.shelf.files ≡ Some told → verify_of words ≡ Some asked → IsSome asked.out → IsFile (in_files told) asked.file file → LongCertificate file asked.nodes → (number ≡ 4) ⊎ ((number ≡ 6) ⊎ (number ≡ 7))
+  pub calm : ¬ Faulted before.shelf.faults after.shelf.faults → ¬ SinkFaltered before.out after.out → number ≢ 6
+  pub verify : ReportEnds number before.shelf.files (verify_of words) IsKnown LongCertificate
+  pub rest : ReportEnds number before.shelf.files (rest_of words) IsKnownAtRest LongAtRest

@@ -9,7 +9,7 @@ use Rattle.ta_shelf.specs.Sink.{with_text}
 use Rattle.ta_shell.specs.declared.answer.Answer.{Answer}
 use Rattle.ta_shell.specs.Commands.{Meaning}
 use Rattle.ta_shell.specs.Sights.{View}
-use Rattle.ta_shell.specs.Stages.{IsOf, Writes, after, replies}
+use Rattle.ta_shell.specs.Stages.{FileMeans, Writes, after, replies}
 use Rattle.ta_program.specs.Asked.{Asked, ask}
 use Rattle.ta_program.specs.Kinds.{IsFile, file_kind, run_kind}
 use Rattle.ta_program.specs.Values.{TwoNames, two_names}
@@ -41,7 +41,7 @@ pub record ReplayHolds (view : View) (file_name run_name : List ℕ) (written wr
   pub file : File
   pub is_file : IsFile view file_name file
   pub run : Run
-  pub is_run : IsOf (run_kind file) view run_name run
+  pub is_run : FileMeans (run_kind file) view run_name run
   pub pattern : Pattern
   pub named : slice_get file.patterns run.pattern ≡ Some pattern
   pub wrote : written' ≡ with_text written (shown_line pattern.name (shown_of run))

@@ -8,14 +8,14 @@ use Rattle.ta_report.specs.Check.{rest_check_text}
 use Rattle.ta_shelf.specs.Sink.{with_text}
 use Rattle.ta_shell.specs.Commands.{Meaning}
 use Rattle.ta_shell.specs.Sights.{View}
-use Rattle.ta_shell.specs.Stages.{IsOf, Writes, after, replies}
+use Rattle.ta_shell.specs.Stages.{FileMeans, Writes, after, replies}
 use Rattle.ta_program.specs.Asked.{Asked, ask_where}
 use Rattle.ta_program.specs.Kinds.{IsFile, certificate_kind}
-use Rattle.ta_program.specs.RestEnds.{Ends, IsEnds, LegalAtRest, with_ends}
+use Rattle.ta_program.specs.RestEnds.{FileEndings, IsEnds, LegalAtRest, with_ends}
 use Rattle.ta_program.specs.Values.{two_names}
 
 -- CERT is read for the endings of a file, and the text says of which of its patterns it is proved that no run comes to rest so
-abbrev pub rest_proved_meaning : List ℕ → File → Ends → Meaning
+abbrev pub rest_proved_meaning : List ℕ → File → FileEndings → Meaning
 rest_proved_meaning name file ends = after (certificate_kind (claiming RestSafe ends.ending)) name [] (λ numbers. replies [] (Writes 0 (rest_check_text file numbers)))
 
 -- FILE is read, its endings are found, and then CERT is read
@@ -30,9 +30,9 @@ rest_check_asked words = ask_where (λ names. LegalAtRest names.file) (λ names.
 pub record RestCheckHolds (view : View) (file_name certificate_name : List ℕ) (written written' : Option (List ℕ)) : Type 0 where
   pub file : File
   pub is_file : IsFile view file_name file
-  pub ends : Ends
+  pub ends : FileEndings
   pub are_ends : IsEnds file ends
   pub numbers : List ℕ
-  pub certificate : IsOf (certificate_kind (claiming RestSafe ends.ending)) view certificate_name numbers
+  pub certificate : FileMeans (certificate_kind (claiming RestSafe ends.ending)) view certificate_name numbers
   pub safe : AllRestSafe file numbers
   pub wrote : written' ≡ with_text written (rest_check_text file numbers)

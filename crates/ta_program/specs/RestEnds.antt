@@ -1,8 +1,6 @@
 -- FILE of the commands on runs that come to rest (this project's profile)
 use Rattle.std.specs.Prelude.{ℕ, ◌≡◌, ◌++◌, List, codes, decimal}
-use Rattle.ta_automaton.specs.declared.automaton.Automaton.{Automaton}
 use Rattle.ta_automaton.specs.declared.file.File.{File}
-use Rattle.ta_automaton.specs.Runs.{Config, Run}
 use Rattle.ta_rest.specs.Faults.{EndingsOf}
 use Rattle.ta_rest.specs.Moves.{FewMoves}
 use Rattle.ta_rest.specs.declared.rest_file.RestFile.{RestFile}
@@ -16,16 +14,16 @@ use Rattle.ta_program.specs.declared.limits.TheConstants.{FILE}
 use Rattle.ta_program.specs.Kinds.{IsFile, file_kind}
 
 -- the endings of a file's patterns, and the mask of the patterns that got an event
-pub record Ends : Type 0 where
+pub record FileEndings : Type 0 where
   pub ending : File
   pub added : ℕ
 
-abbrev pub ends_of : RestFile → Ends
+abbrev pub ends_of : RestFile → FileEndings
 ends_of rest = record { ending = rest.ending.file; added = rest.added }
 
 -- every cycle of the file's rules is a self-loop, so each run has at most as many steps of other rules as the number of processes times the
 -- number of locations but one; and these are the endings of its patterns
-pub record IsEnds (file : File) (ends : Ends) : Type 0 where
+pub record IsEnds (file : File) (ends : FileEndings) : Type 0 where
   pub loops : LoopsAlone file.automaton
   pub few : FewMoves file.automaton
   pub endings : EndingsOf file ends.ending ends.added
@@ -42,7 +40,7 @@ pub record CycleHinders (name : List ℕ) (file : File) (number : ℕ) (line : L
   pub said : line ≡ file_line name (cycle_text rule)
 
 -- FILE is read, its endings are found, and then comes what these ask for; the files of these names may be put
-abbrev pub with_ends : List ℕ → List (List ℕ) → (File → Ends → Meaning) → Meaning
+abbrev pub with_ends : List ℕ → List (List ℕ) → (File → FileEndings → Meaning) → Meaning
 with_ends name puts rest = after file_kind name puts (λ file. finds (IsEnds file) (CycleHinders name file) puts (rest file))
 
 -- FILE means an automaton whose cycles of rules are self-loops

@@ -1,8 +1,11 @@
 -- The words of `rest` and of `rest-check` (this project's profile)
 use Rattle.std.specs.Prelude.{false, List, [], ◌∷◌, codes, option_and_then, option_map, Option, ℕ}
-use Rattle.ta_program.specs.Values.{TwoNames, budget_of, name_of, out_of, two_names}
+use Rattle.ta_program.specs.Values.{TwoNames, budget_of, file_name_of, out_of, two_names}
 use Rattle.ta_program.specs.VerifyWords.{VerifyWords}
-use Rattle.ta_program.specs.Words.{Taken, behind_name, plain_of, taken_by, value_of, valued}
+use Rattle.ta_program.specs.Words.{Form, Taken, behind_name, plain_of, taken_by, option_value, valued}
+
+abbrev pub rest_form : Form
+rest_form = record { plain = 1; options = valued (codes "--nodes") ∷ valued (codes "--certificate") ∷ [] }
 
 -- what `rest` asks for: the same as `verify` without JSON
 abbrev pub rest_taken : Taken → Option VerifyWords
@@ -10,11 +13,11 @@ rest_taken taken =
     option_and_then (λ file.
     option_and_then (λ nodes.
     option_map (λ out. record { file = file; nodes = nodes; out = out; json = false })
-    (out_of file (value_of taken 1))) (budget_of (value_of taken 0))) (name_of (plain_of taken 0))
+    (out_of file (option_value taken 1))) (budget_of (option_value taken 0))) (file_name_of (plain_of taken 0))
 
 -- of the words behind the name
 abbrev pub rest_words : List (List ℕ) → Option VerifyWords
-rest_words words = option_and_then rest_taken (taken_by (record { plain = 1; options = valued (codes "--nodes") ∷ valued (codes "--certificate") ∷ [] }) words)
+rest_words words = option_and_then rest_taken (taken_by rest_form words)
 
 -- `rest FILE [--nodes N] [--certificate OUT]`
 abbrev pub rest_of : List (List ℕ) → Option VerifyWords

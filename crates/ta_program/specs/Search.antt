@@ -10,7 +10,7 @@ use Rattle.ta_search.specs.declared.template.Template.{Template}
 use Rattle.ta_search.specs.Filling.{filled_text}
 use Rattle.ta_search.specs.Searching.{IsSearchEnd, LastIsFound}
 use Rattle.ta_search.specs.SearchText.{search_text}
-use Rattle.ta_search.specs.TemplateFaults.{FirstFault}
+use Rattle.ta_search.specs.TemplateFaults.{FirstTemplateFault}
 use Rattle.ta_search.specs.Templates.{template_text}
 use Rattle.ta_shelf.specs.Put.{Told, WhereTold}
 use Rattle.ta_shelf.specs.Sink.{with_text}
@@ -19,7 +19,7 @@ use Rattle.ta_shell.specs.declared.answer.Put.{Put}
 use Rattle.ta_shell.specs.Commands.{Meaning}
 use Rattle.ta_shell.specs.Puts.{put_bytes}
 use Rattle.ta_shell.specs.Sights.{View, in_files}
-use Rattle.ta_shell.specs.Stages.{IsOf, Kind, after, settles}
+use Rattle.ta_shell.specs.Stages.{FileMeans, Kind, after, settles}
 use Rattle.ta_program.specs.declared.limits.TheConstants.{CERTIFICATE, FILE}
 use Rattle.ta_program.specs.Asked.{Asked, ask_where}
 use Rattle.ta_program.specs.Certified.{long_line, may_put}
@@ -40,11 +40,11 @@ IsTemplateText bytes template = template_text template ≡ bytes
 
 -- FILE of `search`: the text of a template, or one with a first fault
 abbrev pub template_kind : Kind Template TemplateFault
-template_kind = record { limit = FILE; means = IsTemplateText; at_fault = FirstFault; broken = λ bytes fault. ⊥; words = template_fault_text }
+template_kind = record { limit = FILE; means = IsTemplateText; at_fault = FirstTemplateFault; broken = λ bytes fault. ⊥; words = template_fault_text }
 
 -- the bytes of a name are the text of this template
 abbrev pub IsTemplate : View → List ℕ → Template → Type 0
-IsTemplate view name template = IsOf template_kind view name template
+IsTemplate view name template = FileMeans template_kind view name template
 
 -- whether an outcome says that something is unknown: the parameters or a pattern
 abbrev pub leaves_unknown : Outcome → Bool

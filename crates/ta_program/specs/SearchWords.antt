@@ -1,7 +1,7 @@
 -- The words of `search` (this project's profile)
 use Rattle.std.specs.Prelude.{ℕ, List, [], ◌∷◌, codes, option_and_then, option_map, Option}
-use Rattle.ta_program.specs.Values.{budget_of, filled_of, name_of, out_of}
-use Rattle.ta_program.specs.Words.{Form, Taken, behind_name, plain_of, taken_by, value_of, valued}
+use Rattle.ta_program.specs.Values.{budget_of, filled_of, file_name_of, out_of}
+use Rattle.ta_program.specs.Words.{Form, Taken, behind_name, plain_of, taken_by, option_value, valued}
 
 -- what they ask for: the names of FILE, of OUT and of OUT2, as far as these are given, and the budget of nodes
 pub record SearchWords : Type 0 where
@@ -19,7 +19,7 @@ search_taken taken =
     option_and_then (λ nodes.
     option_and_then (λ out.
     option_map (λ filled. record { file = file; nodes = nodes; out = out; filled = filled })
-    (filled_of file out (value_of taken 2))) (out_of file (value_of taken 1))) (budget_of (value_of taken 0))) (name_of (plain_of taken 0))
+    (filled_of file out (option_value taken 2))) (out_of file (option_value taken 1))) (budget_of (option_value taken 0))) (file_name_of (plain_of taken 0))
 
 -- of the words behind the name
 abbrev pub search_words : List (List ℕ) → Option SearchWords

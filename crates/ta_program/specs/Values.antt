@@ -7,8 +7,8 @@ use Rattle.std.specs.Str.Parse.{digits_value}
 use Rattle.ta_program.specs.Words.{Taken, plain_of, taken_by}
 
 -- the name of a file, which isn't empty
-abbrev pub name_of : List ℕ → Option (List ℕ)
-name_of name = if nat_lt 0 (length name) then Some name else None
+abbrev pub file_name_of : List ℕ → Option (List ℕ)
+file_name_of name = if nat_lt 0 (length name) then Some name else None
 
 -- whether a text is a budget of nodes: 1 to 10 digits, and its value within the limits
 abbrev pub is_budget : List ℕ → Bool
@@ -40,9 +40,9 @@ pub record TwoNames : Type 0 where
   pub other : List ℕ
 
 -- two plain words that are names of files
-abbrev pub names_of : Taken → Option TwoNames
-names_of taken = option_and_then (λ file. option_map (λ other. record { file = file; other = other }) (name_of (plain_of taken 1))) (name_of (plain_of taken 0))
+abbrev pub file_names_of : Taken → Option TwoNames
+file_names_of taken = option_and_then (λ file. option_map (λ other. record { file = file; other = other }) (file_name_of (plain_of taken 1))) (file_name_of (plain_of taken 0))
 
 -- and no option
 abbrev pub two_names : List (List ℕ) → Option TwoNames
-two_names words = option_and_then names_of (taken_by (record { plain = 2; options = [] }) words)
+two_names words = option_and_then file_names_of (taken_by (record { plain = 2; options = [] }) words)

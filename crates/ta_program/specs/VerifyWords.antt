@@ -1,7 +1,7 @@
 -- The words of `verify` (this project's profile)
 use Rattle.std.specs.Prelude.{ℕ, Bool, List, [], ◌∷◌, codes, is_some, option_and_then, option_map, Option}
-use Rattle.ta_program.specs.Values.{budget_of, name_of, out_of}
-use Rattle.ta_program.specs.Words.{Form, Taken, behind_name, flag, plain_of, taken_by, value_of, valued}
+use Rattle.ta_program.specs.Values.{budget_of, file_name_of, out_of}
+use Rattle.ta_program.specs.Words.{Form, Taken, behind_name, flag, plain_of, taken_by, option_value, valued}
 
 -- what they ask for: the names of FILE and of OUT, if it is given, the budget of nodes, and whether the report is to be in JSON
 pub record VerifyWords : Type 0 where
@@ -17,8 +17,8 @@ abbrev pub verify_taken : Taken → Option VerifyWords
 verify_taken taken =
     option_and_then (λ file.
     option_and_then (λ nodes.
-    option_map (λ out. record { file = file; nodes = nodes; out = out; json = is_some (value_of taken 2) })
-    (out_of file (value_of taken 1))) (budget_of (value_of taken 0))) (name_of (plain_of taken 0))
+    option_map (λ out. record { file = file; nodes = nodes; out = out; json = is_some (option_value taken 2) })
+    (out_of file (option_value taken 1))) (budget_of (option_value taken 0))) (file_name_of (plain_of taken 0))
 
 -- of the words behind the name
 abbrev pub verify_words : List (List ℕ) → Option VerifyWords

@@ -2,7 +2,7 @@
 use Rattle.std.specs.Prelude.{ℕ, List, Option, None, Some, if◌then◌else◌, option_and_then, option_map}
 use Rattle.ta_smt.specs.Named.{Spelling}
 use Rattle.ta_smt.specs.WordText.{elements_of, is_name, number_up_to}
-use Rattle.ta_program.specs.Values.{name_of}
+use Rattle.ta_program.specs.Values.{file_name_of}
 use Rattle.ta_program.specs.Words.{Taken, plain_of}
 
 -- the name of a pattern, which is no keyword
@@ -22,4 +22,4 @@ pub record WordAsked : Type 0 where
 -- FILE PATTERN START WORD
 abbrev pub asked_of : Taken → Option WordAsked
 asked_of taken =
-    option_and_then (λ file. option_map (λ word. record { file = file; word = word }) (spelling_of (plain_of taken 1) (plain_of taken 2) (plain_of taken 3))) (name_of (plain_of taken 0))
+    option_and_then (λ file. option_map (λ word. record { file = file; word = word }) (spelling_of (plain_of taken 1) (plain_of taken 2) (plain_of taken 3))) (file_name_of (plain_of taken 0))

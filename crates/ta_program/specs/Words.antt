@@ -46,12 +46,12 @@ abbrev pub plain_of : Taken → ℕ → List ℕ
 plain_of taken number = get_or taken.plain number []
 
 -- the value of the option of a number
-abbrev pub value_of : Taken → ℕ → Option (List ℕ)
-value_of taken number = get_or taken.values number None
+abbrev pub option_value : Taken → ℕ → Option (List ℕ)
+option_value taken number = get_or taken.values number None
 
 -- with that value, where it wasn't given
 abbrev pub with_value : Taken → ℕ → List ℕ → Option Taken
-with_value taken number value = if is_some (value_of taken number) then None else Some (record taken { values = slice_set taken.values number (Some value); awaits = None })
+with_value taken number value = if is_some (option_value taken number) then None else Some (record taken { values = slice_set taken.values number (Some value); awaits = None })
 
 -- what stands behind a text at a word's beginning
 abbrev pub behind : List ℕ → List ℕ → Option (List ℕ)

@@ -13,7 +13,7 @@ ghost use Rattle.ta_shell.specs.Stages.{Stage, Writes, replies};
 ghost use Rattle.ta_smt.specs.declared.fault.AdmitFault.TheVariants as fault;
 ghost use Rattle.ta_smt.specs.Admit.{Admits};
 ghost use Rattle.ta_smt.specs.Named.{IsLegalWord};
-ghost use Rattle.ta_program.specs.Admit.{ValuesFault, admit_fault_text, admit_meaning, admit_words, run_meaning, values_kind, values_meaning};
+ghost use Rattle.ta_program.specs.Admit.{AdmitRefuses, admit_fault_text, admit_meaning, admit_words, run_meaning, values_kind, values_meaning};
 ghost use Rattle.ta_program.specs.AdmitSeen.{admit_seen};
 ghost use Rattle.ta_program.specs.WordSeen.{asked_seen, word_seen};
 
@@ -27,9 +27,10 @@ use crate::words::take_words;
 use std::alloc::{AllocError, Global};
 use std::thread::Threads;
 use ta_automaton::File;
+use ta_base::Text;
 use ta_replay::{Run, print_run};
 use ta_scope::ScopedFile;
-use ta_shelf::{Shelf, Text};
+use ta_shelf::Shelf;
 use ta_shell::{Answer, Command, Phrase, Refusal, read_text};
 use ta_smt::{AdmitFault, NamedWord, admit};
 
@@ -174,7 +175,7 @@ fn admit_bytes(
 ) -> Result<Run, AdmitFault>
     requires { IsLegalWord scoped.now.file (word_seen word.now) }
     ensures run { IfOk result (λ run. Admits scoped.now.file (word_seen word.now) bytes.now run) }
-    ensures fault { IfErr result (λ found. found ≢ fault.Memory → ValuesFault scoped.now.file (word_seen word.now) bytes.now found) }
+    ensures fault { IfErr result (λ found. found ≢ fault.Memory → AdmitRefuses scoped.now.file (word_seen word.now) bytes.now found) }
 {
     match admit(
         alloc,

@@ -3,7 +3,7 @@
 
 ghost use Rattle.std.specs.Prelude.{◌≡◌, [], IfOk, length, map, option_map, Option, slice_get, Some, string_bytes};
 ghost use Rattle.ta_check.specs.Certificate.{Certificate};
-ghost use Rattle.ta_maker.specs.Made.{IsNumber};
+ghost use Rattle.ta_maker.specs.Made.{IsFamilyNumber};
 ghost use Rattle.ta_meaning.specs.Reading.{Legal};
 ghost use Rattle.ta_shelf.specs.Put.{Told};
 ghost use Rattle.ta_shell.specs.Commands.{Says};
@@ -18,13 +18,14 @@ use crate::words::take_words;
 use std::alloc::{AllocError, Global};
 use std::thread::Threads;
 use ta_automaton::Pattern;
+use ta_base::Text;
 use ta_cert::CertFault;
 use ta_check::{Accepted, Checker};
 use ta_maker::make_family;
 use ta_meaning::read_file;
 use ta_report::Verdict;
 use ta_scope::ScopedFile;
-use ta_shelf::{Shelf, Text};
+use ta_shelf::Shelf;
 use ta_shell::{Answer, Command, Refusal};
 use ta_syntax::print_tree;
 use ta_verdict::{is_unknown, is_unsafe, judge_file};
@@ -119,7 +120,7 @@ fn bench_family<R: Threads + Sync>(rt: &R, alloc: Global, k: u32) -> Result<Answ
 
 /// The file of the automaton of a number.
 fn read_family(alloc: Global, k: u32) -> Result<ScopedFile, AllocError>
-    ensures number { IfOk result (λ scoped. IsNumber k) }
+    ensures number { IfOk result (λ scoped. IsFamilyNumber k) }
     ensures legal { IfOk result (λ scoped. Legal (family_text k) scoped.file) }
 {
     let Ok(tree) = make_family(alloc, k) else {
@@ -154,7 +155,7 @@ fn answer_text(
     pattern: &Pattern,
     verdict: &Verdict,
 ) -> Result<Answer, AllocError>
-    requires { IsNumber k }
+    requires { IsFamilyNumber k }
     ensures { IfOk result (Writes (bench_status verdict.now) (bench_text k pattern.now verdict.now)) }
 {
     let mut text = format!(in alloc;

@@ -8,7 +8,7 @@ ghost use Rattle.ta_program.specs.Inside.Certifying.{Certifies, SaysLong};
 
 use crate::limits::CERTIFICATE;
 use std::alloc::{AllocError, Global};
-use ta_shelf::{List, Text};
+use ta_base::{List, Text};
 use ta_shell::{Answer, Content, Phrase, Put, Refusal};
 
 /// The answer that puts the pieces of a certificate in the file of a name and writes a report, unless

@@ -2,7 +2,7 @@
 #![tactic(auto)]
 
 ghost use Rattle.std.specs.Prelude.{ℕ, ◌≡◌, ◌≤◌, List, [], length, Option, map, option_map};
-ghost use Rattle.ta_check.specs.Checkers.{IsSound, StandsFor, subject_of};
+ghost use Rattle.ta_check.specs.Checkers.{IsSoundChecker, CheckerStandsFor, subject_of};
 ghost use Rattle.ta_report.specs.Check.{check_text};
 ghost use Rattle.ta_shelf.specs.Calls.{Call, Grew};
 ghost use Rattle.ta_shelf.specs.Put.{Told};
@@ -10,7 +10,7 @@ ghost use Rattle.ta_shell.specs.Commands.{Says};
 ghost use Rattle.ta_shell.specs.Reading.{ReadCause};
 ghost use Rattle.ta_shell.specs.Stages.{Stage, Writes, replies};
 ghost use Rattle.ta_program.specs.Check.{check_meaning, proved_meaning};
-ghost use Rattle.ta_program.specs.Inside.Judged.{Judged, JudgedTo, PieceFed, RefusedBy, Turn};
+ghost use Rattle.ta_program.specs.Inside.Judged.{JudgingGives, JudgedTo, PieceFed, RefusedBy, Turn};
 ghost use Rattle.ta_program.specs.Kinds.{certificate_kind};
 ghost use Rattle.ta_program.specs.Taken.{names_seen};
 ghost use Rattle.ta_program.specs.Values.{two_names};
@@ -22,11 +22,12 @@ use crate::values::{TwoNames, two_names};
 use std::alloc::{AllocError, Global};
 use std::thread::Threads;
 use ta_automaton::File;
+use ta_base::Text;
 use ta_cert::CertFault;
 use ta_check::{Accepted, Checker};
 use ta_report::{cert_fault_phrase, check_text};
 use ta_scope::ScopedFile;
-use ta_shelf::{Shelf, Text, read_piece};
+use ta_shelf::{Shelf, read_piece};
 use ta_shell::{Answer, Command, Refusal, too_long, unread};
 
 /// How many bytes of a certificate are read at once.
@@ -114,7 +115,7 @@ pub(crate) fn read_certificate<'a, S: Shelf>(
     checker: Checker<'_>,
     name: &'a str,
 ) -> Result<Accepted, Refusal<'a>>
-    requires { StandsFor checker [] }
+    requires { CheckerStandsFor checker [] }
     ensures stage { Grew (Stage (certificate_kind (subject_of checker.entry)) (λ accepted. accepted.patterns) (S.files shelf.old) name.now result) (S.calls shelf.old) (S.calls shelf.new) }
     ensures cause { ReadCause result (S.faults shelf.old) (S.faults shelf.new) }
     ensures kept { S.files shelf.new ≡ S.files shelf.old }
@@ -134,8 +135,8 @@ fn judge_pieces<'a, 'b, S: Shelf>(
     first: Checker<'b>,
     name: &'a str,
 ) -> Result<Checker<'b>, Refusal<'a>>
-    requires { StandsFor first [] }
-    ensures judged { Grew (Judged (subject_of first.entry) (S.files shelf.old) name.now result) (S.calls shelf.old) (S.calls shelf.new) }
+    requires { CheckerStandsFor first [] }
+    ensures judged { Grew (JudgingGives (subject_of first.entry) (S.files shelf.old) name.now result) (S.calls shelf.old) (S.calls shelf.new) }
     ensures cause { ReadCause result (S.faults shelf.old) (S.faults shelf.new) }
     ensures kept { S.files shelf.new ≡ S.files shelf.old }
 {
@@ -162,7 +163,7 @@ fn judge_piece<'a, S: Shelf>(
 ) -> Result<Option<u64>, Refusal<'a>>
     requires within { at ≤ CERTIFICATE.bytes }
     requires room { length buffer.old ≡ 65536 }
-    requires sound { IsSound checker.old }
+    requires sound { IsSoundChecker checker.old }
     ensures turn { (first : List Call) (text : List ℕ) → JudgedTo (S.files shelf.old) name.now first (S.calls shelf.old) checker.old text → at ≡ length text
         → Turn (subject_of checker.old) (S.files shelf.old) name.now at first (S.calls shelf.new) checker.new result }
     ensures subject { subject_of checker.new ≡ subject_of checker.old }
@@ -187,8 +188,8 @@ fn feed_piece<'a>(
     checker: &mut Checker<'_>,
 ) -> Result<Option<u64>, Refusal<'a>>
     requires within { at ≤ CERTIFICATE.bytes }
-    requires sound { IsSound checker.old }
-    ensures fed { (text : List ℕ) → StandsFor checker.old text → at ≡ length text → PieceFed (subject_of checker.old) name.now text piece.now ended checker.new result }
+    requires sound { IsSoundChecker checker.old }
+    ensures fed { (text : List ℕ) → CheckerStandsFor checker.old text → at ≡ length text → PieceFed (subject_of checker.old) name.now text piece.now ended checker.new result }
     ensures subject { subject_of checker.new ≡ subject_of checker.old }
     ensures cause { ReadCause result 0 0 }
 {

@@ -23,11 +23,12 @@ use crate::values::{TwoNames, two_names};
 use std::alloc::{AllocError, Global};
 use std::thread::Threads;
 use ta_automaton::File;
+use ta_base::Text;
 use ta_compress::{CompressFault, compress};
 use ta_replay::{Run, RunFault, print_run, read_run};
 use ta_report::run_fault_phrase;
 use ta_scope::ScopedFile;
-use ta_shelf::{Shelf, Text};
+use ta_shelf::Shelf;
 use ta_shell::{Answer, Command, Phrase, Refusal, read_text};
 
 /// What `compress` is asked for.

@@ -19,7 +19,8 @@ use crate::words::take_words;
 use std::alloc::{AllocError, Global};
 use std::thread::Threads;
 use ta_automaton::File;
-use ta_shelf::{Shelf, Text};
+use ta_base::Text;
+use ta_shelf::Shelf;
 use ta_shell::{Answer, Command, Refusal};
 use ta_smt::{NamedWord, word_text};
 

@@ -3,7 +3,7 @@
 #![tactic(auto)]
 
 ghost use Rattle.ta_automaton.specs.declared.file.File.{File};
-ghost use Rattle.ta_smt.specs.Admit.{Asked};
+ghost use Rattle.ta_smt.specs.Admit.{AskedWord};
 ghost use Rattle.ta_program.specs.Admit.{values_kind};
 ghost use Rattle.ta_program.specs.Compress.{long_kind};
 ghost use Rattle.ta_program.specs.Faults.{FaultsAreNamed, OneFault};
@@ -20,7 +20,7 @@ pub fn faults_are_determined()
     ensures certificate { (subject : Subject) → OneFault (certificate_kind subject) }
     ensures replayed { (file : File) → OneFault (run_kind file) }
     ensures compressed { (file : File) → OneFault (long_kind file) }
-    ensures values { (file : File) (word : Asked) → OneFault (values_kind file word) }
+    ensures values { (file : File) (word : AskedWord) → OneFault (values_kind file word) }
     ensures template { OneFault template_kind }
 {
     meanings_are_unique()

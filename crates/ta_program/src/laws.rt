@@ -2,7 +2,12 @@
 //! state the laws.
 #![tactic(auto)]
 
-ghost use Rattle.ta_program.specs.Laws.{PrintedRunsAreReplayed, WrittenIsAccepted};
+ghost use Rattle.ta_program.specs.Laws.{
+  FoundIsAccepted,
+  PrintedRunsAreReplayed,
+  WrittenAtRestIsAccepted,
+  WrittenIsAccepted,
+};
 
 /// What `verify` prints as a run `replay` shows.
 pub fn printed_runs_are_replayed()
@@ -12,4 +17,14 @@ pub fn printed_runs_are_replayed()
 /// The certificate that `verify` puts `check` accepts, for exactly the patterns that it reports safe.
 pub fn written_certificates_are_accepted()
     ensures { WrittenIsAccepted }
+{}
+
+/// The certificate that `rest` puts `rest-check` accepts, for exactly the patterns that it reports safe at rest.
+pub fn written_rest_certificates_are_accepted()
+    ensures { WrittenAtRestIsAccepted }
+{}
+
+/// The certificate that `search` puts `check` accepts of the filled text, for all its patterns.
+pub fn found_certificates_are_accepted()
+    ensures { FoundIsAccepted }
 {}

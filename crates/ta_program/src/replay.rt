@@ -22,9 +22,10 @@ use crate::values::{TwoNames, two_names};
 use std::alloc::{AllocError, Global};
 use std::thread::Threads;
 use ta_automaton::File;
+use ta_base::Text;
 use ta_replay::{Run, RunFault, Shown, read_run, replay};
 use ta_report::{run_fault_phrase, shown_line};
-use ta_shelf::{Shelf, Text};
+use ta_shelf::Shelf;
 use ta_shell::{Answer, Command, Refusal, read_text};
 
 /// What `replay` is asked for.

@@ -2,8 +2,8 @@
 #![tactic(auto)]
 
 ghost use Rattle.std.specs.Prelude.{◌≡◌, [], IfOk, length, map, Option, option_map};
+ghost use Rattle.std.specs.List.{AllByRecursion};
 ghost use Rattle.ta_automaton.specs.declared.file.File.{File};
-ghost use Rattle.ta_automaton.specs.Lists.{Each};
 ghost use Rattle.ta_report.specs.Report.{VerdictFits};
 ghost use Rattle.ta_rest.specs.Faults.{EndingsOf};
 ghost use Rattle.ta_shelf.specs.Calls.{Grew};
@@ -30,11 +30,12 @@ use crate::words::{OptionWord, Taken, take_words};
 use std::alloc::{AllocError, Global};
 use std::thread::Threads;
 use ta_automaton::File;
+use ta_base::Text;
 use ta_report::{Verdict, rest_text};
 use ta_rest::RestFile;
 use ta_rest_verdict::judge_rest;
 use ta_scope::ScopedFile;
-use ta_shelf::{Shelf, Text};
+use ta_shelf::Shelf;
 use ta_shell::{Answer, Command, Refusal};
 use ta_verdict::{Judged, sample_of};
 
@@ -186,7 +187,7 @@ fn report(
     verdicts: &[Verdict],
 ) -> Result<Text, AllocError>
     requires all { length verdicts.now ≡ length ending.now.patterns }
-    requires fit { Each (VerdictFits ending.now) verdicts.now }
+    requires fit { AllByRecursion (VerdictFits ending.now) verdicts.now }
     ensures { IfOk result (RestReported ending.now budget.now.nodes verdicts.now) }
 {
     let sample = sample_of(alloc, ending, budget.nodes)?;

@@ -23,11 +23,12 @@ use crate::values::{TwoNames, two_names};
 use std::alloc::{AllocError, Global};
 use std::thread::Threads;
 use ta_automaton::File as FileOf;
+use ta_base::Text;
 use ta_check::Checker;
 use ta_report::rest_check_text;
 use ta_rest::RestFile;
 use ta_scope::ScopedFile;
-use ta_shelf::{Shelf, Text};
+use ta_shelf::Shelf;
 use ta_shell::{Answer, Command, Refusal};
 
 /// What `rest-check` is asked for.

@@ -4,7 +4,7 @@
 ghost use Rattle.std.specs.Prelude.{◌≡◌, ◌≢◌, ◌≤◌, ◌<◌, ◌++◌, [], decimal, IfErr, IfOk, IfSome, IsSome, length, map, MatchOption, OnOk, Option, option_map, Some};
 ghost use Rattle.ta_search.specs.declared.fault.TemplateFault.TheVariants as fault;
 ghost use Rattle.ta_search.specs.Filling.{filled_text};
-ghost use Rattle.ta_search.specs.TemplateFaults.{FirstFault};
+ghost use Rattle.ta_search.specs.TemplateFaults.{FirstTemplateFault};
 ghost use Rattle.ta_shelf.specs.Calls.{Grew};
 ghost use Rattle.ta_shelf.specs.Put.{Told};
 ghost use Rattle.ta_shell.specs.Commands.{Says};
@@ -13,7 +13,7 @@ ghost use Rattle.ta_shell.specs.Puts.{content_bytes, texts_joined};
 ghost use Rattle.ta_shell.specs.Reading.{ReadCause};
 ghost use Rattle.ta_shell.specs.Stages.{Stage};
 ghost use Rattle.ta_program.specs.declared.limits.TheConstants.{CERTIFICATE as CERTIFICATE_LIMIT};
-ghost use Rattle.ta_program.specs.Inside.FoundFiles.{Ends, FoundBy, LastGives};
+ghost use Rattle.ta_program.specs.Inside.FoundFiles.{IsFoundEnd, FoundBy, LastGives};
 ghost use Rattle.ta_program.specs.Search.{IsTemplateText, end_number, found_files, found_meaning, leaves_unknown, put_text, search_meaning, template_fault_text, template_kind, with_given};
 ghost use Rattle.ta_program.specs.SearchSeen.{search_seen};
 ghost use Rattle.ta_program.specs.SearchWords.{search_taken, search_words};
@@ -27,11 +27,12 @@ use crate::values::{budget_of, filled_of, name_of, out_of};
 use crate::words::{OptionWord, Taken, take_words};
 use std::alloc::{AllocError, Global};
 use std::thread::Threads;
+use ta_base::{List, Text};
 use ta_search::{
     Outcome, SearchEnd, Template, TemplateFault, Tried, fill, read_template, search, search_text,
     searches_are_determined,
 };
-use ta_shelf::{List, Shelf, Text};
+use ta_shelf::Shelf;
 use ta_shell::{Answer, Command, Content, Phrase, Put, Refusal, read_text};
 
 /// What `search` is asked for.
@@ -165,7 +166,7 @@ fn read_searched<'a, S: Shelf>(
 fn template_of(alloc: Global, bytes: &[u8]) -> Result<Template, TemplateFault>
     requires { length bytes.now ≤ 1048576 }
     ensures text { IfOk result (IsTemplateText bytes.now) }
-    ensures fault { IfErr result (λ found. found ≢ fault.Memory → FirstFault bytes.now found) }
+    ensures fault { IfErr result (λ found. found ≢ fault.Memory → FirstTemplateFault bytes.now found) }
 {
     match read_template(alloc, bytes) {
         Ok(template) => Ok(template),
@@ -254,7 +255,7 @@ fn answer_found<'a>(
     text: Text,
     asked: &Search<'a>,
 ) -> Result<Answer, Refusal<'a>>
-    requires { Ends template.now asked.now.budget.nodes end text }
+    requires { IsFoundEnd template.now asked.now.budget.nodes end text }
     ensures says { (files : Option Told) → Says (found_meaning (search_seen asked.now) template.now) files result [] }
     ensures cause { ReadCause result 0 0 }
 {
@@ -267,7 +268,7 @@ fn answer_found<'a>(
 /// Values with which every pattern is safe, and the pieces of the certificate.
 #[derive(Drop)]
 struct Last {
-    values: ta_syntax::List<u32>,
+    values: ta_base::List<u32>,
     pieces: List<Text>,
 }
 
@@ -360,7 +361,7 @@ fn found_puts<'a>(
     let Last { values, pieces } = last;
     let bytes = fill(alloc, template, values.as_slice())?;
     let mut puts = Vec::new(alloc);
-    let filled = Content::Bytes(List::from_vec(bytes.into_vec()));
+    let filled = Content::Bytes(bytes);
     push_given(alloc, &mut puts, asked.filled, filled)?;
     push_given(alloc, &mut puts, asked.out, Content::Pieces(pieces))?;
     Ok(puts)

@@ -5,7 +5,7 @@ ghost use Rattle.std.specs.Prelude.{◌≡◌, ◌≤◌, map, option_map, IfSom
 ghost use Rattle.std.specs.Char.{is_ascii_digit};
 ghost use Rattle.std.specs.List.{list_all};
 ghost use Rattle.ta_program.specs.Taken.{names_seen};
-ghost use Rattle.ta_program.specs.Values.{are_same, budget_of, filled_of, name_of, out_of, two_names};
+ghost use Rattle.ta_program.specs.Values.{are_same, budget_of, filled_of, file_name_of, out_of, two_names};
 
 use crate::words::take_words;
 
@@ -34,7 +34,7 @@ pub(crate) fn two_names<'a>(words: &[&'a str]) -> Option<TwoNames<'a>>
 
 /// The name of a file, which isn't empty.
 pub(crate) fn name_of(name: &str) -> Option<&str>
-    ensures { option_map (λ w. w.now) result ≡ name_of name.now }
+    ensures { option_map (λ w. w.now) result ≡ file_name_of name.now }
 {
     if name.is_empty() { None } else { Some(name) }
 }

@@ -23,9 +23,10 @@ use crate::words::{OptionWord, Taken, take_words};
 use std::alloc::{AllocError, Global};
 use std::thread::Threads;
 use ta_automaton::File;
+use ta_base::Text;
 use ta_report::{Verdict, report_json, report_text};
 use ta_scope::ScopedFile;
-use ta_shelf::{Shelf, Text};
+use ta_shelf::Shelf;
 use ta_shell::{Answer, Command, Refusal};
 use ta_verdict::{Judged, is_unknown, is_unsafe, judge_file, sample_of};
 

@@ -3,7 +3,7 @@
 
 ghost use Rattle.std.specs.Prelude.{◌≡◌, ◌≤◌, ◌<◌, ◌+◌, codes, map, option_and_then, length, option_map, is_some, true, false, Some, None, IfSome, if◌then◌else◌};
 ghost use Rattle.ta_program.specs.Taken.{form_of, options_of, taken_of};
-ghost use Rattle.ta_program.specs.Words.{behind, is_dashed, nothing, plain_of, take_all, take_by, taken_by, value_of, whole, with_plain, with_value, with_word};
+ghost use Rattle.ta_program.specs.Words.{behind, is_dashed, nothing, plain_of, take_all, take_by, taken_by, option_value, whole, with_plain, with_value, with_word};
 
 /// An option of a command: its word, and whether a value belongs to it.
 #[derive(Clone, Copy)]
@@ -145,7 +145,7 @@ impl<'a> Taken<'a> {
     /// The value of the option of a number.
     pub(crate) fn value(&self, number: usize) -> Option<&'a str>
         requires { number < 4 }
-        ensures { option_map (λ w. w.now) result ≡ value_of (taken_of self.now) number }
+        ensures { option_map (λ w. w.now) result ≡ option_value (taken_of self.now) number }
     {
         self.values[number]
     }

@@ -3,6 +3,8 @@ use Rattle.std.proofs.Common.{◌≡◌, inl, inr, ℕ, ◌+◌, ◌<◌, ◌↔
 use Rattle.std.proofs.lemmas.Int.{ints}
 use Rattle.std.proofs.lemmas.Bool.{cases_lt}
 use Rattle.std.proofs.lemmas.Option.{same_Some}
+use Rattle.ta_base.proofs.Each.{each_at}
+use Rattle.ta_base.proofs.Lists.{some_at, take_next}
 use Rattle.ta_linear.specs.Values.{point_of}
 use Rattle.ta_automaton.specs.declared.automaton.Automaton.{Automaton}
 use Rattle.ta_automaton.specs.declared.rule.Rule.{Rule}
@@ -10,7 +12,6 @@ use Rattle.ta_automaton.specs.declared.pattern.Pattern.{Pattern}
 use Rattle.ta_automaton.specs.Places.{rule_change}
 use Rattle.ta_automaton.specs.Sums.{total}
 use Rattle.ta_automaton.proofs.Sums.{total-append}
-use Rattle.ta_automaton.proofs.Thresholds.{each_at}
 use Rattle.ta_counter.specs.declared.config.Config.{Config}
 use Rattle.ta_counter.specs.Configs.{config_of, IsOf}
 use Rattle.ta_replay.specs.declared.run.Run.{Run}
@@ -21,9 +22,9 @@ use Rattle.ta_replay.specs.declared.fault.RunFault.TheVariants.{Line, Name, Resi
 use Rattle.ta_replay.specs.Fits.{LineFits}
 use Rattle.ta_replay.specs.Shows.{IsMarked, steps_before}
 use Rattle.ta_replay.specs.Replays.{ValuesAfter, Takes, LineTakes, LinePasses, InOrder, line_change}
-use Rattle.ta_replay.specs.ReplayFaults.{LineRefuses, LineStops, FirstRefusal, line_number}
+use Rattle.ta_replay.specs.ReplayFaults.{LineRefuses, LineStops, FirstRefusal, run_line_number}
 use Rattle.ta_replay.specs.Inside.Following.{FitsPattern, Following, MarksAfter}
-use Rattle.ta_replay.proofs.Lines.{some_at, take_next, marked-next}
+use Rattle.ta_replay.proofs.Lines.{marked-next}
 use Rattle.ta_replay.proofs.Paths.{line_moves, path_next}
 
 total-push : {X : Type 0} (f : X → ℤ) (xs : List X) (x : X) → total f (xs ++ x ∷ []) ≡ (total f xs +ℤ f x)
@@ -156,7 +157,7 @@ never a p Marked values (Step r factor) number Memory h run s = h
 never a p Marked values (Mark e) number Memory h run s = h
 
 -- a line that refuses
-pub following_stops : (a : Automaton) (p : Pattern) (run : Run) (i : ℕ) (config : Config) (marks : ℕ) (line : RunLine) (number : ℕ) (fault : RunFault) → slice_get run.lines i ≡ Some line → Following a p run i config marks → number ≡ line_number a i → LineRefuses a p (IsBitSet marks) config.values.items line number fault → FirstRefusal a p run fault
+pub following_stops : (a : Automaton) (p : Pattern) (run : Run) (i : ℕ) (config : Config) (marks : ℕ) (line : RunLine) (number : ℕ) (fault : RunFault) → slice_get run.lines i ≡ Some line → Following a p run i config marks → number ≡ run_line_number a i → LineRefuses a p (IsBitSet marks) config.values.items line number fault → FirstRefusal a p run fault
 following_stops a p run i config marks line number fault at f is h =
     let told = refuses_same a p (IsBitSet marks) (IsMarked (take i run.lines)) config.values.items line number fault f.marked h in
     never a p (IsMarked (take i run.lines)) config.values.items line number fault told run (record {

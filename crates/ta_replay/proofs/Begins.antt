@@ -1,14 +1,14 @@
 -- where a replay begins
-use Rattle.std.proofs.Common.{◌≡◌, ◌⊎◌, inl, inr, ℕ, zero, suc, ◌+◌, ◌^◌, ◌<◌, ◌≤◌, ℤ, pos, List, [], ◌∷◌, length, arith, sym, ap, ◌∙◌, refl, subst, slice_get, get_or, Some, IsBitSet, Contains}
+use Rattle.std.proofs.Common.{◌≡◌, inl, inr, ℕ, zero, suc, ◌+◌, ◌<◌, ℤ, pos, List, [], length, arith, sym, ap, ◌∙◌, refl, subst, slice_get, get_or, Some}
 use Rattle.std.proofs.lemmas.Int.{ints}
-use Rattle.std.proofs.lemmas.Bool.Decides.{eqb_tells}
 use Rattle.std.proofs.lemmas.List.{ext_get_or, get_or-take}
-use Rattle.std.proofs.lemmas.Option.{same_Some, slice_get-get_or, slice_get_within}
-use Rattle.std.specs.Int.Bits.{and_zero_l}
+use Rattle.std.proofs.lemmas.Option.{same_Some, slice_get_within}
+use Rattle.ta_base.proofs.Bits.{no_bit}
+use Rattle.ta_base.proofs.Integers.{pos_same}
+use Rattle.ta_base.proofs.Ranges.{rises_length_most}
 use Rattle.ta_linear.specs.Values.{point_of}
 use Rattle.ta_automaton.specs.declared.automaton.Automaton.{Automaton}
 use Rattle.ta_automaton.specs.declared.pattern.Pattern.{Pattern}
-use Rattle.ta_automaton.specs.Lists.{Rises}
 use Rattle.ta_automaton.specs.Runs as runs
 use Rattle.ta_automaton.specs.Runs.{At}
 use Rattle.ta_automaton.specs.Sums.{total}
@@ -25,26 +25,17 @@ use Rattle.ta_pattern.proofs.Agreeing.{holds_there, counter_there}
 use Rattle.ta_replay.specs.declared.run.Run.{Run}
 use Rattle.ta_replay.specs.declared.run.RunLine.{RunLine}
 use Rattle.ta_replay.specs.declared.run.RunLine.TheVariants.{Mark}
-use Rattle.ta_replay.specs.declared.fault.RunFault.{RunFault}
-use Rattle.ta_replay.specs.declared.fault.RunFault.TheVariants.{Line, Name, Resilience, Processes, Start, NotEmpty, Guard, Count, Event, MissingEvent, Overflow, Order, Memory}
 use Rattle.ta_replay.specs.Replays.{ValuesAfter, NoneFilled, FirstFilled}
-use Rattle.ta_replay.specs.ReplayFaults.{ConfigRefuses, StartRefuses, FirstRefusal}
 use Rattle.ta_replay.specs.Inside.Following.{FitsPattern, Following, StartsWith}
-
-natural_same : (m n : ℕ) → pos m ≡ pos n → m ≡ n
-natural_same m n h = omega (arith, ints)
 
 counter_at_start : (a : Automaton) (run : Run) (config : Config) → StartsWith a run config → (j l : ℕ) → slice_get a.initial j ≡ Some l → pos (get_or (config_of a config).counters l 0) ≡ point_of run.counts j
 counter_at_start a run config s j l at = counter_there a config s.is_of l ∙ s.starts.counts_there j l at
 
 empty_at_start : (a : Automaton) (p : Pattern) (run : Run) (config : Config) → StartsWith a run config → NoneFilled a p run → KeepsEmpty p.empty (config_of a config)
 empty_at_start a p run config s none l bit = elim (in_or_not a.initial l) [
-  | inl w ↦ natural_same _ 0 (counter_at_start a run config s w.0 l w.1 ∙ none w.0 l w.1 bit)
+  | inl w ↦ pos_same _ 0 (counter_at_start a run config s w.0 l w.1 ∙ none w.0 l w.1 bit)
   | inr out ↦ s.initial.others_empty l (not_contained a.initial l out)
 ]
-
-no_bit : (e : ℕ) → IsBitSet 0 e → ⊥
-no_bit e bit = bit (and_zero_l (2 ^ e))
 
 -- the first configuration, before any line
 pub starting : (a : Automaton) (p : Pattern) (run : Run) (config : Config) → FitsPattern a p run → StartsWith a run config → ConditionPasses (point_of config.values.items) p.start → NoneFilled a p run → Following a p run 0 config 0
@@ -58,7 +49,7 @@ starting a p run config fits s start none = record {
   first = config_of a config;
   begins = record {
     parameters = ap naturals s.starts.parameters_first;
-    counts = λ j l at. natural_same _ _ (counter_at_start a run config s j l at ∙ sym (naturals_at run.counts fits.counts_natural j));
+    counts = λ j l at. pos_same _ _ (counter_at_start a run config s j l at ∙ sym (naturals_at run.counts fits.counts_natural j));
   };
   initial = s.initial;
   start = holds_there a p.start config (holds_from (point_of config.values.items) p.start start);
@@ -76,47 +67,6 @@ starting a p run config fits s start none = record {
   only : (k : ℕ) (c : runs.Config) → At (config_of a config) [] k c → KeepsEmpty p.empty c
   only zero c at = subst (KeepsEmpty p.empty) (same_Some (config_of a config) c at) (empty_at_start a p run config s none)
   only (suc k) c at = absurd (cc)
-
-pub config_refuses : (a : Automaton) (p : Pattern) (run : Run) (fault : RunFault) → ConfigRefuses a run fault → FirstRefusal a p run fault
-config_refuses a p run (Line line) h = h
-config_refuses a p run (Name line) h = h
-config_refuses a p run (Resilience k) h = h
-config_refuses a p run Processes h = h
-config_refuses a p run (Start k) h = absurd h
-config_refuses a p run (NotEmpty line) h = absurd h
-config_refuses a p run (Guard line guard) h = absurd h
-config_refuses a p run (Count line) h = absurd h
-config_refuses a p run (Event line) h = absurd h
-config_refuses a p run (MissingEvent e) h = absurd h
-config_refuses a p run (Overflow line) h = inl h
-config_refuses a p run (Order line) h = absurd h
-config_refuses a p run Memory h = h
-
-pub start_refuses : (a : Automaton) (p : Pattern) (run : Run) (config : Config) (fault : RunFault) → StartsWith a run config → StartRefuses p config.values.items fault → FirstRefusal a p run fault
-start_refuses a p run config (Line line) s h = h
-start_refuses a p run config (Name line) s h = h
-start_refuses a p run config (Resilience k) s h = absurd h
-start_refuses a p run config Processes s h = absurd h
-start_refuses a p run config (Start k) s h = record { may_start = s.may_start; first = config.values.items; starts = s.starts; stops = h }
-start_refuses a p run config (NotEmpty line) s h = absurd h
-start_refuses a p run config (Guard line guard) s h = absurd h
-start_refuses a p run config (Count line) s h = absurd h
-start_refuses a p run config (Event line) s h = absurd h
-start_refuses a p run config (MissingEvent e) s h = absurd h
-start_refuses a p run config (Overflow line) s h = inr (inl (h.0, (h.1.0, record { may_start = s.may_start; first = config.values.items; starts = s.starts; stops = h.1.1 })))
-start_refuses a p run config (Order line) s h = absurd h
-start_refuses a p run config Memory s h = h
-
-pub filled_refuses : (a : Automaton) (p : Pattern) (run : Run) (config : Config) (j line : ℕ) → StartsWith a run config → ConditionPasses (point_of config.values.items) p.start → FirstFilled a p run j → line ≡ 2 + length a.parameters + j → FirstRefusal a p run (NotEmpty line)
-filled_refuses a p run config j line s start filled is = inl (record {
-  may_start = s.may_start;
-  first = config.values.items;
-  starts = s.starts;
-  start = start;
-  j = j;
-  filled = filled;
-  line_is = is;
-})
 
 -- a run has one list of values to start with
 pub first_same : (a : Automaton) (parameters counts v w : List ℤ) → StartsAt a parameters counts v → StartsAt a parameters counts w → (i : ℕ) → point_of v i ≡ point_of w i
@@ -140,17 +90,9 @@ pub after_same : (a : Automaton) (run : Run) (lines : List RunLine) (v w : List 
 after_same a run lines v w s t =
     ext_get_or (pos 0) v w (s.places ∙ s.starts.places ∙ sym (t.places ∙ t.starts.places)) (λ i b. omega (arith, ints, s.changed i, t.changed i, first_same a run.parameters run.counts s.first t.first s.starts t.starts i))
 
-rises_count : (low high : ℕ) (ls : List ℕ) → Rises low high ls → low ≤ high → low + length ls ≤ high
-rises_count low high [] r h = omega arith
-rises_count low high (x ∷ xs) r h =
-    let a = r.0 in
-    let b = r.1 in
-    let rest = rises_count (x + 1) high xs r.2 (omega arith) in
-    omega arith
-
 -- places among the initial locations are small
 pub filled_below : (a : Automaton) (p : Pattern) (run : Run) (j : ℕ) → FirstFilled a p run j → length a.parameters + j < 48
 filled_below a p run j filled =
     let within = slice_get_within a.initial j filled.location filled.at in
-    let count = rises_count 0 (length a.locations) a.initial a.shape.initial_rises (omega arith) in
+    let count = rises_length_most 0 (length a.locations) a.initial a.shape.initial_rises (omega arith) in
     omega (arith, a.shape.limits.parameters_limit, a.shape.limits.locations_limit)

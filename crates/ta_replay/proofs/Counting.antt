@@ -1,19 +1,17 @@
 -- how many marks a run has
 use Rattle.std.proofs.Common.{◌≡◌, inl, inr, ℕ, zero, suc, ◌+◌, ◌<◌, ◌≤◌, List, [], ◌∷◌, length, eqb, cond, arith, sym, ap, ◌∙◌, refl, Some}
 use Rattle.std.proofs.lemmas.Bool.Decides.{eqb_tells}
+use Rattle.std.specs.List.{AllByRecursion}
+use Rattle.ta_base.proofs.Lists.{some_at}
+use Rattle.ta_base.proofs.Naturals.{sum_below}
+use Rattle.ta_base.proofs.Sums.{sum-ones}
 use Rattle.ta_automaton.specs.declared.automaton.Automaton.{Automaton}
 use Rattle.ta_automaton.specs.declared.pattern.Pattern.{Pattern}
-use Rattle.ta_automaton.specs.Lists.{Each}
 use Rattle.ta_replay.specs.declared.run.Run.{Run}
 use Rattle.ta_replay.specs.declared.run.RunLine.{RunLine}
 use Rattle.ta_replay.specs.declared.run.RunLine.TheVariants.{Step, Mark}
 use Rattle.ta_replay.specs.Fits.{LineFits}
 use Rattle.ta_replay.specs.Shows.{MarksAt, ShowsPattern, marks_count}
-use Rattle.ta_replay.proofs.Lines.{some_at}
-
-unfoldable pub sum_below : (ℕ → ℕ) → ℕ → ℕ
-sum_below f zero = 0
-sum_below f (suc n) = sum_below f n + f n
 
 -- how many lines mark an event
 marks_of : List RunLine → ℕ → ℕ
@@ -47,7 +45,7 @@ sum-mark x lines (suc n) b = elim (eqb_tells n x) [
   | inr other ↦ rw other.0 (omega (arith, sum-mark x lines n (let s = other.1 in omega arith)))
 ]
 
-all_marks : (a : Automaton) (p : Pattern) (lines : List RunLine) → Each (LineFits a p) lines → marks_count lines ≡ sum_below (marks_of lines) (length p.events)
+all_marks : (a : Automaton) (p : Pattern) (lines : List RunLine) → AllByRecursion (LineFits a p) lines → marks_count lines ≡ sum_below (marks_of lines) (length p.events)
 all_marks a p [] fits = sym (sum-zero (length p.events))
 all_marks a p (Step r k ∷ lines) fits = all_marks a p lines fits.1 ∙ sym (sum-step r k lines (length p.events))
 all_marks a p (Mark x ∷ lines) fits = ap (λ n. 1 + n) (all_marks a p lines fits.1) ∙ sym (sum-mark x lines (length p.events) fits.0)
@@ -75,13 +73,8 @@ one_of (Mark x ∷ lines) e (suc i) at once = elim (eqb_tells e x) [
   | inr other ↦ rw other.0 (omega (arith, one_of lines e i at (λ j there. let s = once (suc j) there in omega arith)))
 ]
 
-sum-ones : (f : ℕ → ℕ) (n : ℕ) → ((e : ℕ) → e < n → f e ≡ 1) → sum_below f n ≡ n
-unfolding sum_below
-sum-ones f zero h = refl
-sum-ones f (suc n) h = omega (arith, sum-ones f n (λ e b. h e (omega arith)), h n (omega arith))
-
 -- a run that shows a pattern has as many marks as the pattern has events
-pub marks_are_events : (a : Automaton) (p : Pattern) (run : Run) → Each (LineFits a p) run.lines → ShowsPattern a p run → marks_count run.lines ≡ length p.events
+pub marks_are_events : (a : Automaton) (p : Pattern) (run : Run) → AllByRecursion (LineFits a p) run.lines → ShowsPattern a p run → marks_count run.lines ≡ length p.events
 marks_are_events a p run fits s =
     all_marks a p run.lines fits
     ∙ sum-ones (marks_of run.lines) (length p.events) (λ e b.

@@ -2,6 +2,7 @@
 use Rattle.std.proofs.Common.{◌≡◌, inl, inr, ℕ, ◌<◌, ℤ, List, length, take, arith, subst, slice_get, Some, IsBitSet}
 use Rattle.std.proofs.lemmas.Bool.{cases_lt}
 use Rattle.std.proofs.lemmas.Option.{slice_get_within}
+use Rattle.ta_base.proofs.Lists.{front_get, get_front, take_all}
 use Rattle.ta_linear.specs.Values.{point_of}
 use Rattle.ta_linear.specs.declared.row.Row.{Row}
 use Rattle.ta_automaton.specs.declared.automaton.Automaton.{Automaton}
@@ -18,7 +19,6 @@ use Rattle.ta_replay.specs.Shows.{unit_steps, MarksAt, IsMarked, ShowsPattern}
 use Rattle.ta_replay.specs.Replays.{LineTakes, LinePasses, InOrder, ConditionStays, MaskedStay, LineStays, NumbersStay}
 use Rattle.ta_replay.specs.ReplayFaults.{LacksMark}
 use Rattle.ta_replay.specs.Inside.Following.{Following, FirstUnmarked}
-use Rattle.ta_replay.proofs.Lines.{front_get, get_front, take_all}
 use Rattle.ta_replay.proofs.Begins.{starts_same, after_same}
 
 -- an event isn't marked on two lines

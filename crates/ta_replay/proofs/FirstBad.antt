@@ -7,7 +7,7 @@ use Rattle.ta_automaton.specs.declared.automaton.Automaton.{Automaton}
 use Rattle.ta_automaton.specs.declared.condition.Comparison.{Comparison}
 use Rattle.ta_automaton.specs.declared.condition.Condition.{Condition}
 use Rattle.ta_automaton.specs.declared.rule.Rule.{Rule}
-use Rattle.ta_counter.specs.Checks.{AllPass, StopsAt, RowPasses, RowFails, RowLeaves, RowsPass, RowsStop, ConditionPasses, ConditionStopsAt}
+use Rattle.ta_counter.specs.Checks.{AllPass, StopsAt, RowPasses, RowFails, RowOutOfRange, RowsPass, RowsStop, ConditionPasses, ConditionStopsAt}
 use Rattle.ta_counter.specs.Guards.{MaskedPass, MaskedStop, BadGuard}
 
 -- one item is bad in two ways
@@ -51,14 +51,14 @@ RowClash point Bad = (row : Row) → RowPasses point row → Bad row → ⊥
 pub fails_clash : (point : ℕ → ℤ) → RowClash point (RowFails point)
 fails_clash point row passes fails = fails.fails passes.holds
 
-pub leaves_clash : (point : ℕ → ℤ) → RowClash point (RowLeaves point)
+pub leaves_clash : (point : ℕ → ℤ) → RowClash point (RowOutOfRange point)
 leaves_clash point row passes leaves = leaves passes.stays
 
 -- some row is bad in two ways
 abbrev pub BothBad : (Row → Type 0) → (Row → Type 0) → Type 0
 BothBad Bad Worse = (row : Row) × Bad row × Worse row
 
-pub not_both_bad : (point : ℕ → ℤ) → BothBad (RowFails point) (RowLeaves point) → ⊥
+pub not_both_bad : (point : ℕ → ℤ) → BothBad (RowFails point) (RowOutOfRange point) → ⊥
 not_both_bad point both = both.2 both.1.stays
 
 rows_clash : (point : ℕ → ℤ) (Bad : Row → Type 0) → RowClash point Bad → (rows : List Row) → RowsPass point rows → RowsStop point Bad rows → ⊥

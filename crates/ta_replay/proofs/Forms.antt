@@ -1,24 +1,13 @@
 -- The forms of lines.
-use Rattle.std.proofs.Common.{ℕ, ℤ, ◌≡◌, false, List, [], ◌∷◌, ◌++◌, refl, sym, ap, subst, ◌∙◌}
+use Rattle.std.proofs.Common.{ℕ, ℤ, ◌≡◌, List, ◌∷◌, ◌++◌, refl, sym, subst, ◌∙◌}
 use Rattle.std.specs.Fmt.{signed_decimal}
-use Rattle.std.specs.List.{AllByRecursion}
-use Rattle.std.specs.Prelude.{IsTrue}
-use Rattle.std.proofs.lemmas.Bool.{false≢true}
 use Rattle.std.proofs.lemmas.List.{append_cancel_left}
-use Rattle.ta_syntax.specs.Kinds.{is_word}
-use Rattle.ta_replay.specs.TextFaults.{Avoids, IsWord, IsValued}
+use Rattle.ta_base.specs.Bytes.{Avoids, IsWord, SplitAt}
+use Rattle.ta_base.proofs.Each.{word_avoids}
+use Rattle.ta_base.proofs.Lists.{first_byte, not_parted}
+use Rattle.ta_replay.specs.TextFaults.{IsValued}
 use Rattle.ta_replay.specs.Reading.{IsNumber}
-use Rattle.ta_replay.specs.Inside.Reading.{SplitAt}
-use Rattle.ta_replay.proofs.Bytes.{first_byte, not_parted}
 use Rattle.ta_replay.proofs.Decimals.{number_same}
-
--- a byte that may not stand in a name stands in none
-words_avoid : (byte : ℕ) (bs : List ℕ) → is_word byte ≡ false → AllByRecursion (λ b. IsTrue (is_word b)) bs → Avoids byte bs
-words_avoid byte [] other each = tt
-words_avoid byte (b ∷ bs) other each = ((λ e. false≢true (sym other ∙ ap is_word (sym e) ∙ each.0)), words_avoid byte bs other each.1)
-
-pub word_avoids : (byte : ℕ) (name : List ℕ) → is_word byte ≡ false → IsWord name → Avoids byte name
-word_avoids byte name other word = words_avoid byte name other word.each
 
 -- a line of this word is what stands behind it
 pub behind_word : (word rest line : List ℕ) (name : List ℕ) (value : ℤ) → line ≡ word ++ rest → IsValued word line name value → rest ≡ name ++ (32 ∷ signed_decimal value)

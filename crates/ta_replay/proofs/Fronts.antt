@@ -3,10 +3,12 @@ use Rattle.std.proofs.Common.{ℕ, ℤ, zero, suc, pos, ◌+◌, ◌-◌, ◌<�
 use Rattle.std.specs.Prelude.{slice_get}
 use Rattle.std.proofs.lemmas.List.{length-map, length-replicate, append_cancel_left}
 use Rattle.std.proofs.lemmas.Option.{slice_get_within, slice_get_past}
+use Rattle.std.specs.List.{AllByRecursion}
+use Rattle.ta_base.proofs.Each.{each_append, each_at}
+use Rattle.ta_base.proofs.Lists.{some_at}
 use Rattle.ta_automaton.specs.declared.automaton.Automaton.{Automaton}
 use Rattle.ta_automaton.specs.declared.pattern.Pattern.{Pattern}
 use Rattle.ta_automaton.specs.declared.file.File.{File}
-use Rattle.ta_automaton.specs.Lists.{Each}
 use Rattle.ta_automaton.specs.Patterns.{pattern_name}
 use Rattle.ta_counter.specs.Values.{Value}
 use Rattle.ta_replay.specs.declared.run.Run.{Run}
@@ -15,18 +17,19 @@ use Rattle.ta_replay.specs.declared.fault.RunFault.{RunFault}
 use Rattle.ta_replay.specs.declared.fault.RunFault.TheVariants as fault
 use Rattle.ta_replay.specs.Fits.{Fits, LineFits}
 use Rattle.ta_replay.specs.RunText.{Slot, name_at, valued_line, slots, value_lines, line_of, head_line, run_lines, lines_text}
-use Rattle.ta_replay.specs.TextFaults.{Avoids, IsValued, FormFor, IsFront, IsMalformed, IsMisnamed, TextFault}
-use Rattle.ta_replay.specs.Inside.Reading.{SplitAt, HeadRead, NoValue, OtherValue, ValueRefused, ValuesRead, ValuesStopped, ValuesFault, IsStatement, StatementRefused, StepRefused, StepsBegun, StepsStopped, StepsFault}
+use Rattle.ta_replay.specs.TextFaults.{IsValued, FormFor, IsFront, IsMalformedRun, IsMisnamed, TextFault}
+use Rattle.ta_base.specs.Bytes.{Avoids, SplitAt}
+use Rattle.ta_replay.specs.Inside.Reading.{HeadRead, NoValue, OtherValue, ValueRefused, ValuesRead, ValuesStopped, ValuesFault, IsStatement, StatementRefused, StepRefused, StepsBegun, StepsStopped, StepsFault}
 use Rattle.ta_replay.specs.Inside.Reading.StepRefused.{Unfinished, Refused, Trailing}
 use Rattle.ta_replay.proofs.NumberedNames.{one_name}
-use Rattle.ta_replay.proofs.ListSteps.{each-append, each_get, read_more, read_both}
+use Rattle.ta_replay.proofs.ListSteps.{read_more, read_both}
 use Rattle.ta_replay.proofs.Decimals.{value_is}
 use Rattle.ta_replay.proofs.Forms.{valued_same}
 use Rattle.ta_replay.proofs.ValueLines.{length-value_lines}
 use Rattle.ta_replay.proofs.RunFacts.{IsAsked, asked, values_of, values_count, values_natural, behind_head, run_lines_are, run_of, run_of_fits, run_of_lines, value_behind, body_behind, each_of_body}
 
 -- zeros are values
-zeros_natural : (n : ℕ) → Each Value (replicate n (pos 0))
+zeros_natural : (n : ℕ) → AllByRecursion Value (replicate n (pos 0))
 zeros_natural zero = tt
 zeros_natural (suc n) = (value_is 0 (omega arith), zeros_natural n)
 
@@ -36,17 +39,11 @@ zeros_behind [] values n slot next = cc
 zeros_behind (s ∷ ss) [] n slot next = let same : s ≡ slot = cc in (value_lines ss (replicate n (pos 0)), ap (λ t. valued_line t.word t.name (pos 0) ∷ value_lines ss (replicate n (pos 0))) same)
 zeros_behind (s ∷ ss) (v ∷ vs) n slot next = let more = zeros_behind ss vs n slot next in (more.0, ap (λ xs. valued_line s.word s.name v ∷ xs) more.1)
 
--- a pattern exists
-pub pattern_at : (patterns : List Pattern) (k : ℕ) → k < length patterns → (p : Pattern) × (slice_get patterns k ≡ Some p)
-pattern_at [] k within = absurd (omega arith)
-pattern_at (p ∷ ps) zero within = (p, refl)
-pattern_at (p ∷ ps) (suc k) within = pattern_at ps k (omega arith)
-
 -- a run begins with the lines of its first values
-values_front : (file : File) (k : ℕ) (values : List ℤ) (slot : Slot) → k < length file.patterns → Each Value values → slice_get (slots file.automaton) (length values) ≡ Some slot → IsFront file (head_line file k ∷ value_lines (slots file.automaton) values)
+values_front : (file : File) (k : ℕ) (values : List ℤ) (slot : Slot) → k < length file.patterns → AllByRecursion Value values → slice_get (slots file.automaton) (length values) ≡ Some slot → IsFront file (head_line file k ∷ value_lines (slots file.automaton) values)
 values_front file k values slot exists natural next =
     let a = file.automaton in
-    let p = pattern_at file.patterns k exists in
+    let p = some_at file.patterns k exists in
     let within = slice_get_within (slots a) (length values) slot next in
     let n = length (slots a) - length values - 1 in
     let all = values ++ (pos 0 ∷ replicate n (pos 0)) in
@@ -57,12 +54,12 @@ values_front file k values slot exists natural next =
       run = run_of a k all [];
       next = next_line;
       later = more.0 ++ (codes "end" ∷ []);
-      fits = run_of_fits file k p.0 all [] p.1 count (each-append Value values (pos 0 ∷ replicate n (pos 0)) natural (value_is 0 (omega arith), zeros_natural n)) tt;
+      fits = run_of_fits file k p.0 all [] p.1 count (each_append Value values (pos 0 ∷ replicate n (pos 0)) natural (value_is 0 (omega arith), zeros_natural n)) tt;
       lines = run_of_lines file k p.0 all [] p.1 ∙ ap (λ xs. head_line file k ∷ (xs ++ (codes "end" ∷ []))) more.1 ∙ ap (λ xs. head_line file k ∷ xs) (append_assoc (value_lines (slots a) values) (next_line ∷ more.0) (codes "end" ∷ []));
     }
 
 -- a run begins with the lines of its values and of its first steps and marks
-steps_front : (file : File) (k : ℕ) (p : Pattern) (values : List ℤ) (lines : List RunLine) → slice_get file.patterns k ≡ Some p → length values ≡ length (slots file.automaton) → Each Value values → Each (LineFits file.automaton p) lines → IsFront file (head_line file k ∷ (value_lines (slots file.automaton) values ++ map (line_of file.automaton p) lines))
+steps_front : (file : File) (k : ℕ) (p : Pattern) (values : List ℤ) (lines : List RunLine) → slice_get file.patterns k ≡ Some p → length values ≡ length (slots file.automaton) → AllByRecursion Value values → AllByRecursion (LineFits file.automaton p) lines → IsFront file (head_line file k ∷ (value_lines (slots file.automaton) values ++ map (line_of file.automaton p) lines))
 steps_front file k p values lines named count natural fit =
     let a = file.automaton in
     record {
@@ -80,7 +77,7 @@ with_head file bytes r1 rest k ls head read = head.read ∙ ap (λ xs. head_line
 -- some values are read behind the first line, and another is asked for
 record AtValue (file : File) (bytes : List ℕ) (k : ℕ) (values : List ℤ) (slot : Slot) (rest : List ℕ) : Type 0 where
   exists : k < length file.patterns
-  numbers : Each Value values
+  numbers : AllByRecursion Value values
   next : slice_get (slots file.automaton) (length values) ≡ Some slot
   read : bytes ≡ lines_text (head_line file k ∷ value_lines (slots file.automaton) values) ++ rest
 
@@ -97,7 +94,7 @@ value_next : (file : File) (bytes : List ℕ) (k : ℕ) (values : List ℤ) (slo
 value_next file bytes k values slot rest at = ap (slice_get (slots file.automaton)) (value_place file bytes k values slot rest at) ∙ at.next
 
 -- the next line isn't of its form
-value_malformed : (file : File) (bytes : List ℕ) (k : ℕ) (values : List ℤ) (slot : Slot) (rest : List ℕ) (n : ℕ) → AtValue file bytes k values slot rest → n ≡ 2 + length values → Avoids 10 rest ⊎ NoValue slot.word rest → IsMalformed file bytes n
+value_malformed : (file : File) (bytes : List ℕ) (k : ℕ) (values : List ℤ) (slot : Slot) (rest : List ℕ) (n : ℕ) → AtValue file bytes k values slot rest → n ≡ 2 + length values → Avoids 10 rest ⊎ NoValue slot.word rest → IsMalformedRun file bytes n
 value_malformed file bytes k values slot rest n at place (inl none) =
     let same = value_place file bytes k values slot rest at in
     record {
@@ -137,7 +134,7 @@ value_misnamed file bytes k values slot rest n at place other =
           let whole = sym (run_lines_are file run p fits.named) ∙ lines in
           let tail : behind_head a p (values_of run) run.lines ≡ ls ++ (other.line ∷ later) = cc in
           let found = value_behind (slots a) (values_of run) (map (line_of a p) run.lines ++ (codes "end" ∷ [])) ls other.line later slot (values_count file run fits) (values_natural file run fits) next tail in
-          let is : IsValued slot.word other.line slot.name found.0 = record { spelled = (each_get IsAsked (slots a) (length values) slot (asked a) at.next).named; number = found.1; text = found.2 } in
+          let is : IsValued slot.word other.line slot.name found.0 = record { spelled = (each_at IsAsked (slots a) (length values) slot (asked a) at.next).named; number = found.1; text = found.2 } in
           other.other (valued_same slot.word other.line other.name slot.name other.value found.0 other.is is).0;
       place = omega arith;
     }
@@ -161,8 +158,8 @@ values_fault file bytes r1 k e head stopped = values_stopped file bytes r1 k e h
 pub record AtStep (file : File) (bytes : List ℕ) (k : ℕ) (p : Pattern) (values : List ℤ) (lines : List RunLine) (rest : List ℕ) : Type 0 where
   pub named : slice_get file.patterns k ≡ Some p
   pub count : length values ≡ length (slots file.automaton)
-  pub numbers : Each Value values
-  pub fit : Each (LineFits file.automaton p) lines
+  pub numbers : AllByRecursion Value values
+  pub fit : AllByRecursion (LineFits file.automaton p) lines
   pub read : bytes ≡ lines_text (head_line file k ∷ (value_lines (slots file.automaton) values ++ map (line_of file.automaton p) lines)) ++ rest
 
 -- the lines behind the first
@@ -185,7 +182,7 @@ step_front : (file : File) (bytes : List ℕ) (k : ℕ) (p : Pattern) (values : 
 step_front file bytes k p values lines rest at = steps_front file k p values lines at.named at.count at.numbers at.fit
 
 -- the next line is unfinished
-step_unfinished : (file : File) (bytes : List ℕ) (k : ℕ) (p : Pattern) (values : List ℤ) (lines : List RunLine) (rest : List ℕ) (n : ℕ) → AtStep file bytes k p values lines rest → n ≡ 2 + length values + length lines → Avoids 10 rest → IsMalformed file bytes n
+step_unfinished : (file : File) (bytes : List ℕ) (k : ℕ) (p : Pattern) (values : List ℤ) (lines : List RunLine) (rest : List ℕ) (n : ℕ) → AtStep file bytes k p values lines rest → n ≡ 2 + length values + length lines → Avoids 10 rest → IsMalformedRun file bytes n
 step_unfinished file bytes k p values lines rest n at place none =
     let same = step_place file bytes k p values lines rest at in
     let count = at.count in
@@ -198,7 +195,7 @@ step_unfinished file bytes k p values lines rest n at place none =
     }
 
 -- the next line has no form of its place
-step_misformed : (file : File) (bytes : List ℕ) (k : ℕ) (p : Pattern) (values : List ℤ) (lines : List RunLine) (rest line behind : List ℕ) (n : ℕ) → AtStep file bytes k p values lines rest → n ≡ 2 + length values + length lines → SplitAt 10 rest line behind → (FormFor None line → ⊥) → IsMalformed file bytes n
+step_misformed : (file : File) (bytes : List ℕ) (k : ℕ) (p : Pattern) (values : List ℤ) (lines : List RunLine) (rest line behind : List ℕ) (n : ℕ) → AtStep file bytes k p values lines rest → n ≡ 2 + length values + length lines → SplitAt 10 rest line behind → (FormFor None line → ⊥) → IsMalformedRun file bytes n
 step_misformed file bytes k p values lines rest line behind n at place parted other =
     let same = step_place file bytes k p values lines rest at in
     let next = step_next file bytes k p values lines rest at in
@@ -212,7 +209,7 @@ step_misformed file bytes k p values lines rest line behind n at place parted ot
     }
 
 -- lines that begin with the line of a pattern are of a run of that pattern
-pub same_pattern : (file : File) (run : Run) (k : ℕ) (p : Pattern) (ls : List (List ℕ)) → slice_get file.patterns k ≡ Some p → Fits file run → run_lines file run ≡ head_line file k ∷ ls → (run.pattern ≡ k) × (slice_get file.patterns run.pattern ≡ Some p) × Each (LineFits file.automaton p) run.lines
+pub same_pattern : (file : File) (run : Run) (k : ℕ) (p : Pattern) (ls : List (List ℕ)) → slice_get file.patterns k ≡ Some p → Fits file run → run_lines file run ≡ head_line file k ∷ ls → (run.pattern ≡ k) × (slice_get file.patterns run.pattern ≡ Some p) × AllByRecursion (LineFits file.automaton p) run.lines
 same_pattern file run k p ls named fits e =
     let names = map pattern_name file.patterns in
     let heads : head_line file run.pattern ≡ head_line file k = cc in
@@ -224,7 +221,7 @@ same_pattern file run k p ls named fits e =
     let here = ap (slice_get file.patterns) same ∙ named in
     let whole = fits.named in
     let one : fits.pattern ≡ p = cc in
-    (same, here, subst (λ q. Each (LineFits file.automaton q) run.lines) one fits.lines)
+    (same, here, subst (λ q. AllByRecursion (LineFits file.automaton q) run.lines) one fits.lines)
 
 -- no run goes on with the next line
 step_misnamed : (file : File) (bytes : List ℕ) (k : ℕ) (p : Pattern) (values : List ℤ) (lines : List RunLine) (rest line behind : List ℕ) (n : ℕ) → AtStep file bytes k p values lines rest → n ≡ 2 + length values + length lines → SplitAt 10 rest line behind → FormFor None line → ((found : Option RunLine) → IsStatement file.automaton p line found → ⊥) → IsMisnamed file bytes n
@@ -252,7 +249,7 @@ step_misnamed file bytes k p values lines rest line behind n at place parted for
     }
 
 -- more stands behind the end
-step_trailing : (file : File) (bytes : List ℕ) (k : ℕ) (p : Pattern) (values : List ℤ) (lines : List RunLine) (rest behind : List ℕ) (n : ℕ) → AtStep file bytes k p values lines rest → n ≡ 2 + length values + length lines + 1 → rest ≡ codes "end" ++ (10 ∷ behind) → behind ≢ [] → IsMalformed file bytes n
+step_trailing : (file : File) (bytes : List ℕ) (k : ℕ) (p : Pattern) (values : List ℤ) (lines : List RunLine) (rest behind : List ℕ) (n : ℕ) → AtStep file bytes k p values lines rest → n ≡ 2 + length values + length lines + 1 → rest ≡ codes "end" ++ (10 ∷ behind) → behind ≢ [] → IsMalformedRun file bytes n
 step_trailing file bytes k p values lines rest behind n at place end some =
     let a = file.automaton in
     let ls = later_lines a p values lines in

@@ -1,5 +1,4 @@
 -- lemmas for the crates above
-pub mod Bytes
 pub mod Decimals
 pub mod Forms
 pub mod Statements
@@ -12,7 +11,7 @@ pub mod ListSteps
 mod ValueLines
 mod StepLines
 mod Fronts
-mod OneRun
+pub mod OneRun
 mod OneFault
 mod WholeTexts
 mod PrintedLines

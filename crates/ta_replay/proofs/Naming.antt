@@ -1,9 +1,9 @@
 -- the pattern that a replay reads
 use Rattle.std.proofs.Common.{◌≡◌, List, length, arith, sym, ap, ◌∙◌, subst, slice_get, get_or, Some}
 use Rattle.std.proofs.lemmas.Option.{same_Some, slice_get_within}
+use Rattle.ta_base.proofs.Lists.{read_same}
 use Rattle.ta_automaton.specs.declared.file.File.{File}
 use Rattle.ta_automaton.specs.declared.pattern.Pattern.{Pattern}
-use Rattle.ta_counter.proofs.Passing.{read_at}
 use Rattle.ta_replay.specs.declared.run.Run.{Run}
 use Rattle.ta_replay.specs.Fits.{Fits}
 use Rattle.ta_replay.specs.Shows.{Shows, ShowsPattern}
@@ -13,7 +13,7 @@ pub named_read : (file : File) (run : Run) (patterns : List Pattern) (p : Patter
 named_read file run patterns p fits same is =
     let within = slice_get_within file.patterns run.pattern fits.pattern fits.named in
     let count = ap (λ (ps : List Pattern). length ps) same in
-    read_at file.patterns patterns run.pattern p same (omega arith) is
+    read_same file.patterns patterns run.pattern p same (omega arith) is
 
 pub fits_read : (file : File) (run : Run) (p : Pattern) → Fits file run → slice_get file.patterns run.pattern ≡ Some p → FitsPattern file.automaton p run
 fits_read file run p fits at =

@@ -1,7 +1,8 @@
 -- Numbers of items by their names.
 use Rattle.std.proofs.Common.{ℕ, zero, suc, ◌<◌, ◌≤◌, ◌≡◌, List, [], ◌∷◌, map, length, get_or, refl, sym, ap, ◌∙◌, arith}
 use Rattle.std.proofs.lemmas.List.{get_or-map, length-map}
-use Rattle.ta_automaton.specs.Lists.{Each, Distinct}
+use Rattle.ta_base.specs.Lists.{Distinct}
+use Rattle.ta_base.proofs.Each.{each_get_or}
 use Rattle.ta_replay.specs.RunText.{name_at}
 use Rattle.ta_replay.specs.Inside.Reading.{IsNameOf, NoNameOf}
 
@@ -13,18 +14,12 @@ name_of_item f xs i d name within named = record { exists = omega (arith, length
 pub no_name_of_item : {X : Type 0} (f : X → List ℕ) (xs : List X) (i : ℕ) (name : List ℕ) → length xs ≤ i → ((k : ℕ) → k < i → name_at (map f xs) k ≡ name → ⊥) → NoNameOf (map f xs) name
 no_name_of_item f xs i name all before k is = before k (omega (arith, is.exists, length-map xs f)) is.named
 
--- an item of a list that has a property
-pub each_at : {X : Type 0} (P : X → Type 0) (xs : List X) (i : ℕ) (d : X) → Each P xs → i < length xs → P (get_or xs i d)
-each_at P [] i d each within = absurd (omega arith)
-each_at P (x ∷ xs) zero d each within = each.0
-each_at P (x ∷ xs) (suc i) d each within = each_at P xs i d each.1 (omega arith)
-
 -- of distinct names, each is that of one item
 pub one_name : (names : List (List ℕ)) (i j : ℕ) → Distinct names → i < length names → j < length names → name_at names i ≡ name_at names j → i ≡ j
 one_name [] i j distinct low high e = absurd (omega arith)
 one_name (n ∷ ns) zero zero distinct low high e = refl
-one_name (n ∷ ns) zero (suc j) distinct low high e = absurd (each_at (λ m. n ≡ m → ⊥) ns j [] distinct.0 (omega arith) e)
-one_name (n ∷ ns) (suc i) zero distinct low high e = absurd (each_at (λ m. n ≡ m → ⊥) ns i [] distinct.0 (omega arith) (sym e))
+one_name (n ∷ ns) zero (suc j) distinct low high e = absurd (each_get_or (λ m. n ≡ m → ⊥) ns j [] distinct.0 (omega arith) e)
+one_name (n ∷ ns) (suc i) zero distinct low high e = absurd (each_get_or (λ m. n ≡ m → ⊥) ns i [] distinct.0 (omega arith) (sym e))
 one_name (n ∷ ns) (suc i) (suc j) distinct low high e = ap suc (one_name ns i j distinct.1 (omega arith) (omega arith) e)
 
 -- an item of another name

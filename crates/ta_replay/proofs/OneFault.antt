@@ -1,15 +1,16 @@
 -- A text has one first fault.
 use Rattle.std.proofs.Common.{ℕ, ◌+◌, ◌≡◌, ◌⊎◌, List, [], ◌∷◌, ◌++◌, length, refl, sym, ap, subst, ◌∙◌, inl, inr, append_assoc, append-nil}
+use Rattle.std.specs.List.{AllByRecursion}
+use Rattle.ta_base.proofs.Each.{each_back}
+use Rattle.ta_base.proofs.Lists.{first_byte, not_parted}
 use Rattle.ta_automaton.specs.declared.file.File.{File}
-use Rattle.ta_automaton.specs.Lists.{Each}
 use Rattle.ta_replay.specs.declared.run.Run.{Run}
 use Rattle.ta_replay.specs.declared.fault.RunFault.{RunFault}
 use Rattle.ta_replay.specs.declared.fault.RunFault.TheVariants as fault
 use Rattle.ta_replay.specs.Fits.{Fits}
 use Rattle.ta_replay.specs.RunText.{run_lines, lines_text}
-use Rattle.ta_replay.specs.TextFaults.{Avoids, FormAt, GoesOn, IsTrailing, IsUnfinished, IsMisformed, IsMalformed, IsMisnamed, TextFault}
-use Rattle.ta_replay.proofs.Bytes.{first_byte, not_parted}
-use Rattle.ta_replay.proofs.ListSteps.{each_back}
+use Rattle.ta_replay.specs.TextFaults.{FormAt, LinesGoOn, IsTrailingRun, IsUnfinishedRun, IsMisformed, IsMalformedRun, IsMisnamed, TextFault}
+use Rattle.ta_base.specs.Bytes.{Avoids}
 use Rattle.ta_replay.proofs.OneRun.{run_clear, run_formed, not_longer, begun_clear, fault_clear, formed_clear}
 
 -- a run begins with the lines, or they are none
@@ -24,21 +25,21 @@ Stops file ls rest = (run : Run) (line behind : List ℕ) (later : List (List �
 record Stands (file : File) (bytes : List ℕ) (ls : List (List ℕ)) (rest : List ℕ) : Type 0 where
   text : bytes ≡ lines_text ls ++ rest
   begun : Begun file ls
-  clean : Each (Avoids 10) ls
+  clean : AllByRecursion (Avoids 10) ls
   stops : Stops file ls rest
 
 -- lines that a run goes on from are begun
-begun_of : (file : File) (ls : List (List ℕ)) → GoesOn file ls → Begun file ls
+begun_of : (file : File) (ls : List (List ℕ)) → LinesGoOn file ls → Begun file ls
 unfolding Begun
 begun_of file ls (inl none) = inl none
 begun_of file ls (inr front) = inr (front.run, front.next ∷ front.later, front.fits, front.lines)
 
 -- a line of a run, where the run goes on with it
 next_clear : (file : File) (run : Run) (ls : List (List ℕ)) (line : List ℕ) (later : List (List ℕ)) → Fits file run → run_lines file run ≡ ls ++ (line ∷ later) → Avoids 10 line
-next_clear file run ls line later fits e = (each_back (Avoids 10) ls (line ∷ later) (subst (Each (Avoids 10)) e (run_clear file run fits))).0
+next_clear file run ls line later fits e = (each_back (Avoids 10) ls (line ∷ later) (subst (AllByRecursion (Avoids 10)) e (run_clear file run fits))).0
 
 -- before a line of another form, or none
-malformed_stands : (file : File) (bytes : List ℕ) (ls : List (List ℕ)) (rest : List ℕ) → bytes ≡ lines_text ls ++ rest → IsTrailing file ls rest ⊎ (IsUnfinished file ls rest ⊎ IsMisformed file ls rest) → Stands file bytes ls rest
+malformed_stands : (file : File) (bytes : List ℕ) (ls : List (List ℕ)) (rest : List ℕ) → bytes ≡ lines_text ls ++ rest → IsTrailingRun file ls rest ⊎ (IsUnfinishedRun file ls rest ⊎ IsMisformed file ls rest) → Stands file bytes ls rest
 unfolding Begun Stops
 malformed_stands file bytes ls rest text (inl trailing) =
     let whole = trailing.whole in
@@ -85,7 +86,7 @@ overlap_more l m ls ms x y e (inl same) = let tail = same.0 in inl (cc, same.1)
 overlap_more l m ls ms x y e (inr (inl (line, more, tail, text))) = inr (inl (line, more, cc, text))
 overlap_more l m ls ms x y e (inr (inr (line, more, tail, text))) = inr (inr (line, more, cc, text))
 
-overlap : (ls ms : List (List ℕ)) (x y : List ℕ) → Each (Avoids 10) ls → Each (Avoids 10) ms → lines_text ls ++ x ≡ lines_text ms ++ y → Overlap ls ms x y
+overlap : (ls ms : List (List ℕ)) (x y : List ℕ) → AllByRecursion (Avoids 10) ls → AllByRecursion (Avoids 10) ms → lines_text ls ++ x ≡ lines_text ms ++ y → Overlap ls ms x y
 unfolding Overlap
 overlap [] [] x y plain clean e = inl (refl, e)
 overlap [] (m ∷ ms) x y plain clean e = inr (inl (m, ms, refl, e ∙ append_assoc m (10 ∷ lines_text ms) y))
@@ -113,7 +114,7 @@ one_stop file bytes ls ms x y a b = stop_of (overlap ls ms x y a.clean b.clean (
     stop_of (inr (inr (line, more, tail, text))) = absurd (no_stop file ms ls y line (lines_text more ++ x) more b.stops a.begun tail text)
 
 -- malformed at one line
-pub one_malformed : (file : File) (bytes : List ℕ) (m n : ℕ) → IsMalformed file bytes m → IsMalformed file bytes n → m ≡ n
+pub one_malformed : (file : File) (bytes : List ℕ) (m n : ℕ) → IsMalformedRun file bytes m → IsMalformedRun file bytes n → m ≡ n
 one_malformed file bytes m n a b =
     let same = one_stop file bytes a.ls b.ls a.rest b.rest (malformed_stands file bytes a.ls a.rest a.text a.fault) (malformed_stands file bytes b.ls b.rest b.text b.fault) in
     a.place ∙ ap (λ ls. length ls + 1) same.0 ∙ sym b.place
@@ -125,7 +126,7 @@ one_misnamed file bytes m n a b =
     a.place ∙ ap (λ ls. length ls + 1) same.0 ∙ sym b.place
 
 -- at one place a text has one fault
-one_kind : (file : File) (ls : List (List ℕ)) (rest line behind : List ℕ) → IsTrailing file ls rest ⊎ (IsUnfinished file ls rest ⊎ IsMisformed file ls rest) → GoesOn file ls → FormAt file.automaton (length ls) line → rest ≡ line ++ (10 ∷ behind) → ⊥
+one_kind : (file : File) (ls : List (List ℕ)) (rest line behind : List ℕ) → IsTrailingRun file ls rest ⊎ (IsUnfinishedRun file ls rest ⊎ IsMisformed file ls rest) → LinesGoOn file ls → FormAt file.automaton (length ls) line → rest ≡ line ++ (10 ∷ behind) → ⊥
 one_kind file ls rest line behind (inl trailing) (inl none) form next = let whole = trailing.whole.lines ∙ none in cc
 one_kind file ls rest line behind (inl trailing) (inr front) form next =
     let whole = trailing.whole in
@@ -136,13 +137,13 @@ one_kind file ls rest line behind (inr (inr misformed)) begun form next =
     misformed.other (subst (FormAt file.automaton (length ls)) same.0 form)
 
 -- no text is malformed and misnamed
-pub not_both : (file : File) (bytes : List ℕ) (m n : ℕ) → IsMalformed file bytes m → IsMisnamed file bytes n → ⊥
+pub not_both : (file : File) (bytes : List ℕ) (m n : ℕ) → IsMalformedRun file bytes m → IsMisnamed file bytes n → ⊥
 not_both file bytes m n a b =
     let same = one_stop file bytes a.ls b.ls a.rest (b.line ++ (10 ∷ b.behind)) (malformed_stands file bytes a.ls a.rest a.text a.fault) (misnamed_stands file bytes n b) in
-    one_kind file a.ls a.rest b.line b.behind a.fault (subst (GoesOn file) (sym same.0) b.begun) (subst (λ ls. FormAt file.automaton (length ls) b.line) (sym same.0) b.form) same.1
+    one_kind file a.ls a.rest b.line b.behind a.fault (subst (LinesGoOn file) (sym same.0) b.begun) (subst (λ ls. FormAt file.automaton (length ls) b.line) (sym same.0) b.form) same.1
 
 -- a malformed text is refused so, or there was no memory
-pub malformed_only : (file : File) (bytes : List ℕ) (e : RunFault) (n : ℕ) → TextFault file bytes e → IsMalformed file bytes n → (e ≡ fault.Line n) ⊎ (e ≡ fault.Memory)
+pub malformed_only : (file : File) (bytes : List ℕ) (e : RunFault) (n : ℕ) → TextFault file bytes e → IsMalformedRun file bytes n → (e ≡ fault.Line n) ⊎ (e ≡ fault.Memory)
 malformed_only file bytes (fault.Line m) n is bad = inl (ap fault.Line (one_malformed file bytes m n is bad))
 malformed_only file bytes (fault.Name m) n is bad = absurd (not_both file bytes n m bad is)
 malformed_only file bytes fault.Memory n is bad = inr refl

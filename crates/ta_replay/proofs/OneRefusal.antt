@@ -3,16 +3,17 @@ use Rattle.std.proofs.lemmas.Bool.{cases_order}
 use Rattle.std.proofs.Common.{◌≡◌, inl, inr, ℕ, ◌+◌, ◌<◌, ℤ, pos, List, length, take, refl, sym, ap, ◌∙◌, subst, slice_get, Some}
 use Rattle.std.proofs.lemmas.List.{ext_get_or}
 use Rattle.std.proofs.lemmas.Option.{same_Some}
+use Rattle.std.specs.List.{AllByRecursion}
+use Rattle.ta_base.proofs.Each.{each_at}
+use Rattle.ta_base.proofs.Lists.{some_at}
 use Rattle.ta_linear.specs.Values.{point_of}
 use Rattle.ta_automaton.specs.declared.automaton.Automaton.{Automaton}
 use Rattle.ta_automaton.specs.declared.file.File.{File}
 use Rattle.ta_automaton.specs.declared.pattern.Pattern.{Pattern}
 use Rattle.ta_automaton.specs.declared.rule.Rule.{Rule}
-use Rattle.ta_automaton.specs.Lists.{Each}
-use Rattle.ta_automaton.proofs.Thresholds.{each_at}
-use Rattle.ta_counter.specs.Checks.{RowFails, RowLeaves, ConditionPasses}
+use Rattle.ta_counter.specs.Checks.{RowFails, RowOutOfRange, ConditionPasses}
 use Rattle.ta_counter.specs.Starts.{MayStart, StartsAt, StartFails}
-use Rattle.ta_counter.specs.Steps.{StepFails, Taken, before_last}
+use Rattle.ta_counter.specs.Steps.{StepFails, StepIsTaken, before_last}
 use Rattle.ta_counter.specs.declared.fault.StartFault.{StartFault}
 use Rattle.ta_counter.specs.declared.fault.StartFault.TheVariants as start
 use Rattle.ta_counter.specs.declared.fault.StepFault.{StepFault}
@@ -24,26 +25,25 @@ use Rattle.ta_replay.specs.declared.fault.RunFault.{RunFault}
 use Rattle.ta_replay.specs.declared.fault.RunFault.TheVariants.{Line, Name, Resilience, Processes, Start, NotEmpty, Guard, Count, Event, MissingEvent, Overflow, Order, Memory}
 use Rattle.ta_replay.specs.Fits.{Fits, LineFits}
 use Rattle.ta_replay.specs.Shows.{IsMarked}
-use Rattle.ta_replay.specs.Replays.{EmptyAt, FirstFilled, LinePasses, LineTakes, MarkPasses, MayFollow, Takes, ValuesAfter}
-use Rattle.ta_replay.specs.ReplayFaults.{ConfigRefuses, StartRefuses, FilledAt, LineStops, LineRefuses, StepRefuses, StepFills, MarkRefuses, LacksMark, FirstRefusal, ReplayFault, line_number}
+use Rattle.ta_replay.specs.Replays.{EmptyAt, FirstFilled, LinePasses, LineTakes, MarkPasses, MayTakeLines, Takes, ValuesAfter}
+use Rattle.ta_replay.specs.ReplayFaults.{ConfigRefuses, StartRefuses, FilledAt, LineStops, LineRefuses, StepRefuses, StepFills, MarkRefuses, LacksMark, FirstRefusal, ReplayFault, run_line_number}
 use Rattle.ta_replay.proofs.Begins.{starts_same, after_same}
 use Rattle.ta_replay.proofs.FirstBad.{condition_clash, condition_meets, fails_clash, guards_clash, guards_meet, leaves_clash, not_both_bad}
-use Rattle.ta_replay.proofs.Lines.{some_at}
 
 -- the checks of the first configuration
 start_once : (a : Automaton) (parameters counts : List ℤ) (e f : StartFault) → StartFails a parameters counts e → StartFails a parameters counts f → e ≡ f
 start_once a ps cs (start.Resilience k) (start.Resilience l) s t = ap start.Resilience (condition_meets (point_of ps) (RowFails (point_of ps)) (RowFails (point_of ps)) (fails_clash (point_of ps)) (fails_clash (point_of ps)) a.resilience k l s t).0
 start_once a ps cs (start.Resilience k) start.Processes s t = absurd (condition_clash (point_of ps) (RowFails (point_of ps)) (fails_clash (point_of ps)) a.resilience k t.resilience s)
-start_once a ps cs (start.Resilience k) start.OutOfRange s (inl t) = absurd (not_both_bad (point_of ps) (condition_meets (point_of ps) (RowFails (point_of ps)) (RowLeaves (point_of ps)) (fails_clash (point_of ps)) (leaves_clash (point_of ps)) a.resilience k t.0 s t.1).1)
+start_once a ps cs (start.Resilience k) start.OutOfRange s (inl t) = absurd (not_both_bad (point_of ps) (condition_meets (point_of ps) (RowFails (point_of ps)) (RowOutOfRange (point_of ps)) (fails_clash (point_of ps)) (leaves_clash (point_of ps)) a.resilience k t.0 s t.1).1)
 start_once a ps cs (start.Resilience k) start.OutOfRange s (inr t) = absurd (condition_clash (point_of ps) (RowFails (point_of ps)) (fails_clash (point_of ps)) a.resilience k t.0 s)
 start_once a ps cs start.Processes (start.Resilience k) s t = absurd (condition_clash (point_of ps) (RowFails (point_of ps)) (fails_clash (point_of ps)) a.resilience k s.resilience t)
 start_once a ps cs start.Processes start.Processes s t = refl
-start_once a ps cs start.Processes start.OutOfRange s (inl t) = absurd (condition_clash (point_of ps) (RowLeaves (point_of ps)) (leaves_clash (point_of ps)) a.resilience t.0 s.resilience t.1)
+start_once a ps cs start.Processes start.OutOfRange s (inl t) = absurd (condition_clash (point_of ps) (RowOutOfRange (point_of ps)) (leaves_clash (point_of ps)) a.resilience t.0 s.resilience t.1)
 start_once a ps cs start.Processes start.OutOfRange s (inr (passes, inl leaves)) = absurd (leaves s.processes_stay)
 start_once a ps cs start.Processes start.OutOfRange s (inr (passes, inr leaves)) = absurd (leaves s.sum_stays)
-start_once a ps cs start.OutOfRange (start.Resilience k) (inl s) t = absurd (not_both_bad (point_of ps) (condition_meets (point_of ps) (RowFails (point_of ps)) (RowLeaves (point_of ps)) (fails_clash (point_of ps)) (leaves_clash (point_of ps)) a.resilience k s.0 t s.1).1)
+start_once a ps cs start.OutOfRange (start.Resilience k) (inl s) t = absurd (not_both_bad (point_of ps) (condition_meets (point_of ps) (RowFails (point_of ps)) (RowOutOfRange (point_of ps)) (fails_clash (point_of ps)) (leaves_clash (point_of ps)) a.resilience k s.0 t s.1).1)
 start_once a ps cs start.OutOfRange (start.Resilience k) (inr s) t = absurd (condition_clash (point_of ps) (RowFails (point_of ps)) (fails_clash (point_of ps)) a.resilience k s.0 t)
-start_once a ps cs start.OutOfRange start.Processes (inl s) t = absurd (condition_clash (point_of ps) (RowLeaves (point_of ps)) (leaves_clash (point_of ps)) a.resilience s.0 t.resilience s.1)
+start_once a ps cs start.OutOfRange start.Processes (inl s) t = absurd (condition_clash (point_of ps) (RowOutOfRange (point_of ps)) (leaves_clash (point_of ps)) a.resilience s.0 t.resilience s.1)
 start_once a ps cs start.OutOfRange start.Processes (inr (passes, inl leaves)) t = absurd (leaves t.processes_stay)
 start_once a ps cs start.OutOfRange start.Processes (inr (passes, inr leaves)) t = absurd (leaves t.sum_stays)
 start_once a ps cs start.OutOfRange start.OutOfRange s t = refl
@@ -51,7 +51,7 @@ start_once a ps cs start.OutOfRange start.OutOfRange s t = refl
 may_not_fail : (a : Automaton) (parameters counts : List ℤ) (e : StartFault) → MayStart a parameters counts → StartFails a parameters counts e → ⊥
 may_not_fail a ps cs (start.Resilience k) m s = condition_clash (point_of ps) (RowFails (point_of ps)) (fails_clash (point_of ps)) a.resilience k m.resilience s
 may_not_fail a ps cs start.Processes m s = s.differ m.same
-may_not_fail a ps cs start.OutOfRange m (inl s) = condition_clash (point_of ps) (RowLeaves (point_of ps)) (leaves_clash (point_of ps)) a.resilience s.0 m.resilience s.1
+may_not_fail a ps cs start.OutOfRange m (inl s) = condition_clash (point_of ps) (RowOutOfRange (point_of ps)) (leaves_clash (point_of ps)) a.resilience s.0 m.resilience s.1
 may_not_fail a ps cs start.OutOfRange m (inr (passes, inl leaves)) = leaves m.processes_stay
 may_not_fail a ps cs start.OutOfRange m (inr (passes, inr leaves)) = leaves m.sum_stays
 
@@ -94,8 +94,8 @@ config_not a run e may h = let s = start_is a run e h in may_not_fail a run.para
 -- the start condition
 condition_once : (p : Pattern) (values : List ℤ) (e f : RunFault) → StartRefuses p values e → StartRefuses p values f → e ≡ f
 condition_once p vs (Start k) (Start l) s t = ap Start (condition_meets (point_of vs) (RowFails (point_of vs)) (RowFails (point_of vs)) (fails_clash (point_of vs)) (fails_clash (point_of vs)) p.start k l s t).0
-condition_once p vs (Start k) (Overflow l) s t = absurd (not_both_bad (point_of vs) (condition_meets (point_of vs) (RowFails (point_of vs)) (RowLeaves (point_of vs)) (fails_clash (point_of vs)) (leaves_clash (point_of vs)) p.start k t.1.0 s t.1.1).1)
-condition_once p vs (Overflow k) (Start l) s t = absurd (not_both_bad (point_of vs) (condition_meets (point_of vs) (RowFails (point_of vs)) (RowLeaves (point_of vs)) (fails_clash (point_of vs)) (leaves_clash (point_of vs)) p.start l s.1.0 t s.1.1).1)
+condition_once p vs (Start k) (Overflow l) s t = absurd (not_both_bad (point_of vs) (condition_meets (point_of vs) (RowFails (point_of vs)) (RowOutOfRange (point_of vs)) (fails_clash (point_of vs)) (leaves_clash (point_of vs)) p.start k t.1.0 s t.1.1).1)
+condition_once p vs (Overflow k) (Start l) s t = absurd (not_both_bad (point_of vs) (condition_meets (point_of vs) (RowFails (point_of vs)) (RowOutOfRange (point_of vs)) (fails_clash (point_of vs)) (leaves_clash (point_of vs)) p.start l s.1.0 t s.1.1).1)
 condition_once p vs (Overflow k) (Overflow l) s t = ap Overflow (s.0 ∙ sym t.0)
 condition_once p vs (Start k) _ s t = absurd t
 condition_once p vs (Overflow k) _ s t = absurd t
@@ -103,7 +103,7 @@ condition_once p vs _ f s t = absurd s
 
 condition_not : (p : Pattern) (values : List ℤ) (e : RunFault) → ConditionPasses (point_of values) p.start → StartRefuses p values e → ⊥
 condition_not p vs (Start k) passes s = condition_clash (point_of vs) (RowFails (point_of vs)) (fails_clash (point_of vs)) p.start k passes s
-condition_not p vs (Overflow k) passes s = condition_clash (point_of vs) (RowLeaves (point_of vs)) (leaves_clash (point_of vs)) p.start s.1.0 passes s.1.1
+condition_not p vs (Overflow k) passes s = condition_clash (point_of vs) (RowOutOfRange (point_of vs)) (leaves_clash (point_of vs)) p.start s.1.0 passes s.1.1
 condition_not p vs _ passes s = s
 
 -- a step's checks before `empty`: as a fault of the line with a number
@@ -115,7 +115,7 @@ of_step n (step.Guard guard) = Guard n guard
 leaves_or_guard : (a : Automaton) (rule : Rule) (factor : ℤ) (values : List ℤ) (place guard : ℕ) → StepFails a rule factor values (step.OutOfRange place) → StepFails a rule factor values (step.Guard guard) → ⊥
 leaves_or_guard a rule factor vs place guard (enough, inl l) t = l.first.bad (t.1 l.number l.first.item l.first.at)
 leaves_or_guard a rule factor vs place guard (enough, inr w) t =
-    let met = guards_meet a rule (point_of vs) (before_last a rule factor vs) RowFails RowLeaves fails_clash leaves_clash guard w.1.0 t.2 w.1.2 in
+    let met = guards_meet a rule (point_of vs) (before_last a rule factor vs) RowFails RowOutOfRange fails_clash leaves_clash guard w.1.0 t.2 w.1.2 in
     not_both_bad met.1.0 met.1.1
 
 step_once : (a : Automaton) (rule : Rule) (factor : ℤ) (values : List ℤ) (n : ℕ) (e f : StepFault) → StepFails a rule factor values e → StepFails a rule factor values f → of_step n e ≡ of_step n f
@@ -131,14 +131,14 @@ step_once a rule factor vs n (step.Guard guard) (step.OutOfRange place) s t = ab
 step_once a rule factor vs n (step.Guard guard) (step.Guard other) s t =
     ap (Guard n) (guards_meet a rule (point_of vs) (before_last a rule factor vs) RowFails RowFails fails_clash fails_clash guard other s.2 t.2).0
 
-taken_not : (a : Automaton) (rule : Rule) (factor : ℤ) (values after : List ℤ) (e : StepFault) → Taken a rule factor values after → StepFails a rule factor values e → ⊥
+taken_not : (a : Automaton) (rule : Rule) (factor : ℤ) (values after : List ℤ) (e : StepFault) → StepIsTaken a rule factor values after → StepFails a rule factor values e → ⊥
 taken_not a rule factor vs after step.Count t s = s t.enough
 taken_not a rule factor vs after (step.OutOfRange place) t (enough, inl l) = l.first.bad (t.grow l.number l.first.item l.first.at)
-taken_not a rule factor vs after (step.OutOfRange place) t (enough, inr w) = guards_clash a rule (point_of vs) (before_last a rule factor vs) RowLeaves leaves_clash w.1.0 t.guards.rise t.guards.fall w.1.2
+taken_not a rule factor vs after (step.OutOfRange place) t (enough, inr w) = guards_clash a rule (point_of vs) (before_last a rule factor vs) RowOutOfRange leaves_clash w.1.0 t.guards.rise t.guards.fall w.1.2
 taken_not a rule factor vs after (step.Guard guard) t s = guards_clash a rule (point_of vs) (before_last a rule factor vs) RowFails fails_clash guard t.guards.rise t.guards.fall s.2
 
 -- a step leads to one list of values
-taken_once : (a : Automaton) (rule : Rule) (factor : ℤ) (values v w : List ℤ) → Taken a rule factor values v → Taken a rule factor values w → v ≡ w
+taken_once : (a : Automaton) (rule : Rule) (factor : ℤ) (values v w : List ℤ) → StepIsTaken a rule factor values v → StepIsTaken a rule factor values w → v ≡ w
 taken_once a rule factor vs v w s t = ext_get_or (pos 0) v w (s.places ∙ sym t.places) (λ i b. s.changed i ∙ sym (t.changed i))
 
 -- how a step refuses: by its checks, or by `empty`
@@ -193,13 +193,13 @@ mark_once p Marked vs e n (Overflow line) (Event other) within s t =
     let event = some_at p.events e within in
     let bad = t.1.1 event.0 event.1 in
     let worse = s.1.1 event.0 event.1 in
-    absurd (not_both_bad (point_of vs) (condition_meets (point_of vs) (RowFails (point_of vs)) (RowLeaves (point_of vs)) (fails_clash (point_of vs)) (leaves_clash (point_of vs)) event.0.condition bad.0 worse.0 bad.1 worse.1).1)
+    absurd (not_both_bad (point_of vs) (condition_meets (point_of vs) (RowFails (point_of vs)) (RowOutOfRange (point_of vs)) (fails_clash (point_of vs)) (leaves_clash (point_of vs)) event.0.condition bad.0 worse.0 bad.1 worse.1).1)
 mark_once p Marked vs e n (Event line) (Order other) within s t = absurd (t.1 s.1.0)
 mark_once p Marked vs e n (Event line) (Overflow other) within s t =
     let event = some_at p.events e within in
     let bad = s.1.1 event.0 event.1 in
     let worse = t.1.1 event.0 event.1 in
-    absurd (not_both_bad (point_of vs) (condition_meets (point_of vs) (RowFails (point_of vs)) (RowLeaves (point_of vs)) (fails_clash (point_of vs)) (leaves_clash (point_of vs)) event.0.condition bad.0 worse.0 bad.1 worse.1).1)
+    absurd (not_both_bad (point_of vs) (condition_meets (point_of vs) (RowFails (point_of vs)) (RowOutOfRange (point_of vs)) (fails_clash (point_of vs)) (leaves_clash (point_of vs)) event.0.condition bad.0 worse.0 bad.1 worse.1).1)
 mark_once p Marked vs e n (Event line) (Event other) within s t = ap Event (s.0 ∙ sym t.0)
 mark_once p Marked vs e n (Order line) _ within s t = absurd t
 mark_once p Marked vs e n (Overflow line) _ within s t = absurd t
@@ -211,7 +211,7 @@ mark_not p Marked vs e n (Order line) within passes s = s.1 passes.0
 mark_not p Marked vs e n (Overflow line) within passes s =
     let event = some_at p.events e within in
     let bad = s.1.1 event.0 event.1 in
-    condition_clash (point_of vs) (RowLeaves (point_of vs)) (leaves_clash (point_of vs)) event.0.condition bad.0 (passes.1 event.0 event.1) bad.1
+    condition_clash (point_of vs) (RowOutOfRange (point_of vs)) (leaves_clash (point_of vs)) event.0.condition bad.0 (passes.1 event.0 event.1) bad.1
 mark_not p Marked vs e n (Event line) within passes s =
     let event = some_at p.events e within in
     let bad = s.1.1 event.0 event.1 in
@@ -227,27 +227,27 @@ line_not : (a : Automaton) (p : Pattern) (Marked : ℕ → Type 0) (values after
 line_not a p Marked vs after (Step r factor) n e fits takes s = step_not a p vs after r factor n e fits.0 takes.0 takes.1 (step_is a p vs r factor n e s)
 line_not a p Marked vs after (Mark k) n e fits takes s = mark_not p Marked vs k n e fits takes.1 s
 
-fit_at : (a : Automaton) (p : Pattern) (run : Run) (i : ℕ) (line : RunLine) → Each (LineFits a p) run.lines → slice_get run.lines i ≡ Some line → LineFits a p line
+fit_at : (a : Automaton) (p : Pattern) (run : Run) (i : ℕ) (line : RunLine) → AllByRecursion (LineFits a p) run.lines → slice_get run.lines i ≡ Some line → LineFits a p line
 fit_at a p run i line fits at = each_at (LineFits a p) run.lines i line fits at
 
 -- a line that passes doesn't stop the replay
-stop_not : (a : Automaton) (p : Pattern) (run : Run) (e : RunFault) (s : LineStops a p run e) → Each (LineFits a p) run.lines → LinePasses a p run s.i s.line → ⊥
+stop_not : (a : Automaton) (p : Pattern) (run : Run) (e : RunFault) (s : LineStops a p run e) → AllByRecursion (LineFits a p) run.lines → LinePasses a p run s.i s.line → ⊥
 stop_not a p run e s fits passes =
     let values = after_same a run (take s.i run.lines) passes.values s.config.values.items passes.reached s.reached in
-    line_not a p (IsMarked (take s.i run.lines)) s.config.values.items passes.after s.line (line_number a s.i) e (fit_at a p run s.i s.line fits s.at)
+    line_not a p (IsMarked (take s.i run.lines)) s.config.values.items passes.after s.line (run_line_number a s.i) e (fit_at a p run s.i s.line fits s.at)
     (subst (λ (v : List ℤ). LineTakes a p (IsMarked (take s.i run.lines)) v s.line passes.after) values passes.takes) s.refuses
 
-stop_at_one : (a : Automaton) (p : Pattern) (run : Run) (e f : RunFault) (s : LineStops a p run e) (t : LineStops a p run f) → Each (LineFits a p) run.lines → s.i ≡ t.i → e ≡ f
+stop_at_one : (a : Automaton) (p : Pattern) (run : Run) (e f : RunFault) (s : LineStops a p run e) (t : LineStops a p run f) → AllByRecursion (LineFits a p) run.lines → s.i ≡ t.i → e ≡ f
 stop_at_one a p run e f s t fits same =
     let line : t.line ≡ s.line = same_Some t.line s.line (sym t.at ∙ ap (slice_get run.lines) (sym same) ∙ s.at) in
     let reached = subst (λ (i : ℕ). ValuesAfter a run (take i run.lines) t.config.values.items) (sym same) t.reached in
     let values : t.config.values.items ≡ s.config.values.items = after_same a run (take s.i run.lines) t.config.values.items s.config.values.items reached s.reached in
-    let here = subst (λ (i : ℕ). LineRefuses a p (IsMarked (take i run.lines)) t.config.values.items t.line (line_number a i) f) (sym same) t.refuses in
-    let there = subst (λ (v : List ℤ). LineRefuses a p (IsMarked (take s.i run.lines)) v t.line (line_number a s.i) f) values here in
-    let other = subst (λ (l : RunLine). LineRefuses a p (IsMarked (take s.i run.lines)) s.config.values.items l (line_number a s.i) f) line there in
-    line_once a p (IsMarked (take s.i run.lines)) s.config.values.items s.line (line_number a s.i) e f (fit_at a p run s.i s.line fits s.at) s.refuses other
+    let here = subst (λ (i : ℕ). LineRefuses a p (IsMarked (take i run.lines)) t.config.values.items t.line (run_line_number a i) f) (sym same) t.refuses in
+    let there = subst (λ (v : List ℤ). LineRefuses a p (IsMarked (take s.i run.lines)) v t.line (run_line_number a s.i) f) values here in
+    let other = subst (λ (l : RunLine). LineRefuses a p (IsMarked (take s.i run.lines)) s.config.values.items l (run_line_number a s.i) f) line there in
+    line_once a p (IsMarked (take s.i run.lines)) s.config.values.items s.line (run_line_number a s.i) e f (fit_at a p run s.i s.line fits s.at) s.refuses other
 
-stops_once : (a : Automaton) (p : Pattern) (run : Run) (e f : RunFault) → Each (LineFits a p) run.lines → LineStops a p run e → LineStops a p run f → e ≡ f
+stops_once : (a : Automaton) (p : Pattern) (run : Run) (e f : RunFault) → AllByRecursion (LineFits a p) run.lines → LineStops a p run e → LineStops a p run f → e ≡ f
 stops_once a p run e f fits s t =
     elim (cases_order s.i t.i) [
       | inl same ↦ stop_at_one a p run e f s t fits same
@@ -338,16 +338,16 @@ conditions_once a p run e f s t =
     let same = starts_same a run.parameters run.counts t.first s.first t.starts s.starts in
     condition_once p s.first e f s.refuses (subst (λ (v : List ℤ). StartRefuses p v f) same t.refuses)
 
-filled_not : (a : Automaton) (p : Pattern) (run : Run) (e : RunFault) → LocationFilled a p run e → MayFollow a p run → ⊥
+filled_not : (a : Automaton) (p : Pattern) (run : Run) (e : RunFault) → LocationFilled a p run e → MayTakeLines a p run → ⊥
 filled_not a p run e s m = let f = s.filled.filled in f.some (m.empty s.filled.j f.location f.at f.empty)
 
 begun_filled : (a : Automaton) (p : Pattern) (run : Run) (e : RunFault) → LocationFilled a p run e → Begun a p run
 begun_filled a p run e s = record { first = s.filled.first; starts = s.filled.starts; start = s.filled.start }
 
-begun_follow : (a : Automaton) (p : Pattern) (run : Run) → MayFollow a p run → Begun a p run
+begun_follow : (a : Automaton) (p : Pattern) (run : Run) → MayTakeLines a p run → Begun a p run
 begun_follow a p run m = record { first = m.first; starts = m.starts; start = m.start }
 
-stages_once : (a : Automaton) (p : Pattern) (run : Run) (e f : RunFault) → Each (LineFits a p) run.lines → Stage a p run e → Stage a p run f → e ≡ f
+stages_once : (a : Automaton) (p : Pattern) (run : Run) (e f : RunFault) → AllByRecursion (LineFits a p) run.lines → Stage a p run e → Stage a p run f → e ≡ f
 stages_once a p run e f fits (AtConfig s) (AtConfig t) = config_once a run e f s t
 stages_once a p run e f fits (AtConfig s) (AtCondition t) = absurd (config_not a run e t.may_start s)
 stages_once a p run e f fits (AtConfig s) (AtLocation t) = absurd (config_not a run e t.filled.may_start s)

@@ -4,10 +4,14 @@ use Rattle.std.specs.Prelude.{slice_get}
 use Rattle.std.specs.Fmt.{signed_decimal}
 use Rattle.std.proofs.lemmas.List.{length-map, append_cancel_left, same_from_push}
 use Rattle.std.proofs.lemmas.Option.{slice_get_within}
+use Rattle.std.specs.List.{AllByRecursion}
+use Rattle.ta_base.proofs.Each.{each_append, each_at, each_back, each_front, last_only, word_avoids}
+use Rattle.ta_base.proofs.Lists.{avoids-append, avoids_known, differ, first_byte, not_parted, same_parts}
+use Rattle.ta_automaton.proofs.Thresholds.{pattern_within}
 use Rattle.ta_automaton.specs.declared.automaton.Automaton.{Automaton}
 use Rattle.ta_automaton.specs.declared.pattern.Pattern.{Pattern}
 use Rattle.ta_automaton.specs.declared.file.File.{File}
-use Rattle.ta_automaton.specs.Lists.{Each, EachFrom}
+use Rattle.ta_base.specs.Lists.{EachFrom}
 use Rattle.ta_automaton.specs.Patterns.{event_name, pattern_name, EventWithin, PatternWithin}
 use Rattle.ta_automaton.specs.declared.pattern.Event.{Event}
 use Rattle.ta_automaton.specs.Shape.{name_of}
@@ -19,19 +23,18 @@ use Rattle.ta_replay.specs.declared.fault.RunFault.{RunFault}
 use Rattle.ta_replay.specs.declared.fault.RunFault.TheVariants as fault
 use Rattle.ta_replay.specs.Fits.{Fits, LineFits}
 use Rattle.ta_replay.specs.RunText.{Slot, name_at, named_line, valued_line, slots, value_lines, line_of, head_line, run_lines, lines_text, IsRunText}
-use Rattle.ta_replay.specs.TextFaults.{Avoids, IsWord, FormFor, FormAt, GoesOn, IsTrailing, IsUnfinished, IsMisformed, IsMalformed, IsMisnamed, TextFault}
-use Rattle.ta_replay.proofs.Bytes.{avoids-append, first_byte, not_parted}
+use Rattle.ta_replay.specs.TextFaults.{FormFor, FormAt, LinesGoOn, IsTrailingRun, IsUnfinishedRun, IsMisformed, IsMalformedRun, IsMisnamed, TextFault}
+use Rattle.ta_base.specs.Bytes.{Avoids, IsWord}
 use Rattle.ta_replay.proofs.NumberedNames.{one_name}
-use Rattle.ta_replay.proofs.ListSteps.{each-append, each_front, each_back, each_get, same_parts}
 use Rattle.ta_replay.proofs.Decimals.{number_avoids}
-use Rattle.ta_replay.proofs.Forms.{word_avoids, valued_same}
-use Rattle.ta_replay.proofs.Statements.{differ, word_of, words_at, step_form}
+use Rattle.ta_replay.proofs.Forms.{valued_same}
+use Rattle.ta_replay.proofs.Statements.{word_of, words_at, step_form}
 use Rattle.ta_replay.proofs.ValueLines.{length-value_lines}
-use Rattle.ta_replay.proofs.RunFacts.{clear, IsNoEnd, IsAsked, asked, values_of, values_count, values_natural, behind_head, run_lines_are, value_behind, body_behind, each_of_body, pattern_within}
+use Rattle.ta_replay.proofs.RunFacts.{IsNoEnd, IsAsked, asked, values_of, values_count, values_natural, behind_head, run_lines_are, value_behind, body_behind, each_of_body}
 use Rattle.ta_replay.proofs.Fronts.{same_pattern}
 
 -- a property of the lines of values
-each_value_line : (Q : List ℕ → Type 0) (ss : List Slot) (vs : List ℤ) → ((s : Slot) (v : ℤ) → IsAsked s → Value v → Q (valued_line s.word s.name v)) → Each IsAsked ss → Each Value vs → Each Q (value_lines ss vs)
+each_value_line : (Q : List ℕ → Type 0) (ss : List Slot) (vs : List ℤ) → ((s : Slot) (v : ℤ) → IsAsked s → Value v → Q (valued_line s.word s.name v)) → AllByRecursion IsAsked ss → AllByRecursion Value vs → AllByRecursion Q (value_lines ss vs)
 each_value_line Q [] vs gives each natural = tt
 each_value_line Q (s ∷ ss) [] gives each natural = tt
 each_value_line Q (s ∷ ss) (v ∷ vs) gives each natural = (gives s v each.0 natural.0, each_value_line Q ss vs gives each.1 natural.1)
@@ -63,21 +66,21 @@ valued_clear word name v plain is number =
 step_clear : (file : File) (k : ℕ) (p : Pattern) → slice_get file.patterns k ≡ Some p → (l : RunLine) → LineFits file.automaton p l → Avoids 10 (line_of file.automaton p l)
 step_clear file k p named (Step rule factor) fits =
     let form = step_form file.automaton p rule factor (line_of file.automaton p (Step rule factor)) fits refl in
-    valued_clear (codes "step ") (name_at (map name_of file.automaton.rules) rule) factor (clear (codes "step ") refl) form.spelled form.number
-step_clear file k p named (Mark event) fits = named_clear (codes "mark ") (name_at (map event_name p.events) event) (clear (codes "mark ") refl) (event_word file k p event named fits)
+    valued_clear (codes "step ") (name_at (map name_of file.automaton.rules) rule) factor (avoids_known 10 (codes "step ") refl) form.spelled form.number
+step_clear file k p named (Mark event) fits = named_clear (codes "mark ") (name_at (map event_name p.events) event) (avoids_known 10 (codes "mark ") refl) (event_word file k p event named fits)
 
 -- no line of a run has a line feed
-pub run_clear : (file : File) (run : Run) → Fits file run → Each (Avoids 10) (run_lines file run)
+pub run_clear : (file : File) (run : Run) → Fits file run → AllByRecursion (Avoids 10) (run_lines file run)
 run_clear file run fits =
     let a = file.automaton in
     let p = fits.pattern in
-    let head = named_clear (codes "run ") (name_at (map pattern_name file.patterns) run.pattern) (clear (codes "run ") refl) (pattern_word file run.pattern (slice_get_within file.patterns run.pattern p fits.named)) in
-    let body = each_of_body (Avoids 10) a p run.lines fits.lines (step_clear file run.pattern p fits.named) (clear (codes "end") refl) in
+    let head = named_clear (codes "run ") (name_at (map pattern_name file.patterns) run.pattern) (avoids_known 10 (codes "run ") refl) (pattern_word file run.pattern (slice_get_within file.patterns run.pattern p fits.named)) in
+    let body = each_of_body (Avoids 10) a p run.lines fits.lines (step_clear file run.pattern p fits.named) (avoids_known 10 (codes "end") refl) in
     let values = each_value_line (Avoids 10) (slots a) (values_of run) (λ s v is number. valued_clear s.word s.name v is.clear is.named number) (asked a) (values_natural file run fits) in
-    subst (Each (Avoids 10)) (sym (run_lines_are file run p fits.named)) (head, each-append (Avoids 10) (value_lines (slots a) (values_of run)) (map (line_of a p) run.lines ++ (codes "end" ∷ [])) values body)
+    subst (AllByRecursion (Avoids 10)) (sym (run_lines_are file run p fits.named)) (head, each_append (Avoids 10) (value_lines (slots a) (values_of run)) (map (line_of a p) run.lines ++ (codes "end" ∷ [])) values body)
 
 -- lines at the front of the text of lines are among them
-lines_begin : (ms ls : List (List ℕ)) (rest : List ℕ) → Each (Avoids 10) ms → Each (Avoids 10) ls → lines_text ms ≡ lines_text ls ++ rest → (more : List (List ℕ)) × (ms ≡ ls ++ more) × (rest ≡ lines_text more)
+lines_begin : (ms ls : List (List ℕ)) (rest : List ℕ) → AllByRecursion (Avoids 10) ms → AllByRecursion (Avoids 10) ls → lines_text ms ≡ lines_text ls ++ rest → (more : List (List ℕ)) × (ms ≡ ls ++ more) × (rest ≡ lines_text more)
 lines_begin ms [] rest plain clean e = (ms, refl, sym e)
 lines_begin [] ([] ∷ ls) rest plain clean e = cc
 lines_begin [] ((b ∷ l) ∷ ls) rest plain clean e = cc
@@ -95,13 +98,13 @@ no_lines ([] ∷ ls) e = cc
 no_lines ((b ∷ l) ∷ ls) e = cc
 
 -- lines are determined by their text
-lines_same : (ms ls : List (List ℕ)) → Each (Avoids 10) ms → Each (Avoids 10) ls → lines_text ms ≡ lines_text ls → ms ≡ ls
+lines_same : (ms ls : List (List ℕ)) → AllByRecursion (Avoids 10) ms → AllByRecursion (Avoids 10) ls → lines_text ms ≡ lines_text ls → ms ≡ ls
 lines_same ms ls plain clean e =
     let found = lines_begin ms ls [] plain clean (e ∙ sym (append-nil (lines_text ls))) in
     found.1 ∙ ap (λ xs. ls ++ xs) (no_lines found.0 found.2) ∙ append-nil ls
 
 -- values are determined by their lines
-values_same : (ss : List Slot) (vs ws : List ℤ) → Each IsAsked ss → length vs ≡ length ss → length ws ≡ length ss → Each Value vs → Each Value ws → value_lines ss vs ≡ value_lines ss ws → vs ≡ ws
+values_same : (ss : List Slot) (vs ws : List ℤ) → AllByRecursion IsAsked ss → length vs ≡ length ss → length ws ≡ length ss → AllByRecursion Value vs → AllByRecursion Value ws → value_lines ss vs ≡ value_lines ss ws → vs ≡ ws
 values_same [] [] [] each all whole natural numbers e = refl
 values_same [] [] (w ∷ ws) each all whole natural numbers e = absurd (omega arith)
 values_same [] (v ∷ vs) ws each all whole natural numbers e = absurd (omega arith)
@@ -138,7 +141,7 @@ line_same file k p (Mark event) (Mark other) named fits fit e =
     ap Mark (one_name names event other (pattern_within file k p named).events_distinct (omega arith) (omega arith) called)
 
 -- steps and marks are determined by their lines
-steps_same : (file : File) (k : ℕ) (p : Pattern) (ls ms : List RunLine) → slice_get file.patterns k ≡ Some p → Each (LineFits file.automaton p) ls → Each (LineFits file.automaton p) ms → map (line_of file.automaton p) ls ≡ map (line_of file.automaton p) ms → ls ≡ ms
+steps_same : (file : File) (k : ℕ) (p : Pattern) (ls ms : List RunLine) → slice_get file.patterns k ≡ Some p → AllByRecursion (LineFits file.automaton p) ls → AllByRecursion (LineFits file.automaton p) ms → map (line_of file.automaton p) ls ≡ map (line_of file.automaton p) ms → ls ≡ ms
 steps_same file k p [] [] named fits fit e = refl
 steps_same file k p [] (m ∷ ms) named fits fit e = cc
 steps_same file k p (l ∷ ls) [] named fits fit e = cc
@@ -150,7 +153,7 @@ steps_same file k p (l ∷ ls) (m ∷ ms) named fits fit e =
     cc
 
 -- a run is its pattern, its values and its lines
-run_same : (r s : Run) → r.pattern ≡ s.pattern → r.parameters ≡ s.parameters → r.counts ≡ s.counts → r.lines ≡ s.lines → r ≡ s
+pub run_same : (r s : Run) → r.pattern ≡ s.pattern → r.parameters ≡ s.parameters → r.counts ≡ s.counts → r.lines ≡ s.lines → r ≡ s
 run_same r s pattern parameters counts lines =
     ap (λ k. record r { pattern = k }) pattern ∙ ap (λ vs. record r { pattern = s.pattern; parameters = vs }) parameters ∙ ap (λ vs. record r { pattern = s.pattern; parameters = s.parameters; counts = vs }) counts ∙ ap (λ ls. record s { lines = ls }) lines
 
@@ -180,14 +183,6 @@ one_run file bytes run other is are =
     let bodies = (same_from_push (map (line_of a p) other.lines) (map (line_of a p) run.lines) (codes "end") (codes "end") parts.1).0 in
     run_same other run known.0 halves.0 halves.1 (steps_same file run.pattern p other.lines run.lines named known.2 is.fits.lines bodies)
 
--- what stands last and nowhere before it stands at the end
-last_only : (e : List ℕ) (xs ls later : List (List ℕ)) → Each (λ x. x ≡ e → ⊥) xs → xs ++ (e ∷ []) ≡ ls ++ (e ∷ later) → later ≡ []
-last_only e [] [] later each eq = cc
-last_only e [] (l ∷ []) later each eq = cc
-last_only e [] (l ∷ m ∷ ls) later each eq = cc
-last_only e (x ∷ xs) [] later each eq = let head : x ≡ e = cc in absurd (each.0 head)
-last_only e (x ∷ xs) (l ∷ ls) later each eq = let tail : xs ++ (e ∷ []) ≡ ls ++ (e ∷ later) = cc in last_only e xs ls later each.1 tail
-
 -- the line of a step or a mark is no end
 step_no_end : (a : Automaton) (p : Pattern) (l : RunLine) → LineFits a p l → IsNoEnd (line_of a p l)
 step_no_end a p (Step rule factor) fits = differ 0 (line_of a p (Step rule factor)) (codes "end") refl
@@ -203,16 +198,16 @@ front_whole file run fits =
     let a = file.automaton in
     run_lines_are file run fits.pattern fits.named ∙ ap (λ xs. head_line file run.pattern ∷ xs) (sym (append_assoc (value_lines (slots a) (values_of run)) (map (line_of a fits.pattern) run.lines) (codes "end" ∷ [])))
 
-each_step_no_end : (a : Automaton) (p : Pattern) (ls : List RunLine) → Each (LineFits a p) ls → Each IsNoEnd (map (line_of a p) ls)
+each_step_no_end : (a : Automaton) (p : Pattern) (ls : List RunLine) → AllByRecursion (LineFits a p) ls → AllByRecursion IsNoEnd (map (line_of a p) ls)
 each_step_no_end a p [] fit = tt
 each_step_no_end a p (l ∷ ls) fit = (step_no_end a p l fit.0, each_step_no_end a p ls fit.1)
 
-pub front_no_end : (file : File) (run : Run) (fits : Fits file run) → Each IsNoEnd (front_lines file run fits)
+pub front_no_end : (file : File) (run : Run) (fits : Fits file run) → AllByRecursion IsNoEnd (front_lines file run fits)
 unfolding front_lines
 front_no_end file run fits =
     let a = file.automaton in
     let values = each_value_line IsNoEnd (slots a) (values_of run) (λ s v is number. is.no_end v) (asked a) (values_natural file run fits) in
-    (differ 0 (head_line file run.pattern) (codes "end") refl, each-append IsNoEnd (value_lines (slots a) (values_of run)) (map (line_of a fits.pattern) run.lines) values (each_step_no_end a fits.pattern run.lines fits.lines))
+    (differ 0 (head_line file run.pattern) (codes "end") refl, each_append IsNoEnd (value_lines (slots a) (values_of run)) (map (line_of a fits.pattern) run.lines) values (each_step_no_end a fits.pattern run.lines fits.lines))
 
 -- no run goes on behind a whole one
 pub not_longer : (file : File) (run other : Run) (next : List ℕ) (later : List (List ℕ)) → Fits file run → Fits file other → run_lines file run ≡ run_lines file other ++ (next ∷ later) → ⊥
@@ -228,11 +223,11 @@ step_formed file k p named (Step rule factor) fits = inl (name_at (map name_of f
 step_formed file k p named (Mark event) fits = inr (inl (name_at (map event_name p.events) event, record { spelled = event_word file k p event named fits; text = refl }))
 
 -- the form of a line behind the first
-later_formed : (file : File) (run : Run) (p : Pattern) (ls : List (List ℕ)) (line : List ℕ) (later : List (List ℕ)) (found : Option Slot) → Fits file run → slice_get file.patterns run.pattern ≡ Some p → Each (LineFits file.automaton p) run.lines → behind_head file.automaton p (values_of run) run.lines ≡ ls ++ (line ∷ later) → slice_get (slots file.automaton) (length ls) ≡ found → FormFor found line
+later_formed : (file : File) (run : Run) (p : Pattern) (ls : List (List ℕ)) (line : List ℕ) (later : List (List ℕ)) (found : Option Slot) → Fits file run → slice_get file.patterns run.pattern ≡ Some p → AllByRecursion (LineFits file.automaton p) run.lines → behind_head file.automaton p (values_of run) run.lines ≡ ls ++ (line ∷ later) → slice_get (slots file.automaton) (length ls) ≡ found → FormFor found line
 later_formed file run p ls line later (Some slot) fits named fit e next =
     let a = file.automaton in
     let found = value_behind (slots a) (values_of run) (map (line_of a p) run.lines ++ (codes "end" ∷ [])) ls line later slot (values_count file run fits) (values_natural file run fits) next e in
-    (slot.name, found.0, record { spelled = (each_get IsAsked (slots a) (length ls) slot (asked a) next).named; number = found.1; text = found.2 })
+    (slot.name, found.0, record { spelled = (each_at IsAsked (slots a) (length ls) slot (asked a) next).named; number = found.1; text = found.2 })
 later_formed file run p ls line later None fits named fit e next =
     let a = file.automaton in
     body_behind (FormFor None) (slots a) (values_of run) (map (line_of a p) run.lines ++ (codes "end" ∷ [])) ls line later (values_count file run fits) (each_of_body (FormFor None) a p run.lines fit (step_formed file run.pattern p named) (inr (inr refl))) next e
@@ -249,12 +244,12 @@ run_formed file run (l ∷ ls) line later fits e =
     later_formed file run p ls line later (slice_get (slots file.automaton) (length ls)) fits fits.named fits.lines tail refl
 
 -- no line that a run begins with has a line feed
-pub begun_clear : (file : File) (ls : List (List ℕ)) → GoesOn file ls → Each (Avoids 10) ls
-begun_clear file ls (inl none) = subst (Each (Avoids 10)) (sym none) tt
-begun_clear file ls (inr front) = each_front (Avoids 10) ls (front.next ∷ front.later) (subst (Each (Avoids 10)) front.lines (run_clear file front.run front.fits))
+pub begun_clear : (file : File) (ls : List (List ℕ)) → LinesGoOn file ls → AllByRecursion (Avoids 10) ls
+begun_clear file ls (inl none) = subst (AllByRecursion (Avoids 10)) (sym none) tt
+begun_clear file ls (inr front) = each_front (Avoids 10) ls (front.next ∷ front.later) (subst (AllByRecursion (Avoids 10)) front.lines (run_clear file front.run front.fits))
 
 -- a whole run isn't lines that go on
-not_whole : (file : File) (run : Run) (ls more : List (List ℕ)) → Fits file run → run_lines file run ≡ ls ++ more → more ≡ [] → GoesOn file ls → ⊥
+not_whole : (file : File) (run : Run) (ls more : List (List ℕ)) → Fits file run → run_lines file run ≡ ls ++ more → more ≡ [] → LinesGoOn file ls → ⊥
 not_whole file run ls more fits e none (inl empty) = let whole = e ∙ ap (λ xs. xs ++ more) empty ∙ none in cc
 not_whole file run ls more fits e none (inr front) =
     let same : run_lines file run ≡ ls = e ∙ ap (λ xs. ls ++ xs) none ∙ append-nil ls in
@@ -266,7 +261,7 @@ unended_lines [] rest none e = refl
 unended_lines (m ∷ ms) rest none e = absurd (not_parted 10 m (lines_text ms) rest none e)
 
 -- a text that is a run's isn't malformed
-unfaulted : (file : File) (run : Run) (ls more : List (List ℕ)) (rest : List ℕ) → Fits file run → run_lines file run ≡ ls ++ more → rest ≡ lines_text more → IsTrailing file ls rest ⊎ (IsUnfinished file ls rest ⊎ IsMisformed file ls rest) → ⊥
+unfaulted : (file : File) (run : Run) (ls more : List (List ℕ)) (rest : List ℕ) → Fits file run → run_lines file run ≡ ls ++ more → rest ≡ lines_text more → IsTrailingRun file ls rest ⊎ (IsUnfinishedRun file ls rest ⊎ IsMisformed file ls rest) → ⊥
 unfaulted file run ls [] rest fits e text (inl trailing) = trailing.some text
 unfaulted file run ls (m ∷ ms) rest fits e text (inl trailing) =
     let whole = trailing.whole in
@@ -274,17 +269,17 @@ unfaulted file run ls (m ∷ ms) rest fits e text (inl trailing) =
 unfaulted file run ls more rest fits e text (inr (inl unfinished)) = not_whole file run ls more fits e (unended_lines more rest unfinished.no_feed text) unfinished.begun
 unfaulted file run ls [] rest fits e text (inr (inr misformed)) = not_whole file run ls [] fits e refl misformed.begun
 unfaulted file run ls (m ∷ ms) rest fits e text (inr (inr misformed)) =
-    let plain = (each_back (Avoids 10) ls (m ∷ ms) (subst (Each (Avoids 10)) e (run_clear file run fits))).0 in
+    let plain = (each_back (Avoids 10) ls (m ∷ ms) (subst (AllByRecursion (Avoids 10)) e (run_clear file run fits))).0 in
     let parts = first_byte 10 m misformed.line (lines_text ms) misformed.behind plain misformed.no_feed (sym text ∙ misformed.next) in
     misformed.other (subst (FormAt file.automaton (length ls)) parts.0 (run_formed file run ls m ms fits e))
 
 -- the lines before a fault have no line feed
-pub fault_clear : (file : File) (ls : List (List ℕ)) (rest : List ℕ) → IsTrailing file ls rest ⊎ (IsUnfinished file ls rest ⊎ IsMisformed file ls rest) → Each (Avoids 10) ls
-fault_clear file ls rest (inl trailing) = let whole = trailing.whole in subst (Each (Avoids 10)) whole.lines (run_clear file whole.run whole.fits)
+pub fault_clear : (file : File) (ls : List (List ℕ)) (rest : List ℕ) → IsTrailingRun file ls rest ⊎ (IsUnfinishedRun file ls rest ⊎ IsMisformed file ls rest) → AllByRecursion (Avoids 10) ls
+fault_clear file ls rest (inl trailing) = let whole = trailing.whole in subst (AllByRecursion (Avoids 10)) whole.lines (run_clear file whole.run whole.fits)
 fault_clear file ls rest (inr (inl unfinished)) = begun_clear file ls unfinished.begun
 fault_clear file ls rest (inr (inr misformed)) = begun_clear file ls misformed.begun
 
-not_malformed : (file : File) (run : Run) (bytes : List ℕ) (n : ℕ) → IsRunText file run bytes → IsMalformed file bytes n → ⊥
+not_malformed : (file : File) (run : Run) (bytes : List ℕ) (n : ℕ) → IsRunText file run bytes → IsMalformedRun file bytes n → ⊥
 not_malformed file run bytes n is bad =
     let found = lines_begin (run_lines file run) bad.ls bad.rest (run_clear file run is.fits) (fault_clear file bad.ls bad.rest bad.fault) (sym is.text ∙ bad.text) in
     unfaulted file run bad.ls found.0 bad.rest is.fits found.1 found.2 bad.fault
@@ -292,19 +287,19 @@ not_malformed file run bytes n is bad =
 -- a line of a form has no line feed
 form_clear : (found : Option Slot) → ((s : Slot) → found ≡ Some s → IsAsked s) → (line : List ℕ) → FormFor found line → Avoids 10 line
 form_clear (Some slot) known line (name, value, is) = subst (Avoids 10) (sym is.text) (valued_clear slot.word name value (known slot refl).clear is.spelled is.number)
-form_clear None known line (inl (name, value, is, some)) = subst (Avoids 10) (sym is.text) (valued_clear (codes "step ") name value (clear (codes "step ") refl) is.spelled is.number)
-form_clear None known line (inr (inl (name, is))) = subst (Avoids 10) (sym is.text) (named_clear (codes "mark ") name (clear (codes "mark ") refl) is.spelled)
-form_clear None known line (inr (inr e)) = subst (Avoids 10) (sym e) (clear (codes "end") refl)
+form_clear None known line (inl (name, value, is, some)) = subst (Avoids 10) (sym is.text) (valued_clear (codes "step ") name value (avoids_known 10 (codes "step ") refl) is.spelled is.number)
+form_clear None known line (inr (inl (name, is))) = subst (Avoids 10) (sym is.text) (named_clear (codes "mark ") name (avoids_known 10 (codes "mark ") refl) is.spelled)
+form_clear None known line (inr (inr e)) = subst (Avoids 10) (sym e) (avoids_known 10 (codes "end") refl)
 
 pub formed_clear : (a : Automaton) (n : ℕ) (line : List ℕ) → FormAt a n line → Avoids 10 line
-formed_clear a zero line form = subst (Avoids 10) (sym form.1.text) (named_clear (codes "run ") form.0 (clear (codes "run ") refl) form.1.spelled)
-formed_clear a (suc n) line form = form_clear (slice_get (slots a) n) (λ s e. each_get IsAsked (slots a) n s (asked a) e) line form
+formed_clear a zero line form = subst (Avoids 10) (sym form.1.text) (named_clear (codes "run ") form.0 (avoids_known 10 (codes "run ") refl) form.1.spelled)
+formed_clear a (suc n) line form = form_clear (slice_get (slots a) n) (λ s e. each_at IsAsked (slots a) n s (asked a) e) line form
 
 -- a run goes on with the line that stands there
-misnamed_line : (file : File) (run : Run) (ls more : List (List ℕ)) (line behind : List ℕ) → Fits file run → run_lines file run ≡ ls ++ more → line ++ (10 ∷ behind) ≡ lines_text more → GoesOn file ls → Avoids 10 line → ((other : Run) (later : List (List ℕ)) → Fits file other → run_lines file other ≡ ls ++ (line ∷ later) → ⊥) → ⊥
+misnamed_line : (file : File) (run : Run) (ls more : List (List ℕ)) (line behind : List ℕ) → Fits file run → run_lines file run ≡ ls ++ more → line ++ (10 ∷ behind) ≡ lines_text more → LinesGoOn file ls → Avoids 10 line → ((other : Run) (later : List (List ℕ)) → Fits file other → run_lines file other ≡ ls ++ (line ∷ later) → ⊥) → ⊥
 misnamed_line file run ls [] line behind fits e text begun plain unnamed = not_whole file run ls [] fits e refl begun
 misnamed_line file run ls (m ∷ ms) line behind fits e text begun plain unnamed =
-    let clean = (each_back (Avoids 10) ls (m ∷ ms) (subst (Each (Avoids 10)) e (run_clear file run fits))).0 in
+    let clean = (each_back (Avoids 10) ls (m ∷ ms) (subst (AllByRecursion (Avoids 10)) e (run_clear file run fits))).0 in
     let parts = first_byte 10 line m behind (lines_text ms) plain clean text in
     unnamed run ms fits (e ∙ ap (λ l. ls ++ (l ∷ ms)) (sym parts.0))
 

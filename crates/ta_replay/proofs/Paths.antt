@@ -5,14 +5,15 @@ use Rattle.std.proofs.lemmas.Bool.{cases_lt}
 use Rattle.std.proofs.lemmas.Bool.Decides.{nat_tests}
 use Rattle.std.proofs.lemmas.Option.{same_Some}
 use Rattle.std.proofs.lemmas.List.{length-replicate}
+use Rattle.ta_base.proofs.Lists.{slice_get_left, some_at}
 use Rattle.ta_linear.specs.Values.{point_of}
 use Rattle.ta_automaton.specs.declared.automaton.Automaton.{Automaton}
 use Rattle.ta_automaton.specs.declared.rule.Rule.{Rule}
 use Rattle.ta_automaton.specs.declared.pattern.Event.{Event}
 use Rattle.ta_automaton.specs.declared.pattern.Pattern.{Pattern}
 use Rattle.ta_automaton.specs.Runs as runs
-use Rattle.ta_automaton.specs.Runs.{At, HappensAt, Holds, Steps}
-use Rattle.ta_automaton.proofs.Trails.{get_left, run_length}
+use Rattle.ta_automaton.specs.Runs.{At, Holds, Steps}
+use Rattle.ta_automaton.proofs.Trails.{run_length}
 use Rattle.ta_counter.specs.declared.config.Config.{Config}
 use Rattle.ta_counter.specs.Configs.{config_of, model_of, IsOf}
 use Rattle.ta_counter.specs.Steps.{Fires}
@@ -26,7 +27,7 @@ use Rattle.ta_replay.specs.Fits.{LineFits}
 use Rattle.ta_replay.specs.Shows.{unit_steps, steps_before}
 use Rattle.ta_replay.specs.Replays.{LineTakes}
 use Rattle.ta_replay.specs.Inside.Following.{Path}
-use Rattle.ta_replay.proofs.Lines.{some_at, unit_steps-next, steps_before-next}
+use Rattle.ta_replay.proofs.Lines.{unit_steps-next, steps_before-next}
 use Rattle.ta_replay.proofs.Values.{keeps_at}
 
 -- steps on from where steps end
@@ -140,10 +141,10 @@ path_next a p lines i first c d line at path m =
       ends = subst (λ n. At first (path.later ++ m.more) n d) there (at_further first path.later c m.more (length (unit_steps (line ∷ []))) d ends m.ends);
       kept = λ k e here. elim (at_either first path.later c m.more k e ends here) [ inl o ↦ path.kept k e o | inr w ↦ m.kept w.0 e w.1 ];
       happened = λ j e event b marks there. elim (cases_lt j i) [
-        | inl less ↦ (let w = path.happened j e event less marks there in (w.0, get_left (first ∷ path.later) m.more (steps_before lines j) w.0 w.1, w.2))
+        | inl less ↦ (let w = path.happened j e event less marks there in (w.0, slice_get_left (first ∷ path.later) m.more (steps_before lines j) w.0 w.1, w.2))
         | inr more ↦ (
             let same : i ≡ j = omega arith in
             let is : line ≡ Mark e = same_Some line (Mark e) (sym at ∙ ap (slice_get lines) same ∙ marks) in
-            (c, subst (λ n. slice_get (first ∷ (path.later ++ m.more)) (steps_before lines n) ≡ Some c) same (get_left (first ∷ path.later) m.more (steps_before lines i) c path.ends), m.holds e event is there))
+            (c, subst (λ n. slice_get (first ∷ (path.later ++ m.more)) (steps_before lines n) ≡ Some c) same (slice_get_left (first ∷ path.later) m.more (steps_before lines i) c path.ends), m.holds e event is there))
       ];
     }

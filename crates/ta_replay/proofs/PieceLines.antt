@@ -1,22 +1,20 @@
 -- the lines of pieces: how many steps they have, and where their marks stand
-use Rattle.std.proofs.Common.{◌≡◌, ◌≢◌, ◌⊎◌, inl, inr, ℕ, zero, suc, ◌+◌, ◌*◌, ◌<◌, ◌≤◌, ℤ, List, [], ◌∷◌, ◌++◌, map, length, take, replicate, unsigned_abs, Option, Some, None, slice_get, arith, refl, sym, ap, ◌∙◌, subst, length-append, append_assoc, append-nil, add-one}
+use Rattle.std.proofs.Common.{◌≡◌, inl, inr, ℕ, zero, suc, ◌+◌, ◌*◌, ◌<◌, ◌≤◌, ℤ, List, [], ◌∷◌, ◌++◌, map, length, take, replicate, unsigned_abs, Option, Some, None, slice_get, arith, refl, sym, ap, ◌∙◌, subst, length-append, append_assoc, append-nil}
 use Rattle.std.proofs.lemmas.Bool.{cases_lt, cases_order}
 use Rattle.std.proofs.lemmas.Bool.Decides.{eqb_tells}
 use Rattle.std.proofs.lemmas.Option.{slice_get_within}
-use Rattle.std.proofs.lemmas.List.{length-map}
+use Rattle.std.specs.List.{AllByRecursion}
+use Rattle.ta_base.proofs.Lists.{get_parts}
+use Rattle.ta_base.proofs.Naturals.{sum_below}
+use Rattle.ta_base.proofs.Sums.{sum_most}
 use Rattle.ta_automaton.specs.declared.automaton.Automaton.{Automaton}
-use Rattle.ta_automaton.specs.declared.pattern.Event.{Event}
-use Rattle.ta_automaton.specs.declared.pattern.Pattern.{Pattern}
-use Rattle.ta_automaton.specs.Lists.{Each}
-use Rattle.ta_automaton.specs.Masks.{In}
+use Rattle.ta_base.specs.Masks.{In}
 use Rattle.ta_automaton.specs.Runs.{HappensAt}
 use Rattle.ta_automaton.specs.Sums.{times_in}
-use Rattle.ta_replay.specs.declared.run.Run.{Run}
 use Rattle.ta_replay.specs.declared.run.RunLine.{RunLine}
 use Rattle.ta_replay.specs.declared.run.RunLine.TheVariants.{Step, Mark}
-use Rattle.ta_replay.specs.Shows.{unit_steps, steps_before, MarksAt, MarkedOnce}
-use Rattle.ta_replay.specs.Pieces.{Piece, OncePerRule, PiecesAreShort, PiecesHappen, PiecesShow, MarksInOrder, step_line, last_lines, piece_lines, pieces_lines, pieces_marks, steps_count, steps_until, rule_of}
-use Rattle.ta_replay.proofs.Counting.{sum_below}
+use Rattle.ta_replay.specs.Shows.{unit_steps, steps_before, MarksAt}
+use Rattle.ta_replay.specs.Pieces.{Piece, OncePerRule, PiecesAreShort, PiecesShow, step_line, last_lines, piece_lines, pieces_lines, pieces_marks, steps_count, steps_until, rule_of}
 use Rattle.ta_replay.proofs.Lines.{unit_steps-append}
 
 steps_count-append : (xs ys : List RunLine) → steps_count (xs ++ ys) ≡ steps_count xs + steps_count ys
@@ -58,14 +56,9 @@ sum_more x xs (suc n) b = elim (eqb_tells x n) [
   | inr other ↦ rw other.0 (omega (arith, sum_more x xs n (let s = other.1 in omega arith)))
 ]
 
-sum_all : (n : ℕ) (steps : List (ℕ × ℤ)) → Each (λ (step : ℕ × ℤ). step.0 < n) steps → sum_below (λ r. times_in r (map rule_of steps)) n ≡ length steps
+sum_all : (n : ℕ) (steps : List (ℕ × ℤ)) → AllByRecursion (λ (step : ℕ × ℤ). step.0 < n) steps → sum_below (λ r. times_in r (map rule_of steps)) n ≡ length steps
 sum_all n [] h = sum_none n
 sum_all n (step ∷ steps) h = omega (arith, sum_more step.0 (map rule_of steps) n h.0, sum_all n steps h.1)
-
-sum_most : (f : ℕ → ℕ) (n : ℕ) → ((r : ℕ) → f r ≤ 1) → sum_below f n ≤ n
-unfolding sum_below
-sum_most f zero h = omega arith
-sum_most f (suc n) h = omega (arith, sum_most f n h, h n)
 
 piece_count : (a : Automaton) (piece : Piece) → OncePerRule a piece → steps_count (piece_lines piece) ≤ length a.rules + 1
 piece_count a piece h =
@@ -227,11 +220,6 @@ mark_in : (es : List ℕ) (i e : ℕ) → MarksAt (map Mark es) i e → (i < len
 mark_in [] i e at = absurd (cc)
 mark_in (x ∷ es) zero e at = (omega arith, inl (let q : e ≡ x = cc in q))
 mark_in (x ∷ es) (suc i) e at = let w = mark_in es i e at in ((let b = w.0 in omega arith), inr w.1)
-
-pub get_parts : (xs ys : List RunLine) (j : ℕ) (line : RunLine) → slice_get (xs ++ ys) j ≡ Some line → (slice_get xs j ≡ Some line) ⊎ ((k : ℕ) × (j ≡ length xs + k) × (slice_get ys k ≡ Some line))
-get_parts [] ys j line e = inr (j, omega arith, e)
-get_parts (x ∷ xs) ys zero line e = inl e
-get_parts (x ∷ xs) ys (suc j) line e = elim (get_parts xs ys j line e) [ inl h ↦ inl h | inr w ↦ inr (w.0, (let q = w.1 in omega arith), w.2) ]
 
 unmarked : (lines : List RunLine) (i e : ℕ) → marked lines ≡ [] → MarksAt lines i e → ⊥
 unmarked lines i e none at = let found = mark_place lines i e at in let same = ap (λ (es : List ℕ). slice_get es (place lines i)) none in cc

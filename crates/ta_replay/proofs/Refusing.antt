@@ -2,6 +2,8 @@
 use Rattle.std.proofs.Common.{◌≡◌, inl, inr, ℕ, ◌+◌, ◌<◌, ℤ, pos, List, ◌∷◌, length, take, unsigned_abs, arith, sym, ap, ◌∙◌, refl, subst, slice_get, Some}
 use mathlib.Core.Path.{fun_ext}
 use Rattle.std.proofs.lemmas.Option.{same_Some, slice_get_within}
+use Rattle.ta_base.proofs.Each.{each_at}
+use Rattle.ta_base.proofs.Lists.{front_get, get_front, some_at}
 use Rattle.ta_linear.specs.Values.{point_of}
 use Rattle.ta_automaton.specs.declared.automaton.Automaton.{Automaton}
 use Rattle.ta_automaton.specs.declared.condition.Condition.{Condition}
@@ -12,8 +14,7 @@ use Rattle.ta_automaton.specs.Places.{location_place}
 use Rattle.ta_automaton.specs.Runs as runs
 use Rattle.ta_automaton.specs.Runs.{HoldsAt, Initial, value_at}
 use Rattle.ta_automaton.proofs.Moves.{value_at-location}
-use Rattle.ta_automaton.proofs.Thresholds.{each_at}
-use Rattle.ta_counter.specs.Checks.{RowFails, RowLeaves, ConditionStopsAt}
+use Rattle.ta_counter.specs.Checks.{RowFails, RowOutOfRange, ConditionStopsAt}
 use Rattle.ta_counter.specs.Configs.{config_of}
 use Rattle.ta_counter.specs.Steps.{Fires, StepFails}
 use Rattle.ta_counter.specs.declared.fault.StepFault.TheVariants as step
@@ -30,13 +31,12 @@ use Rattle.ta_replay.specs.declared.fault.RunFault.TheVariants.{Line, Name, Resi
 use Rattle.ta_replay.specs.Fits.{LineFits}
 use Rattle.ta_replay.specs.Shows.{IsMarked, MarksAt, ShowsPattern, steps_before}
 use Rattle.ta_replay.specs.Replays.{InOrder, ConditionStays, StepStays, NumbersStay}
-use Rattle.ta_replay.specs.ReplayFaults.{ConfigRefuses, StartStops, FilledAt, LineStops, LineRefuses, StepRefuses, MarkRefuses, LacksMark, FirstRefusal, RefusedThough, line_number}
+use Rattle.ta_replay.specs.ReplayFaults.{ConfigRefuses, StartStops, FilledAt, LineStops, LineRefuses, StepRefuses, MarkRefuses, LacksMark, FirstRefusal, RefusedThough, run_line_number}
 use Rattle.ta_replay.specs.Inside.Following.{FitsPattern}
-use Rattle.ta_replay.proofs.Lines.{some_at, front_get, get_front}
 use Rattle.ta_replay.proofs.Along.{step_values}
 use Rattle.ta_replay.proofs.Showing.{shown_starts, shown_model, shown_first, ShownAt, shown_at, shown_fires, values_of}
 
-no_leave : (point : ℕ → ℤ) (condition : Condition) (k : ℕ) → ConditionStays point condition → ConditionStopsAt point (RowLeaves point) condition k → ⊥
+no_leave : (point : ℕ → ℤ) (condition : Condition) (k : ℕ) → ConditionStays point condition → ConditionStopsAt point (RowOutOfRange point) condition k → ⊥
 no_leave point condition k stays stop =
     let inner = stop.bad.1 in
     inner.bad (stays k stop.item stop.at stop.bad.0 inner.item inner.at)
@@ -73,7 +73,7 @@ start_denied a p run k fits s h =
     let same : value_at s.first ≡ point_of h.first = fun_ext (shown_first a p run fits s h.first h.starts) in
     fails_from (point_of h.first) p.start k h.stops (subst (λ (f : ℕ → ℤ). HoldsAt f p.start) same s.start)
 
-start_leaves_denied : (a : Automaton) (p : Pattern) (run : Run) (k : ℕ) → NumbersStay a p run → StartStops a p run RowLeaves k → ⊥
+start_leaves_denied : (a : Automaton) (p : Pattern) (run : Run) (k : ℕ) → NumbersStay a p run → StartStops a p run RowOutOfRange k → ⊥
 start_leaves_denied a p run k stays h = no_leave (point_of h.first) p.start k (stays.start h.first h.starts) h.stops
 
 filled_denied : (a : Automaton) (p : Pattern) (run : Run) (line : ℕ) → FitsPattern a p run → ShowsPattern a p run → FilledAt a p run line → ⊥
@@ -209,9 +209,9 @@ mark_denied a p run fits s fault stop e number is other h =
 
 line_denied : (a : Automaton) (p : Pattern) (run : Run) → FitsPattern a p run → ShowsPattern a p run → (fault : RunFault) → LineStops a p run fault → Possible a p run fault
 line_denied a p run fits s fault stop = by_line stop.line refl stop.refuses where
-  by_line : (line : RunLine) → stop.line ≡ line → LineRefuses a p (IsMarked (take stop.i run.lines)) stop.config.values.items line (line_number a stop.i) fault → Possible a p run fault
-  by_line (Step r factor) is h = step_denied a p run fits s fault stop r factor (line_number a stop.i) is fault h
-  by_line (Mark e) is h = mark_denied a p run fits s fault stop e (line_number a stop.i) is fault h
+  by_line : (line : RunLine) → stop.line ≡ line → LineRefuses a p (IsMarked (take stop.i run.lines)) stop.config.values.items line (run_line_number a stop.i) fault → Possible a p run fault
+  by_line (Step r factor) is h = step_denied a p run fits s fault stop r factor (run_line_number a stop.i) is fault h
+  by_line (Mark e) is h = mark_denied a p run fits s fault stop e (run_line_number a stop.i) is fault h
 
 -- a run that shows its pattern is refused only where a number leaves the range
 pub denied : (a : Automaton) (p : Pattern) (run : Run) → FitsPattern a p run → ShowsPattern a p run → (fault : RunFault) → FirstRefusal a p run fault → Possible a p run fault

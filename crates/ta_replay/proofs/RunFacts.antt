@@ -1,43 +1,22 @@
 -- The lines of runs that fit a file.
-use Rattle.std.proofs.Common.{ℕ, ℤ, ◌+◌, ◌-◌, ◌<◌, ◌≡◌, true, eqb, List, [], ◌∷◌, ◌++◌, length, map, take, drop, refl, sym, ap, subst, ◌∙◌, Some, None, length-append, take-append-drop, length-take-le, length-drop, arith, rules, tests, not, codes}
+use Rattle.std.proofs.Common.{ℕ, ℤ, ◌+◌, ◌-◌, ◌<◌, ◌≡◌, List, [], ◌∷◌, ◌++◌, length, map, take, drop, refl, sym, ap, subst, ◌∙◌, Some, None, length-append, take-append-drop, length-take-le, length-drop, arith, codes}
 use Rattle.std.specs.Prelude.{slice_get}
-use Rattle.std.specs.List.{list_all}
+use Rattle.std.specs.List.{AllByRecursion}
 use Rattle.std.proofs.lemmas.List.{length-map}
+use Rattle.ta_base.proofs.Each.{each_append, each_back, each_front, each_get_or, each_map}
+use Rattle.ta_base.proofs.Lists.{avoids_known, differ}
+use Rattle.ta_base.proofs.Ranges.{each_below}
 use Rattle.ta_automaton.specs.declared.automaton.Automaton.{Automaton}
 use Rattle.ta_automaton.specs.declared.pattern.Pattern.{Pattern}
 use Rattle.ta_automaton.specs.declared.file.File.{File}
-use Rattle.ta_automaton.specs.Lists.{Each, Rises}
 use Rattle.ta_automaton.specs.Names.{Name}
-use Rattle.ta_automaton.specs.Patterns.{PatternWithin}
 use Rattle.ta_counter.specs.Values.{Value}
 use Rattle.ta_replay.specs.declared.run.Run.{Run}
 use Rattle.ta_replay.specs.declared.run.RunLine.{RunLine}
 use Rattle.ta_replay.specs.Fits.{Fits, LineFits}
 use Rattle.ta_replay.specs.RunText.{Slot, name_at, valued_line, parameter_slot, start_slot, parameter_slots, start_slots, slots, value_lines, line_of, lines_of, head_line, run_lines}
-use Rattle.ta_replay.specs.TextFaults.{Avoids, IsWord}
-use Rattle.ta_replay.proofs.Bytes.{both}
-use Rattle.ta_replay.proofs.NumberedNames.{each_at}
-use Rattle.ta_replay.proofs.ListSteps.{each-append, each_front, each_back, each_get}
-use Rattle.ta_replay.proofs.Statements.{differ, word_of}
-
--- what each item has, its image has
-each_map : {X Y : Type 0} (f : X → Y) (P : X → Type 0) (Q : Y → Type 0) (xs : List X) → ((x : X) → P x → Q (f x)) → Each P xs → Each Q (map f xs)
-each_map f P Q [] gives each = tt
-each_map f P Q (x ∷ xs) gives each = (gives x each.0, each_map f P Q xs gives each.1)
-
--- numbers that rise are below the end
-each_below : (low high : ℕ) (xs : List ℕ) → Rises low high xs → Each (λ x. x < high) xs
-each_below low high [] rises = tt
-each_below low high (x ∷ xs) rises = (rises.1, each_below (x + 1) high xs rises.2)
-
--- a byte that is no line feed
-not_feed : (b : ℕ) → not (eqb b 10) ≡ true → b ≡ 10 → ⊥
-not_feed b e ten = search (rules, tests)
-
--- known bytes have no line feed
-pub clear : (bs : List ℕ) → list_all (λ b. not (eqb b 10)) bs ≡ true → Avoids 10 bs
-clear [] e = tt
-clear (b ∷ bs) e = let parts = both (not (eqb b 10)) (list_all (λ c. not (eqb c 10)) bs) e in (not_feed b parts.0, clear bs parts.1)
+use Rattle.ta_base.specs.Bytes.{Avoids, IsWord}
+use Rattle.ta_replay.proofs.Statements.{word_of}
 
 -- a line is no end
 abbrev pub IsNoEnd : List ℕ → Type 0
@@ -50,14 +29,14 @@ pub record IsAsked (slot : Slot) : Type 0 where
   pub no_end : (value : ℤ) → IsNoEnd (valued_line slot.word slot.name value)
 
 -- each slot of an automaton is so
-pub asked : (a : Automaton) → Each IsAsked (slots a)
+pub asked : (a : Automaton) → AllByRecursion IsAsked (slots a)
 asked a =
     let names = a.shape.names_legal in
     let parameters = each_front Name a.parameters a.shared (each_front Name (a.parameters ++ a.shared) a.locations names) in
     let locations = each_back Name (a.parameters ++ a.shared) a.locations names in
-    let parameter_is : (n : List ℕ) → Name n → IsAsked (parameter_slot n) = λ n is. record { named = word_of n is; clear = clear (codes "parameter ") refl; no_end = λ v. differ 0 (valued_line (codes "parameter ") n v) (codes "end") refl } in
-    let start_is : (l : ℕ) → l < length a.locations → IsAsked (start_slot a l) = λ l within. record { named = word_of (name_at a.locations l) (each_at Name a.locations l [] locations within); clear = clear (codes "start ") refl; no_end = λ v. differ 0 (valued_line (codes "start ") (name_at a.locations l) v) (codes "end") refl } in
-    each-append IsAsked (parameter_slots a) (start_slots a)
+    let parameter_is : (n : List ℕ) → Name n → IsAsked (parameter_slot n) = λ n is. record { named = word_of n is; clear = avoids_known 10 (codes "parameter ") refl; no_end = λ v. differ 0 (valued_line (codes "parameter ") n v) (codes "end") refl } in
+    let start_is : (l : ℕ) → l < length a.locations → IsAsked (start_slot a l) = λ l within. record { named = word_of (name_at a.locations l) (each_get_or Name a.locations l [] locations within); clear = avoids_known 10 (codes "start ") refl; no_end = λ v. differ 0 (valued_line (codes "start ") (name_at a.locations l) v) (codes "end") refl } in
+    each_append IsAsked (parameter_slots a) (start_slots a)
     (each_map parameter_slot Name IsAsked a.parameters parameter_is parameters)
     (each_map (start_slot a) (λ l. l < length a.locations) IsAsked a.initial start_is (each_below 0 (length a.locations) a.initial a.shape.initial_rises))
 
@@ -72,8 +51,8 @@ values_of run = run.parameters ++ run.counts
 pub values_count : (file : File) (run : Run) → Fits file run → length (values_of run) ≡ length (slots file.automaton)
 values_count file run fits = length-append run.parameters run.counts ∙ ap (λ n. n + length run.counts) fits.parameters ∙ ap (λ n. length file.automaton.parameters + n) fits.counts ∙ sym (length-slots file.automaton)
 
-pub values_natural : (file : File) (run : Run) → Fits file run → Each Value (values_of run)
-values_natural file run fits = each-append Value run.parameters run.counts fits.parameters_natural fits.counts_natural
+pub values_natural : (file : File) (run : Run) → Fits file run → AllByRecursion Value (values_of run)
+values_natural file run fits = each_append Value run.parameters run.counts fits.parameters_natural fits.counts_natural
 
 -- the lines behind the first, of values, steps and marks
 abbrev pub behind_head : Automaton → Pattern → List ℤ → List RunLine → List (List ℕ)
@@ -87,13 +66,13 @@ pub run_of : Automaton → ℕ → List ℤ → List RunLine → Run
 run_of a k values lines = record { pattern = k; parameters = take (length a.parameters) values; counts = drop (length a.parameters) values; lines = lines }
 
 -- it fits, and these are its lines
-pub run_of_fits : (file : File) (k : ℕ) (p : Pattern) (values : List ℤ) (lines : List RunLine) → slice_get file.patterns k ≡ Some p → length values ≡ length (slots file.automaton) → Each Value values → Each (LineFits file.automaton p) lines → Fits file (run_of file.automaton k values lines)
+pub run_of_fits : (file : File) (k : ℕ) (p : Pattern) (values : List ℤ) (lines : List RunLine) → slice_get file.patterns k ≡ Some p → length values ≡ length (slots file.automaton) → AllByRecursion Value values → AllByRecursion (LineFits file.automaton p) lines → Fits file (run_of file.automaton k values lines)
 unfolding run_of
 run_of_fits file k p values lines named count natural fit =
     let a = file.automaton in
     let m = length a.parameters in
     let all = count ∙ length-slots a in
-    let parted = subst (Each Value) (sym (take-append-drop m values)) natural in
+    let parted = subst (AllByRecursion Value) (sym (take-append-drop m values)) natural in
     record {
       pattern = p;
       named = named;
@@ -110,7 +89,7 @@ run_of_lines file k p values lines named =
     run_lines_are file (run_of file.automaton k values lines) p named ∙ ap (λ vs. head_line file k ∷ behind_head file.automaton p vs lines) (take-append-drop (length file.automaton.parameters) values)
 
 -- the line at the place of a value
-pub value_behind : (ss : List Slot) (vs : List ℤ) (body ls : List (List ℕ)) (line : List ℕ) (later : List (List ℕ)) (slot : Slot) → length vs ≡ length ss → Each Value vs → slice_get ss (length ls) ≡ Some slot → value_lines ss vs ++ body ≡ ls ++ (line ∷ later) → (v : ℤ) × Value v × (line ≡ valued_line slot.word slot.name v)
+pub value_behind : (ss : List Slot) (vs : List ℤ) (body ls : List (List ℕ)) (line : List ℕ) (later : List (List ℕ)) (slot : Slot) → length vs ≡ length ss → AllByRecursion Value vs → slice_get ss (length ls) ≡ Some slot → value_lines ss vs ++ body ≡ ls ++ (line ∷ later) → (v : ℤ) × Value v × (line ≡ valued_line slot.word slot.name v)
 value_behind [] vs body ls line later slot all natural next e = cc
 value_behind (s ∷ ss) [] body ls line later slot all natural next e = absurd (omega arith)
 value_behind (s ∷ ss) (v ∷ vs) body [] line later slot all natural next e =
@@ -122,8 +101,8 @@ value_behind (s ∷ ss) (v ∷ vs) body (l ∷ ls) line later slot all natural n
     value_behind ss vs body ls line later slot (omega arith) natural.1 next tail
 
 -- a line behind those of the values
-pub body_behind : (Q : List ℕ → Type 0) (ss : List Slot) (vs : List ℤ) (body ls : List (List ℕ)) (line : List ℕ) (later : List (List ℕ)) → length vs ≡ length ss → Each Q body → slice_get ss (length ls) ≡ None → value_lines ss vs ++ body ≡ ls ++ (line ∷ later) → Q line
-body_behind Q [] vs body ls line later all each past e = (each_back Q ls (line ∷ later) (subst (Each Q) e each)).0
+pub body_behind : (Q : List ℕ → Type 0) (ss : List Slot) (vs : List ℤ) (body ls : List (List ℕ)) (line : List ℕ) (later : List (List ℕ)) → length vs ≡ length ss → AllByRecursion Q body → slice_get ss (length ls) ≡ None → value_lines ss vs ++ body ≡ ls ++ (line ∷ later) → Q line
+body_behind Q [] vs body ls line later all each past e = (each_back Q ls (line ∷ later) (subst (AllByRecursion Q) e each)).0
 body_behind Q (s ∷ ss) [] body ls line later all each past e = absurd (omega arith)
 body_behind Q (s ∷ ss) (v ∷ vs) body [] line later all each past e = cc
 body_behind Q (s ∷ ss) (v ∷ vs) body (l ∷ ls) line later all each past e =
@@ -131,9 +110,5 @@ body_behind Q (s ∷ ss) (v ∷ vs) body (l ∷ ls) line later all each past e =
     body_behind Q ss vs body ls line later (omega arith) each past tail
 
 -- a property of the lines of steps and marks and of the end
-pub each_of_body : (Q : List ℕ → Type 0) (a : Automaton) (p : Pattern) (lines : List RunLine) → Each (LineFits a p) lines → ((l : RunLine) → LineFits a p l → Q (line_of a p l)) → Q (codes "end") → Each Q (map (line_of a p) lines ++ (codes "end" ∷ []))
-each_of_body Q a p lines fit step end = each-append Q (map (line_of a p) lines) (codes "end" ∷ []) (each_map (line_of a p) (LineFits a p) Q lines step fit) (end, tt)
-
--- a pattern of a file is well formed
-pub pattern_within : (file : File) (k : ℕ) (p : Pattern) → slice_get file.patterns k ≡ Some p → PatternWithin (length file.automaton.parameters + length file.automaton.shared + length file.automaton.locations) (length file.automaton.locations) p
-pattern_within file k p named = each_get (PatternWithin (length file.automaton.parameters + length file.automaton.shared + length file.automaton.locations) (length file.automaton.locations)) file.patterns k p file.shape.within named
+pub each_of_body : (Q : List ℕ → Type 0) (a : Automaton) (p : Pattern) (lines : List RunLine) → AllByRecursion (LineFits a p) lines → ((l : RunLine) → LineFits a p l → Q (line_of a p l)) → Q (codes "end") → AllByRecursion Q (map (line_of a p) lines ++ (codes "end" ∷ []))
+each_of_body Q a p lines fit step end = each_append Q (map (line_of a p) lines) (codes "end" ∷ []) (each_map (line_of a p) (LineFits a p) Q lines step fit) (end, tt)

@@ -5,11 +5,13 @@ use Rattle.std.proofs.lemmas.List.{ext_get_or, get_or-take, length-map, length-t
 use Rattle.std.proofs.lemmas.Option.{same_Some}
 use Rattle.std.proofs.Math.Seq.{take-append_seam}
 use Rattle.std.proofs.Math.IntN.{zero-*ℤ}
+use Rattle.std.specs.List.{AllByRecursion}
+use Rattle.ta_base.proofs.Each.{each_take}
+use Rattle.ta_base.proofs.Integers.{abs_natural, distributes_right, one_times}
+use Rattle.ta_base.proofs.Lists.{get_or-pos, slice_get_left, some_at, take_all, take_next}
 use Rattle.ta_linear.specs.Values.{point_of}
-use Rattle.ta_linear.proofs.Integers.{distributes_right}
 use Rattle.ta_automaton.specs.declared.automaton.Automaton.{Automaton}
 use Rattle.ta_automaton.specs.declared.pattern.Pattern.{Pattern}
-use Rattle.ta_automaton.specs.Lists.{Each}
 use Rattle.ta_automaton.specs.Places.{location_place, rule_change}
 use Rattle.ta_automaton.specs.Runs as runs
 use Rattle.ta_automaton.specs.Runs.{At, Initial, Steps, value_at}
@@ -17,12 +19,12 @@ use Rattle.ta_automaton.specs.Sums.{total}
 use Rattle.ta_automaton.proofs.Fire.{Whole}
 use Rattle.ta_automaton.proofs.Moves.{Fits, fits_after, move_at, value_at-parameter, value_at-shared, value_at-location}
 use Rattle.ta_automaton.proofs.RunLaws.{along, fits_at}
-use Rattle.ta_automaton.proofs.Sums.{total-append, one_times}
-use Rattle.ta_automaton.proofs.Trails.{get_left, run_length}
+use Rattle.ta_automaton.proofs.Sums.{total-append}
+use Rattle.ta_automaton.proofs.Trails.{run_length}
 use Rattle.ta_counter.specs.Configs.{model_of, places_of}
 use Rattle.ta_counter.specs.Starts.{StartsAt}
 use Rattle.ta_counter.specs.Steps.{Fires}
-use Rattle.ta_counter.proofs.Models.{naturals_at, natural_pos, model_at, model_whole, same_model, each_take}
+use Rattle.ta_counter.proofs.Models.{naturals_at, model_at, model_whole, same_model}
 use Rattle.ta_counter.proofs.Starting.{starts_natural}
 use Rattle.ta_replay.specs.declared.run.Run.{Run}
 use Rattle.ta_replay.specs.declared.run.RunLine.{RunLine}
@@ -31,15 +33,9 @@ use Rattle.ta_replay.specs.Fits.{LineFits}
 use Rattle.ta_replay.specs.Shows.{unit_steps, steps_before, ShowsPattern}
 use Rattle.ta_replay.specs.Replays.{ValuesAfter, line_change}
 use Rattle.ta_replay.specs.Inside.Following.{FitsPattern}
-use Rattle.ta_replay.proofs.Lines.{some_at, take_all, take_next, unit_steps-append}
+use Rattle.ta_replay.proofs.Lines.{unit_steps-append}
 use Rattle.ta_replay.proofs.Begins.{first_same}
 use Rattle.ta_replay.proofs.Occurring.{steps_before_le}
-
--- natural numbers as whole ones
-get_or-pos : (xs : List ℕ) (i : ℕ) → get_or (map pos xs) i (pos 0) ≡ pos (get_or xs i 0)
-get_or-pos [] i = refl
-get_or-pos (x ∷ xs) zero = refl
-get_or-pos (x ∷ xs) (suc i) = get_or-pos xs i
 
 abbrev pub values_of : runs.Config → List ℤ
 values_of c = map pos (c.parameters ++ c.shared ++ c.counters)
@@ -100,13 +96,13 @@ total-replicate f (suc k) r =
     omega (arith, ints, total-replicate f k r, ap (λ z. z *ℤ f r) e, distributes_right (pos 1) (pos k) (f r), one_times (f r))
 
 -- what lines change
-pub lines-change : (a : Automaton) (p : Pattern) (place : ℕ) (lines : List RunLine) → Each (LineFits a p) lines → total (λ r. rule_change a (slice_get a.rules r) place) (unit_steps lines) ≡ total (line_change a place) lines
+pub lines-change : (a : Automaton) (p : Pattern) (place : ℕ) (lines : List RunLine) → AllByRecursion (LineFits a p) lines → total (λ r. rule_change a (slice_get a.rules r) place) (unit_steps lines) ≡ total (line_change a place) lines
 unfolding total
 lines-change a p place [] fits = refl
 lines-change a p place (Step r k ∷ lines) fits =
     let f = λ (q : ℕ). rule_change a (slice_get a.rules q) place in
     let some = fits.0.1 in
-    let natural : pos (unsigned_abs k) ≡ k = natural_pos k (omega (arith, ints)) in
+    let natural : pos (unsigned_abs k) ≡ k = abs_natural k (omega (arith, ints)) in
     omega (arith, ints, total-append f (replicate (unsigned_abs k) r) (unit_steps lines), total-replicate f (unsigned_abs k) r, ap (λ z. z *ℤ f r) natural, lines-change a p place lines fits.1)
 lines-change a p place (Mark e ∷ lines) fits = omega (arith, ints, lines-change a p place lines fits.1)
 
@@ -181,7 +177,7 @@ shown_fires a p run s i r factor c at here =
     sym (ap unit_steps (take-append-drop (i + 1) run.lines)) ∙ unit_steps-append (take (i + 1) run.lines) (drop (i + 1) run.lines) ∙ ap (λ rs. rs ++ back) (step ∙ ap (λ rs. front ++ rs) (append-nil (replicate k r))) ∙ append_assoc front (replicate k r) back in
     let steps = subst (λ rs. Steps a s.first rs s.later) whole s.follows.steps in
     let one = split a s.first front (replicate k r ++ back) s.later steps in
-    let there = subst (λ (ds : List runs.Config). At s.first ds (length front) one.middle) (sym one.is) (get_left (s.first ∷ one.left) one.right (length front) one.middle one.ends) in
+    let there = subst (λ (ds : List runs.Config). At s.first ds (length front) one.middle) (sym one.is) (slice_get_left (s.first ∷ one.left) one.right (length front) one.middle one.ends) in
     let same : one.middle ≡ c = same_Some one.middle c (sym there ∙ here) in
     let two = split a one.middle (replicate k r) back one.right one.rest in
     let fires : Fires a r k one.middle two.middle = record { later = two.left; steps = two.steps; last = subst (λ n. At one.middle two.left n two.middle) (length-replicate k r) two.ends } in

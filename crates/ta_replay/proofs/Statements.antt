@@ -1,30 +1,28 @@
 -- Steps and marks, and what is none.
-use Rattle.std.proofs.Common.{ℕ, ℤ, zero, suc, pos, negsuc, ◌<◌, ◌≡◌, ◌≤ℤ◌, false, eqb, false-eqb, List, [], ◌∷◌, length, map, get_or, refl, sym, ap, subst, ◌∙◌, Some, None, Option, inl, inr, arith, codes}
-use Rattle.std.proofs.lemmas.Int.{ints}
+use Rattle.std.proofs.Common.{ℕ, ℤ, zero, suc, pos, ◌<◌, ◌≡◌, ◌≤ℤ◌, eqb, List, [], ◌∷◌, length, map, get_or, refl, sym, ap, subst, ◌∙◌, Some, None, Option, inl, inr, arith, codes}
 use Rattle.std.proofs.lemmas.List.{length-map}
+use Rattle.std.specs.List.{AllByRecursion}
+use Rattle.ta_base.proofs.Integers.{natural_of}
+use Rattle.ta_base.proofs.Lists.{differ}
 use Rattle.ta_automaton.specs.declared.automaton.Automaton.{Automaton}
 use Rattle.ta_automaton.specs.declared.pattern.Pattern.{Pattern}
 use Rattle.ta_automaton.specs.Names.{Name}
 use Rattle.ta_automaton.specs.Shape.{name_of, RuleWithin}
-use Rattle.ta_automaton.specs.Lists.{Each}
 use Rattle.ta_replay.specs.declared.run.RunLine.{RunLine}
 use Rattle.ta_replay.specs.declared.run.RunLine.TheVariants.{Step, Mark}
 use Rattle.ta_replay.specs.Fits.{LineFits}
 use Rattle.ta_replay.specs.RunText.{name_at, valued_line, line_of}
-use Rattle.ta_replay.specs.TextFaults.{IsWord, IsNamed, IsValued, FormFor}
+use Rattle.ta_replay.specs.TextFaults.{IsNamedLine, IsValued, FormFor}
+use Rattle.ta_base.specs.Bytes.{IsWord}
 use Rattle.ta_replay.specs.Inside.Reading.{NoNameOf, IsStatement}
 use Rattle.ta_replay.proofs.Forms.{valued_same}
-
--- lists that differ at a place
-pub differ : (k : ℕ) (xs ys : List ℕ) → eqb (get_or xs k 0) (get_or ys k 0) ≡ false → xs ≡ ys → ⊥
-differ k xs ys apart e = let at = ap (λ zs. get_or zs k 0) e in let other = false-eqb (get_or xs k 0) (get_or ys k 0) (sym apart) in other at
 
 -- a name of a file is a word
 pub word_of : (name : List ℕ) → Name name → IsWord name
 word_of name is = record { first = is.spelled.first; each = is.spelled.each }
 
 -- names of items are words
-pub words_at : {X : Type 0} (f : X → List ℕ) (P : X → Type 0) (xs : List X) (i : ℕ) → ((x : X) → P x → IsWord (f x)) → Each P xs → i < length xs → IsWord (name_at (map f xs) i)
+pub words_at : {X : Type 0} (f : X → List ℕ) (P : X → Type 0) (xs : List X) (i : ℕ) → ((x : X) → P x → IsWord (f x)) → AllByRecursion P xs → i < length xs → IsWord (name_at (map f xs) i)
 words_at f P [] i words each within = absurd (omega arith)
 words_at f P (x ∷ xs) zero words each within = words x each.0
 words_at f P (x ∷ xs) (suc i) words each within = words_at f P xs i words each.1 (omega arith)
@@ -33,17 +31,12 @@ words_at f P (x ∷ xs) (suc i) words each within = words_at f P xs i words each
 pub rule_word : (a : Automaton) (rule : ℕ) → rule < length a.rules → IsWord (name_at (map name_of a.rules) rule)
 rule_word a rule within = words_at name_of (RuleWithin (length a.shared) (length a.locations) (length a.rise) (length a.fall)) a.rules rule (λ r is. word_of r.name is.name) a.shape.rules_within within
 
--- a value from 1 on
-natural_of : (z : ℤ) → pos 1 ≤ℤ z → pos 0 ≤ℤ z
-natural_of (pos n) low = omega (arith, ints)
-natural_of (negsuc n) low = absurd (omega (arith, ints))
-
 -- the line of a step has that form
 pub step_form : (a : Automaton) (p : Pattern) (rule : ℕ) (factor : ℤ) (line : List ℕ) → LineFits a p (Step rule factor) → line ≡ line_of a p (Step rule factor) → IsValued (codes "step ") line (name_at (map name_of a.rules) rule) factor
 step_form a p rule factor line fits e = record { spelled = rule_word a rule fits.0; number = record { natural = natural_of factor fits.1; fits = fits.2 }; text = e }
 
 -- a step of factor 0 has no form
-pub no_factor : (line name : List ℕ) (factor : ℤ) → IsValued (codes "step ") line name factor → (pos 1 ≤ℤ factor → ⊥) → ((other : List ℕ) → IsNamed (codes "mark ") line other → ⊥) → (line ≡ codes "end" → ⊥) → FormFor None line → ⊥
+pub no_factor : (line name : List ℕ) (factor : ℤ) → IsValued (codes "step ") line name factor → (pos 1 ≤ℤ factor → ⊥) → ((other : List ℕ) → IsNamedLine (codes "mark ") line other → ⊥) → (line ≡ codes "end" → ⊥) → FormFor None line → ⊥
 no_factor line name factor is low mark end (inl (other, z, are, some)) = let same = (valued_same (codes "step ") line other name z factor are is).1 in low (subst (λ y. pos 1 ≤ℤ y) same some)
 no_factor line name factor is low mark end (inr (inl (other, named))) = mark other named
 no_factor line name factor is low mark end (inr (inr e)) = end e

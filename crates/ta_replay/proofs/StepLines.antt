@@ -1,6 +1,7 @@
 -- The lines of steps and marks.
 use Rattle.std.proofs.Common.{ℕ, ◌+◌, ◌≡◌, List, [], ◌∷◌, ◌++◌, length, map, sym, ap, subst, ◌∙◌}
 use Rattle.std.proofs.lemmas.List.{map_push}
+use Rattle.ta_base.proofs.Each.{each_push}
 use Rattle.ta_automaton.specs.declared.automaton.Automaton.{Automaton}
 use Rattle.ta_automaton.specs.declared.pattern.Pattern.{Pattern}
 use Rattle.ta_replay.specs.declared.run.RunLine.{RunLine}
@@ -9,7 +10,7 @@ use Rattle.ta_replay.specs.declared.fault.RunFault.TheVariants as fault
 use Rattle.ta_replay.specs.Fits.{LineFits}
 use Rattle.ta_replay.specs.RunText.{line_of, lines_text}
 use Rattle.ta_replay.specs.Inside.Reading.{StepRead, StepRefused, StepsBegun, StepsStopped, StepsFault}
-use Rattle.ta_replay.proofs.ListSteps.{each_push, read_more}
+use Rattle.ta_replay.proofs.ListSteps.{read_more}
 
 -- one step more is read
 pub steps_more : (a : Automaton) (p : Pattern) (bytes rest behind : List ℕ) (lines : List RunLine) (l : RunLine) → StepsBegun a p bytes lines rest → StepRead a p rest l behind → StepsBegun a p bytes (lines ++ l ∷ []) behind

@@ -1,13 +1,14 @@
 -- A text is that of a run, or has a first fault at a line.
-use Rattle.std.proofs.Common.{◌≡◌, ◌≢◌, ◌⊎◌, ℕ, zero, suc, ◌+◌, ◌<◌, List, [], ◌∷◌, ◌++◌, length, inl, inr, ⊎_elim, refl, sym, ap, subst, ◌∙◌, append_assoc, append-nil, length-append, arith}
+use Rattle.std.proofs.Common.{◌≡◌, ◌≢◌, ◌⊎◌, ℕ, zero, suc, ◌+◌, ◌<◌, List, [], ◌∷◌, ◌++◌, length, inl, inr, ⊎_elim, refl, sym, ap, ◌∙◌, append_assoc, append-nil, length-append, arith}
 use Rattle.std.proofs.lemmas.Bool.{cases_eq}
 use Rattle.ta_automaton.specs.declared.file.File.{File}
 use Rattle.ta_replay.specs.declared.run.Run.{Run}
 use Rattle.ta_replay.specs.declared.fault.RunFault.TheVariants as fault
 use Rattle.ta_replay.specs.Fits.{Fits}
 use Rattle.ta_replay.specs.RunText.{run_lines, lines_text}
-use Rattle.ta_replay.specs.TextFaults.{Avoids, FormAt, GoesOn, IsTrailing, IsUnfinished, IsMisformed}
-use Rattle.ta_replay.specs.Answers.{HasRun, HasTextFault}
+use Rattle.ta_replay.specs.TextFaults.{LinesGoOn, IsTrailingRun, IsUnfinishedRun, IsMisformed}
+use Rattle.ta_base.specs.Bytes.{Avoids}
+use Rattle.ta_replay.specs.Answers.{HasRunText, HasTextFault}
 
 -- the bytes before the first line feed, and what stands behind it
 record Cut (bytes : List ℕ) : Type 0 where
@@ -29,8 +30,8 @@ lines_push : (ls : List (List ℕ)) (line behind : List ℕ) → lines_text ls +
 lines_push [] line behind = sym (append_assoc line (10 ∷ []) behind)
 lines_push (l ∷ ls) line behind = append_assoc l (10 ∷ lines_text ls) (line ++ (10 ∷ behind)) ∙ ap (λ (x : List ℕ). l ++ (10 ∷ x)) (lines_push ls line behind) ∙ sym (append_assoc l (10 ∷ lines_text (ls ++ line ∷ [])) behind)
 
-module _ (file : File) (bytes : List ℕ) (no_run : ¬ HasRun file bytes) (no_fault : ¬ HasTextFault file bytes) where
-  malformed : (ls : List (List ℕ)) (rest : List ℕ) → bytes ≡ lines_text ls ++ rest → IsTrailing file ls rest ⊎ (IsUnfinished file ls rest ⊎ IsMisformed file ls rest) → ⊥
+module _ (file : File) (bytes : List ℕ) (no_run : ¬ HasRunText file bytes) (no_fault : ¬ HasTextFault file bytes) where
+  malformed : (ls : List (List ℕ)) (rest : List ℕ) → bytes ≡ lines_text ls ++ rest → IsTrailingRun file ls rest ⊎ (IsUnfinishedRun file ls rest ⊎ IsMisformed file ls rest) → ⊥
   malformed ls rest text why = no_fault (fault.Line (length ls + 1), (λ e. cc), record { ls = ls; rest = rest; text = text; fault = why; place = refl })
 
   -- the lines are a whole run
@@ -39,12 +40,12 @@ module _ (file : File) (bytes : List ℕ) (no_run : ¬ HasRun file bytes) (no_fa
   whole run ls (b ∷ behind) fits same text = malformed ls (b ∷ behind) text (inl (record { whole = record { run = run; fits = fits; lines = same }; some = λ e. cc }))
 
   -- a run goes on with one more line, which is its last or not
-  named : (ls : List (List ℕ)) (behind : List ℕ) (run : Run) (later : List (List ℕ)) → Fits file run → run_lines file run ≡ ls ++ later → bytes ≡ lines_text ls ++ behind → (GoesOn file ls → ⊥) → ⊥
+  named : (ls : List (List ℕ)) (behind : List ℕ) (run : Run) (later : List (List ℕ)) → Fits file run → run_lines file run ≡ ls ++ later → bytes ≡ lines_text ls ++ behind → (LinesGoOn file ls → ⊥) → ⊥
   named ls behind run [] fits lines text go_on = whole run ls behind fits (lines ∙ append-nil ls) text
   named ls behind run (next ∷ later) fits lines text go_on = go_on (inr (record { run = run; next = next; later = later; fits = fits; lines = lines }))
 
   -- behind lines that a run begins with, with fewer than n bytes left
-  going : (n : ℕ) (ls : List (List ℕ)) (left : List ℕ) → length left < n → bytes ≡ lines_text ls ++ left → GoesOn file ls → ⊥
+  going : (n : ℕ) (ls : List (List ℕ)) (left : List ℕ) → length left < n → bytes ≡ lines_text ls ++ left → LinesGoOn file ls → ⊥
   going zero ls left few text begun = absurd (omega arith)
   going (suc n) ls left few text begun =
       ⊎_elim

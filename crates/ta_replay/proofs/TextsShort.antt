@@ -1,16 +1,18 @@
 -- The text of a run is short where the run has few lines.
-use Rattle.std.proofs.Common.{ℕ, ℤ, zero, suc, pos, negsuc, ◌+◌, ◌*◌, ◌<◌, ◌≤◌, ◌^◌, ◌≤ℤ◌, ◌≡◌, List, [], ◌∷◌, ◌++◌, length, map, arith, length-append, codes, decimal, lit<, lit≤, Option, Some, None, ap, subst, sym}
-use Rattle.std.specs.Prelude.{slice_get, unsigned_abs}
+use Rattle.std.proofs.Common.{ℕ, ℤ, zero, suc, pos, negsuc, ◌+◌, ◌*◌, ◌<◌, ◌≤◌, ◌^◌, ◌≡◌, List, [], ◌∷◌, ◌++◌, length, map, arith, length-append, codes, lit<, lit≤, ap, subst, sym}
 use Rattle.std.specs.Fmt.{signed_decimal}
 use Rattle.std.proofs.lemmas.Fmt.{length-decimal-le_wide}
 use Rattle.std.proofs.lemmas.Int.{ints}
 use Rattle.std.proofs.lemmas.List.{length-map}
+use Rattle.std.specs.List.{AllByRecursion}
+use Rattle.ta_base.proofs.Each.{each_append, each_back, each_front}
+use Rattle.ta_base.proofs.Ranges.{rises_length}
+use Rattle.ta_automaton.proofs.Thresholds.{pattern_within}
 use Rattle.ta_automaton.specs.declared.automaton.Automaton.{Automaton}
 use Rattle.ta_automaton.specs.declared.pattern.Event.{Event}
 use Rattle.ta_automaton.specs.declared.pattern.Pattern.{Pattern}
-use Rattle.ta_automaton.specs.declared.rule.Rule.{Rule}
 use Rattle.ta_automaton.specs.declared.file.File.{File}
-use Rattle.ta_automaton.specs.Lists.{Each, EachFrom, Rises}
+use Rattle.ta_base.specs.Lists.{EachFrom}
 use Rattle.ta_automaton.specs.Names.{Name}
 use Rattle.ta_automaton.specs.Patterns.{EventWithin, PatternWithin, event_name, pattern_name}
 use Rattle.ta_automaton.specs.Shape.{RuleWithin, name_of}
@@ -22,27 +24,26 @@ use Rattle.ta_replay.specs.Fits.{Fits, LineFits}
 use Rattle.ta_replay.specs.Pieces.{steps_count}
 use Rattle.ta_replay.specs.RunText.{Slot, name_at, named_line, valued_line, parameter_slot, start_slot, parameter_slots, start_slots, slots, value_lines, line_of, head_line, run_lines, lines_text, run_text}
 use Rattle.ta_replay.specs.Shows.{marks_count}
-use Rattle.ta_replay.proofs.ListSteps.{each-append, each_front, each_back}
-use Rattle.ta_replay.proofs.RunFacts.{behind_head, pattern_within, run_lines_are, values_natural, values_of}
+use Rattle.ta_replay.proofs.RunFacts.{behind_head, run_lines_are, values_natural, values_of}
 
 -- names of at most 64 bytes, and one of them by its number
 abbrev IsShortName : List ℕ → Type 0
 IsShortName name = length name ≤ 64
 
-name_short : (names : List (List ℕ)) (i : ℕ) → Each IsShortName names → length (name_at names i) ≤ 64
+name_short : (names : List (List ℕ)) (i : ℕ) → AllByRecursion IsShortName names → length (name_at names i) ≤ 64
 name_short [] i each = lit≤ tt
 name_short (n ∷ ns) zero each = each.0
 name_short (n ∷ ns) (suc i) each = name_short ns i each.1
 
-short_names : {X : Type 0} (f : X → List ℕ) (P : X → Type 0) (xs : List X) → ((x : X) → P x → Name (f x)) → Each P xs → Each IsShortName (map f xs)
+short_names : {X : Type 0} (f : X → List ℕ) (P : X → Type 0) (xs : List X) → ((x : X) → P x → Name (f x)) → AllByRecursion P xs → AllByRecursion IsShortName (map f xs)
 short_names f P [] gives each = tt
 short_names f P (x ∷ xs) gives each = ((gives x each.0).limit, short_names f P xs gives each.1)
 
-short_each : (names : List (List ℕ)) → Each Name names → Each IsShortName names
+short_each : (names : List (List ℕ)) → AllByRecursion Name names → AllByRecursion IsShortName names
 short_each [] each = tt
 short_each (n ∷ ns) each = (each.0.limit, short_each ns each.1)
 
-short_events : (places k : ℕ) (events : List Event) → EachFrom (EventWithin places) k events → Each IsShortName (map event_name events)
+short_events : (places k : ℕ) (events : List Event) → EachFrom (EventWithin places) k events → AllByRecursion IsShortName (map event_name events)
 short_events places k [] each = tt
 short_events places k (e ∷ es) each = (each.0.name.limit, short_events places (k + 1) es each.1)
 
@@ -70,7 +71,7 @@ record IsShortSlot (slot : Slot) : Type 0 where
   few : length slot.word ≤ 10
   short : length slot.name ≤ 64
 
-values_short : (ss : List Slot) (vs : List ℤ) → Each IsShortSlot ss → Each Value vs → Each IsShortLine (value_lines ss vs)
+values_short : (ss : List Slot) (vs : List ℤ) → AllByRecursion IsShortSlot ss → AllByRecursion Value vs → AllByRecursion IsShortLine (value_lines ss vs)
 values_short [] vs each natural = tt
 values_short (s ∷ ss) [] each natural = tt
 values_short (s ∷ ss) (v ∷ vs) each natural = (valued_short s.word s.name v each.0.few each.0.short natural.0, values_short ss vs each.1 natural.1)
@@ -80,23 +81,16 @@ values_few [] vs = lit≤ tt
 values_few (s ∷ ss) [] = omega arith
 values_few (s ∷ ss) (v ∷ vs) = omega (arith, values_few ss vs)
 
-parameters_short : (names : List (List ℕ)) → Each IsShortName names → Each IsShortSlot (map parameter_slot names)
+parameters_short : (names : List (List ℕ)) → AllByRecursion IsShortName names → AllByRecursion IsShortSlot (map parameter_slot names)
 parameters_short [] each = tt
 parameters_short (n ∷ ns) each = (record { few = lit≤ tt; short = each.0 }, parameters_short ns each.1)
 
-starts_short : (a : Automaton) (ls : List ℕ) → Each IsShortName a.locations → Each IsShortSlot (map (start_slot a) ls)
+starts_short : (a : Automaton) (ls : List ℕ) → AllByRecursion IsShortName a.locations → AllByRecursion IsShortSlot (map (start_slot a) ls)
 starts_short a [] each = tt
 starts_short a (l ∷ ls) each = (record { few = lit≤ tt; short = name_short a.locations l each }, starts_short a ls each)
 
-rises_few : (low high : ℕ) (xs : List ℕ) → low ≤ high → Rises low high xs → low + length xs ≤ high
-rises_few low high [] within rises = omega arith
-rises_few low high (x ∷ xs) within rises =
-    let least = rises.0 in
-    let most = rises.1 in
-    omega (arith, rises_few (x + 1) high xs (omega arith) rises.2)
-
 -- the lines of steps and marks
-steps_short : (a : Automaton) (p : Pattern) (lines : List RunLine) → Each IsShortName (map name_of a.rules) → Each IsShortName (map event_name p.events) → Each (LineFits a p) lines → Each IsShortLine (map (line_of a p) lines)
+steps_short : (a : Automaton) (p : Pattern) (lines : List RunLine) → AllByRecursion IsShortName (map name_of a.rules) → AllByRecursion IsShortName (map event_name p.events) → AllByRecursion (LineFits a p) lines → AllByRecursion IsShortLine (map (line_of a p) lines)
 steps_short a p [] rules events fit = tt
 steps_short a p (Step rule factor ∷ lines) rules events fit =
     let fits = fit.0 in
@@ -111,7 +105,7 @@ lines_counted [] = omega arith
 lines_counted (Step rule factor ∷ lines) = omega (arith, lines_counted lines)
 lines_counted (Mark event ∷ lines) = omega (arith, lines_counted lines)
 
-text_short : (ls : List (List ℕ)) → Each IsShortLine ls → length (lines_text ls) ≤ 121 * length ls
+text_short : (ls : List (List ℕ)) → AllByRecursion IsShortLine ls → length (lines_text ls) ≤ 121 * length ls
 text_short [] each = lit≤ tt
 text_short (l ∷ ls) each = let here = each.0 in omega (arith, length-append l (10 ∷ lines_text ls), text_short ls each.1)
 
@@ -128,13 +122,13 @@ run_text_short file run fits few =
     let within = pattern_within file run.pattern p fits.named in
     let events = short_events (length a.parameters + length a.shared + length a.locations) 0 p.events within.events in
     let patterns = short_names pattern_name (PatternWithin (length a.parameters + length a.shared + length a.locations) (length a.locations)) file.patterns (λ q is. is.name) file.shape.within in
-    let slots_are = each-append IsShortSlot (parameter_slots a) (start_slots a) (parameters_short a.parameters parameters) (starts_short a a.initial locations) in
+    let slots_are = each_append IsShortSlot (parameter_slots a) (start_slots a) (parameters_short a.parameters parameters) (starts_short a a.initial locations) in
     let values = values_short (slots a) (values_of run) slots_are (values_natural file run fits) in
-    let body = each-append IsShortLine (map (line_of a p) run.lines) (codes "end" ∷ []) (steps_short a p run.lines rules events fits.lines) (lit≤ tt, tt) in
+    let body = each_append IsShortLine (map (line_of a p) run.lines) (codes "end" ∷ []) (steps_short a p run.lines rules events fits.lines) (lit≤ tt, tt) in
     let head = named_short (codes "run ") (name_at (map pattern_name file.patterns) run.pattern) (lit≤ tt) (name_short (map pattern_name file.patterns) run.pattern patterns) in
-    let all : Each IsShortLine (head_line file run.pattern ∷ behind_head a p (values_of run) run.lines) = (head, each-append IsShortLine (value_lines (slots a) (values_of run)) (map (line_of a p) run.lines ++ (codes "end" ∷ [])) values body) in
+    let all : AllByRecursion IsShortLine (head_line file run.pattern ∷ behind_head a p (values_of run) run.lines) = (head, each_append IsShortLine (value_lines (slots a) (values_of run)) (map (line_of a p) run.lines ++ (codes "end" ∷ [])) values body) in
     let are = run_lines_are file run p fits.named in
-    let text = text_short (run_lines file run) (subst (Each IsShortLine) (sym are) all) in
+    let text = text_short (run_lines file run) (subst (AllByRecursion IsShortLine) (sym are) all) in
     let counted = ap (λ (ls : List (List ℕ)). length ls) are in
     let behind = length-append (value_lines (slots a) (values_of run)) (map (line_of a p) run.lines ++ (codes "end" ∷ [])) in
     let last = length-append (map (line_of a p) run.lines) (codes "end" ∷ []) in
@@ -143,7 +137,7 @@ run_text_short file run fits few =
     let slot_count = length-append (parameter_slots a) (start_slots a) in
     let parameter_count = length-map a.parameters parameter_slot in
     let start_count = length-map a.initial (start_slot a) in
-    let initial = rises_few 0 (length a.locations) a.initial (omega arith) a.shape.initial_rises in
+    let initial = rises_length 0 (length a.locations) a.initial (omega arith) a.shape.initial_rises in
     let few_parameters = limits.parameters_limit in
     let few_locations = limits.locations_limit in
     omega (arith, text, counted, behind, last, mapped, value_count, slot_count, parameter_count, start_count, initial)

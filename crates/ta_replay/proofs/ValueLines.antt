@@ -1,14 +1,15 @@
 -- The lines of values.
-use Rattle.std.proofs.Common.{ℕ, ℤ, zero, suc, ◌+◌, ◌<◌, ◌≤◌, ◌≡◌, List, [], ◌∷◌, ◌++◌, length, map, refl, sym, ap, subst, ◌∙◌, Some, length-append, arith, get_or}
+use Rattle.std.proofs.Common.{ℕ, ℤ, ◌+◌, ◌<◌, ◌≤◌, ◌≡◌, List, [], ◌∷◌, ◌++◌, length, map, refl, sym, ap, subst, ◌∙◌, Some, length-append, arith, get_or}
 use Rattle.std.specs.Prelude.{slice_get, option_map}
 use Rattle.std.proofs.lemmas.Option.{slice_get-map, slice_get_read, slice_get_within}
-use Rattle.ta_automaton.specs.Lists.{Rises}
+use Rattle.ta_base.proofs.Each.{each_append, each_push}
+use Rattle.ta_base.proofs.Lists.{slice_get_left, slice_get_right}
 use Rattle.ta_counter.specs.Values.{Value}
 use Rattle.ta_replay.specs.declared.fault.RunFault.{RunFault}
 use Rattle.ta_replay.specs.declared.fault.RunFault.TheVariants as fault
 use Rattle.ta_replay.specs.RunText.{Slot, valued_line, value_lines, lines_text}
 use Rattle.ta_replay.specs.Inside.Reading.{ValueRead, ValueRefused, ValuesBegun, ValuesRead, ValuesStopped, ValuesFault}
-use Rattle.ta_replay.proofs.ListSteps.{each_push, each-append, slice_get_left, slice_get_right, read_more, read_both}
+use Rattle.ta_replay.proofs.ListSteps.{read_more, read_both}
 
 pub value_lines-nil : (asked : List Slot) → value_lines asked [] ≡ []
 value_lines-nil [] = refl
@@ -74,12 +75,6 @@ pub value_stop : {X : Type 0} (f : X → Slot) (xs items : List X) (i : ℕ) (x 
 value_stop f xs items i x bytes rest name values first number e begun same count within is called place refused =
     values_stop (map f xs) bytes rest values (f x) first number e begun (slot_at f xs items i (length values) x same count within is) place (subst (λ n. ValueRefused (f x).word n rest number e) called refused)
 
--- numbers that rise are below the end
-pub rises_below : (low high : ℕ) (xs : List ℕ) (i d : ℕ) → Rises low high xs → i < length xs → get_or xs i d < high
-rises_below low high [] i d rises within = absurd (omega arith)
-rises_below low high (x ∷ xs) zero d rises within = rises.1
-rises_below low high (x ∷ xs) (suc i) d rises within = rises_below (x + 1) high xs i d rises.2 (omega arith)
-
 -- the values of the first part stop
 values_stopped_left : (ss ts : List Slot) (bytes : List ℕ) (first : ℕ) (e : RunFault) → ValuesStopped ss bytes first e → ValuesStopped (ss ++ ts) bytes first e
 values_stopped_left ss ts bytes first e s =
@@ -100,7 +95,7 @@ values_left ss ts bytes first e s = values_stopped_left ss ts bytes first e s
 -- values behind values
 values_join : (ss ts : List Slot) (bytes mid rest : List ℕ) (values others : List ℤ) → ValuesRead ss bytes values mid → ValuesBegun ts mid others rest → ValuesBegun (ss ++ ts) bytes (values ++ others) rest
 values_join ss ts bytes mid rest values others read begun = record {
-  numbers = each-append Value values others read.begun.numbers begun.numbers;
+  numbers = each_append Value values others read.begun.numbers begun.numbers;
   read = read_both bytes mid rest (value_lines ss values) (value_lines ts others) read.begun.read begun.read ∙ ap (λ ls. lines_text ls ++ rest) (sym (value_lines-append ss ts values others read.all));
 }
 
@@ -129,12 +124,3 @@ values_both ss ts bytes mid rest values others read more = record {
   begun = values_join ss ts bytes mid rest values others read more.begun;
   all = length-append values others ∙ ap (λ n. n + length others) read.all ∙ ap (λ n. length ss + n) more.all ∙ sym (length-append ss ts);
 }
-
--- numbers that rise are no more than the numbers below the end
-pub rises_count : (low high : ℕ) (xs : List ℕ) → low ≤ high → Rises low high xs → length xs + low ≤ high
-rises_count low high [] within rises = omega arith
-rises_count low high (x ∷ xs) within rises =
-    let least = rises.0 in
-    let most = rises.1 in
-    let more = rises_count (x + 1) high xs (omega arith) rises.2 in
-    omega arith

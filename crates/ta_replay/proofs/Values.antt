@@ -1,5 +1,7 @@
 -- what the values of a configuration say
-use Rattle.std.proofs.Common.{◌≡◌, ℕ, pos, List, [], ◌∷◌, length, sym, ap, ◌∙◌, subst, slice_get, Some}
+use Rattle.std.proofs.Common.{◌≡◌, ℕ, pos, length, sym, ap, ◌∙◌, subst, slice_get, Some}
+use Rattle.std.specs.List.{AllByRecursion}
+use Rattle.ta_base.proofs.Each.{each_from_at, weaker_each}
 use Rattle.ta_linear.specs.declared.row.Row.{Row}
 use Rattle.ta_automaton.specs.declared.automaton.Automaton.{Automaton}
 use Rattle.ta_automaton.specs.declared.condition.Comparison.{Comparison}
@@ -7,9 +9,7 @@ use Rattle.ta_automaton.specs.declared.condition.Condition.{Condition}
 use Rattle.ta_automaton.specs.declared.pattern.Event.{Event}
 use Rattle.ta_automaton.specs.declared.pattern.Pattern.{Pattern}
 use Rattle.ta_automaton.specs.Forms.{ConditionOver, RowOver}
-use Rattle.ta_automaton.specs.Lists.{Each}
 use Rattle.ta_automaton.specs.Patterns.{EventWithin}
-use Rattle.ta_automaton.proofs.Thresholds.{each_from_at}
 use Rattle.ta_counter.specs.declared.config.Config.{Config}
 use Rattle.ta_counter.specs.Checks.{Over, RowsOver}
 use Rattle.ta_linear.specs.Terms.{IsNormal}
@@ -19,13 +19,9 @@ use Rattle.ta_pattern.proofs.Agreeing.{counter_there, keeps_empty}
 use Rattle.ta_replay.specs.Inside.Following.{PatternOf}
 use Rattle.ta_replay.specs.Replays.{EmptyAt}
 
-pub each_weaker : {X : Type 0} (P Q : X → Type 0) → ((x : X) → P x → Q x) → (xs : List X) → Each P xs → Each Q xs
-each_weaker P Q h [] all = tt
-each_weaker P Q h (x ∷ xs) all = (h x all.0, each_weaker P Q h xs all.1)
-
 over_condition : (places : ℕ) (condition : Condition) → ConditionOver places condition → Over places condition
 over_condition places condition all =
-    each_weaker (λ (k : Comparison). Each (RowOver places) k.rows) (λ (k : Comparison). RowsOver places k.rows) (λ k rows. each_weaker (RowOver places) (λ (row : Row). IsNormal 0 places row.form.terms) (λ row over. over.below) k.rows rows) condition.comparisons all
+    weaker_each (λ (k : Comparison). AllByRecursion (RowOver places) k.rows) (λ (k : Comparison). RowsOver places k.rows) (λ k rows. weaker_each (RowOver places) (λ (row : Row). IsNormal 0 places row.form.terms) (λ row over. over.below) k.rows rows) condition.comparisons all
 
 pub event_over : (a : Automaton) (p : Pattern) (config : Config) → PatternOf a p → IsOf a config → (e : ℕ) (event : Event) → slice_get p.events e ≡ Some event → Over (length config.values.items) event.condition
 event_over a p config within is e event at =

@@ -8,13 +8,13 @@ use Rattle.ta_replay.specs.RunText.{IsRunText}
 use Rattle.ta_replay.specs.TextFaults.{TextFault}
 
 -- a text is that of a run of the file
-abbrev pub HasRun : File → List ℕ → Type 0
-HasRun file bytes = (run : Run) × IsRunText file run bytes
+abbrev pub HasRunText : File → List ℕ → Type 0
+HasRunText file bytes = (run : Run) × IsRunText file run bytes
 
 -- a text has a first fault, in the form or in the name of a line
 abbrev pub HasTextFault : File → List ℕ → Type 0
 HasTextFault file bytes = (e : RunFault) × (e ≢ fault.Memory) × TextFault file bytes e
 
 -- a text is that of a run of the file, or has a first fault at a line: the two don't both fail. It is said so since no test of the specs tells whether some run goes on with a line.
-abbrev pub TextsHaveAnswers : Type 0
-TextsHaveAnswers = (file : File) (bytes : List ℕ) → ¬ HasRun file bytes → ¬ HasTextFault file bytes → ⊥
+abbrev pub RunTextsHaveAnswers : Type 0
+RunTextsHaveAnswers = (file : File) (bytes : List ℕ) → ¬ HasRunText file bytes → ¬ HasTextFault file bytes → ⊥

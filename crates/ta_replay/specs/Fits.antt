@@ -1,10 +1,10 @@
 -- Runs that fit a file (this project's profile)
 use Rattle.std.specs.Prelude.{pos, ◌<◌, ◌≤ℤ◌, ◌≡◌, length, slice_get, Some}
+use Rattle.std.specs.List.{AllByRecursion}
 use Rattle.ta_linear.specs.Numbers.{InRange}
 use Rattle.ta_automaton.specs.declared.automaton.Automaton.{Automaton}
 use Rattle.ta_automaton.specs.declared.pattern.Pattern.{Pattern}
 use Rattle.ta_automaton.specs.declared.file.File.{File}
-use Rattle.ta_automaton.specs.Lists.{Each}
 use Rattle.ta_counter.specs.Values.{Value}
 use Rattle.ta_replay.specs.declared.run.Run.{Run}
 use Rattle.ta_replay.specs.declared.run.RunLine.{RunLine}
@@ -20,7 +20,7 @@ pub record Fits (file : File) (run : Run) : Type 0 where
   pub pattern : Pattern
   pub named : slice_get file.patterns run.pattern ≡ Some pattern
   pub parameters : length run.parameters ≡ length file.automaton.parameters
-  pub parameters_natural : Each Value run.parameters
+  pub parameters_natural : AllByRecursion Value run.parameters
   pub counts : length run.counts ≡ length file.automaton.initial
-  pub counts_natural : Each Value run.counts
-  pub lines : Each (LineFits file.automaton pattern) run.lines
+  pub counts_natural : AllByRecursion Value run.counts
+  pub lines : AllByRecursion (LineFits file.automaton pattern) run.lines

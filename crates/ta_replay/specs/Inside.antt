@@ -1,3 +1,2 @@
 pub mod Following
-pub mod Numerals
 pub mod Reading

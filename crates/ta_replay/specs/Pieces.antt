@@ -1,10 +1,10 @@
 -- What stands between two cuts of a run, and the lines that it makes (this project's profile)
 use Rattle.std.specs.Prelude.{ℕ, ℤ, pos, ◌+◌, ◌*◌, ◌<◌, ◌≤◌, ◌≡◌, List, [], ◌∷◌, ◌++◌, length, map, take, slice_get, Option, None, Some, IsBitSet}
+use Rattle.std.specs.List.{AllByRecursion}
 use Rattle.ta_automaton.specs.declared.automaton.Automaton.{Automaton}
 use Rattle.ta_automaton.specs.declared.pattern.Event.{Event}
 use Rattle.ta_automaton.specs.declared.pattern.Pattern.{Pattern}
-use Rattle.ta_automaton.specs.Lists.{Each}
-use Rattle.ta_automaton.specs.Masks.{In}
+use Rattle.ta_base.specs.Masks.{In}
 use Rattle.ta_automaton.specs.Runs as runs
 use Rattle.ta_automaton.specs.Runs.{At, HappensAt, Holds}
 use Rattle.ta_automaton.specs.Sums.{times_in}
@@ -12,7 +12,7 @@ use Rattle.ta_pattern.specs.Empty.{KeepsEmpty}
 use Rattle.ta_replay.specs.declared.run.Run.{Run}
 use Rattle.ta_replay.specs.declared.run.RunLine.{RunLine}
 use Rattle.ta_replay.specs.declared.run.RunLine.TheVariants.{Step, Mark}
-use Rattle.ta_replay.specs.Shows.{unit_steps, BeginsWith, ShowsPattern}
+use Rattle.ta_replay.specs.Shows.{unit_steps, IsFirstConfig, ShowsPattern}
 
 -- what stands between two cuts: steps, each a rule with how often it fires; then, where the piece ends with a fall, the
 -- one step that makes it; then the events that are marked where the piece ends
@@ -55,18 +55,18 @@ rule_of step = step.0
 
 -- the steps of a piece are of rules of the automaton, at most one of each
 pub record OncePerRule (a : Automaton) (piece : Piece) : Type 0 where
-  pub exist : Each (λ (step : ℕ × ℤ). step.0 < length a.rules) piece.steps
+  pub exist : AllByRecursion (λ (step : ℕ × ℤ). step.0 < length a.rules) piece.steps
   pub once : (r : ℕ) → times_in r (map rule_of piece.steps) ≤ 1
 
 -- pieces with at most one step of each rule have at most one step more than there are rules, each
 abbrev pub PiecesAreShort : Type 0
 PiecesAreShort =
-    (a : Automaton) (pieces : List Piece) → Each (OncePerRule a) pieces
+    (a : Automaton) (pieces : List Piece) → AllByRecursion (OncePerRule a) pieces
     → steps_count (pieces_lines pieces) ≤ length pieces * (length a.rules + 1)
 
 -- at most (guards + events) * (rules + 1) steps
-abbrev pub IsShort : Automaton → Pattern → List RunLine → Type 0
-IsShort a p lines = steps_count lines ≤ (length a.rise + length a.fall + length p.events) * (length a.rules + 1)
+abbrev pub HasFewSteps : Automaton → Pattern → List RunLine → Type 0
+HasFewSteps a p lines = steps_count lines ≤ (length a.rise + length a.fall + length p.events) * (length a.rules + 1)
 
 -- how many unit steps stand before the marks of piece k
 abbrev pub steps_until : List Piece → ℕ → ℕ
@@ -78,7 +78,7 @@ pub record PiecesHappen (a : Automaton) (p : Pattern) (run : Run) (pieces : List
   pub lines : run.lines ≡ pieces_lines pieces
   pub first : runs.Config
   pub later : List runs.Config
-  pub begins : BeginsWith a run first
+  pub begins : IsFirstConfig a run first
   pub follows : runs.Run a first (unit_steps run.lines) later
   pub start : Holds p.start first
   pub kept_empty : (k : ℕ) (c : runs.Config) → At first later k c → KeepsEmpty p.empty c

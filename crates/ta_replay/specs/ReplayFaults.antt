@@ -11,7 +11,7 @@ use Rattle.ta_counter.specs.declared.config.Config.{Config}
 use Rattle.ta_counter.specs.declared.fault.StepFault.{StepFault}
 use Rattle.ta_counter.specs.declared.fault.StepFault.TheVariants as step
 use Rattle.ta_counter.specs.declared.fault.StartFault.TheVariants as start
-use Rattle.ta_counter.specs.Checks.{RowFails, RowLeaves, ConditionPasses, ConditionStopsAt}
+use Rattle.ta_counter.specs.Checks.{RowFails, RowOutOfRange, ConditionPasses, ConditionStopsAt}
 use Rattle.ta_counter.specs.Configs.{IsOf}
 use Rattle.ta_counter.specs.Starts.{StartsAt, MayStart, StartFails}
 use Rattle.ta_counter.specs.Steps.{StepFails}
@@ -21,11 +21,11 @@ use Rattle.ta_replay.specs.declared.run.RunLine.TheVariants.{Step, Mark}
 use Rattle.ta_replay.specs.declared.fault.RunFault.{RunFault}
 use Rattle.ta_replay.specs.declared.fault.RunFault.TheVariants.{Line, Name, Resilience, Processes, Start, NotEmpty, Guard, Count, Event, MissingEvent, Overflow, Order, Memory}
 use Rattle.ta_replay.specs.Shows.{IsMarked}
-use Rattle.ta_replay.specs.Replays.{ReplayStays, ValuesAfter, EmptyAt, InOrder, Takes, LinePasses, FirstFilled, MayFollow}
+use Rattle.ta_replay.specs.Replays.{ReplayStays, ValuesAfter, EmptyAt, InOrder, Takes, LinePasses, FirstFilled, MayTakeLines}
 
 -- the number of line i of the steps and marks: line 1 names the pattern, and a line for each parameter and each initial location follows
-abbrev pub line_number : Automaton → ℕ → ℕ
-line_number a i = 2 + length a.parameters + length a.initial + i
+abbrev pub run_line_number : Automaton → ℕ → ℕ
+run_line_number a i = 2 + length a.parameters + length a.initial + i
 
 -- the checks of a step before `empty` refuse
 abbrev pub StepStops : Automaton → List ℤ → ℕ → ℤ → StepFault → Type 0
@@ -52,7 +52,7 @@ EventStops p Marked values Bad e =
 -- how a mark refuses, its line having a number
 abbrev pub MarkRefuses : Pattern → (ℕ → Type 0) → List ℤ → ℕ → ℕ → RunFault → Type 0
 MarkRefuses p Marked values e number (Order line) = (line ≡ number) × ¬ InOrder p Marked e
-MarkRefuses p Marked values e number (Overflow line) = (line ≡ number) × EventStops p Marked values RowLeaves e
+MarkRefuses p Marked values e number (Overflow line) = (line ≡ number) × EventStops p Marked values RowOutOfRange e
 MarkRefuses p Marked values e number (Event line) = (line ≡ number) × EventStops p Marked values RowFails e
 MarkRefuses p Marked values e number _ = ⊥
 
@@ -63,7 +63,7 @@ LineRefuses a p Marked values (Mark e) number fault = MarkRefuses p Marked value
 
 -- line i refuses, and no check before it does
 pub record LineStops (a : Automaton) (p : Pattern) (run : Run) (fault : RunFault) : Type 0 where
-  pub may_follow : MayFollow a p run
+  pub may_follow : MayTakeLines a p run
   pub i : ℕ
   pub before : (j : ℕ) (line : RunLine) → j < i → slice_get run.lines j ≡ Some line → LinePasses a p run j line
   pub config : Config
@@ -71,7 +71,7 @@ pub record LineStops (a : Automaton) (p : Pattern) (run : Run) (fault : RunFault
   pub reached : ValuesAfter a run (take i run.lines) config.values.items
   pub line : RunLine
   pub at : slice_get run.lines i ≡ Some line
-  pub refuses : LineRefuses a p (IsMarked (take i run.lines)) config.values.items line (line_number a i) fault
+  pub refuses : LineRefuses a p (IsMarked (take i run.lines)) config.values.items line (run_line_number a i) fault
 
 -- how the first configuration is refused
 abbrev pub ConfigRefuses : Automaton → Run → RunFault → Type 0
@@ -83,7 +83,7 @@ ConfigRefuses a run _ = ⊥
 -- how the start condition refuses at some values
 abbrev pub StartRefuses : Pattern → List ℤ → RunFault → Type 0
 StartRefuses p values (Start k) = ConditionStopsAt (point_of values) (RowFails (point_of values)) p.start k
-StartRefuses p values (Overflow line) = (line ≡ 1) × ((k : ℕ) × ConditionStopsAt (point_of values) (RowLeaves (point_of values)) p.start k)
+StartRefuses p values (Overflow line) = (line ≡ 1) × ((k : ℕ) × ConditionStopsAt (point_of values) (RowOutOfRange (point_of values)) p.start k)
 StartRefuses p values _ = ⊥
 
 -- the run may start, and comparison k of the start condition stops at a bad row
@@ -105,7 +105,7 @@ pub record FilledAt (a : Automaton) (p : Pattern) (run : Run) (line : ℕ) : Typ
 
 -- no line refuses, and this event is the first without a mark
 pub record LacksMark (a : Automaton) (p : Pattern) (run : Run) (e : ℕ) : Type 0 where
-  pub may_follow : MayFollow a p run
+  pub may_follow : MayTakeLines a p run
   pub passes : (j : ℕ) (line : RunLine) → slice_get run.lines j ≡ Some line → LinePasses a p run j line
   pub exists : e < length p.events
   pub missing : ¬ IsMarked run.lines e
@@ -124,7 +124,7 @@ FirstRefusal a p run (Count line) = LineStops a p run (Count line)
 FirstRefusal a p run (Event line) = LineStops a p run (Event line)
 FirstRefusal a p run (MissingEvent e) = LacksMark a p run e
 FirstRefusal a p run (Overflow line) =
-    ConfigRefuses a run (Overflow line) ⊎ ((line ≡ 1) × ((k : ℕ) × StartStops a p run RowLeaves k)) ⊎ LineStops a p run (Overflow line)
+    ConfigRefuses a run (Overflow line) ⊎ ((line ≡ 1) × ((k : ℕ) × StartStops a p run RowOutOfRange k)) ⊎ LineStops a p run (Overflow line)
 FirstRefusal a p run (Order line) = LineStops a p run (Order line)
 FirstRefusal a p run Memory = ⊥
 

@@ -16,7 +16,7 @@ use Rattle.ta_automaton.specs.Sums.{total}
 use Rattle.ta_counter.specs.Checks.{AllPass, ConditionPasses}
 use Rattle.ta_counter.specs.Configs.{sum_of}
 use Rattle.ta_counter.specs.Starts.{StartsAt, MayStart, ProcessesStay}
-use Rattle.ta_counter.specs.Steps.{AllGrow, Taken, before_last}
+use Rattle.ta_counter.specs.Steps.{AllGrow, StepIsTaken, before_last}
 use Rattle.ta_replay.specs.declared.run.Run.{Run}
 use Rattle.ta_replay.specs.declared.run.RunLine.{RunLine}
 use Rattle.ta_replay.specs.declared.run.RunLine.TheVariants.{Step, Mark}
@@ -45,7 +45,7 @@ pub record InOrder (p : Pattern) (Marked : ℕ → Type 0) (e : ℕ) : Type 0 wh
 
 -- no check of a step refuses, and it leads from values to values
 abbrev pub Takes : Automaton → ℕ → ℤ → List ℤ → List ℤ → Type 0
-Takes a r factor values after = (rule : Rule) → slice_get a.rules r ≡ Some rule → Taken a rule factor values after
+Takes a r factor values after = (rule : Rule) → slice_get a.rules r ≡ Some rule → StepIsTaken a rule factor values after
 
 -- no check of a mark refuses: the event is in order, and its condition holds
 abbrev pub MarkPasses : Pattern → (ℕ → Type 0) → List ℤ → ℕ → Type 0
@@ -77,7 +77,7 @@ pub record FirstFilled (a : Automaton) (p : Pattern) (run : Run) (j : ℕ) : Typ
   pub before : (i l : ℕ) → i < j → slice_get a.initial i ≡ Some l → IsBitSet p.empty l → point_of run.counts i ≡ pos 0
 
 -- no check before the lines refuses: the run may start, the start condition holds, and no location of `empty` has a process
-pub record MayFollow (a : Automaton) (p : Pattern) (run : Run) : Type 0 where
+pub record MayTakeLines (a : Automaton) (p : Pattern) (run : Run) : Type 0 where
   pub may_start : MayStart a run.parameters run.counts
   pub first : List ℤ
   pub starts : StartsAt a run.parameters run.counts first

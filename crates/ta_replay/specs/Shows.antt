@@ -32,7 +32,7 @@ abbrev pub IsMarked : List RunLine → ℕ → Type 0
 IsMarked lines event = (i : ℕ) × MarksAt lines i event
 
 -- the run's parameters, and its start counts at the initial locations
-pub record BeginsWith (a : Automaton) (run : Run) (first : runs.Config) : Type 0 where
+pub record IsFirstConfig (a : Automaton) (run : Run) (first : runs.Config) : Type 0 where
   pub parameters : first.parameters ≡ naturals run.parameters
   pub counts : (j l : ℕ) → slice_get a.initial j ≡ Some l → slice_index first.counters l ≡ slice_index (naturals run.counts) j
 
@@ -48,7 +48,7 @@ pub record MarkedOnce (lines : List RunLine) (first : runs.Config) (later : List
 pub record ShowsPattern (a : Automaton) (p : Pattern) (run : Run) : Type 0 where
   pub first : runs.Config
   pub later : List runs.Config
-  pub begins : BeginsWith a run first
+  pub begins : IsFirstConfig a run first
   pub follows : runs.Run a first (unit_steps run.lines) later
   pub start : Holds p.start first
   pub kept_empty : (k : ℕ) (c : runs.Config) → At first later k c → KeepsEmpty p.empty c

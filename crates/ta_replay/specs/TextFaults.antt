@@ -1,7 +1,5 @@
 -- The first fault of a text that is no run of a file (this project's profile)
-use Rattle.std.specs.Prelude.{ℕ, ℤ, zero, suc, pos, ◌+◌, ◌≡◌, ◌≢◌, ◌≤ℤ◌, ◌⊎◌, List, [], ◌∷◌, ◌++◌, length, codes, slice_get, Option, None, Some, IsTrue}
-use Rattle.std.specs.List.{AllByRecursion}
-use Rattle.ta_syntax.specs.Kinds.{BeginsByLetter, is_word}
+use Rattle.std.specs.Prelude.{ℕ, ℤ, zero, suc, pos, ◌+◌, ◌≡◌, ◌≢◌, ◌≤ℤ◌, ◌⊎◌, List, [], ◌∷◌, ◌++◌, length, codes, slice_get, Option, None, Some}
 use Rattle.ta_automaton.specs.declared.automaton.Automaton.{Automaton}
 use Rattle.ta_automaton.specs.declared.file.File.{File}
 use Rattle.ta_counter.specs.Values.{Value}
@@ -10,18 +8,10 @@ use Rattle.ta_replay.specs.declared.fault.RunFault.{RunFault}
 use Rattle.ta_replay.specs.declared.fault.RunFault.TheVariants as fault
 use Rattle.ta_replay.specs.Fits.{Fits}
 use Rattle.ta_replay.specs.RunText.{Slot, slots, named_line, valued_line, run_lines, lines_text}
-
--- a byte that doesn't occur
-abbrev pub Avoids : ℕ → List ℕ → Type 0
-Avoids byte bytes = AllByRecursion (λ b. b ≢ byte) bytes
-
--- a letter or `_`, then letters, digits and `_`; it may be a keyword, and of any length
-pub record IsWord (name : List ℕ) : Type 0 where
-  pub first : BeginsByLetter name
-  pub each : AllByRecursion (λ b. IsTrue (is_word b)) name
+use Rattle.ta_base.specs.Bytes.{Avoids, IsWord}
 
 -- a line of this word and a name
-pub record IsNamed (word line name : List ℕ) : Type 0 where
+pub record IsNamedLine (word line name : List ℕ) : Type 0 where
   pub spelled : IsWord name
   pub text : line ≡ named_line word name
 
@@ -32,7 +22,7 @@ pub record IsValued (word line name : List ℕ) (value : ℤ) : Type 0 where
   pub text : line ≡ valued_line word name value
 
 abbrev pub HasName : List ℕ → List ℕ → Type 0
-HasName word line = (name : List ℕ) × IsNamed word line name
+HasName word line = (name : List ℕ) × IsNamedLine word line name
 
 abbrev pub HasValue : List ℕ → List ℕ → Type 0
 HasValue word line = (name : List ℕ) × (value : ℤ) × IsValued word line name value
@@ -52,7 +42,7 @@ FormAt a zero line = HasName (codes "run ") line
 FormAt a (suc before) line = FormFor (slice_get (slots a) before) line
 
 -- the lines are a whole run
-pub record IsWhole (file : File) (ls : List (List ℕ)) : Type 0 where
+pub record IsWholeRun (file : File) (ls : List (List ℕ)) : Type 0 where
   pub run : Run
   pub fits : Fits file run
   pub lines : run_lines file run ≡ ls
@@ -66,34 +56,34 @@ pub record IsFront (file : File) (ls : List (List ℕ)) : Type 0 where
   pub lines : run_lines file run ≡ ls ++ (next ∷ later)
 
 -- no line yet, or lines that a run begins with and that aren't all of it
-abbrev pub GoesOn : File → List (List ℕ) → Type 0
-GoesOn file ls = (ls ≡ []) ⊎ IsFront file ls
+abbrev pub LinesGoOn : File → List (List ℕ) → Type 0
+LinesGoOn file ls = (ls ≡ []) ⊎ IsFront file ls
 
 -- something stands behind the end
-pub record IsTrailing (file : File) (ls : List (List ℕ)) (rest : List ℕ) : Type 0 where
-  pub whole : IsWhole file ls
+pub record IsTrailingRun (file : File) (ls : List (List ℕ)) (rest : List ℕ) : Type 0 where
+  pub whole : IsWholeRun file ls
   pub some : rest ≢ []
 
 -- the next line is unfinished or absent
-pub record IsUnfinished (file : File) (ls : List (List ℕ)) (rest : List ℕ) : Type 0 where
-  pub begun : GoesOn file ls
+pub record IsUnfinishedRun (file : File) (ls : List (List ℕ)) (rest : List ℕ) : Type 0 where
+  pub begun : LinesGoOn file ls
   pub no_feed : Avoids 10 rest
 
 -- the next line has a form that may not stand there
 pub record IsMisformed (file : File) (ls : List (List ℕ)) (rest : List ℕ) : Type 0 where
   pub line : List ℕ
   pub behind : List ℕ
-  pub begun : GoesOn file ls
+  pub begun : LinesGoOn file ls
   pub next : rest ≡ line ++ (10 ∷ behind)
   pub no_feed : Avoids 10 line
   pub other : FormAt file.automaton (length ls) line → ⊥
 
 -- N1: the first fault is in the form of this line, or in its place
-pub record IsMalformed (file : File) (bytes : List ℕ) (number : ℕ) : Type 0 where
+pub record IsMalformedRun (file : File) (bytes : List ℕ) (number : ℕ) : Type 0 where
   pub ls : List (List ℕ)
   pub rest : List ℕ
   pub text : bytes ≡ lines_text ls ++ rest
-  pub fault : IsTrailing file ls rest ⊎ (IsUnfinished file ls rest ⊎ IsMisformed file ls rest)
+  pub fault : IsTrailingRun file ls rest ⊎ (IsUnfinishedRun file ls rest ⊎ IsMisformed file ls rest)
   pub place : number ≡ length ls + 1
 
 -- N2: the first fault is that this line's form may stand there, but no run goes on with it
@@ -102,14 +92,14 @@ pub record IsMisnamed (file : File) (bytes : List ℕ) (number : ℕ) : Type 0 w
   pub line : List ℕ
   pub behind : List ℕ
   pub text : bytes ≡ lines_text ls ++ (line ++ (10 ∷ behind))
-  pub begun : GoesOn file ls
+  pub begun : LinesGoOn file ls
   pub form : FormAt file.automaton (length ls) line
   pub unnamed : (run : Run) (later : List (List ℕ)) → Fits file run → run_lines file run ≡ ls ++ (line ∷ later) → ⊥
   pub place : number ≡ length ls + 1
 
 -- why a text is refused: by the form or by the name of a line, and nothing is said of memory
 abbrev pub TextFault : File → List ℕ → RunFault → Type 0
-TextFault file bytes (fault.Line number) = IsMalformed file bytes number
+TextFault file bytes (fault.Line number) = IsMalformedRun file bytes number
 TextFault file bytes (fault.Name number) = IsMisnamed file bytes number
 TextFault file bytes fault.Memory = Unit {0}
 TextFault file bytes _ = ⊥

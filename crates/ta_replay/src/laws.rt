@@ -2,7 +2,7 @@
 //! functions do nothing: their contracts state the laws.
 #![tactic(auto)]
 
-ghost use Rattle.ta_replay.specs.Answers.{TextsHaveAnswers};
+ghost use Rattle.ta_replay.specs.Answers.{RunTextsHaveAnswers};
 ghost use Rattle.ta_replay.specs.Determined.{RefusalsAreDetermined, TextsAreDetermined};
 ghost use Rattle.ta_replay.specs.Shows.{ShownRunsOccur};
 ghost use Rattle.ta_replay.specs.Pieces.{PiecesAreShort, PiecesShow};
@@ -24,7 +24,7 @@ pub fn pieces_show()
 
 /// A text is that of a run of the file, or has a first fault at a line.
 pub fn texts_have_answers()
-    ensures { TextsHaveAnswers }
+    ensures { RunTextsHaveAnswers }
 {}
 
 /// A text is that of one run, or has one first fault, and not both.

@@ -21,5 +21,4 @@ pub use numbers::read_number;
 pub use reading::read_run;
 pub use replaying::replay;
 pub use run::{Run, RunLine, Shown};
-pub use words::split_at_byte;
 pub use writing::print_run;

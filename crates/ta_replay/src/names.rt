@@ -6,7 +6,8 @@ ghost use Rattle.ta_automaton.specs.Patterns.{event_name, pattern_name};
 ghost use Rattle.ta_automaton.specs.Shape.{name_of};
 ghost use Rattle.ta_replay.specs.Inside.Reading.{IsNameOf, NoNameOf};
 
-use ta_automaton::{Event, Pattern, Rule, Text};
+use ta_automaton::{Event, Pattern, Rule};
+use ta_base::Text;
 
 /// Whether a name is spelled so.
 pub fn is_called(name: &Text, bytes: &[u8]) -> bool

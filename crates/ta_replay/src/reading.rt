@@ -3,15 +3,17 @@
 
 ghost use Rattle.std.specs.Prelude.{◌≡◌, ◌≢◌, ◌+◌, ◌<◌, ◌≤◌, ◌^◌, ◌++◌, ◌∷◌, [], length, codes, slice_get, ℕ, ◌↔◌, ◌⊎◌, IsTrue, IfOk, IfErr, IsErrAnd, MatchOption};
 ghost use Rattle.ta_replay.specs.RunText.{IsRunText, name_at, parameter_slots, start_slots};
-ghost use Rattle.ta_replay.specs.TextFaults.{IsMalformed, IsMisnamed, TextFault};
+ghost use Rattle.ta_replay.specs.TextFaults.{IsMalformedRun, IsMisnamed, TextFault};
 ghost use Rattle.ta_replay.specs.Inside.Reading.{HeadRead, ValueRead, ValueRefused, ValuesRead, ValuesFault, IsStatement, StatementRefused, StepRead, StepRefused, StepsRead, StepsFault};
 
 use crate::fault::RunFault;
 use crate::names::{find_event, find_pattern, find_rule};
 use crate::run::{Run, RunLine};
-use crate::words::{read_named, read_valued, split_at_byte};
+use crate::words::{read_named, read_valued};
 use std::alloc::Global;
-use ta_automaton::{Automaton, File, List, Pattern};
+use ta_automaton::{Automaton, File, Pattern};
+use ta_base::List;
+use ta_base::bytes::split_at_byte;
 
 /// A step fires its rule at least so often.
 const LEAST: i128 = 1;
@@ -24,7 +26,7 @@ pub fn read_run(alloc: Global, file: &File, bytes: &[u8]) -> Result<Run, RunFaul
     ensures one { IfOk result (λ run. (other : Run) → IsRunText file.now other bytes.now → other ≡ run) }
     ensures fault { IfErr result (λ fault. TextFault file.now bytes.now fault) }
     ensures only { (run : Run) → IsRunText file.now run bytes.now → IfErr result (λ fault. fault ≡ RunFault.Memory) }
-    ensures malformed { (number : ℕ) → IsMalformed file.now bytes.now number → IsErrAnd result (λ fault. (fault ≡ RunFault.Line number) ⊎ (fault ≡ RunFault.Memory)) }
+    ensures malformed { (number : ℕ) → IsMalformedRun file.now bytes.now number → IsErrAnd result (λ fault. (fault ≡ RunFault.Line number) ⊎ (fault ≡ RunFault.Memory)) }
     ensures misnamed { (number : ℕ) → IsMisnamed file.now bytes.now number → IsErrAnd result (λ fault. (fault ≡ RunFault.Name number) ⊎ (fault ≡ RunFault.Memory)) }
 {
     let (number, rest) = read_head(file, bytes)?;

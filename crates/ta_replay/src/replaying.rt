@@ -2,7 +2,7 @@
 #![tactic(auto)]
 
 ghost use Rattle.std.specs.Prelude.{ℕ, pos, ◌≤ℤ◌, ◌≡◌, ◌<◌, ◌≤◌, ◌^◌, ◌-◌, ◌↔◌, length, min, IsTrue, IsBitSet, IfErr, IfOk, OnOk, IfSome, IfNone};
-ghost use Rattle.ta_automaton.specs.Lists.{Each};
+ghost use Rattle.std.specs.List.{AllByRecursion};
 ghost use Rattle.ta_linear.specs.Values.{point_of};
 ghost use Rattle.ta_counter.specs.Checks.{ConditionPasses, Over};
 ghost use Rattle.ta_counter.specs.Configs.{IsOf};
@@ -11,13 +11,14 @@ ghost use Rattle.ta_replay.specs.Fits.{Fits, LineFits};
 ghost use Rattle.ta_replay.specs.Shows.{Shows, ShowsPattern, factor_of, factors_sum, shown_of};
 ghost use Rattle.ta_replay.specs.Replays.{EmptyAt, FirstFilled, InOrder, LineTakes, NoneFilled, MarkPasses, NumbersStay, ReplayStays, Takes};
 ghost use Rattle.ta_replay.specs.ReplayFaults.{ConfigRefuses, FirstRefusal, LineRefuses, MarkRefuses, RefusedThough, ReplayFault, StartRefuses, StepRefuses};
-ghost use Rattle.ta_replay.specs.Inside.Following.{EventsOver, FirstUnmarked, FitsPattern, Followed, Following, MarksAfter, PatternOf, StartsWith};
+ghost use Rattle.ta_replay.specs.Inside.Following.{EventsOver, FirstUnmarked, FitsPattern, AreFollowed, Following, MarksAfter, PatternOf, StartsWith};
 ghost use Rattle.ta_replay.specs.declared.fault.RunFault.TheVariants.{Memory};
 ghost use Rattle.ta_replay.specs.declared.run.RunLine.TheVariants.{Mark};
 
 use crate::fault::RunFault;
 use crate::run::{Run, RunLine, Shown};
 use ta_automaton::{Automaton, File, Pattern};
+use ta_base::masks::contains;
 use ta_counter::{Config, StartFault, StepFault};
 use ta_pattern::{failing_start, holds_empty, holds_event};
 
@@ -34,7 +35,7 @@ pub fn replay(file: &File, run: &Run) -> Result<Shown, RunFault>
 {
     let pattern = &file.patterns.as_slice()[run.pattern as usize];
     replay_pattern(&file.automaton, pattern, run)?;
-    // Each event has exactly one mark now.
+    // AllByRecursion event has exactly one mark now.
     Ok(Shown {
         steps: steps_of(run.lines.as_slice()),
         marks: pattern.events.as_slice().len() as u32,
@@ -76,9 +77,9 @@ fn begin(automaton: &Automaton, pattern: &Pattern, run: &Run) -> Result<Config, 
 /// The configuration of the run's parameters and start counts.
 fn first_config(automaton: &Automaton, run: &Run) -> Result<Config, RunFault>
     requires parameters { length run.now.parameters ≡ length automaton.now.parameters }
-    requires parameters_natural { Each Value run.now.parameters }
+    requires parameters_natural { AllByRecursion Value run.now.parameters }
     requires counts { length run.now.counts ≡ length automaton.now.initial }
-    requires counts_natural { Each Value run.now.counts }
+    requires counts_natural { AllByRecursion Value run.now.counts }
     ensures starts { IfOk result (λ config. StartsWith automaton.now run.now config) }
     ensures refuses { IfErr result (ConfigRefuses automaton.now run.now) }
 {
@@ -129,7 +130,7 @@ fn follow(
     requires fits { FitsPattern automaton.now pattern.now run.now }
     requires within { PatternOf automaton.now pattern.now }
     requires begins { Following automaton.now pattern.now run.now 0 config 0 }
-    ensures follows { IfOk result (Followed automaton.now pattern.now run.now) }
+    ensures follows { IfOk result (AreFollowed automaton.now pattern.now run.now) }
     ensures refuses { IfErr result (FirstRefusal automaton.now pattern.now run.now) }
 {
     let first = 2 + automaton.parameters.as_slice().len() + automaton.initial.as_slice().len();
@@ -282,12 +283,4 @@ fn has_all(mask: u8, part: u8) -> bool
         }
     }
     true
-}
-
-/// Whether a mask has a number.
-fn contains(mask: u32, number: u32) -> bool
-    requires { number < 32 }
-    ensures { IsTrue result ↔ IsBitSet mask number }
-{
-    mask & (1 << number) != 0
 }

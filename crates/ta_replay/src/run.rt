@@ -1,7 +1,7 @@
 //! Runs.
 #![tactic(auto)]
 
-use ta_automaton::List;
+use ta_base::List;
 
 /// A line of a run: a rule that fires as often as the factor says, or an event that is marked at the
 /// moment that the steps so far lead to.

@@ -2,14 +2,15 @@
 #![tactic(auto)]
 
 ghost use Rattle.std.specs.Prelude.{◌≡◌, ◌++◌, ◌∷◌, [], length, map, codes, string_bytes, OnOk, IfOk};
-ghost use Rattle.ta_automaton.specs.Lists.{Each};
+ghost use Rattle.std.specs.List.{AllByRecursion};
 ghost use Rattle.ta_replay.specs.Fits.{Fits, LineFits};
 ghost use Rattle.ta_replay.specs.RunText.{parameter_slots, start_slots, value_lines, line_of, lines_text, run_text};
 
 use crate::reading::location_name;
 use crate::run::{Run, RunLine};
 use std::alloc::{AllocError, Global};
-use ta_automaton::{Automaton, File, Pattern, Text};
+use ta_automaton::{Automaton, File, Pattern};
+use ta_base::Text;
 
 /// The text of a run that fits a file. Reading it gives the run again.
 pub fn print_run(alloc: Global, file: &File, run: &Run) -> Result<Text, AllocError>
@@ -62,7 +63,7 @@ fn write_lines(
     pattern: &Pattern,
     lines: &[RunLine],
 ) -> Result<(), AllocError>
-    requires { Each (LineFits automaton.now pattern.now) lines.now }
+    requires { AllByRecursion (LineFits automaton.now pattern.now) lines.now }
     ensures { OnOk result (string_bytes text.new ≡ string_bytes text.old ++ lines_text (map (line_of automaton.now pattern.now) lines.now ++ (codes "end" ∷ []))) }
 {
     for line in lines {

@@ -1,17 +1,15 @@
 -- Reports of a file with one text have the same sample and the same verdicts.
-use Rattle.std.proofs.Common.{ℕ, ℤ, ◌<◌, ◌≤◌, ◌^◌, ◌≡◌, List, [], ◌∷◌, ◌++◌, length, codes, decimal, refl, sym, ap, ◌∙◌, append_assoc, arith, ◌⊎◌, inl, inr, lit<, lit≤}
+use Rattle.std.proofs.Common.{ℕ, ℤ, ◌<◌, ◌^◌, ◌≡◌, List, [], ◌∷◌, ◌++◌, length, codes, decimal, refl, sym, ap, ◌∙◌, append_assoc, arith, inl, inr, lit<, lit≤}
 use Rattle.std.specs.Fmt.{signed_decimal}
-use Rattle.std.specs.Str.Parse.{AllDigits}
-use Rattle.std.proofs.lemmas.Fmt.{decimal_injective, decimal_is_IsNumeral}
 use Rattle.std.proofs.lemmas.List.{append_cancel_left}
-use Rattle.std.proofs.lemmas.Str.Parse.{digit_from_value}
+use Rattle.std.specs.List.{AllByRecursion}
+use Rattle.ta_base.proofs.DecimalDigits.{number_other, number_same}
+use Rattle.ta_base.proofs.Lists.{apart_third, first_byte, heads_apart}
 use Rattle.ta_automaton.specs.declared.pattern.Pattern.{Pattern}
 use Rattle.ta_automaton.specs.declared.file.File.{File}
-use Rattle.ta_automaton.specs.Lists.{Each}
 use Rattle.ta_counter.specs.Values.{Value}
 use Rattle.ta_replay.specs.declared.run.Run.{Run as RunOf}
 use Rattle.ta_replay.specs.RunText.{run_text}
-use Rattle.ta_replay.proofs.Bytes.{first_byte}
 use Rattle.ta_replay.proofs.Decimals.{number_avoids, number_same as value_once}
 use Rattle.ta_replay.proofs.RunFronts.{run_front}
 use Rattle.ta_report.specs.declared.verdict.ReportKind.{ReportKind}
@@ -22,60 +20,18 @@ use Rattle.ta_report.specs.declared.verdict.Verdict.{Verdict}
 use Rattle.ta_report.specs.declared.verdict.Verdict.TheVariants.{Safe, Unsafe, Spent, Overflow}
 use Rattle.ta_report.specs.Report.{PlaceFits, ReportsAreDistinct, SampleFits, VerdictFits, overflow_text, place_text, run_part, sample_line, sample_text, spent_text, values_text, verdict_line, verdict_lines, verdict_text}
 
--- a number is written in digits
-written : (n : ℕ) → n < 2 ^ 64 → AllDigits 10 (decimal n)
-written n fits = (decimal_is_IsNumeral n fits).0.1
-
--- digits in front of a byte below them are determined
-digits_same : (low : ℕ) (xs ys r s : List ℕ) → low < 48 → AllDigits 10 xs → AllDigits 10 ys → xs ++ (low ∷ r) ≡ ys ++ (low ∷ s) → (xs ≡ ys) × (r ≡ s)
-digits_same low [] [] r s below dx dy e = let tail : r ≡ s = cc in (refl, tail)
-digits_same low [] (y ∷ ys) r s below dx dy e =
-    let range = digit_from_value y dy.0 in let least = range.0 in let same : low ≡ y = cc in absurd (omega arith)
-digits_same low (x ∷ xs) [] r s below dx dy e =
-    let range = digit_from_value x dx.0 in let least = range.0 in let same : x ≡ low = cc in absurd (omega arith)
-digits_same low (x ∷ xs) (y ∷ ys) r s below dx dy e =
-    let head : x ≡ y = cc in
-    let tail : xs ++ (low ∷ r) ≡ ys ++ (low ∷ s) = cc in
-    let more = digits_same low xs ys r s below dx.1 dy.1 tail in
-    let same = more.0 in
-    (cc, more.1)
-
--- a number in front of a byte below the digits is determined, and so is what stands behind it
-number_same : (low m n : ℕ) (r s : List ℕ) → low < 48 → m < 2 ^ 64 → n < 2 ^ 64 → decimal m ++ (low ∷ r) ≡ decimal n ++ (low ∷ s) → (m ≡ n) × (r ≡ s)
-number_same low m n r s below small fits e =
-    let parts = digits_same low (decimal m) (decimal n) r s below (written m small) (written n fits) e in
-    (decimal_injective m n small fits parts.0, parts.1)
-
--- a number and a letter begin otherwise
-front_other : (ds xs : List ℕ) (x : ℕ) (r : List ℕ) → AllDigits 10 ds → 0 < length ds → 58 ≤ x → ds ++ r ≡ x ∷ xs → ⊥
-front_other [] xs x r digits some high e = omega arith
-front_other (d ∷ ds) xs x r digits some high e =
-    let range = digit_from_value d digits.0 in let most = range.1 in let same : d ≡ x = cc in omega arith
-
-number_other : (n x : ℕ) (xs r : List ℕ) → n < 2 ^ 64 → 58 ≤ x → decimal n ++ r ≡ x ∷ xs → ⊥
-number_other n x xs r fits high e = front_other (decimal n) xs x r (written n fits) (decimal_is_IsNumeral n fits).0.0 high e
-
--- texts that begin otherwise differ
-pub apart : {X : Type 0} (x y : ℕ) (xs ys : List ℕ) → x < y ⊎ y < x → x ∷ xs ≡ y ∷ ys → X
-apart x y xs ys (inl less) e = let same : x ≡ y = cc in absurd (omega arith)
-apart x y xs ys (inr less) e = let same : x ≡ y = cc in absurd (omega arith)
-
--- texts that begin otherwise behind two bytes differ
-pub apart_third : {X : Type 0} (a b x y : ℕ) (xs ys : List ℕ) → x < y ⊎ y < x → a ∷ b ∷ x ∷ xs ≡ a ∷ b ∷ y ∷ ys → X
-apart_third a b x y xs ys other e = let tails : x ∷ xs ≡ y ∷ ys = cc in apart x y xs ys other tails
-
 -- the place in front of a line's end is determined
 pub place_same : (j k : ReportKind) (r s : List ℕ) → PlaceFits j → PlaceFits k → place_text j ++ (10 ∷ r) ≡ place_text k ++ (10 ∷ s) → (j ≡ k) × (r ≡ s)
 place_same (Pivot m) (Pivot n) r s fj fk e =
     let parts = number_same 10 m n r s (lit< tt) fj fk (append_cancel_left (codes "pivot ") _ _ e) in
     (ap Pivot parts.0, parts.1)
-place_same (Pivot m) Leaf r s fj fk e = apart 112 108 _ _ (inr (lit< tt)) e
-place_same (Pivot m) Run r s fj fk e = apart 112 114 _ _ (inl (lit< tt)) e
-place_same Leaf (Pivot n) r s fj fk e = apart 108 112 _ _ (inl (lit< tt)) e
+place_same (Pivot m) Leaf r s fj fk e = heads_apart 112 108 _ _ (inr (lit< tt)) e
+place_same (Pivot m) Run r s fj fk e = heads_apart 112 114 _ _ (inl (lit< tt)) e
+place_same Leaf (Pivot n) r s fj fk e = heads_apart 108 112 _ _ (inl (lit< tt)) e
 place_same Leaf Leaf r s fj fk e = (refl, append_cancel_left (codes "leaf\n") r s e)
-place_same Leaf Run r s fj fk e = apart 108 114 _ _ (inl (lit< tt)) e
-place_same Run (Pivot n) r s fj fk e = apart 114 112 _ _ (inr (lit< tt)) e
-place_same Run Leaf r s fj fk e = apart 114 108 _ _ (inr (lit< tt)) e
+place_same Leaf Run r s fj fk e = heads_apart 108 114 _ _ (inl (lit< tt)) e
+place_same Run (Pivot n) r s fj fk e = heads_apart 114 112 _ _ (inr (lit< tt)) e
+place_same Run Leaf r s fj fk e = heads_apart 114 108 _ _ (inr (lit< tt)) e
 place_same Run Run r s fj fk e = (refl, append_cancel_left (codes "run\n") r s e)
 
 -- what is said of a budget that is spent, and what stands behind it
@@ -113,7 +69,7 @@ value_front : (n : List ℕ) (v w : ℤ) (more rest t u : List ℕ) → (codes "
 value_front n v w more rest t u e = append_cancel_left (codes "=") _ _ (append_cancel_left n _ _ (append_cancel_left (codes " ") _ _ (sym (value_flat n v more t) ∙ e ∙ value_flat n w rest u)))
 
 -- the values in front of a line's end are determined
-values_same : (ns : List (List ℕ)) (vs ws : List ℤ) (r s : List ℕ) → length vs ≡ length ns → length ws ≡ length ns → Each Value vs → Each Value ws → values_text ns vs ++ (10 ∷ r) ≡ values_text ns ws ++ (10 ∷ s) → (vs ≡ ws) × (r ≡ s)
+values_same : (ns : List (List ℕ)) (vs ws : List ℤ) (r s : List ℕ) → length vs ≡ length ns → length ws ≡ length ns → AllByRecursion Value vs → AllByRecursion Value ws → values_text ns vs ++ (10 ∷ r) ≡ values_text ns ws ++ (10 ∷ s) → (vs ≡ ws) × (r ≡ s)
 values_same [] [] [] r s cv cw fv fw e = (refl, append_cancel_left (codes "\n") r s e)
 values_same [] [] (w ∷ ws) r s cv cw fv fw e = absurd (omega arith)
 values_same [] (v ∷ vs) ws r s cv cw fv fw e = absurd (omega arith)
@@ -137,19 +93,19 @@ sample_same file (sample.Sample vs) (sample.Sample ws) r s fx fy e =
     let names = file.automaton.parameters in
     let parts = values_same names vs ws r s fx.0 fy.0 fx.1 fy.1 (append_cancel_left (codes "sample") _ _ (sym (append_assoc (codes "sample") (values_text names vs) (10 ∷ r)) ∙ e ∙ append_assoc (codes "sample") (values_text names ws) (10 ∷ s))) in
     (ap sample.Sample parts.0, parts.1)
-sample_same file (sample.Sample vs) sample.Empty r s fx fy e = apart 115 110 _ _ (inr (lit< tt)) e
-sample_same file (sample.Sample vs) (sample.Spent n) r s fx fy e = apart 115 117 _ _ (inl (lit< tt)) e
-sample_same file (sample.Sample vs) (sample.Overflow n j) r s fx fy e = apart 115 117 _ _ (inl (lit< tt)) e
-sample_same file sample.Empty (sample.Sample ws) r s fx fy e = apart 110 115 _ _ (inl (lit< tt)) e
+sample_same file (sample.Sample vs) sample.Empty r s fx fy e = heads_apart 115 110 _ _ (inr (lit< tt)) e
+sample_same file (sample.Sample vs) (sample.Spent n) r s fx fy e = heads_apart 115 117 _ _ (inl (lit< tt)) e
+sample_same file (sample.Sample vs) (sample.Overflow n j) r s fx fy e = heads_apart 115 117 _ _ (inl (lit< tt)) e
+sample_same file sample.Empty (sample.Sample ws) r s fx fy e = heads_apart 110 115 _ _ (inl (lit< tt)) e
 sample_same file sample.Empty sample.Empty r s fx fy e = (refl, append_cancel_left (codes "none\n") r s e)
-sample_same file sample.Empty (sample.Spent n) r s fx fy e = apart 110 117 _ _ (inl (lit< tt)) e
-sample_same file sample.Empty (sample.Overflow n j) r s fx fy e = apart 110 117 _ _ (inl (lit< tt)) e
-sample_same file (sample.Spent m) (sample.Sample ws) r s fx fy e = apart 117 115 _ _ (inr (lit< tt)) e
-sample_same file (sample.Spent m) sample.Empty r s fx fy e = apart 117 110 _ _ (inr (lit< tt)) e
+sample_same file sample.Empty (sample.Spent n) r s fx fy e = heads_apart 110 117 _ _ (inl (lit< tt)) e
+sample_same file sample.Empty (sample.Overflow n j) r s fx fy e = heads_apart 110 117 _ _ (inl (lit< tt)) e
+sample_same file (sample.Spent m) (sample.Sample ws) r s fx fy e = heads_apart 117 115 _ _ (inr (lit< tt)) e
+sample_same file (sample.Spent m) sample.Empty r s fx fy e = heads_apart 117 110 _ _ (inr (lit< tt)) e
 sample_same file (sample.Spent m) (sample.Spent n) r s fx fy e = let parts = spent_same m n r s fx fy e in (ap sample.Spent parts.0, parts.1)
 sample_same file (sample.Spent m) (sample.Overflow n j) r s fx fy e = absurd (spent_other m n j r s fx e)
-sample_same file (sample.Overflow m j) (sample.Sample ws) r s fx fy e = apart 117 115 _ _ (inr (lit< tt)) e
-sample_same file (sample.Overflow m j) sample.Empty r s fx fy e = apart 117 110 _ _ (inr (lit< tt)) e
+sample_same file (sample.Overflow m j) (sample.Sample ws) r s fx fy e = heads_apart 117 115 _ _ (inr (lit< tt)) e
+sample_same file (sample.Overflow m j) sample.Empty r s fx fy e = heads_apart 117 110 _ _ (inr (lit< tt)) e
 sample_same file (sample.Overflow m j) (sample.Spent n) r s fx fy e = absurd (spent_other n m j s r fy (sym e))
 sample_same file (sample.Overflow m j) (sample.Overflow n k) r s fx fy e =
     let parts = overflow_same m n j k r s fx fy e in
@@ -176,21 +132,21 @@ verdict_same file (Safe m k) (Safe n l) r s fv fw e =
     let first = number_same 32 m n _ _ (lit< tt) fv.0 fw.0 (append_cancel_left (codes "safe, ") _ _ (sym (flat m k r) ∙ e ∙ flat n l s)) in
     let second = number_same 32 k l _ _ (lit< tt) fv.1 fw.1 (append_cancel_left (codes "nodes, ") _ _ first.1) in
     (ap (λ x. Safe x k) first.0 ∙ ap (λ y. Safe n y) second.0, append_cancel_left (codes "leaves\n") r s second.1)
-verdict_same file (Safe m k) (Unsafe n run) r s fv fw e = apart 115 117 _ _ (inl (lit< tt)) e
-verdict_same file (Safe m k) (Spent n) r s fv fw e = apart 115 117 _ _ (inl (lit< tt)) e
-verdict_same file (Safe m k) (Overflow n j) r s fv fw e = apart 115 117 _ _ (inl (lit< tt)) e
-verdict_same file (Unsafe m run) (Safe n l) r s fv fw e = apart 117 115 _ _ (inr (lit< tt)) e
+verdict_same file (Safe m k) (Unsafe n run) r s fv fw e = heads_apart 115 117 _ _ (inl (lit< tt)) e
+verdict_same file (Safe m k) (Spent n) r s fv fw e = heads_apart 115 117 _ _ (inl (lit< tt)) e
+verdict_same file (Safe m k) (Overflow n j) r s fv fw e = heads_apart 115 117 _ _ (inl (lit< tt)) e
+verdict_same file (Unsafe m run) (Safe n l) r s fv fw e = heads_apart 117 115 _ _ (inr (lit< tt)) e
 verdict_same file (Unsafe m run) (Unsafe n other) r s fv fw e =
     let first = number_same 32 m n _ _ (lit< tt) fv.0 fw.0 (append_cancel_left (codes "unsafe, ") _ _ (sym (unsafe_flat m run (run_text file run ++ r)) ∙ e ∙ unsafe_flat n other (run_text file other ++ s))) in
     let second = run_front file run other r s fv.1 fw.1 (append_cancel_left (codes "nodes\n") _ _ first.1) in
     (ap (λ x. Unsafe x run) first.0 ∙ ap (λ y. Unsafe n y) second.0, second.1)
 verdict_same file (Unsafe m run) (Spent n) r s fv fw e = apart_third 117 110 115 107 _ _ (inr (lit< tt)) e
 verdict_same file (Unsafe m run) (Overflow n j) r s fv fw e = apart_third 117 110 115 107 _ _ (inr (lit< tt)) e
-verdict_same file (Spent m) (Safe n l) r s fv fw e = apart 117 115 _ _ (inr (lit< tt)) e
+verdict_same file (Spent m) (Safe n l) r s fv fw e = heads_apart 117 115 _ _ (inr (lit< tt)) e
 verdict_same file (Spent m) (Unsafe n run) r s fv fw e = apart_third 117 110 107 115 _ _ (inl (lit< tt)) e
 verdict_same file (Spent m) (Spent n) r s fv fw e = let parts = spent_same m n r s fv fw e in (ap Spent parts.0, parts.1)
 verdict_same file (Spent m) (Overflow n j) r s fv fw e = absurd (spent_other m n j r s fv e)
-verdict_same file (Overflow m j) (Safe n l) r s fv fw e = apart 117 115 _ _ (inr (lit< tt)) e
+verdict_same file (Overflow m j) (Safe n l) r s fv fw e = heads_apart 117 115 _ _ (inr (lit< tt)) e
 verdict_same file (Overflow m j) (Unsafe n run) r s fv fw e = apart_third 117 110 107 115 _ _ (inl (lit< tt)) e
 verdict_same file (Overflow m j) (Spent n) r s fv fw e = absurd (spent_other n m j s r fw (sym e))
 verdict_same file (Overflow m j) (Overflow n k) r s fv fw e =
@@ -210,7 +166,7 @@ line_same file p v w r s fv fw e =
     verdict_same file v w r s fv fw (append_cancel_left (codes ": ") _ _ told)
 
 -- the verdicts of lines are determined
-lines_same : (file : File) (ps : List Pattern) (vs ws : List Verdict) → length vs ≡ length ps → length ws ≡ length ps → Each (VerdictFits file) vs → Each (VerdictFits file) ws → verdict_lines file ps vs ≡ verdict_lines file ps ws → vs ≡ ws
+lines_same : (file : File) (ps : List Pattern) (vs ws : List Verdict) → length vs ≡ length ps → length ws ≡ length ps → AllByRecursion (VerdictFits file) vs → AllByRecursion (VerdictFits file) ws → verdict_lines file ps vs ≡ verdict_lines file ps ws → vs ≡ ws
 lines_same file [] [] [] cv cw fv fw e = refl
 lines_same file [] [] (w ∷ ws) cv cw fv fw e = cc
 lines_same file [] (v ∷ vs) ws cv cw fv fw e = absurd (omega arith)

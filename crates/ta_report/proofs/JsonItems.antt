@@ -1,20 +1,18 @@
 -- The items of an array of JSON, as they are pushed.
-use Rattle.std.proofs.Common.{ℕ, ℤ, zero, suc, ◌+◌, ◌-◌, ◌<◌, ◌≤◌, ◌≡◌, inl, inr, false, ◌||◌, List, [], ◌∷◌, ◌++◌, map, length, take, get_or, refl, sym, ap, ◌∙◌, arith, length-append}
+use Rattle.std.proofs.Common.{ℕ, ℤ, zero, suc, ◌+◌, ◌-◌, ◌<◌, ◌≤◌, ◌≡◌, false, ◌||◌, List, [], ◌∷◌, ◌++◌, map, length, take, get_or, refl, sym, ap, ◌∙◌, arith, length-append}
 use Rattle.std.specs.Prelude.{◌==◌}
-use Rattle.std.specs.List.{onto_first, slice_split, take-map}
+use Rattle.std.specs.List.{slice_split, take-map, AllByRecursion}
 use Rattle.std.proofs.Math.Seq.{take-length}
-use Rattle.std.proofs.lemmas.Bool.Decides.{eqb_tells}
 use Rattle.std.proofs.lemmas.List.{map-append, length-map, take_all, take_more, take-append-le}
-use Rattle.std.proofs.lemmas.List.Splits.{slice_split-cons_no, slice_split-cons_yes}
 use Rattle.serde_json.specs.Data as json
 use Rattle.serde_json.specs.View.{items_of, items_view, view}
 use Rattle.serde_json.specs.Written.{has_float, items_have_float}
 use Rattle.serde_json.specs.declared.value.Value.{Value}
+use Rattle.ta_base.proofs.Lists.{split_line}
 use Rattle.ta_automaton.specs.declared.file.File.{File}
 use Rattle.ta_automaton.specs.declared.pattern.Pattern.{Pattern}
-use Rattle.ta_automaton.specs.Lists.{Each}
 use Rattle.ta_replay.specs.RunText.{lines_text, run_lines}
-use Rattle.ta_replay.specs.TextFaults.{Avoids}
+use Rattle.ta_base.specs.Bytes.{Avoids}
 use Rattle.ta_report.specs.declared.verdict.ReportSample.{ReportSample}
 use Rattle.ta_report.specs.declared.verdict.ReportSample.TheVariants as sample
 use Rattle.ta_report.specs.declared.verdict.Verdict.{Verdict}
@@ -80,14 +78,7 @@ pushed all i before after v d so_far is within here =
 pub all_pushed : (all : List json.Data) (i : ℕ) (vs : List Value) → map view vs ≡ take i all → length all ≤ i → items_view vs ≡ items_of all
 all_pushed all i vs is most = ap items_of (is ∙ take_all i all most)
 
--- lines, cut at their line feeds: behind the last one nothing stands
-split_line : (line rest : List ℕ) → Avoids 10 line → slice_split (λ b. b == 10) (line ++ (10 ∷ rest)) ≡ line ∷ slice_split (λ b. b == 10) rest
-split_line [] rest free = slice_split-cons_yes (λ b. b == 10) 10 rest refl
-split_line (x ∷ xs) rest free =
-    let other : (x == 10) ≡ false = elim (eqb_tells x 10) [ inl e ↦ absurd (free.0 e.1) | inr ne ↦ ne.0 ] in
-    slice_split-cons_no (λ b. b == 10) x (xs ++ (10 ∷ rest)) other ∙ ap (λ parts. onto_first x parts) (split_line xs rest free.1)
-
-pub split_lines : (ls : List (List ℕ)) → Each (Avoids 10) ls → slice_split (λ b. b == 10) (lines_text ls) ≡ ls ++ ([] ∷ [])
+pub split_lines : (ls : List (List ℕ)) → AllByRecursion (Avoids 10) ls → slice_split (λ b. b == 10) (lines_text ls) ≡ ls ++ ([] ∷ [])
 split_lines [] free = refl
 split_lines (l ∷ ls) free = split_line l (lines_text ls) free.0 ∙ ap (λ parts. l ∷ parts) (split_lines ls free.1)
 
@@ -99,11 +90,6 @@ last_off ls vs rest is cut =
     let place : length vs - 1 ≡ length (map json.string ls) = omega (arith, length-map ls json.string) in
     ap (map view) cut ∙ sym (take-map view (length vs - 1) vs) ∙ ap (take (length vs - 1)) (is ∙ map-append json.string ls last)
     ∙ ap (λ n. take n (map json.string ls ++ map json.string last)) place ∙ take-append-le (length (map json.string ls)) (map json.string ls) (map json.string last) (omega arith) ∙ take-length (map json.string ls)
-
--- the texts that were yielded so far are pushed
-pub text_pushed : {A : Type 0} (text : A → List ℕ) (yielded : List A) (x : A) (before after : List Value) (v : Value) → map view before ≡ map (λ y. json.string (text y)) yielded → after ≡ before ++ v ∷ [] → view v ≡ json.string (text x) → map view after ≡ map (λ y. json.string (text y)) (yielded ++ x ∷ [])
-text_pushed text yielded x before after v so_far is here =
-    ap (map view) is ∙ map-append view before (v ∷ []) ∙ ap (λ ds. ds ++ view v ∷ []) so_far ∙ ap (λ e. map (λ y. json.string (text y)) yielded ++ e ∷ []) here ∙ sym (map-append (λ y. json.string (text y)) yielded (x ∷ []))
 
 -- items with the views of these data
 pub items_of_views : (vs : List Value) (ds : List json.Data) → map view vs ≡ ds → items_view vs ≡ items_of ds

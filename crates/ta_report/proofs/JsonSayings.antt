@@ -4,13 +4,15 @@ use Rattle.std.specs.Fmt.{signed_decimal}
 use Rattle.std.proofs.lemmas.Fmt.{decimal_injective}
 use Rattle.std.proofs.lemmas.List.{append_cancel_right}
 use Rattle.std.proofs.lemmas.Option.{same_Some}
+use Rattle.std.specs.List.{AllByRecursion}
 use Rattle.serde_json.specs.Data as json
 use Rattle.serde_json.specs.Find.{get, get_item}
 use Rattle.serde_json.specs.Read.{read}
 use Rattle.serde_json.specs.Written.{compact_text}
+use Rattle.ta_base.proofs.Lists.{differ}
 use Rattle.ta_automaton.specs.declared.file.File.{File}
 use Rattle.ta_automaton.specs.declared.pattern.Pattern.{Pattern}
-use Rattle.ta_automaton.specs.Lists.{Distinct, Each}
+use Rattle.ta_base.specs.Lists.{Distinct}
 use Rattle.ta_automaton.specs.Patterns.{pattern_name}
 use Rattle.ta_counter.specs.Values.{Value}
 use Rattle.ta_replay.specs.declared.run.Run.{Run as RunOf}
@@ -24,7 +26,6 @@ use Rattle.ta_report.specs.declared.verdict.Verdict.{Verdict}
 use Rattle.ta_report.specs.declared.verdict.Verdict.TheVariants.{Safe, Unsafe, Spent, Overflow}
 use Rattle.ta_report.specs.Json.{JsonIsDistinct, JsonRuns, JsonSafe, JsonSays, JsonUnsafe, json_text, report_data, sample_data, texts_data, value_data, values_data, verdict_data, verdicts_data}
 use Rattle.ta_report.specs.Report.{PlaceFits, SampleFits, VerdictFits, place_text}
-use Rattle.ta_replay.proofs.Statements.{differ}
 use Rattle.ta_report.proofs.Distinct.{place_same}
 use Rattle.ta_report.proofs.ReadBack.{json_read}
 use Rattle.ta_report.proofs.Printed.{not_there}
@@ -64,7 +65,7 @@ value_same n v w fv fw e =
     let digits : signed_decimal v ≡ signed_decimal w = cc in
     value_once v w fv fw digits
 
-values_same : (ns : List (List ℕ)) (vs ws : List ℤ) → length vs ≡ length ns → length ws ≡ length ns → Each Value vs → Each Value ws → values_data ns vs ≡ values_data ns ws → vs ≡ ws
+values_same : (ns : List (List ℕ)) (vs ws : List ℤ) → length vs ≡ length ns → length ws ≡ length ns → AllByRecursion Value vs → AllByRecursion Value ws → values_data ns vs ≡ values_data ns ws → vs ≡ ws
 values_same [] [] [] cv cw fv fw e = refl
 values_same [] [] (w ∷ ws) cv cw fv fw e = absurd (omega arith)
 values_same [] (v ∷ vs) ws cv cw fv fw e = absurd (omega arith)
@@ -129,7 +130,7 @@ verdict_same file p (Overflow m j) (Overflow n k) fv fw e =
     let place = kind_same j k fv.1 fw.1 (at_key (codes "place") _ _ e) in
     ap (λ z. Overflow z j) node ∙ ap (λ i. Overflow n i) place
 
-verdicts_same : (file : File) (ps : List Pattern) (vs ws : List Verdict) → length vs ≡ length ps → length ws ≡ length ps → Each (VerdictFits file) vs → Each (VerdictFits file) ws → verdicts_data file ps vs ≡ verdicts_data file ps ws → vs ≡ ws
+verdicts_same : (file : File) (ps : List Pattern) (vs ws : List Verdict) → length vs ≡ length ps → length ws ≡ length ps → AllByRecursion (VerdictFits file) vs → AllByRecursion (VerdictFits file) ws → verdicts_data file ps vs ≡ verdicts_data file ps ws → vs ≡ ws
 verdicts_same file [] [] [] cv cw fv fw e = refl
 verdicts_same file [] [] (w ∷ ws) cv cw fv fw e = absurd (omega arith)
 verdicts_same file [] (v ∷ vs) ws cv cw fv fw e = absurd (omega arith)

@@ -4,5 +4,4 @@ mod Distinct
 pub mod ReadBack
 mod JsonSayings
 mod JsonItems
-mod ValuesWritten
 pub mod Tellings

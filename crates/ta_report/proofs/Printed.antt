@@ -1,24 +1,24 @@
 -- What a printed line of a pattern says.
 use Rattle.std.proofs.Common.{ℕ, ℤ, zero, suc, ◌+◌, ◌<◌, ◌^◌, ◌≡◌, ◌⊎◌, inl, inr, Bool, true, false, List, [], ◌∷◌, ◌++◌, map, codes, decimal, refl, sym, ap, subst, ◌∙◌, append_assoc, arith, lit<, slice_get, Some, if◌then◌else◌}
 use Rattle.std.specs.Fmt.{signed_decimal}
-use Rattle.std.proofs.lemmas.Fmt.{decimal_is_IsNumeral}
 use Rattle.std.proofs.lemmas.List.{append_cancel_left}
+use Rattle.std.specs.List.{AllByRecursion}
+use Rattle.ta_base.proofs.DecimalDigits.{between, number_clear}
+use Rattle.ta_base.proofs.Each.{each_at, each_front, word_avoids}
+use Rattle.ta_base.proofs.Lists.{apart_third, avoids-append, avoids_known, behind_line, differ, either_clear, first_byte, heads_apart}
 use Rattle.ta_automaton.specs.declared.file.File.{File}
 use Rattle.ta_automaton.specs.declared.pattern.Pattern.{Pattern}
-use Rattle.ta_automaton.specs.Lists.{Distinct, Each}
+use Rattle.ta_base.specs.Lists.{Distinct}
 use Rattle.ta_automaton.specs.Names.{Name}
 use Rattle.ta_automaton.specs.Patterns.{PatternWithin, pattern_name}
 use Rattle.ta_counter.specs.Values.{Value}
 use Rattle.ta_replay.specs.declared.run.Run.{Run as RunOf}
 use Rattle.ta_replay.specs.Fits.{Fits}
 use Rattle.ta_replay.specs.RunText.{lines_text, named_line, run_lines, run_text, valued_line}
-use Rattle.ta_replay.specs.TextFaults.{Avoids}
-use Rattle.ta_replay.proofs.Bytes.{avoids-append, first_byte}
-use Rattle.ta_replay.proofs.Decimals.{digits_avoid, number_avoids}
-use Rattle.ta_replay.proofs.Forms.{word_avoids}
-use Rattle.ta_replay.proofs.RunFacts.{clear}
+use Rattle.ta_base.specs.Bytes.{Avoids}
+use Rattle.ta_replay.proofs.Decimals.{number_avoids}
 use Rattle.ta_replay.proofs.RunFronts.{each_run_line, no_feeds}
-use Rattle.ta_replay.proofs.Statements.{differ, word_of}
+use Rattle.ta_replay.proofs.Statements.{word_of}
 use Rattle.ta_report.specs.declared.verdict.ReportKind.{ReportKind}
 use Rattle.ta_report.specs.declared.verdict.ReportKind.TheVariants.{Pivot, Leaf, Run}
 use Rattle.ta_report.specs.declared.verdict.ReportSample.{ReportSample}
@@ -27,16 +27,9 @@ use Rattle.ta_report.specs.declared.verdict.Verdict.{Verdict}
 use Rattle.ta_report.specs.declared.verdict.Verdict.TheVariants.{Safe, Unsafe, Spent, Overflow}
 use Rattle.ta_report.specs.Check.{is_proved, proofs_text, proofs_told, word_told}
 use Rattle.ta_report.specs.Printed.{LineAt, PrintedProved, PrintedRestProved, PrintedRestSafe, PrintedRestUnsafe, PrintedSafe, PrintedUnsafe, told_of}
-use Rattle.ta_report.specs.PrintedRuns.{Begins, IsPlain, PrintedRuns, RunsArePrinted}
+use Rattle.ta_report.specs.PrintedRuns.{BeginsText, IsPlain, PrintedRuns, RunsArePrinted, unsafe_words}
 use Rattle.ta_report.specs.Report.{PlaceFits, SampleFits, VerdictFits, overflow_text, place_text, rest_word, run_part, sample_line, sample_text, spent_text, told_lines, told_text, values_text, verdict_text, word_before}
-use Rattle.ta_report.proofs.Distinct.{apart, apart_third, sample_flat}
-
--- a line feed behind which something stands is that of the first line, or stands behind that one
-behind_line : (xs rest before tail : List ℕ) → Avoids 10 xs → xs ++ (10 ∷ rest) ≡ before ++ (10 ∷ tail) → (rest ≡ tail) ⊎ ((more : List ℕ) × (rest ≡ more ++ (10 ∷ tail)))
-behind_line [] rest [] tail free e = let same : rest ≡ tail = cc in inl same
-behind_line [] rest (y ∷ ys) tail free e = let same : rest ≡ ys ++ (10 ∷ tail) = cc in inr (ys, same)
-behind_line (x ∷ xs) rest [] tail free e = let head : x ≡ 10 = cc in absurd (free.0 head)
-behind_line (x ∷ xs) rest (y ∷ ys) tail free e = let same : xs ++ (10 ∷ rest) ≡ ys ++ (10 ∷ tail) = cc in behind_line xs rest ys tail free.1 same
+use Rattle.ta_report.proofs.Distinct.{sample_flat}
 
 -- a line begins so, or one behind it does
 here_or_behind : (front xs rest behind : List ℕ) → Avoids 10 xs → LineAt front behind (xs ++ (10 ∷ rest)) → (xs ++ (10 ∷ rest) ≡ front ++ behind) ⊎ LineAt front behind rest
@@ -53,7 +46,7 @@ later_lines front behind rest [] at = at
 later_lines front behind rest (l ∷ ls) at = subst (LineAt front behind) (sym (append_assoc l (10 ∷ lines_text ls) rest)) (later_line front behind l (lines_text ls ++ rest) (later_lines front behind rest ls at))
 
 -- a line that begins so together with its line feed begins so
-within_line : (front l tail behind : List ℕ) → Avoids 10 front → l ++ (10 ∷ tail) ≡ front ++ behind → Begins front l
+within_line : (front l tail behind : List ℕ) → Avoids 10 front → l ++ (10 ∷ tail) ≡ front ++ behind → BeginsText front l
 within_line [] l tail behind free e = (l, refl)
 within_line (x ∷ front) [] tail behind free e = let head : x ≡ 10 = cc in absurd (free.0 head)
 within_line (x ∷ front) (y ∷ l) tail behind free e =
@@ -75,8 +68,8 @@ no_colon name is = word_avoids 58 name refl (word_of name is)
 
 told_clear : (name word : List ℕ) → Name name → Avoids 10 word → Avoids 10 (told_of name word)
 told_clear name word is free =
-    let said = avoids-append 10 (codes ": ") word (clear (codes ": ") refl) free in
-    avoids-append 10 (codes "pattern ") (name ++ (codes ": " ++ word)) (clear (codes "pattern ") refl) (avoids-append 10 name (codes ": " ++ word) (no_feed name is) said)
+    let said = avoids-append 10 (codes ": ") word (avoids_known 10 (codes ": ") refl) free in
+    avoids-append 10 (codes "pattern ") (name ++ (codes ": " ++ word)) (avoids_known 10 (codes "pattern ") refl) (avoids-append 10 name (codes ": " ++ word) (no_feed name is) said)
 
 -- the names of two lines that begin alike are the same, and so is what is said
 told_same : (name other word front rest behind : List ℕ) → Name name → Name other → told_of name word ++ rest ≡ told_of other front ++ behind → (name ≡ other) × (word ++ rest ≡ front ++ behind)
@@ -88,9 +81,9 @@ told_same name other word front rest behind is is_other e =
 
 -- no plain line tells of a pattern
 plain_other : (line tail behind : List ℕ) → IsPlain line → line ++ (10 ∷ tail) ≡ codes "pattern " ++ behind → ⊥
-plain_other line tail behind plain e = plain.other (within_line (codes "pattern ") line tail behind (clear (codes "pattern ") refl) e)
+plain_other line tail behind plain e = plain.other (within_line (codes "pattern ") line tail behind (avoids_known 10 (codes "pattern ") refl) e)
 
-past_plain : (name front behind rest : List ℕ) (more : List (List ℕ)) → Each IsPlain more → LineAt (told_of name front) behind (lines_text more ++ rest) → LineAt (told_of name front) behind rest
+past_plain : (name front behind rest : List ℕ) (more : List (List ℕ)) → AllByRecursion IsPlain more → LineAt (told_of name front) behind (lines_text more ++ rest) → LineAt (told_of name front) behind rest
 past_plain name front behind rest [] plain at = at
 past_plain name front behind rest (l ∷ ls) plain at =
     elim (here_or_behind (told_of name front) l (lines_text ls ++ rest) behind plain.0.no_feed (subst (LineAt (told_of name front) behind) (append_assoc l (10 ∷ lines_text ls) rest) at)) [
@@ -104,7 +97,7 @@ pub record Said : Type 0 where
   pub more : List (List ℕ)
 
 abbrev IsSaid : Said → Type 0
-IsSaid s = Avoids 10 s.word × Each IsPlain s.more
+IsSaid s = Avoids 10 s.word × AllByRecursion IsPlain s.more
 
 -- what is said of each pattern
 abbrev lines_of : List Pattern → List Said → List ℕ
@@ -114,7 +107,7 @@ lines_of (p ∷ ps) (w ∷ ws) = told_of p.name w.word ++ (10 ∷ (lines_text w.
 
 -- nothing is left, or the line of a pattern
 abbrev IsNext : List ℕ → Type 0
-IsNext text = (text ≡ []) ⊎ Begins (codes "pattern ") text
+IsNext text = (text ≡ []) ⊎ BeginsText (codes "pattern ") text
 
 lines_next : (ps : List Pattern) (ws : List Said) → IsNext (lines_of ps ws)
 lines_next [] ws = inl refl
@@ -136,7 +129,7 @@ first_or_later q w rest name front behind is clear at =
     ]
 
 -- a name that lines tell of is a pattern's
-named : {P : Pattern → Type 0} (ps : List Pattern) (ws : List Said) (name front behind : List ℕ) → ((p : Pattern) → P p → Name p.name) → Each P ps → Each IsSaid ws → Name name → LineAt (told_of name front) behind (lines_of ps ws) → ¬ Each (λ y. name ≡ y → ⊥) (map pattern_name ps)
+named : {P : Pattern → Type 0} (ps : List Pattern) (ws : List Said) (name front behind : List ℕ) → ((p : Pattern) → P p → Name p.name) → AllByRecursion P ps → AllByRecursion IsSaid ws → Name name → LineAt (told_of name front) behind (lines_of ps ws) → ¬ AllByRecursion (λ y. name ≡ y → ⊥) (map pattern_name ps)
 named [] ws name front behind names are clears is at = absurd (no_line (told_of name front) behind 112 _ refl at)
 named (p ∷ ps) [] name front behind names are clears is at = absurd (no_line (told_of name front) behind 112 _ refl at)
 named (p ∷ ps) (w ∷ ws) name front behind names are clears is at = λ none.
@@ -146,7 +139,7 @@ named (p ∷ ps) (w ∷ ws) name front behind names are clears is at = λ none.
     ]
 
 -- each item but none is this one
-pub not_there : (name : List ℕ) (ps : List Pattern) (k : ℕ) (p : Pattern) → slice_get ps k ≡ Some p → p.name ≡ name → ¬ Each (λ y. name ≡ y → ⊥) (map pattern_name ps)
+pub not_there : (name : List ℕ) (ps : List Pattern) (k : ℕ) (p : Pattern) → slice_get ps k ≡ Some p → p.name ≡ name → ¬ AllByRecursion (λ y. name ≡ y → ⊥) (map pattern_name ps)
 not_there name [] k p at same none = cc
 not_there name (q ∷ ps) zero p at same none = let is : q ≡ p = cc in none.0 (sym same ∙ ap pattern_name (sym is))
 not_there name (q ∷ ps) (suc k) p at same none = not_there name ps k p at same none.1
@@ -159,7 +152,7 @@ pub record SaidAt (ws : List Said) (k : ℕ) (front behind : List ℕ) : Type 0 
   pub next : IsNext rest
   pub same : said.word ++ (10 ∷ (lines_text said.more ++ rest)) ≡ front ++ behind
 
-said_at : {P : Pattern → Type 0} (ps : List Pattern) (ws : List Said) (k : ℕ) (p : Pattern) (front behind : List ℕ) → ((q : Pattern) → P q → Name q.name) → Each P ps → Distinct (map pattern_name ps) → Each IsSaid ws → Name p.name
+said_at : {P : Pattern → Type 0} (ps : List Pattern) (ws : List Said) (k : ℕ) (p : Pattern) (front behind : List ℕ) → ((q : Pattern) → P q → Name q.name) → AllByRecursion P ps → Distinct (map pattern_name ps) → AllByRecursion IsSaid ws → Name p.name
     → slice_get ps k ≡ Some p → LineAt (told_of p.name front) behind (lines_of ps ws) → SaidAt ws k front behind
 said_at [] ws k p front behind names are distinct clears is at has = cc
 said_at (q ∷ ps) [] k p front behind names are distinct clears is at has = absurd (no_line (told_of p.name front) behind 112 _ refl has)
@@ -167,7 +160,7 @@ said_at (q ∷ ps) (w ∷ ws) zero p front behind names are distinct clears is a
     let same : q ≡ p = cc in
     elim (first_or_later q w (lines_of ps ws) p.name front behind (names q are.0) clears.0 has) [
       | inl here ↦ record { said = w; at = refl; rest = lines_of ps ws; next = lines_next ps ws; same = (told_same q.name p.name w.word front (10 ∷ (lines_text w.more ++ lines_of ps ws)) behind (names q are.0) is here).1 }
-      | inr later ↦ absurd (named ps ws p.name front behind names are.1 clears.1 is later (subst (λ n. Each (λ y. n ≡ y → ⊥) (map pattern_name ps)) (ap pattern_name same) distinct.0))
+      | inr later ↦ absurd (named ps ws p.name front behind names are.1 clears.1 is later (subst (λ n. AllByRecursion (λ y. n ≡ y → ⊥) (map pattern_name ps)) (ap pattern_name same) distinct.0))
     ]
 said_at (q ∷ ps) (w ∷ ws) (suc k) p front behind names are distinct clears is at has =
     elim (first_or_later q w (lines_of ps ws) p.name front behind (names q are.0) clears.0 has) [
@@ -208,15 +201,15 @@ line_of_word name w rest =
 -- no pattern is told of in the first line
 behind_first : (file : File) (front behind text rest : List ℕ) → Name file.automaton.name → text ≡ (codes "automaton " ++ file.automaton.name) ++ (10 ∷ rest) → (name : List ℕ) → LineAt (told_of name front) behind text → LineAt (told_of name front) behind rest
 behind_first file front behind text rest is e name at =
-    let free = avoids-append 10 (codes "automaton ") file.automaton.name (clear (codes "automaton ") refl) (no_feed file.automaton.name is) in
+    let free = avoids-append 10 (codes "automaton ") file.automaton.name (avoids_known 10 (codes "automaton ") refl) (no_feed file.automaton.name is) in
     elim (here_or_behind (told_of name front) (codes "automaton " ++ file.automaton.name) rest behind free (subst (LineAt (told_of name front) behind) e at)) [
-      | inl here ↦ apart 97 112 _ _ (inl (lit< tt)) here
+      | inl here ↦ heads_apart 97 112 _ _ (inl (lit< tt)) here
       | inr later ↦ later
     ]
 
 -- no line of a run tells of a pattern
-run_other : (file : File) (run : RunOf) → Each (λ line. ¬ Begins (codes "pattern ") line) (run_lines file run)
-run_other file run = each_run_line (λ line. ¬ Begins (codes "pattern ") line) file run
+run_other : (file : File) (run : RunOf) → AllByRecursion (λ line. ¬ BeginsText (codes "pattern ") line) (run_lines file run)
+run_other file run = each_run_line (λ line. ¬ BeginsText (codes "pattern ") line) file run
     (λ name begins. differ 0 (named_line (codes "run ") name) (codes "pattern " ++ begins.0) refl begins.1)
     (λ name v begins. differ 2 (valued_line (codes "parameter ") name v) (codes "pattern " ++ begins.0) refl begins.1)
     (λ name v begins. differ 0 (valued_line (codes "start ") name v) (codes "pattern " ++ begins.0) refl begins.1)
@@ -224,58 +217,47 @@ run_other file run = each_run_line (λ line. ¬ Begins (codes "pattern ") line) 
     (λ name begins. differ 0 (named_line (codes "mark ") name) (codes "pattern " ++ begins.0) refl begins.1)
     (λ begins. differ 0 (codes "end") (codes "pattern " ++ begins.0) refl begins.1)
 
-each_plain : (ls : List (List ℕ)) → Each (Avoids 10) ls → Each (λ line. ¬ Begins (codes "pattern ") line) ls → Each IsPlain ls
+each_plain : (ls : List (List ℕ)) → AllByRecursion (Avoids 10) ls → AllByRecursion (λ line. ¬ BeginsText (codes "pattern ") line) ls → AllByRecursion IsPlain ls
 each_plain [] free other = tt
 each_plain (l ∷ ls) free other = (record { no_feed = free.0; other = other.0 }, each_plain ls free.1 other.1)
 
-run_plain : (file : File) (run : RunOf) → Fits file run → Each IsPlain (run_lines file run)
+run_plain : (file : File) (run : RunOf) → Fits file run → AllByRecursion IsPlain (run_lines file run)
 run_plain file run fits = each_plain (run_lines file run) (no_feeds file run fits) (run_other file run)
 
--- the lines of a report
-number_clear : (n : ℕ) → n < 2 ^ 64 → Avoids 10 (decimal n)
-number_clear n fits = digits_avoid 10 (decimal n) (lit< tt) (decimal_is_IsNumeral n fits).0.1
-
-between : (head tail : List ℕ) (n : ℕ) → Avoids 10 head → n < 2 ^ 64 → Avoids 10 tail → Avoids 10 (head ++ (decimal n ++ tail))
-between head tail n before fits behind = avoids-append 10 head (decimal n ++ tail) before (avoids-append 10 (decimal n) tail (number_clear n fits) behind)
-
 place_clear : (kind : ReportKind) → PlaceFits kind → Avoids 10 (place_text kind)
-place_clear (Pivot pivot) fits = avoids-append 10 (codes "pivot ") (decimal pivot) (clear (codes "pivot ") refl) (number_clear pivot fits)
-place_clear Leaf fits = clear (codes "leaf") refl
-place_clear Run fits = clear (codes "run") refl
+place_clear (Pivot pivot) fits = avoids-append 10 (codes "pivot ") (decimal pivot) (avoids_known 10 (codes "pivot ") refl) (number_clear pivot fits)
+place_clear Leaf fits = avoids_known 10 (codes "leaf") refl
+place_clear Run fits = avoids_known 10 (codes "run") refl
 
 spent_clear : (n : ℕ) → n < 2 ^ 64 → Avoids 10 (spent_text n)
-spent_clear n fits = between (codes "unknown, ") _ n (clear (codes "unknown, ") refl) fits (clear (codes " nodes spent") refl)
+spent_clear n fits = between (codes "unknown, ") _ n (avoids_known 10 (codes "unknown, ") refl) fits (avoids_known 10 (codes " nodes spent") refl)
 
 overflow_clear : (n : ℕ) (kind : ReportKind) → (n < 2 ^ 64) × PlaceFits kind → Avoids 10 (overflow_text n kind)
 overflow_clear n kind fits =
-    let place = avoids-append 10 (codes ", ") (place_text kind) (clear (codes ", ") refl) (place_clear kind fits.1) in
-    between (codes "unknown, outside 128 bits at node ") _ n (clear (codes "unknown, outside 128 bits at node ") refl) fits.0 place
+    let place = avoids-append 10 (codes ", ") (place_text kind) (avoids_known 10 (codes ", ") refl) (place_clear kind fits.1) in
+    between (codes "unknown, outside 128 bits at node ") _ n (avoids_known 10 (codes "unknown, outside 128 bits at node ") refl) fits.0 place
 
 verdict_clear : (file : File) (v : Verdict) → VerdictFits file v → Avoids 10 (verdict_text v)
-verdict_clear file (Safe n l) fits = between (codes "safe, ") _ n (clear (codes "safe, ") refl) fits.0 (between (codes " nodes, ") _ l (clear (codes " nodes, ") refl) fits.1 (clear (codes " leaves") refl))
-verdict_clear file (Unsafe n run) fits = between (codes "unsafe, ") _ n (clear (codes "unsafe, ") refl) fits.0 (clear (codes " nodes") refl)
+verdict_clear file (Safe n l) fits = between (codes "safe, ") _ n (avoids_known 10 (codes "safe, ") refl) fits.0 (between (codes " nodes, ") _ l (avoids_known 10 (codes " nodes, ") refl) fits.1 (avoids_known 10 (codes " leaves") refl))
+verdict_clear file (Unsafe n run) fits = between (codes "unsafe, ") _ n (avoids_known 10 (codes "unsafe, ") refl) fits.0 (avoids_known 10 (codes " nodes") refl)
 verdict_clear file (Spent n) fits = spent_clear n fits
 verdict_clear file (Overflow n kind) fits = overflow_clear n kind fits
 
 -- the values of the parameters stand in one line
-values_clear : (ns : List (List ℕ)) (vs : List ℤ) → Each Name ns → Each Value vs → Avoids 10 (values_text ns vs)
+values_clear : (ns : List (List ℕ)) (vs : List ℤ) → AllByRecursion Name ns → AllByRecursion Value vs → Avoids 10 (values_text ns vs)
 values_clear [] vs are fits = tt
 values_clear (n ∷ ns) [] are fits = tt
 values_clear (n ∷ ns) (v ∷ vs) are fits =
     let rest = avoids-append 10 (signed_decimal v) (values_text ns vs) (number_avoids 10 v (lit< tt) fits.0) (values_clear ns vs are.1 fits.1) in
-    avoids-append 10 (codes " ") (n ++ (codes "=" ++ (signed_decimal v ++ values_text ns vs))) (clear (codes " ") refl)
-    (avoids-append 10 n (codes "=" ++ (signed_decimal v ++ values_text ns vs)) (no_feed n are.0) (avoids-append 10 (codes "=") (signed_decimal v ++ values_text ns vs) (clear (codes "=") refl) rest))
-
-each_front : (P : List ℕ → Type 0) (xs ys : List (List ℕ)) → Each P (xs ++ ys) → Each P xs
-each_front P [] ys are = tt
-each_front P (x ∷ xs) ys are = (are.0, each_front P xs ys are.1)
+    avoids-append 10 (codes " ") (n ++ (codes "=" ++ (signed_decimal v ++ values_text ns vs))) (avoids_known 10 (codes " ") refl)
+    (avoids-append 10 n (codes "=" ++ (signed_decimal v ++ values_text ns vs)) (no_feed n are.0) (avoids-append 10 (codes "=") (signed_decimal v ++ values_text ns vs) (avoids_known 10 (codes "=") refl) rest))
 
 sample_clear : (file : File) (x : ReportSample) → SampleFits file x → Avoids 10 (sample_text file x)
 sample_clear file (sample.Sample values) fits =
     let a = file.automaton in
     let names = each_front Name a.parameters a.shared (each_front Name (a.parameters ++ a.shared) a.locations a.shape.names_legal) in
-    avoids-append 10 (codes "sample") (values_text a.parameters values) (clear (codes "sample") refl) (values_clear a.parameters values names fits.1)
-sample_clear file sample.Empty fits = clear (codes "none") refl
+    avoids-append 10 (codes "sample") (values_text a.parameters values) (avoids_known 10 (codes "sample") refl) (values_clear a.parameters values names fits.1)
+sample_clear file sample.Empty fits = avoids_known 10 (codes "none") refl
 sample_clear file (sample.Spent n) fits = spent_clear n fits
 sample_clear file (sample.Overflow n kind) fits = overflow_clear n kind fits
 
@@ -285,7 +267,7 @@ first_plain file x = codes "parameters: " ++ sample_text file x
 
 sample_plain : (file : File) (x : ReportSample) → SampleFits file x → IsPlain (first_plain file x)
 sample_plain file x fits = record {
-  no_feed = avoids-append 10 (codes "parameters: ") (sample_text file x) (clear (codes "parameters: ") refl) (sample_clear file x fits);
+  no_feed = avoids-append 10 (codes "parameters: ") (sample_text file x) (avoids_known 10 (codes "parameters: ") refl) (sample_clear file x fits);
   other = λ begins. differ 2 (first_plain file x) (codes "pattern " ++ begins.0) refl begins.1;
 }
 
@@ -301,15 +283,15 @@ said_of rest file v = record { word = word_before rest v ++ verdict_text v; more
 
 before_clear : (rest : Bool) (v : Verdict) → Avoids 10 (word_before rest v)
 before_clear false v = tt
-before_clear true (Safe nodes leaves) = clear (codes "rest ") refl
-before_clear true (Unsafe nodes run) = clear (codes "rest ") refl
+before_clear true (Safe nodes leaves) = avoids_known 10 (codes "rest ") refl
+before_clear true (Unsafe nodes run) = avoids_known 10 (codes "rest ") refl
 before_clear true (Spent nodes) = tt
 before_clear true (Overflow node kind) = tt
 
 said_clear : (rest : Bool) (file : File) (v : Verdict) → VerdictFits file v → Avoids 10 (word_before rest v ++ verdict_text v)
 said_clear rest file v fits = avoids-append 10 (word_before rest v) (verdict_text v) (before_clear rest v) (verdict_clear file v fits)
 
-more_plain : (file : File) (v : Verdict) → VerdictFits file v → Each IsPlain (run_more file v)
+more_plain : (file : File) (v : Verdict) → VerdictFits file v → AllByRecursion IsPlain (run_more file v)
 more_plain file (Safe nodes leaves) fits = tt
 more_plain file (Unsafe nodes run) fits = run_plain file run fits.1
 more_plain file (Spent nodes) fits = tt
@@ -321,7 +303,7 @@ more_text file (Unsafe nodes run) = refl
 more_text file (Spent nodes) = refl
 more_text file (Overflow node kind) = refl
 
-verdicts_clear : (rest : Bool) (file : File) (vs : List Verdict) → Each (VerdictFits file) vs → Each IsSaid (map (said_of rest file) vs)
+verdicts_clear : (rest : Bool) (file : File) (vs : List Verdict) → AllByRecursion (VerdictFits file) vs → AllByRecursion IsSaid (map (said_of rest file) vs)
 verdicts_clear rest file [] fits = tt
 verdicts_clear rest file (v ∷ vs) fits = ((said_clear rest file v fits.0, more_plain file v fits.0), verdicts_clear rest file vs fits.1)
 
@@ -346,35 +328,30 @@ verdict_get rest file (w ∷ vs) (suc k) v at = verdict_get rest file vs k v at
 
 safe_word : (v : Verdict) (rest behind : List ℕ) → verdict_text v ++ (10 ∷ rest) ≡ codes "safe, " ++ behind → (n : ℕ) × (l : ℕ) × (v ≡ Safe n l)
 safe_word (Safe n l) rest behind e = (n, l, refl)
-safe_word (Unsafe n run) rest behind e = apart 117 115 _ _ (inr (lit< tt)) e
-safe_word (Spent n) rest behind e = apart 117 115 _ _ (inr (lit< tt)) e
-safe_word (Overflow n kind) rest behind e = apart 117 115 _ _ (inr (lit< tt)) e
+safe_word (Unsafe n run) rest behind e = heads_apart 117 115 _ _ (inr (lit< tt)) e
+safe_word (Spent n) rest behind e = heads_apart 117 115 _ _ (inr (lit< tt)) e
+safe_word (Overflow n kind) rest behind e = heads_apart 117 115 _ _ (inr (lit< tt)) e
 
 unsafe_word : (v : Verdict) (rest behind : List ℕ) → verdict_text v ++ (10 ∷ rest) ≡ codes "unsafe, " ++ behind → (n : ℕ) × (run : RunOf) × (v ≡ Unsafe n run)
-unsafe_word (Safe n l) rest behind e = apart 115 117 _ _ (inl (lit< tt)) e
+unsafe_word (Safe n l) rest behind e = heads_apart 115 117 _ _ (inl (lit< tt)) e
 unsafe_word (Unsafe n run) rest behind e = (n, run, refl)
 unsafe_word (Spent n) rest behind e = apart_third 117 110 107 115 _ _ (inl (lit< tt)) e
 unsafe_word (Overflow n kind) rest behind e = apart_third 117 110 107 115 _ _ (inl (lit< tt)) e
 
 rest_safe_word : (v : Verdict) (rest behind : List ℕ) → (rest_word v ++ verdict_text v) ++ (10 ∷ rest) ≡ codes "rest safe, " ++ behind → (n : ℕ) × (l : ℕ) × (v ≡ Safe n l)
 rest_safe_word (Safe n l) rest behind e = (n, l, refl)
-rest_safe_word (Unsafe n run) rest behind e = apart 117 115 _ _ (inr (lit< tt)) (append_cancel_left (codes "rest ") _ _ e)
-rest_safe_word (Spent n) rest behind e = apart 117 114 _ _ (inr (lit< tt)) e
-rest_safe_word (Overflow n kind) rest behind e = apart 117 114 _ _ (inr (lit< tt)) e
+rest_safe_word (Unsafe n run) rest behind e = heads_apart 117 115 _ _ (inr (lit< tt)) (append_cancel_left (codes "rest ") _ _ e)
+rest_safe_word (Spent n) rest behind e = heads_apart 117 114 _ _ (inr (lit< tt)) e
+rest_safe_word (Overflow n kind) rest behind e = heads_apart 117 114 _ _ (inr (lit< tt)) e
 
 rest_unsafe_word : (v : Verdict) (rest behind : List ℕ) → (rest_word v ++ verdict_text v) ++ (10 ∷ rest) ≡ codes "rest unsafe, " ++ behind → (n : ℕ) × (run : RunOf) × (v ≡ Unsafe n run)
-rest_unsafe_word (Safe n l) rest behind e = apart 115 117 _ _ (inl (lit< tt)) (append_cancel_left (codes "rest ") _ _ e)
+rest_unsafe_word (Safe n l) rest behind e = heads_apart 115 117 _ _ (inl (lit< tt)) (append_cancel_left (codes "rest ") _ _ e)
 rest_unsafe_word (Unsafe n run) rest behind e = (n, run, refl)
-rest_unsafe_word (Spent n) rest behind e = apart 117 114 _ _ (inr (lit< tt)) e
-rest_unsafe_word (Overflow n kind) rest behind e = apart 117 114 _ _ (inr (lit< tt)) e
+rest_unsafe_word (Spent n) rest behind e = heads_apart 117 114 _ _ (inr (lit< tt)) e
+rest_unsafe_word (Overflow n kind) rest behind e = heads_apart 117 114 _ _ (inr (lit< tt)) e
 
 within_name : (places locations : ℕ) (p : Pattern) → PatternWithin places locations p → Name p.name
 within_name places locations p is = is.name
-
-pub each_at : {X : Type 0} (P : X → Type 0) (xs : List X) (k : ℕ) (x : X) → Each P xs → slice_get xs k ≡ Some x → P x
-each_at P [] k x are at = cc
-each_at P (y ∷ xs) zero x are at = let same : y ≡ x = cc in subst P same are.0
-each_at P (y ∷ xs) (suc k) x are at = each_at P xs k x are.1 at
 
 -- the first lines of a report, and those behind them
 report_flat : (rest : Bool) (file : File) (x : ReportSample) (vs : List Verdict) → told_text rest file x vs ≡ (codes "automaton " ++ file.automaton.name) ++ (10 ∷ (first_plain file x ++ (10 ∷ lines_of file.patterns (map (said_of rest file) vs))))
@@ -390,7 +367,7 @@ pub record Told (rest : Bool) (file : File) (vs : List Verdict) (k : ℕ) (front
   pub next : IsNext later
   pub same : (word_before rest verdict ++ verdict_text verdict) ++ (10 ∷ (lines_text (run_more file verdict) ++ later)) ≡ front ++ behind
 
-told_at : (rest : Bool) (file : File) (x : ReportSample) (vs : List Verdict) (k : ℕ) (p : Pattern) (front behind : List ℕ) → slice_get file.patterns k ≡ Some p → SampleFits file x → Each (VerdictFits file) vs → LineAt (told_of p.name front) behind (told_text rest file x vs) → Told rest file vs k front behind
+told_at : (rest : Bool) (file : File) (x : ReportSample) (vs : List Verdict) (k : ℕ) (p : Pattern) (front behind : List ℕ) → slice_get file.patterns k ≡ Some p → SampleFits file x → AllByRecursion (VerdictFits file) vs → LineAt (told_of p.name front) behind (told_text rest file x vs) → Told rest file vs k front behind
 told_at rest file x vs k p front behind at fit fits has =
     let lines_behind = lines_of file.patterns (map (said_of rest file) vs) in
     let later = behind_first file front behind (told_text rest file x vs) (first_plain file x ++ (10 ∷ lines_behind)) file.automaton.shape.name_legal (report_flat rest file x vs) p.name has in
@@ -431,23 +408,31 @@ printed_rest_unsafe file x vs k p at fit fits has =
     let word = rest_unsafe_word told.verdict (lines_text (run_more file told.verdict) ++ told.later) has.0 told.same in
     (word.0, word.1, told.at ∙ ap Some word.2)
 
+-- what is said of an unsafe pattern begins so
+unsafe_said : (rest : Bool) (nodes : ℕ) (run : RunOf) → word_before rest (Unsafe nodes run) ++ verdict_text (Unsafe nodes run) ≡ unsafe_words rest ++ (decimal nodes ++ codes " nodes")
+unsafe_said false nodes run = refl
+unsafe_said true nodes run = refl
+
 -- the text of a run stands behind the line of its pattern
 pub runs_printed : RunsArePrinted
-runs_printed file x vs k p at fit fits nodes run is =
-    let fit_of : VerdictFits file (Unsafe nodes run) = each_at (VerdictFits file) vs k (Unsafe nodes run) fits is in
-    let found = stands_at file.patterns (map (said_of false file) vs) k p (said_of false file (Unsafe nodes run)) at (verdict_get false file vs k (Unsafe nodes run) is) in
-    let front = told_of p.name (verdict_text (Unsafe nodes run)) in
+runs_printed rest file x vs k p at fit fits nodes run is =
+    let v : Verdict = Unsafe nodes run in
+    let fit_of : VerdictFits file v = each_at (VerdictFits file) vs k v fits is in
+    let found = stands_at file.patterns (map (said_of rest file) vs) k p (said_of rest file v) at (verdict_get rest file vs k v is) in
+    let front = told_of p.name (word_before rest v ++ verdict_text v) in
+    let words = decimal nodes ++ codes " nodes" in
     let behind = 10 ∷ (run_text file run ++ found.rest) in
-    let rest = lines_of file.patterns (map (said_of false file) vs) in
+    let lines = lines_of file.patterns (map (said_of rest file) vs) in
+    let stands = subst (LineAt front behind) (sym (report_flat rest file x vs)) (later_line front behind (codes "automaton " ++ file.automaton.name) (first_plain file x ++ (10 ∷ lines)) (later_line front behind (first_plain file x) lines found.stands)) in
     record {
       lines = run_lines file run;
       bytes_are = refl;
       plain = run_plain file run fit_of.1;
-      words = decimal nodes ++ codes " nodes";
-      no_feed = avoids-append 10 (decimal nodes) (codes " nodes") (number_clear nodes fit_of.0) (clear (codes " nodes") refl);
+      words = words;
+      no_feed = avoids-append 10 (decimal nodes) (codes " nodes") (number_clear nodes fit_of.0) (avoids_known 10 (codes " nodes") refl);
       behind = found.rest;
       ends = found.next;
-      stands = subst (LineAt front behind) (sym (report_flat false file x vs)) (later_line front behind (codes "automaton " ++ file.automaton.name) (first_plain file x ++ (10 ∷ rest)) (later_line front behind (first_plain file x) rest found.stands));
+      stands = subst (λ (said : List ℕ). LineAt (told_of p.name said) behind (told_text rest file x vs)) (unsafe_said rest nodes run) stands;
     }
 
 -- plain lines up to the next pattern, or to the end, are determined
@@ -456,7 +441,7 @@ not_next [] tail text plain (inl none) e = cc
 not_next (x ∷ xs) tail text plain (inl none) e = cc
 not_next line tail text plain (inr begins) e = plain_other line tail begins.0 plain (sym e ∙ begins.1)
 
-plain_same : (ms ls : List (List ℕ)) (x y : List ℕ) → Each IsPlain ms → Each IsPlain ls → IsNext x → IsNext y → lines_text ms ++ x ≡ lines_text ls ++ y → lines_text ms ≡ lines_text ls
+plain_same : (ms ls : List (List ℕ)) (x y : List ℕ) → AllByRecursion IsPlain ms → AllByRecursion IsPlain ls → IsNext x → IsNext y → lines_text ms ++ x ≡ lines_text ls ++ y → lines_text ms ≡ lines_text ls
 plain_same [] [] x y pm pl nx ny e = refl
 plain_same [] (l ∷ ls) x y pm pl nx ny e = absurd (not_next l (lines_text ls ++ y) x pl.0 nx (e ∙ append_assoc l (10 ∷ lines_text ls) y))
 plain_same (m ∷ ms) [] x y pm pl nx ny e = absurd (not_next m (lines_text ms ++ x) y pm.0 ny (sym e ∙ append_assoc m (10 ∷ lines_text ms) x))
@@ -464,19 +449,28 @@ plain_same (m ∷ ms) (l ∷ ls) x y pm pl nx ny e =
     let parts = first_byte 10 m l (lines_text ms ++ x) (lines_text ls ++ y) pm.0.no_feed pl.0.no_feed (sym (append_assoc m (10 ∷ lines_text ms) x) ∙ e ∙ append_assoc l (10 ∷ lines_text ls) y) in
     ap (λ h. h ++ (10 ∷ lines_text ms)) parts.0 ∙ ap (λ t. l ++ (10 ∷ t)) (plain_same ms ls x y pm.1 pl.1 nx ny parts.1)
 
+-- only what is said of an unsafe pattern begins so
+said_unsafe : (rest : Bool) (v : Verdict) (later behind : List ℕ) → (word_before rest v ++ verdict_text v) ++ (10 ∷ later) ≡ unsafe_words rest ++ behind → (n : ℕ) × (run : RunOf) × (v ≡ Unsafe n run)
+said_unsafe false v later behind e = unsafe_word v later behind e
+said_unsafe true v later behind e = rest_unsafe_word v later behind e
+
+unsafe_avoids : (rest : Bool) → Avoids 10 (unsafe_words rest)
+unsafe_avoids false = avoids_known 10 (codes "unsafe, ") refl
+unsafe_avoids true = avoids_known 10 (codes "rest unsafe, ") refl
+
 -- the lines behind that of an unsafe pattern are those of its run
-run_of_word : (file : File) (v : Verdict) (rest words bytes behind : List ℕ) → VerdictFits file v → Avoids 10 words → (lines : List (List ℕ)) → bytes ≡ lines_text lines → Each IsPlain lines → IsNext rest → IsNext behind → verdict_text v ++ (10 ∷ (lines_text (run_more file v) ++ rest)) ≡ (codes "unsafe, " ++ words) ++ (10 ∷ (bytes ++ behind)) → (n : ℕ) × (run : RunOf) × (v ≡ Unsafe n run) × (bytes ≡ run_text file run)
-run_of_word file v rest words bytes behind fits free lines are plain next ends e =
-    let is = unsafe_word v (lines_text (run_more file v) ++ rest) (words ++ (10 ∷ (bytes ++ behind))) (e ∙ append_assoc (codes "unsafe, ") words (10 ∷ (bytes ++ behind))) in
-    let parts = first_byte 10 (verdict_text v) (codes "unsafe, " ++ words) (lines_text (run_more file v) ++ rest) (bytes ++ behind) (verdict_clear file v fits) (avoids-append 10 (codes "unsafe, ") words (clear (codes "unsafe, ") refl) free) e in
-    let same = plain_same (run_more file v) lines rest behind (more_plain file v fits) plain next ends (parts.1 ∙ ap (λ b. b ++ behind) are) in
+run_of_word : (rest : Bool) (file : File) (v : Verdict) (later words bytes behind : List ℕ) → VerdictFits file v → Avoids 10 words → (lines : List (List ℕ)) → bytes ≡ lines_text lines → AllByRecursion IsPlain lines → IsNext later → IsNext behind → (word_before rest v ++ verdict_text v) ++ (10 ∷ (lines_text (run_more file v) ++ later)) ≡ (unsafe_words rest ++ words) ++ (10 ∷ (bytes ++ behind)) → (n : ℕ) × (run : RunOf) × (v ≡ Unsafe n run) × (bytes ≡ run_text file run)
+run_of_word rest file v later words bytes behind fits free lines are plain next ends e =
+    let is = said_unsafe rest v (lines_text (run_more file v) ++ later) (words ++ (10 ∷ (bytes ++ behind))) (e ∙ append_assoc (unsafe_words rest) words (10 ∷ (bytes ++ behind))) in
+    let parts = first_byte 10 (word_before rest v ++ verdict_text v) (unsafe_words rest ++ words) (lines_text (run_more file v) ++ later) (bytes ++ behind) (said_clear rest file v fits) (avoids-append 10 (unsafe_words rest) words (unsafe_avoids rest) free) e in
+    let same = plain_same (run_more file v) lines later behind (more_plain file v fits) plain next ends (parts.1 ∙ ap (λ b. b ++ behind) are) in
     (is.0, is.1, is.2, are ∙ sym same ∙ sym (more_text file v) ∙ ap (run_part file) is.2)
 
 pub printed_runs : PrintedRuns
-printed_runs file x vs k p at fit_sample fits bytes part =
-    let told = told_at false file x vs k p (codes "unsafe, " ++ part.words) (10 ∷ (bytes ++ part.behind)) at fit_sample fits part.stands in
+printed_runs rest file x vs k p at fit_sample fits bytes part =
+    let told = told_at rest file x vs k p (unsafe_words rest ++ part.words) (10 ∷ (bytes ++ part.behind)) at fit_sample fits part.stands in
     let fit : VerdictFits file told.verdict = each_at (VerdictFits file) vs k told.verdict fits told.at in
-    let is = run_of_word file told.verdict told.later part.words bytes part.behind fit part.no_feed part.lines part.bytes_are part.plain told.next part.ends told.same in
+    let is = run_of_word rest file told.verdict told.later part.words bytes part.behind fit part.no_feed part.lines part.bytes_are part.plain told.next part.ends told.same in
     (is.0, is.1, told.at ∙ ap Some is.2, is.3)
 
 -- the lines of `check`, and of `rest-check`
@@ -484,15 +478,11 @@ abbrev words_from : Bool → List ℕ → ℕ → List Pattern → List Said
 words_from rest numbers number [] = []
 words_from rest numbers number (p ∷ ps) = record { word = word_told rest numbers number; more = [] } ∷ words_from rest numbers (number + 1) ps
 
-either_clear : (b : Bool) (xs ys : List ℕ) → Avoids 10 xs → Avoids 10 ys → Avoids 10 (if b then xs else ys)
-either_clear true xs ys first second = first
-either_clear false xs ys first second = second
-
 word_clear : (rest : Bool) (numbers : List ℕ) (number : ℕ) → Avoids 10 (word_told rest numbers number)
-word_clear false numbers number = either_clear (is_proved numbers number) (codes "proved") (codes "not proved") (clear (codes "proved") refl) (clear (codes "not proved") refl)
-word_clear true numbers number = either_clear (is_proved numbers number) (codes "rest proved") (codes "not rest proved") (clear (codes "rest proved") refl) (clear (codes "not rest proved") refl)
+word_clear false numbers number = either_clear (is_proved numbers number) (codes "proved") (codes "not proved") (avoids_known 10 (codes "proved") refl) (avoids_known 10 (codes "not proved") refl)
+word_clear true numbers number = either_clear (is_proved numbers number) (codes "rest proved") (codes "not rest proved") (avoids_known 10 (codes "rest proved") refl) (avoids_known 10 (codes "not rest proved") refl)
 
-words_clear : (rest : Bool) (numbers : List ℕ) (number : ℕ) (ps : List Pattern) → Each IsSaid (words_from rest numbers number ps)
+words_clear : (rest : Bool) (numbers : List ℕ) (number : ℕ) (ps : List Pattern) → AllByRecursion IsSaid (words_from rest numbers number ps)
 words_clear rest numbers number [] = tt
 words_clear rest numbers number (p ∷ ps) = ((word_clear rest numbers number, tt), words_clear rest numbers (number + 1) ps)
 
@@ -526,11 +516,11 @@ proof_told rest file numbers k p front behind at has =
 
 proved_word : (b : Bool) (rest behind : List ℕ) → (if b then codes "proved" else codes "not proved") ++ (10 ∷ rest) ≡ codes "proved" ++ behind → b ≡ true
 proved_word true rest behind e = refl
-proved_word false rest behind e = apart 110 112 _ _ (inl (lit< tt)) e
+proved_word false rest behind e = heads_apart 110 112 _ _ (inl (lit< tt)) e
 
 rest_proved_word : (b : Bool) (rest behind : List ℕ) → (if b then codes "rest proved" else codes "not rest proved") ++ (10 ∷ rest) ≡ codes "rest proved" ++ behind → b ≡ true
 rest_proved_word true rest behind e = refl
-rest_proved_word false rest behind e = apart 110 114 _ _ (inl (lit< tt)) e
+rest_proved_word false rest behind e = heads_apart 110 114 _ _ (inl (lit< tt)) e
 
 pub printed_proved : PrintedProved
 printed_proved file numbers k p at has =

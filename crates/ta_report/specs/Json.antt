@@ -2,13 +2,13 @@
 -- their keys. A number is the text of its digits.
 use Rattle.std.specs.Prelude.{ℕ, ℤ, ◌≡◌, List, [], ◌∷◌, ◌++◌, codes, decimal, length, slice_get, Some}
 use Rattle.std.specs.Fmt.{signed_decimal}
+use Rattle.std.specs.List.{AllByRecursion}
 use Rattle.serde_json.specs.Data as json
 use Rattle.serde_json.specs.Find.{get, get_item}
 use Rattle.serde_json.specs.Read.{read}
 use Rattle.serde_json.specs.Written.{compact_text}
 use Rattle.ta_automaton.specs.declared.file.File.{File}
 use Rattle.ta_automaton.specs.declared.pattern.Pattern.{Pattern}
-use Rattle.ta_automaton.specs.Lists.{Each}
 use Rattle.ta_replay.specs.declared.run.Run.{Run}
 use Rattle.ta_replay.specs.RunText.{lines_text, run_lines, run_text}
 use Rattle.ta_report.specs.declared.verdict.ReportKind.{ReportKind}
@@ -103,7 +103,7 @@ JsonIsRead = (file : File) (s : ReportSample) (verdicts : List Verdict) → read
 abbrev pub JsonIsDistinct : Type 0
 JsonIsDistinct =
     (file : File) (s t : ReportSample) (vs ws : List Verdict) → length vs ≡ length file.patterns → length ws ≡ length file.patterns
-    → SampleFits file s → SampleFits file t → Each (VerdictFits file) vs → Each (VerdictFits file) ws
+    → SampleFits file s → SampleFits file t → AllByRecursion (VerdictFits file) vs → AllByRecursion (VerdictFits file) ws
     → json_text file s vs ≡ json_text file t ws
     → (s ≡ t) × (vs ≡ ws)
 

@@ -1,9 +1,9 @@
 -- What a printed line of a pattern says (this project's profile)
 use Rattle.std.specs.Prelude.{ℕ, ◌≡◌, ◌⊎◌, List, ◌∷◌, ◌++◌, codes, slice_get, Some, IsTrue}
+use Rattle.std.specs.List.{AllByRecursion}
 use Rattle.ta_automaton.specs.declared.file.File.{File}
 use Rattle.ta_automaton.specs.declared.pattern.Pattern.{Pattern}
 use Rattle.ta_report.specs.Check.{check_text, is_proved, rest_check_text}
-use Rattle.ta_automaton.specs.Lists.{Each}
 use Rattle.ta_replay.specs.declared.run.Run.{Run}
 use Rattle.ta_report.specs.Report.{SampleFits, VerdictFits, report_text, rest_text}
 use Rattle.ta_report.specs.declared.verdict.ReportSample.{ReportSample}
@@ -26,7 +26,7 @@ told_of name word = codes "pattern " ++ (name ++ (codes ": " ++ word))
 abbrev pub PrintedSafe : Type 0
 PrintedSafe =
     (file : File) (sample : ReportSample) (verdicts : List Verdict) (number : ℕ) (pattern : Pattern) → slice_get file.patterns number ≡ Some pattern
-    → SampleFits file sample → Each (VerdictFits file) verdicts
+    → SampleFits file sample → AllByRecursion (VerdictFits file) verdicts
     → HasLine (told_of pattern.name (codes "safe, ")) (report_text file sample verdicts)
     → (nodes : ℕ) × (leaves : ℕ) × (slice_get verdicts number ≡ Some (Safe nodes leaves))
 
@@ -34,7 +34,7 @@ PrintedSafe =
 abbrev pub PrintedUnsafe : Type 0
 PrintedUnsafe =
     (file : File) (sample : ReportSample) (verdicts : List Verdict) (number : ℕ) (pattern : Pattern) → slice_get file.patterns number ≡ Some pattern
-    → SampleFits file sample → Each (VerdictFits file) verdicts
+    → SampleFits file sample → AllByRecursion (VerdictFits file) verdicts
     → HasLine (told_of pattern.name (codes "unsafe, ")) (report_text file sample verdicts)
     → (nodes : ℕ) × (run : Run) × (slice_get verdicts number ≡ Some (Unsafe nodes run))
 
@@ -49,7 +49,7 @@ PrintedProved =
 abbrev pub PrintedRestSafe : Type 0
 PrintedRestSafe =
     (file : File) (sample : ReportSample) (verdicts : List Verdict) (number : ℕ) (pattern : Pattern) → slice_get file.patterns number ≡ Some pattern
-    → SampleFits file sample → Each (VerdictFits file) verdicts
+    → SampleFits file sample → AllByRecursion (VerdictFits file) verdicts
     → HasLine (told_of pattern.name (codes "rest safe, ")) (rest_text file sample verdicts)
     → (nodes : ℕ) × (leaves : ℕ) × (slice_get verdicts number ≡ Some (Safe nodes leaves))
 
@@ -57,7 +57,7 @@ PrintedRestSafe =
 abbrev pub PrintedRestUnsafe : Type 0
 PrintedRestUnsafe =
     (file : File) (sample : ReportSample) (verdicts : List Verdict) (number : ℕ) (pattern : Pattern) → slice_get file.patterns number ≡ Some pattern
-    → SampleFits file sample → Each (VerdictFits file) verdicts
+    → SampleFits file sample → AllByRecursion (VerdictFits file) verdicts
     → HasLine (told_of pattern.name (codes "rest unsafe, ")) (rest_text file sample verdicts)
     → (nodes : ℕ) × (run : Run) × (slice_get verdicts number ≡ Some (Unsafe nodes run))
 

@@ -1,9 +1,9 @@
 -- The reports of `verify` and `rest` (this project's profile)
 use Rattle.std.specs.Prelude.{ℕ, ℤ, ◌≡◌, ◌<◌, ◌^◌, Bool, true, false, List, [], ◌∷◌, ◌++◌, codes, decimal, length}
 use Rattle.std.specs.Fmt.{signed_decimal}
+use Rattle.std.specs.List.{AllByRecursion}
 use Rattle.ta_automaton.specs.declared.file.File.{File}
 use Rattle.ta_automaton.specs.declared.pattern.Pattern.{Pattern}
-use Rattle.ta_automaton.specs.Lists.{Each}
 use Rattle.ta_counter.specs.Values.{Value}
 use Rattle.ta_replay.specs.Fits.{Fits}
 use Rattle.ta_replay.specs.RunText.{run_text}
@@ -106,7 +106,7 @@ PlaceFits kind.Run = Unit {0}
 
 -- and a sample has a natural value in range for each parameter
 abbrev pub SampleFits : File → ReportSample → Type 0
-SampleFits file (sample.Sample values) = (length values ≡ length file.automaton.parameters) × Each Value values
+SampleFits file (sample.Sample values) = (length values ≡ length file.automaton.parameters) × AllByRecursion Value values
 SampleFits file sample.Empty = Unit {0}
 SampleFits file (sample.Spent count) = count < 2 ^ 64
 SampleFits file (sample.Overflow node kind) = (node < 2 ^ 64) × PlaceFits kind
@@ -122,6 +122,6 @@ VerdictFits file (Overflow node kind) = (node < 2 ^ 64) × PlaceFits kind
 abbrev pub ReportsAreDistinct : Type 0
 ReportsAreDistinct =
     (file : File) (s t : ReportSample) (vs ws : List Verdict) → length vs ≡ length file.patterns → length ws ≡ length file.patterns
-    → SampleFits file s → SampleFits file t → Each (VerdictFits file) vs → Each (VerdictFits file) ws
+    → SampleFits file s → SampleFits file t → AllByRecursion (VerdictFits file) vs → AllByRecursion (VerdictFits file) ws
     → report_text file s vs ≡ report_text file t ws
     → (s ≡ t) × (vs ≡ ws)

@@ -25,4 +25,11 @@ TellsUnsafe false name text = HasLine (told_of name (codes "unsafe, ")) text
 -- and bytes are the text of the run that it tells of an unsafe pattern
 abbrev pub TellsRun : Bool → List ℕ → List ℕ → List ℕ → Type 0
 TellsRun true name bytes text = JsonRun name bytes text
-TellsRun false name bytes text = RunPart name bytes text
+TellsRun false name bytes text = RunPart (codes "unsafe, ") name bytes text
+
+-- the report of `rest` tells that the pattern of a name is unsafe, and bytes are the text of the run that it tells of it
+abbrev pub TellsRestUnsafe : List ℕ → List ℕ → Type 0
+TellsRestUnsafe name text = HasLine (told_of name (codes "rest unsafe, ")) text
+
+abbrev pub TellsRestRun : List ℕ → List ℕ → List ℕ → Type 0
+TellsRestRun name bytes text = RunPart (codes "rest unsafe, ") name bytes text

@@ -6,7 +6,8 @@ ghost use Rattle.ta_report.specs.Check.{check_text, proofs_text, rest_check_text
 ghost use Rattle.ta_report.specs.Shown.{shown_line};
 
 use std::alloc::{AllocError, Global};
-use ta_automaton::{File, Text};
+use ta_automaton::File;
+use ta_base::Text;
 use ta_replay::Shown;
 
 /// The text that says which patterns of a file are proved: those of these numbers.

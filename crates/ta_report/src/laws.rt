@@ -30,7 +30,7 @@ pub fn rest_lines_tell()
 {}
 
 /// It does nothing: its contract states that the lines behind that of an unsafe pattern, up to the
-/// next pattern's or the end, are the text of its run.
+/// next pattern's or the end, are the text of its run, in a report and in that of `rest`.
 pub fn runs_are_printed()
     ensures there { RunsArePrinted }
     ensures only { PrintedRuns }

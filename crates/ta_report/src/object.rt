@@ -2,9 +2,9 @@
 #![tactic(auto)]
 
 ghost use Rattle.std.specs.Prelude.{◌≡◌, IfOk, codes, length};
+ghost use Rattle.std.specs.List.{AllByRecursion};
 ghost use Rattle.serde_json.specs.Data.{array, member, object, string};
 ghost use Rattle.serde_json.specs.View.{view};
-ghost use Rattle.ta_automaton.specs.Lists.{Each};
 ghost use Rattle.ta_replay.specs.Fits.{Fits};
 ghost use Rattle.ta_replay.specs.RunText.{run_lines};
 ghost use Rattle.ta_report.specs.Json.{digits_data, json_text, place_members, report_data, sample_data, texts_data, value_data, values_data, verdict_data, verdicts_data};
@@ -14,7 +14,8 @@ ghost use Rattle.ta_report.specs.declared.verdict.Verdict.TheVariants.{Overflow,
 use crate::verdict::{ReportKind, ReportSample, Verdict};
 use serde_json::{Value, json};
 use std::alloc::{AllocError, Global};
-use ta_automaton::{File, Pattern, Text};
+use ta_automaton::{File, Pattern};
+use ta_base::Text;
 use ta_replay::{Run, print_run};
 
 /// The report of a sample of the parameters and of one verdict for each pattern, in the order of the
@@ -28,7 +29,7 @@ pub fn report_json(
 ) -> Result<Text, AllocError>
     requires sample { SampleFits file.now sample.now }
     requires all { length verdicts.now ≡ length file.now.patterns }
-    requires fit { Each (VerdictFits file.now) verdicts.now }
+    requires fit { AllByRecursion (VerdictFits file.now) verdicts.now }
     ensures { IfOk result (λ text. text ≡ json_text file.now sample.now verdicts.now) }
 {
     let report = report_value(alloc, file, sample, verdicts)?;
@@ -46,7 +47,7 @@ fn report_value(
 ) -> Result<Value, AllocError>
     requires sample { SampleFits file.now sample.now }
     requires all { length verdicts.now ≡ length file.now.patterns }
-    requires fit { Each (VerdictFits file.now) verdicts.now }
+    requires fit { AllByRecursion (VerdictFits file.now) verdicts.now }
     ensures { IfOk result (λ value. view value ≡ report_data file.now sample.now verdicts.now) }
 {
     let parameters = sample_value(alloc, file, sample)?;
@@ -120,7 +121,7 @@ fn parameter_value(alloc: Global, name: &str, value: i128) -> Result<Value, Allo
 /// What is said of each pattern.
 fn verdict_values(alloc: Global, file: &File, verdicts: &[Verdict]) -> Result<Value, AllocError>
     requires all { length verdicts.now ≡ length file.now.patterns }
-    requires fit { Each (VerdictFits file.now) verdicts.now }
+    requires fit { AllByRecursion (VerdictFits file.now) verdicts.now }
     ensures { IfOk result (λ value. view value ≡ array (verdicts_data file.now file.now.patterns verdicts.now)) }
 {
     let patterns = file.patterns.as_slice();

@@ -2,13 +2,14 @@
 #![tactic(auto)]
 
 ghost use Rattle.std.specs.Prelude.{◌≡◌, ◌++◌, IfOk, OnOk, length, string_bytes};
-ghost use Rattle.ta_automaton.specs.Lists.{Each};
+ghost use Rattle.std.specs.List.{AllByRecursion};
 ghost use Rattle.ta_counter.specs.Values.{Value};
 ghost use Rattle.ta_report.specs.Report.{SampleFits, VerdictFits, report_text, rest_text, run_part, sample_line, told_text, values_text, word_before};
 
 use crate::verdict::{ReportSample, Verdict};
 use std::alloc::{AllocError, Global};
-use ta_automaton::{File, Text};
+use ta_automaton::File;
+use ta_base::Text;
 use ta_replay::print_run;
 
 /// The report of a sample of the parameters, in a line, and of one verdict for each pattern, in the
@@ -21,7 +22,7 @@ pub fn report_text(
 ) -> Result<Text, AllocError>
     requires sample { SampleFits file.now sample.now }
     requires all { length verdicts.now ≡ length file.now.patterns }
-    requires fit { Each (VerdictFits file.now) verdicts.now }
+    requires fit { AllByRecursion (VerdictFits file.now) verdicts.now }
     ensures { IfOk result (λ text. text ≡ report_text file.now sample.now verdicts.now) }
 {
     told_text(alloc, false, file, sample, verdicts)
@@ -37,7 +38,7 @@ pub fn rest_text(
 ) -> Result<Text, AllocError>
     requires sample { SampleFits file.now sample.now }
     requires all { length verdicts.now ≡ length file.now.patterns }
-    requires fit { Each (VerdictFits file.now) verdicts.now }
+    requires fit { AllByRecursion (VerdictFits file.now) verdicts.now }
     ensures { IfOk result (λ text. text ≡ rest_text file.now sample.now verdicts.now) }
 {
     told_text(alloc, true, file, sample, verdicts)
@@ -52,7 +53,7 @@ fn told_text(
     verdicts: &[Verdict],
 ) -> Result<Text, AllocError>
     requires sample { SampleFits file.now sample.now }
-    requires fit { Each (VerdictFits file.now) verdicts.now }
+    requires fit { AllByRecursion (VerdictFits file.now) verdicts.now }
     ensures { IfOk result (λ text. text ≡ told_text rest file.now sample.now verdicts.now) }
 {
     let mut text = format!(in alloc; "automaton {}\n", file.automaton.name.as_str())?;

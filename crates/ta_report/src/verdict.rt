@@ -5,7 +5,7 @@ ghost use Rattle.std.specs.Prelude.{Some};
 ghost use Rattle.ta_report.specs.Report.{place_text, verdict_text};
 
 use std::fmt;
-use ta_linear::List;
+use ta_base::List;
 use ta_replay::Run;
 
 /// Where a number left 128 bits.

@@ -1,8 +1,10 @@
 -- a run comes to rest for a pattern as it does for the pattern's ending
-use Rattle.std.proofs.Common.{◌≡◌, ◌⊎◌, inl, inr, ℕ, zero, suc, ◌+◌, ◌-◌, ◌^◌, ◌<◌, ◌≤◌, List, [], ◌∷◌, ◌++◌, length, length-append, arith, sym, ap, ◌∙◌, refl, subst, slice_get, get_or, Some, IsBitSet, All}
+use Rattle.std.proofs.Common.{◌≡◌, ◌⊎◌, inl, inr, ℕ, zero, suc, ◌+◌, ◌^◌, ◌<◌, ◌≤◌, List, [], ◌∷◌, ◌++◌, length, length-append, arith, sym, ap, ◌∙◌, refl, subst, slice_get, get_or, Some, IsBitSet, All}
 use Rattle.std.proofs.lemmas.Bool.{cases_lt}
 use Rattle.std.proofs.lemmas.Nat.{pow_pos}
-use Rattle.std.proofs.lemmas.Option.{slice_get_within, slice_get-get_or}
+use Rattle.std.proofs.lemmas.Option.{slice_get_within, slice_get-get_or, same_Some}
+use Rattle.ta_base.proofs.Bits.{bit_below, no_bit}
+use Rattle.ta_base.proofs.Lists.{at_most_first, get_end, push_cases, slice_get_left, some_at}
 use Rattle.ta_automaton.specs.declared.condition.Comparison.{Comparison}
 use Rattle.ta_automaton.specs.declared.condition.Condition.{Condition}
 use Rattle.ta_automaton.specs.declared.automaton.Automaton.{Automaton}
@@ -10,10 +12,7 @@ use Rattle.ta_automaton.specs.declared.pattern.Event.{Event}
 use Rattle.ta_automaton.specs.declared.pattern.Pattern.{Pattern}
 use Rattle.ta_automaton.specs.Runs.{Config, Holds, Occurs, value_at}
 use Rattle.ta_linear.specs.Values.{RowHolds}
-use Rattle.ta_automaton.proofs.Thresholds.{bit_below}
-use Rattle.ta_automaton.proofs.Trails.{get_left, get_last, run_length}
-use Rattle.ta_scope.proofs.OrderLaws.{push_cases}
-use Rattle.ta_encode.proofs.Switch.{some_at}
+use Rattle.ta_automaton.proofs.Trails.{run_length}
 use Rattle.ta_rest.specs.Endings.{IsEnding, LastMoved, RestAdded, events_below}
 use Rattle.ta_rest.specs.Laws.{EndingsRestAlike}
 use Rattle.ta_rest.specs.Rest.{ComeAfterEarlier, RestOccurs}
@@ -71,10 +70,10 @@ alike_rests a p q h first rules o =
 other_event : (front : List Event) (last moved : Event) → moved.condition ≡ last.condition → (e : ℕ) (event : Event) → slice_get (front ++ moved ∷ []) e ≡ Some event
     → (other : Event) × (slice_get (front ++ last ∷ []) e ≡ Some other) × (event.condition ≡ other.condition) × ((e + 1 ≡ length (front ++ last ∷ [])) ⊎ (event.after ≡ other.after))
 other_event front last moved same e event at = elim (push_cases front moved e event at) [
-  | inl w ↦ (event, get_left front (last ∷ []) e event w.1, refl, inr refl)
+  | inl w ↦ (event, slice_get_left front (last ∷ []) e event w.1, refl, inr refl)
   | inr w ↦ (
     last,
-    get_last front last e (sym w.0),
+    get_end front last e (sym w.0),
     (ap (λ (x : Event). x.condition) (sym w.1) ∙ same),
     inl (let here = w.0 in omega (arith, length-append front (last ∷ []))),
   )
@@ -107,22 +106,12 @@ no_comparison : (c : Config) (ks : List Comparison) → ks ≡ [] → All (λ (k
 no_comparison c [] e i d b = absurd (omega arith)
 no_comparison c (k ∷ ks) e i d b = absurd (cc)
 
-some_position : (n k : ℕ) → Some n ≡ Some k → n ≡ k
-some_position n k e = cc
-
-some_event : (x y : Event) → Some x ≡ Some y → x ≡ y
-some_event x y e = cc
-
 -- the only event's condition holds, since it has no comparisons
 added_holds : (old new : List Event) (m : RestAdded old new) (c : Config) (e : ℕ) (event : Event) → slice_get new e ≡ Some event → (e ≡ 0) × Holds event.condition c
 added_holds old new m c e event at = only e (ap (λ (xs : List Event). slice_get xs e) (sym m.is) ∙ at) where
   only : (e : ℕ) → slice_get (m.event ∷ []) e ≡ Some event → (e ≡ 0) × Holds event.condition c
-  only zero h = (refl, no_comparison c event.condition.comparisons (ap (λ (x : Event). x.condition.comparisons) (sym (some_event m.event event h)) ∙ m.condition))
+  only zero h = (refl, no_comparison c event.condition.comparisons (ap (λ (x : Event). x.condition.comparisons) (sym (same_Some m.event event h)) ∙ m.condition))
   only (suc e) h = absurd (cc)
-
-at_most_first : (n f : ℕ) → get_or (n ∷ []) f 0 ≤ n
-at_most_first n zero = omega arith
-at_most_first n (suc f) = omega arith
 
 added_rests : (a : Automaton) (p q : Pattern) → q.start ≡ p.start → q.empty ≡ p.empty → RestAdded p.events q.events → (first : Config) (rules : List ℕ) → RestOccurs a p first rules → RestOccurs a q first rules
 added_rests a p q start empty m first rules o =
@@ -140,7 +129,7 @@ added_rests a p q start empty m first rules o =
         each_has_one = sym one;
         happens = λ e event k at place.
             let w = added_holds p.events q.events m end.0 e event at in
-            let here : n ≡ k = some_position n k (ap (slice_get (n ∷ [])) (sym w.0) ∙ place) in
+            let here : n ≡ k = same_Some n k (ap (slice_get (n ∷ [])) (sym w.0) ∙ place) in
             (end.0, subst (λ j. slice_get (first ∷ was.later) j ≡ Some end.0) here end.1, w.1);
         in_order = λ e f event at set.
             let w = added_holds p.events q.events m end.0 e event at in
@@ -194,14 +183,11 @@ ending_has p q h = elim h.events [
 pub below_bit : (n f : ℕ) → IsBitSet (events_below n) f → f < n
 below_bit n f set = bit_below (events_below n) n f (let some : 1 ≤ 2 ^ n = pow_pos n in omega arith) set
 
-no_bit : (f : ℕ) → IsBitSet 0 f → ⊥
-no_bit f set = let b = bit_below 0 0 f (omega arith) set in omega arith
-
 -- the events of an ending come after earlier ones alone
 pub ending_early : (p q : Pattern) → IsEnding p q → ComeAfterEarlier p → ComeAfterEarlier q
 ending_early p q h early e event at f set = elim h.events [
   | inl m ↦ elim (push_cases m.front m.moved e event (ap (λ (xs : List Event). slice_get xs e) (sym m.is) ∙ at)) [
-    | inl w ↦ early e event (ap (λ (xs : List Event). slice_get xs e) m.was ∙ get_left m.front (m.last ∷ []) e event w.1) f set
+    | inl w ↦ early e event (ap (λ (xs : List Event). slice_get xs e) m.was ∙ slice_get_left m.front (m.last ∷ []) e event w.1) f set
     | inr w ↦ (
         let here = w.0 in
         let after : event.after ≡ events_below (length m.front) = ap (λ (x : Event). x.after) (sym w.1) ∙ m.after in
@@ -211,5 +197,5 @@ ending_early p q h early e event at f set = elim h.events [
   | inr m ↦ absurd (none m e (ap (λ (xs : List Event). slice_get xs e) (sym m.is) ∙ at))
 ] where
   none : (m : RestAdded p.events q.events) (e : ℕ) → slice_get (m.event ∷ []) e ≡ Some event → ⊥
-  none m zero h = no_bit f (subst (λ k. IsBitSet k f) (ap (λ (x : Event). x.after) (sym (some_event m.event event h)) ∙ m.after) set)
+  none m zero h = no_bit f (subst (λ k. IsBitSet k f) (ap (λ (x : Event). x.after) (sym (same_Some m.event event h)) ∙ m.after) set)
   none m (suc e) h = cc

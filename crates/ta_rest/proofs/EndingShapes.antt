@@ -1,20 +1,20 @@
 -- the endings of a file's patterns are patterns of such a file, and their last events come last
-use Rattle.std.proofs.Common.{◌≡◌, inl, inr, ℕ, suc, ◌+◌, ◌-◌, ◌^◌, ◌<◌, List, [], ◌∷◌, ◌++◌, map, length, length-append, append_assoc, append-nil, arith, sym, ap, ◌∙◌, refl, subst, slice_get, get_or, eqb, take, drop, Some}
+use Rattle.std.proofs.Common.{◌≡◌, inl, inr, ℕ, suc, ◌+◌, ◌^◌, ◌<◌, List, [], ◌∷◌, ◌++◌, map, length, length-append, append_assoc, arith, sym, ap, ◌∙◌, refl, subst, slice_get, get_or, eqb, take, drop, Some}
 use Rattle.std.proofs.lemmas.Bool.{false≢true}
 use Rattle.std.proofs.lemmas.Nat.{pow_pos}
+use Rattle.std.specs.List.{AllByRecursion}
+use Rattle.ta_base.proofs.Lists.{push_cases}
 use Rattle.ta_syntax.specs.declared.tokens.Mark.{Mark}
 use Rattle.ta_syntax.specs.declared.tokens.Mark.TheVariants as mark
 use Rattle.ta_syntax.specs.Kinds.{mark_bytes}
-use Rattle.ta_linear.specs.declared.row.Row.{Row}
 use Rattle.ta_automaton.specs.declared.condition.Comparison.{Comparison}
 use Rattle.ta_automaton.specs.declared.condition.Condition.{Condition}
 use Rattle.ta_automaton.specs.declared.pattern.Event.{Event}
 use Rattle.ta_automaton.specs.declared.pattern.Pattern.{Pattern}
 use Rattle.ta_automaton.specs.Forms.{ConditionOver, RowOver}
-use Rattle.ta_automaton.specs.Lists.{Distinct, Each, EachFrom}
+use Rattle.ta_base.specs.Lists.{Distinct, EachFrom}
 use Rattle.ta_automaton.specs.Names.{Name}
 use Rattle.ta_automaton.specs.Patterns.{EventWithin, PatternWithin, PatternsShape, event_name, pattern_name}
-use Rattle.ta_scope.proofs.OrderLaws.{push_cases}
 use Rattle.ta_rest.specs.Endings.{ComesLast, Endings, FewEvents, IsEnding, RestAdded, events_below, rest_name}
 use Rattle.ta_rest.proofs.EndingLaws.{ending_has}
 
@@ -80,7 +80,7 @@ moved_names [] last moved name = ap (λ n. n ∷ []) name
 moved_names (x ∷ front) last moved name = ap (λ ns. x.name ∷ ns) (moved_names front last moved name)
 
 no_comparisons : (places : ℕ) (condition : Condition) → condition.comparisons ≡ [] → ConditionOver places condition
-no_comparisons places condition e = subst (λ (ks : List Comparison). Each (λ (k : Comparison). Each (RowOver places) k.rows) ks) (sym e) tt
+no_comparisons places condition e = subst (λ (ks : List Comparison). AllByRecursion (λ (k : Comparison). AllByRecursion (RowOver places) k.rows) ks) (sym e) tt
 
 ending_within : (places locations : ℕ) (p q : Pattern) → IsEnding p q → PatternWithin places locations p → PatternWithin places locations q
 ending_within places locations p q h w = record {
@@ -101,13 +101,13 @@ ending_within places locations p q h w = record {
   ];
 }
 
-endings_within : (places locations : ℕ) (ps qs : List Pattern) → Endings ps qs → Each (PatternWithin places locations) ps → Each (PatternWithin places locations) qs
+endings_within : (places locations : ℕ) (ps qs : List Pattern) → Endings ps qs → AllByRecursion (PatternWithin places locations) ps → AllByRecursion (PatternWithin places locations) qs
 endings_within places locations [] [] h w = tt
 endings_within places locations [] (q ∷ qs) h w = absurd h
 endings_within places locations (p ∷ ps) [] h w = absurd h
 endings_within places locations (p ∷ ps) (q ∷ qs) h w = (ending_within places locations p q h.0 w.0, endings_within places locations ps qs h.1 w.1)
 
-endings_names : (ps qs : List Pattern) → Endings ps qs → map pattern_name qs ≡ map pattern_name ps
+pub endings_names : (ps qs : List Pattern) → Endings ps qs → map pattern_name qs ≡ map pattern_name ps
 endings_names [] [] h = refl
 endings_names [] (q ∷ qs) h = absurd h
 endings_names (p ∷ ps) [] h = absurd h
@@ -145,7 +145,7 @@ ending_last p q h = record {
   ];
 }
 
-pub endings_last : (ps qs : List Pattern) → Endings ps qs → Each ComesLast qs
+pub endings_last : (ps qs : List Pattern) → Endings ps qs → AllByRecursion ComesLast qs
 endings_last [] [] h = tt
 endings_last [] (q ∷ qs) h = absurd h
 endings_last (p ∷ ps) [] h = absurd h
@@ -164,9 +164,6 @@ pub record EndingsSoFar (patterns rest endings : List Pattern) : Type 0 where
   pub whole : patterns ≡ front ++ rest
   pub ends : Endings front endings
 
-pub so_far_begins : (patterns : List Pattern) → EndingsSoFar patterns patterns []
-so_far_begins patterns = record { front = []; whole = refl; ends = tt }
-
 pub so_far_more : (patterns rest endings : List Pattern) (p q : Pattern) → EndingsSoFar patterns (p ∷ rest) endings → IsEnding p q → EndingsSoFar patterns rest (endings ++ q ∷ [])
 so_far_more patterns rest endings p q h i = record {
   front = h.front ++ p ∷ [];
@@ -174,20 +171,12 @@ so_far_more patterns rest endings p q h i = record {
   ends = endings_push h.front endings p q h.ends i;
 }
 
-pub so_far_ends : (patterns rest endings : List Pattern) → EndingsSoFar patterns rest endings → length rest ≡ 0 → Endings patterns endings
-so_far_ends patterns [] endings h none = subst (λ (ps : List Pattern). Endings ps endings) (sym (h.whole ∙ append-nil h.front)) h.ends
-so_far_ends patterns (p ∷ rest) endings h none = absurd (omega arith)
-
-each_next : (front : List Pattern) (p : Pattern) (rest : List Pattern) → Each FewEvents (front ++ p ∷ rest) → FewEvents p
+each_next : (front : List Pattern) (p : Pattern) (rest : List Pattern) → AllByRecursion FewEvents (front ++ p ∷ rest) → FewEvents p
 each_next [] p rest h = h.0
 each_next (x ∷ front) p rest h = each_next front p rest h.1
 
-pub next_few : (patterns rest endings : List Pattern) (p : Pattern) → EndingsSoFar patterns (p ∷ rest) endings → Each FewEvents patterns → FewEvents p
-next_few patterns rest endings p h few = each_next h.front p rest (subst (Each FewEvents) h.whole few)
-
-pub each_few : (places locations : ℕ) (ps : List Pattern) → Each (PatternWithin places locations) ps → Each FewEvents ps
-each_few places locations [] h = tt
-each_few places locations (p ∷ ps) h = (h.0.events_limit, each_few places locations ps h.1)
+pub next_few : (patterns rest endings : List Pattern) (p : Pattern) → EndingsSoFar patterns (p ∷ rest) endings → AllByRecursion FewEvents patterns → FewEvents p
+next_few patterns rest endings p h few = each_next h.front p rest (subst (AllByRecursion FewEvents) h.whole few)
 
 -- an event named `rest` with an empty condition, in the place of none
 pub added_of : (event : Event) → event.name ≡ rest_name → event.after ≡ 0 → event.condition.comparisons ≡ [] → RestAdded [] (event ∷ [])

@@ -1,15 +1,17 @@
 -- where every cycle is a self-loop, each location has a height: the most rules that lead on from it, one after another, to other locations
-use Rattle.std.proofs.Common.{◌≡◌, ◌≢◌, ◌⊎◌, inl, inr, ℕ, zero, suc, ◌+◌, ◌<◌, ◌≤◌, List, [], ◌∷◌, length, eqb, cond, not, ◌&&◌, Bool, true, false, arith, sym, ap, ◌∙◌, refl, subst, slice_get, Some}
-use Rattle.std.proofs.lemmas.Bool.{cases_Bool, false≢true}
-use Rattle.std.proofs.lemmas.Bool.Decides.{eqb_tells, nat_tests}
+use Rattle.std.proofs.Common.{◌≡◌, ◌≢◌, ◌⊎◌, inl, inr, ℕ, zero, suc, ◌+◌, ◌<◌, ◌≤◌, List, [], ◌∷◌, length, eqb, cond, not, ◌&&◌, Bool, true, false, arith, sym, ap, ◌∙◌, refl, subst, slice_get, Some, eqb-true}
+use Rattle.std.proofs.lemmas.Bool.{cases_Bool, and_parts}
+use Rattle.std.proofs.lemmas.Bool.Decides.{nat_tests}
+use Rattle.std.specs.List.{AllByRecursion}
+use Rattle.ta_base.proofs.Each.{distinct_length, each_from_in}
+use Rattle.ta_base.proofs.Naturals.{not_same}
 use Rattle.ta_automaton.specs.declared.rule.Rule.{Rule}
 use Rattle.ta_automaton.specs.declared.automaton.Automaton.{Automaton}
-use Rattle.ta_automaton.specs.Lists.{Each, Distinct}
-use Rattle.ta_automaton.specs.Masks.{In}
+use Rattle.ta_base.specs.Lists.{Distinct}
+use Rattle.ta_base.specs.Masks.{In}
 use Rattle.ta_automaton.specs.Runs.{Walk}
 use Rattle.ta_automaton.proofs.Thresholds.{from_within, to_within}
 use Rattle.ta_scope.specs.LongerCycles.{LoopsAlone}
-use Rattle.ta_scope.proofs.Places.{distinct_length}
 
 -- rules that lead on, one after another, each to another location
 abbrev pub LeadOn : Automaton → ℕ → List ℕ → Type 0
@@ -25,7 +27,7 @@ visited_length : (a : Automaton) (x : ℕ) (rs : List ℕ) (m : LeadOn a x rs) �
 visited_length a x [] m = refl
 visited_length a x (r ∷ rs) m = ap suc (visited_length a (m.0).to rs m.4)
 
-visited_below : (a : Automaton) (x : ℕ) (rs : List ℕ) (m : LeadOn a x rs) → x < length a.locations → Each (λ y. y < length a.locations) (visited a x rs m)
+visited_below : (a : Automaton) (x : ℕ) (rs : List ℕ) (m : LeadOn a x rs) → x < length a.locations → AllByRecursion (λ y. y < length a.locations) (visited a x rs m)
 visited_below a x [] m b = (b, tt)
 visited_below a x (r ∷ rs) m b = (b, visited_below a (m.0).to rs m.4 (to_within a r m.0 m.1))
 
@@ -36,14 +38,10 @@ visited_walk a x [] m y (inr i) = absurd i
 visited_walk a x (r ∷ rs) m y (inl e) = ([], sym e)
 visited_walk a x (r ∷ rs) m y (inr i) = let w = visited_walk a (m.0).to rs m.4 y i in (r ∷ w.0, (m.0, m.1, m.2, w.1))
 
-each_other : (P : ℕ → Type 0) (xs : List ℕ) → ((y : ℕ) → In y xs → P y) → Each P xs
-each_other P [] h = tt
-each_other P (x ∷ xs) h = (h x (inl refl), each_other P xs (λ y i. h y (inr i)))
-
 visited_distinct : (a : Automaton) → LoopsAlone a → (x : ℕ) (rs : List ℕ) (m : LeadOn a x rs) → Distinct (visited a x rs m)
 visited_distinct a alone x [] m = (tt, tt)
 visited_distinct a alone x (r ∷ rs) m = (
-  each_other (λ y. x ≡ y → ⊥) (visited a (m.0).to rs m.4) (λ y i e.
+  each_from_in (λ y. x ≡ y → ⊥) (visited a (m.0).to rs m.4) (λ y i e.
       let w = visited_walk a (m.0).to rs m.4 y i in
       m.3 (alone r m.0 m.1 w.0 (subst (Walk a (m.0).to w.0) (sym e ∙ sym m.2) w.1))),
   visited_distinct a alone (m.0).to rs m.4,
@@ -107,16 +105,6 @@ best_over h l (first ∷ rules) (suc r) rule named here apart =
 abbrev pub Attained : Automaton → ℕ → ℕ → Type 0
 Attained a l n = (rs : List ℕ) × LeadOn a l rs × (length rs ≡ n)
 
-parts_true : (b c : Bool) → (b && c) ≡ true → (b ≡ true) × (c ≡ true)
-parts_true true c e = (refl, e)
-parts_true false c e = absurd (false≢true e)
-
-not_same : (x y : ℕ) → not (eqb x y) ≡ true → x ≢ y
-not_same x y t e = let s : eqb x y ≡ true = grind (arith, nat_tests) in absurd (false≢true (sym (ap not s) ∙ t))
-
-same_of : (x y : ℕ) → eqb x y ≡ true → x ≡ y
-same_of x y t = elim (eqb_tells x y) [ inl e ↦ e.1 | inr ne ↦ absurd (false≢true (sym ne.0 ∙ t)) ]
-
 best_attained : (a : Automaton) (h : ℕ → ℕ) → ((l : ℕ) → Attained a l (h l)) → (l k : ℕ) (rules : List Rule) → ((r : ℕ) (rule : Rule) → slice_get rules r ≡ Some rule → slice_get a.rules (k + r) ≡ Some rule) → Attained a l (best h l rules)
 unfolding best
 best_attained a h each l k [] named = ([], tt, refl)
@@ -124,10 +112,10 @@ best_attained a h each l k (rule ∷ rules) named =
     let others = best_attained a h each l (k + 1) rules (λ r q at. subst (λ n. slice_get a.rules n ≡ Some q) (let e : k + suc r ≡ k + 1 + r = omega arith in e) (named (suc r) q at)) in
     elim (cases_Bool (leads_on l rule)) [
       | inl t ↦ (
-          let parts = parts_true (eqb rule.from l) (not (eqb rule.from rule.to)) t in
+          let parts = and_parts (eqb rule.from l) (not (eqb rule.from rule.to)) t in
           let on = each rule.to in
           let at : slice_get a.rules k ≡ Some rule = subst (λ n. slice_get a.rules n ≡ Some rule) (let e : k + 0 ≡ k = omega arith in e) (named 0 rule refl) in
-          let longer : Attained a l (suc (h rule.to)) = (k ∷ on.0, (rule, at, same_of rule.from l parts.0, not_same rule.from rule.to parts.1, on.1), ap suc on.2) in
+          let longer : Attained a l (suc (h rule.to)) = (k ∷ on.0, (rule, at, eqb-true rule.from l parts.0, not_same rule.from rule.to parts.1, on.1), ap suc on.2) in
           elim (greater_is (suc (h rule.to)) (best h l rules)) [
             | inl e ↦ subst (Attained a l) (sym (ap (λ b. greater (cond b (suc (h rule.to)) 0) (best h l rules)) t ∙ e)) longer
             | inr e ↦ subst (Attained a l) (sym (ap (λ b. greater (cond b (suc (h rule.to)) 0) (best h l rules)) t ∙ e)) others

@@ -1,9 +1,11 @@
 -- the heights of the locations of all processes together fall with each step between locations
-use Rattle.std.proofs.Common.{◌≡◌, inl, inr, ℕ, zero, suc, ◌+◌, ◌*◌, ◌-◌, ◌<◌, ◌≤◌, ℤ, pos, ◌*ℤ◌, ◌≤ℤ◌, List, [], ◌∷◌, length, sum, eqb, cond, not, Bool, true, false, arith, sym, ap, ◌∙◌, refl, subst, slice_get, get_or}
+use Rattle.std.proofs.Common.{◌≡◌, inl, inr, ℕ, zero, suc, ◌+◌, ◌*◌, ◌-◌, ◌<◌, ◌≤◌, pos, ◌*ℤ◌, ◌≤ℤ◌, List, [], ◌∷◌, length, sum, eqb, cond, not, Bool, true, false, arith, sym, ap, ◌∙◌, refl, subst, slice_get, get_or, add-mul}
 use Rattle.std.proofs.lemmas.Int.{ints}
 use Rattle.std.proofs.lemmas.List.Sums.{sum_by-cons}
 use Rattle.std.proofs.lemmas.Bool.{false≢true, true≢false}
 use Rattle.std.proofs.lemmas.Bool.Decides.{eqb_tells, nat_tests}
+use Rattle.std.proofs.Math.IntN.{pos-*ℤ-pos}
+use Rattle.ta_base.proofs.Naturals.{item_moves, times_le_left}
 use Rattle.ta_automaton.specs.declared.automaton.Automaton.{Automaton}
 use Rattle.ta_automaton.specs.Runs.{Config, Step, Steps}
 use Rattle.ta_automaton.proofs.Thresholds.{from_within, to_within}
@@ -33,13 +35,6 @@ only_inside h k (suc n) l low high = elim (eqb_tells k l) [
   | inl e ↦ (let same : h k ≡ h l = ap h e.1 in rw e.0 (omega (arith, same, only_outside h (k + 1) n l (let q = e.1 in omega arith))))
   | inr ne ↦ rw ne.0 (omega (arith, only_inside h (k + 1) n l (let q = ne.1 in omega arith) (omega arith)))
 ]
-
--- what a counter adds before and after a move
-item_moves : (x y n : ℕ) (b c : Bool) → y + cond b 1 0 ≡ x + cond c 1 0 → y * n + cond b n 0 ≡ x * n + cond c n 0
-item_moves x y n true true e = ap (λ z. z * n + n) (let same : y ≡ x = omega arith in same)
-item_moves x y n false false e = ap (λ z. z * n + 0) (let same : y ≡ x = omega arith in same)
-item_moves x y n true false e = (let f : y * n + n ≡ suc y * n + 0 = omega arith in f) ∙ ap (λ z. z * n + 0) (let same : suc y ≡ x = omega arith in same)
-item_moves x y n false true e = ap (λ z. z * n + 0) (let same : y ≡ suc x = omega arith in same) ∙ (let f : suc x * n + 0 ≡ x * n + n = omega arith in f)
 
 -- a process moves from one location to another
 weight_moves : (h : ℕ → ℕ) (k from to : ℕ) (xs ys : List ℕ) → length ys ≡ length xs → ((l : ℕ) → get_or ys l 0 + cond (eqb (k + l) from) 1 0 ≡ get_or xs l 0 + cond (eqb (k + l) to) 1 0) → weight h k ys + only h k (length xs) from ≡ weight h k xs + only h k (length xs) to
@@ -95,31 +90,14 @@ run_falls a alone c (r ∷ rules) [] steps count = absurd steps
 run_falls a alone c (r ∷ rules) (d ∷ later) steps count =
     omega (arith, step_falls a alone r c d steps.0 count, run_falls a alone d rules later steps.1 (steps.0.move.counters_count ∙ count))
 
-times_more : (c m n : ℕ) → m ≤ n → c * m ≤ c * n
-times_more zero m n le = omega arith
-times_more (suc c) m n le =
-    let left : suc c * m ≡ m + c * m = omega arith in
-    let right : suc c * n ≡ n + c * n = omega arith in
-    omega (arith, times_more c m n le)
-
-times_sum : (c d m : ℕ) → (c + d) * m ≡ c * m + d * m
-times_sum zero d m = omega arith
-times_sum (suc c) d m =
-    let left : suc (c + d) * m ≡ m + (c + d) * m = omega arith in
-    let right : suc c * m ≡ m + c * m = omega arith in
-    omega (arith, times_sum c d m)
-
 weight_most : (h : ℕ → ℕ) (m k : ℕ) (cs : List ℕ) → ((l : ℕ) → l < k + length cs → h l ≤ m) → weight h k cs ≤ sum cs * m
 unfolding weight
 weight_most h m k [] low = omega arith
 weight_most h m k (c ∷ cs) low =
-    let here = times_more c (h k) m (low k (omega arith)) in
+    let here = times_le_left c (h k) m (low k (omega arith)) in
     let rest = weight_most h m (k + 1) cs (λ l b. low l (omega arith)) in
     let all : sum (c ∷ cs) * m ≡ (c + sum cs) * m = ap (λ n. n * m) (sum_by-cons (λ n. n) c cs) in
-    omega (arith, times_sum c (sum cs) m)
-
-product : (m n : ℕ) → (pos m *ℤ pos n) ≡ pos (m * n)
-product m n = refl
+    omega (arith, add-mul c (sum cs) m)
 
 pub moves_bounded : MovesAreBounded
 moves_bounded a alone first rules later run =
@@ -127,4 +105,4 @@ moves_bounded a alone first rules later run =
     let falls = run_falls a alone first rules later run.steps count in
     let most = weight_most (height_of a) (length a.locations - 1) 0 first.counters (λ l b. let h = height_below a alone l (omega arith) in omega arith) in
     let bound : pos (moves_count a rules) ≤ℤ pos (sum first.counters * (length a.locations - 1)) = omega (arith, ints) in
-    subst (λ z. pos (moves_count a rules) ≤ℤ z) (sym (product (sum first.counters) (length a.locations - 1)) ∙ ap (λ z. z *ℤ pos (length a.locations - 1)) run.initial.processes) bound
+    subst (λ z. pos (moves_count a rules) ≤ℤ z) (sym (pos-*ℤ-pos (sum first.counters) (length a.locations - 1)) ∙ ap (λ z. z *ℤ pos (length a.locations - 1)) run.initial.processes) bound

@@ -3,33 +3,33 @@ use Rattle.std.proofs.Common.{◌≡◌, inl, inr, ℕ, zero, suc, ◌+◌, ◌-
 use Rattle.std.specs.Prelude.{filter}
 use Rattle.std.proofs.lemmas.Int.{ints}
 use Rattle.std.proofs.lemmas.List.{append-nil}
-use Rattle.std.proofs.lemmas.Bool.{false≢true, true≢false, cases_Bool, and_parts, eqb-true, eq-eqb}
-use Rattle.std.proofs.lemmas.Option.{slice_get_within}
+use Rattle.std.proofs.lemmas.Bool.{false≢true, true≢false, cases_Bool, and_parts, eqb-true, eq-eqb, not-false, not-true}
+use Rattle.std.proofs.lemmas.Option.{slice_get_within, same_Some}
+use Rattle.ta_base.proofs.Bits.{all_below-at, all_below-false, bit_true}
+use Rattle.ta_base.proofs.Booleans.{implies-at}
+use Rattle.ta_base.proofs.Integers.{is_negative, negative_false, negative_true}
+use Rattle.ta_base.proofs.Members.{cond_child, in_filter}
 use Rattle.ta_linear.specs.Values.{value_of, RowHolds}
 use Rattle.ta_linear.specs.declared.row.Row.{Row}
 use Rattle.ta_automaton.specs.declared.rule.Rule.{Rule}
 use Rattle.ta_automaton.specs.declared.automaton.Automaton.{Automaton}
 use Rattle.ta_automaton.specs.declared.pattern.Pattern.{Pattern}
-use Rattle.ta_automaton.specs.Masks.{has_bit, all_below, implies, numbers_from, In}
+use Rattle.ta_base.specs.Masks.{has_bit, all_below, implies, numbers_from, In}
 use Rattle.ta_automaton.specs.Places.{Whole, location_place}
 use Rattle.ta_automaton.specs.Runs.{Config, MaskedHold, Step, Steps, value_at}
 use Rattle.ta_automaton.proofs.Fire.{fire, fire_step}
-use Rattle.ta_automaton.proofs.MaskTests.{all_below-at, bit_true, implies-at, true_not}
 use Rattle.ta_automaton.proofs.Moves.{Fits, value_at-location}
 use Rattle.ta_automaton.proofs.Trails.{run_length}
 use Rattle.ta_implied.specs.Implied.{Good}
 use Rattle.ta_implied.proofs.Chains.{nothing_leads}
-use Rattle.ta_implied.proofs.Members.{in_filter}
 use Rattle.ta_words.specs.declared.element.Element.{Element}
-use Rattle.ta_words.specs.Words.{Legal, children, has_fallen, has_rise, is_complete}
+use Rattle.ta_words.specs.Words.{LegalWord, children, has_fallen, has_rise, is_complete}
 use Rattle.ta_encode.specs.Laws.{EndsAt}
 use Rattle.ta_encode.specs.System.{LinearRow, AllHold, counter_row, guard_rows, negated, opposite, word_rows}
 use Rattle.ta_encode.specs.Unknowns.{meanings}
 use Rattle.ta_encode.specs.declared.meaning.Meaning.{Meaning}
 use Rattle.ta_encode.proofs.Moments.{AllHold-append, AllHold-left, Moment, RowFails, guards_fail, opposite_value}
 use Rattle.ta_encode.proofs.Safety.{SolvesAlong, extend, none_along, prefix_legal, prefix_rows, take_apart}
-use Rattle.ta_encode.proofs.Start.{is_negative, negative_true, negative_false}
-use Rattle.ta_encode.proofs.Switch.{all_below-false, false_not}
 use Rattle.ta_encode.proofs.Theorems.{reordered_to}
 use Rattle.ta_rest.specs.Rest.{AtRest}
 use Rattle.ta_rest.specs.RestSearch.{end_rows, leads_out, must_be_left, rest_rows, rest_search}
@@ -44,11 +44,8 @@ step_whole a r c d w step = record {
   counters = step.move.counters_count ∙ w.counters;
 }
 
-some_same : (x y : Config) → Some x ≡ Some y → x ≡ y
-some_same x y e = cc
-
 pub whole_at : (a : Automaton) (c : Config) (rules : List ℕ) (later : List Config) → Whole a c → Steps a c rules later → (k : ℕ) (d : Config) → slice_get (c ∷ later) k ≡ Some d → Whole a d
-whole_at a c rules later w steps zero d at = subst (Whole a) (some_same c d at) w
+whole_at a c rules later w steps zero d at = subst (Whole a) (same_Some c d at) w
 whole_at a c [] [] w steps (suc k) d at = absurd (slice_none k d at)
   where
     slice_none : (k : ℕ) (d : Config) → slice_get [] k ≡ Some d → ⊥
@@ -69,7 +66,7 @@ nobody a start past c w rests risen standing l r (Some rule) named leads =
     let guards = and_parts (all_below (length a.rise) (λ i. implies (has_bit rule.rise i) (has_rise past i))) (all_below (length a.fall) (λ j. implies (has_bit rule.fall j) (not (has_fallen start past j)))) apart.1 in
     let here : rule.from ≡ l = eqb-true rule.from l from.0 in
     let rise : MaskedHold rule.rise a.rise c = (λ i row at bit. risen i row at (implies-at (has_bit rule.rise i) (has_rise past i) (all_below-at (length a.rise) (λ k. implies (has_bit rule.rise k) (has_rise past k)) guards.0 i (slice_get_within a.rise i row at)) (bit_true rule.rise i bit))) in
-    let fall : MaskedHold rule.fall a.fall c = (λ j row at bit. standing j row at (true_not (has_fallen start past j) (implies-at (has_bit rule.fall j) (not (has_fallen start past j)) (all_below-at (length a.fall) (λ k. implies (has_bit rule.fall k) (not (has_fallen start past k))) guards.1 j (slice_get_within a.fall j row at)) (bit_true rule.fall j bit)))) in
+    let fall : MaskedHold rule.fall a.fall c = (λ j row at bit. standing j row at (not-true (has_fallen start past j) (implies-at (has_bit rule.fall j) (not (has_fallen start past j)) (all_below-at (length a.fall) (λ k. implies (has_bit rule.fall k) (not (has_fallen start past k))) guards.1 j (slice_get_within a.fall j row at)) (bit_true rule.fall j bit)))) in
     empty here apart.0 rise fall (get_or c.counters l 0) refl
   where
     empty : rule.from ≡ l → not (eqb rule.from rule.to) ≡ true → MaskedHold rule.rise a.rise c → MaskedHold rule.fall a.fall c → (n : ℕ) → get_or c.counters l 0 ≡ n → n ≡ 0
@@ -80,7 +77,7 @@ nobody a start past c w rests risen standing l r (Some rule) named leads =
         let twice : Some step.rule ≡ Some rule = sym step.named ∙ named in
         let same : step.rule ≡ rule = cc in
         let loop : rule.from ≡ rule.to = subst (λ (q : Rule). q.from ≡ q.to) same (rests r (fire a rule c) step) in
-        absurd (true≢false (sym (eq-eqb rule.from rule.to loop) ∙ true_not (eqb rule.from rule.to) apart))
+        absurd (true≢false (sym (eq-eqb rule.from rule.to loop) ∙ not-true (eqb rule.from rule.to) apart))
 
 -- the rows of counters that are 0
 empty_rows : (a : Automaton) (ms : List Meaning) (vs : List ℕ) (c : Config) → Moment a ms vs c → Fits a c → (ls : List ℕ) → ((l : ℕ) → In l ls → get_or c.counters l 0 ≡ 0) → AllHold vs (map (λ l. opposite (counter_row a ms l)) ls)
@@ -101,14 +98,14 @@ rest_holds a p start past vs configs positions ends w rests =
       | inl n ↦ negative_true (value_of (value_at c) row.form) n
       | inr f ↦ (let same : 0 + j ≡ j = omega arith in
           let risen : has_rise past j ≡ true = (ends.risen j row at).0 (negative_false (value_of (value_at c) row.form) f) in
-          absurd (true≢false (sym risen ∙ ap (has_rise past) (sym same) ∙ true_not (has_rise past (0 + j)) t)))
+          absurd (true≢false (sym risen ∙ ap (has_rise past) (sym same) ∙ not-true (has_rise past (0 + j)) t)))
     ]) in
     let guards : AllHold vs (map negated (guard_rows a ms (λ i. not (has_rise past i)) 0 a.rise)) = subst (λ (v : List ℕ). AllHold v (map negated (guard_rows a ms (λ i. not (has_rise past i)) 0 a.rise))) (append-nil vs) (guards_fail a ms vs c m [] (λ i. not (has_rise past i)) 0 a.rise fails) in
     let ls = filter (must_be_left a p start past) (numbers_from 0 (length a.locations)) in
     let none : (l : ℕ) → In l ls → get_or c.counters l 0 ≡ 0 = (λ l i.
     let parts = and_parts (not (has_bit p.empty l)) (not (all_below (length a.rules) (λ r. not (leads_out a start past l (slice_get a.rules r))))) (in_filter (must_be_left a p start past) l (numbers_from 0 (length a.locations)) i).0 in
-    let found = all_below-false (length a.rules) (λ r. not (leads_out a start past l (slice_get a.rules r))) (true_not _ parts.1) in
-    nobody a start past c w rests (λ i row at t. (ends.risen i row at).1 t) (λ j row at f. (ends.fallen j row at).1 f) l found.0 (slice_get a.rules found.0) refl (false_not (leads_out a start past l (slice_get a.rules found.0)) found.2)) in
+    let found = all_below-false (length a.rules) (λ r. not (leads_out a start past l (slice_get a.rules r))) (not-true _ parts.1) in
+    nobody a start past c w rests (λ i row at t. (ends.risen i row at).1 t) (λ j row at f. (ends.fallen j row at).1 f) l found.0 (slice_get a.rules found.0) refl (not-false (leads_out a start past l (slice_get a.rules found.0)) found.2)) in
     AllHold-append vs (map negated (guard_rows a ms (λ i. not (has_rise past i)) 0 a.rise)) (map (λ l. opposite (counter_row a ms l)) ls) guards (empty_rows a ms vs c m fits ls none)
 
 if_complete : (vs : List ℕ) (b : Bool) (rows : List LinearRow) → AllHold vs rows → AllHold vs (cond b rows [])
@@ -152,15 +149,11 @@ no_more : (vs : List ℕ) (b : Bool) (rows : List LinearRow) → b ≡ false →
 no_more vs true rows e = absurd (true≢false e)
 no_more vs false rows e = tt
 
-cond_child : {X : Type 0} (x : X) (b : Bool) (xs : List X) → In x (cond b [] xs) → b ≡ false
-cond_child x true xs h = absurd h
-cond_child x false xs h = refl
-
 pub not_followed : (a : Automaton) (p : Pattern) (start : ℕ) (past : List Element) (e : Element) → In e (children a p [] start past) → is_complete p past ≡ false
 unfolding children
 not_followed a p start past e i = cond_child e (is_complete p past) _ i
 
-rest_along : (a : Automaton) (p : Pattern) (start : ℕ) (vs : List ℕ) (past future : List Element) → Legal a p start (extend past future) → is_complete p (extend past future) ≡ true → AllHold vs (word_rows a p start (extend past future)) → AllHold vs (rest_rows a p start (extend past future)) → SolvesAlong (rest_search a p) start vs past future
+rest_along : (a : Automaton) (p : Pattern) (start : ℕ) (vs : List ℕ) (past future : List Element) → LegalWord a p start (extend past future) → is_complete p (extend past future) ≡ true → AllHold vs (word_rows a p start (extend past future)) → AllHold vs (rest_rows a p start (extend past future)) → SolvesAlong (rest_search a p) start vs past future
 unfolding rest_rows
 rest_along a p start vs past [] legal complete words rows = (rows, complete)
 rest_along a p start vs past (e ∷ future) legal complete words rows =
@@ -177,7 +170,7 @@ refuted_rests a p early some loops trees proof first rules o =
     let words : AllHold s.values (word_rows a p s.start s.past) = AllHold-left s.values (word_rows a p s.start s.past) (cond (is_complete p s.past) (end_rows a p s.start s.past) []) rows in
     none_along (rest_search a p) (2 ^ length a.fall) trees proof s.start s.is_start f.0 s.values
     (rest_along a p s.start s.values [] f.0
-    (subst (Legal a p s.start) (sym f.1) s.legal)
+    (subst (LegalWord a p s.start) (sym f.1) s.legal)
     (ap (is_complete p) f.1 ∙ s.complete)
     (subst (λ (q : List Element). AllHold s.values (word_rows a p s.start q)) (sym f.1) words)
     (subst (λ (q : List Element). AllHold s.values (rest_rows a p s.start q)) (sym f.1) rows))

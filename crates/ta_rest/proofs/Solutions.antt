@@ -1,30 +1,31 @@
 -- the run of a solution of a word's system of rest comes to rest
-use Rattle.std.proofs.Common.{◌≡◌, ◌≢◌, inl, inr, ℕ, ◌+◌, ◌-◌, ◌<◌, ◌≤◌, ℤ, pos, ◌≤ℤ◌, List, [], ◌∷◌, ◌++◌, map, length, eqb, cond, Bool, true, false, not, ◌&&◌, arith, sym, ap, ◌∙◌, refl, subst, slice_get, get_or, Some, None, Option, IsBitSet}
+use Rattle.std.proofs.Common.{◌≡◌, ◌≢◌, inl, inr, ℕ, ◌+◌, ◌<◌, ◌≤◌, ℤ, pos, ◌≤ℤ◌, List, [], ◌∷◌, ◌++◌, map, length, eqb, cond, Bool, true, false, not, arith, sym, ap, ◌∙◌, refl, subst, slice_get, get_or, Some, None, Option, IsBitSet}
 use Rattle.std.specs.Prelude.{filter}
-use Rattle.std.specs.Int.{bit_at}
 use Rattle.std.proofs.lemmas.Int.{ints}
 use Rattle.std.proofs.lemmas.Nat.Bits.{bit_at_ones}
-use Rattle.std.proofs.lemmas.Bool.{false≢true, true≢false, cases_Bool, and_parts}
+use Rattle.std.proofs.lemmas.Bool.{false≢true, true≢false, cases_Bool, and_parts, and_from, not-true, not_from_false}
 use Rattle.std.proofs.lemmas.Bool.Decides.{eqb_tells}
-use Rattle.std.proofs.lemmas.Option.{slice_get_within}
+use Rattle.std.proofs.lemmas.Option.{slice_get_within, same_Some}
+use Rattle.ta_base.proofs.Bits.{all_below-at, all_below-from, at_set, bit_set}
+use Rattle.ta_base.proofs.Booleans.{implies-from}
+use Rattle.ta_base.proofs.Lists.{some_at}
+use Rattle.ta_base.proofs.Members.{In-filter}
+use Rattle.ta_base.proofs.Ranges.{In-numbers, at_index}
 use Rattle.ta_linear.specs.Values.{value_of, RowHolds}
 use Rattle.ta_linear.specs.declared.row.Row.{Row}
 use Rattle.ta_automaton.specs.declared.rule.Rule.{Rule}
 use Rattle.ta_automaton.specs.declared.automaton.Automaton.{Automaton}
 use Rattle.ta_automaton.specs.declared.pattern.Event.{Event as PatternEvent}
 use Rattle.ta_automaton.specs.declared.pattern.Pattern.{Pattern}
-use Rattle.ta_automaton.specs.Masks.{has_bit, all_below, implies, numbers_from, In}
+use Rattle.ta_base.specs.Masks.{has_bit, all_below, implies, numbers_from, In}
 use Rattle.ta_automaton.specs.Places.{Whole, location_place}
-use Rattle.ta_automaton.specs.Runs.{At, Config, Move, Step, value_at}
-use Rattle.ta_automaton.proofs.Fire.{at_index}
-use Rattle.ta_automaton.proofs.MaskTests.{all_below-at, all_below-from, bit_set, implies-from, not_true, true_not, In-filter, In-numbers}
+use Rattle.ta_automaton.specs.Runs.{Config, Move, value_at}
 use Rattle.ta_automaton.proofs.Moves.{Fits, value_at-location}
 use Rattle.ta_automaton.proofs.Sums.{terms_value-same}
 use Rattle.ta_automaton.proofs.Thresholds.{from_within}
-use Rattle.ta_scope.proofs.Reaching.{at_set}
 use Rattle.ta_words.specs.declared.element.Element.{Element}
 use Rattle.ta_words.specs.declared.element.Element.TheVariants.{Event, Rise, Fall}
-use Rattle.ta_words.specs.Words.{Legal, children, follows, has_event, has_fallen, has_rise, is_complete}
+use Rattle.ta_words.specs.Words.{LegalWord, children, follows, has_event, has_fallen, has_rise, is_complete}
 use Rattle.ta_encode.specs.Laws.{RunsThrough, WordFires, position_in, steps_of}
 use Rattle.ta_encode.specs.System.{AllHold, counter_row, guard_rows, negated, opposite, row_value, word_rows}
 use Rattle.ta_encode.specs.Unknowns.{meanings, start_meanings}
@@ -33,8 +34,7 @@ use Rattle.ta_encode.proofs.Moments.{AllHold-left, RowFails, opposite_value}
 use Rattle.ta_encode.proofs.Prefixes.{prefix_fewer}
 use Rattle.ta_encode.proofs.Realize.{solution_end, solution_runs, some_firings}
 use Rattle.ta_encode.proofs.Safety.{take_apart}
-use Rattle.ta_encode.proofs.Switch.{some_at}
-use Rattle.ta_encode.proofs.Values.{AllHold-right, event_ready, left_part, place_value}
+use Rattle.ta_encode.proofs.Values.{AllHold-right, event_ready, place_value}
 use Rattle.ta_rest.specs.Endings.{ComesLast, events_below}
 use Rattle.ta_rest.specs.Laws.{EndsOfSolutionsRest, SolutionsComeToRest, StepsOfSolutionsRest}
 use Rattle.ta_rest.specs.Rest.{AtRest}
@@ -89,11 +89,8 @@ unrisen : (a : Automaton) (p : Pattern) (start : ℕ) (past : List Element) (vs 
 unfolding end_rows
 unrisen a p start past vs c end i row at f =
     let ms = meanings a p start past in
-    let rows = left_part vs (map negated (guard_rows a ms (λ k. not (has_rise past k)) 0 a.rise)) _ end.ends in
-    fails_at a c (place_value a ms vs) row end.values (guard_fails a ms vs (λ k. not (has_rise past k)) 0 a.rise rows i row at (not_true (has_rise past (0 + i)) (let e : 0 + i ≡ i = omega arith in ap (has_rise past) e ∙ f)))
-
-and_true : (b c : Bool) → b ≡ true → c ≡ true → (b && c) ≡ true
-and_true b c s t = rw s t
+    let rows = AllHold-left vs (map negated (guard_rows a ms (λ k. not (has_rise past k)) 0 a.rise)) _ end.ends in
+    fails_at a c (place_value a ms vs) row end.values (guard_fails a ms vs (λ k. not (has_rise past k)) 0 a.rise rows i row at (not_from_false (has_rise past (0 + i)) (let e : 0 + i ≡ i = omega arith in ap (has_rise past) e ∙ f)))
 
 -- a rule that can step between two locations leads out of its source
 leads : (a : Automaton) (p : Pattern) (start : ℕ) (past : List Element) (vs : List ℕ) (c d : Config) → EndOf a p start past vs c → (rule : Rule) → Move a rule c d → rule.from ≢ rule.to → leads_out a start past rule.from (Some rule) ≡ true
@@ -107,14 +104,14 @@ leads a p start past vs c d end rule move apart =
     let row = some_at a.fall j b in
     elim (cases_Bool (has_fallen start past j)) [
       | inl t ↦ absurd (fails_at a c (place_value a (meanings a p start past) vs) row.0 end.values (fallen_fail a p start past vs end.words j row.0 row.1 t) (move.fall j row.0 row.1 (bit_set rule.fall j set)))
-      | inr f ↦ not_true (has_fallen start past j) f
+      | inr f ↦ not_from_false (has_fallen start past j) f
     ])) in
-    and_true (eqb rule.from rule.from) _ here (and_true (not (eqb rule.from rule.to)) _ (ap not other) (and_true _ _ rise fall))
+    and_from (eqb rule.from rule.from) _ here (and_from (not (eqb rule.from rule.to)) _ (ap not other) (and_from _ _ rise fall))
 
 -- some number below another passes
 some_passes : (n : ℕ) (test : ℕ → Bool) (r : ℕ) → r < n → test r ≡ true → some_below n test ≡ true
 some_passes n test r b t = elim (cases_Bool (all_below n (λ k. not (test k)))) [
-  | inl all ↦ absurd (true≢false (sym t ∙ true_not (test r) (all_below-at n (λ k. not (test k)) all r b)))
+  | inl all ↦ absurd (true≢false (sym t ∙ not-true (test r) (all_below-at n (λ k. not (test k)) all r b)))
   | inr f ↦ ap not f
 ]
 
@@ -129,7 +126,7 @@ at_rest a p start past vs c end r next step =
         | inl t ↦ absurd (let none = end.empty l t in omega arith)
         | inr f ↦ (
             let out : leads_out a start past l (slice_get a.rules r) ≡ true = ap (leads_out a start past l) step.named ∙ leads a p start past vs c next end rule step.move ne.1 in
-            let left : must_be_left a p start past l ≡ true = and_true (not (has_bit p.empty l)) _ (not_true (has_bit p.empty l) f) (some_passes (length a.rules) (λ k. leads_out a start past l (slice_get a.rules k)) r (slice_get_within a.rules r rule step.named) out) in
+            let left : must_be_left a p start past l ≡ true = and_from (not (has_bit p.empty l)) _ (not_from_false (has_bit p.empty l) f) (some_passes (length a.rules) (λ k. leads_out a start past l (slice_get a.rules k)) r (slice_get_within a.rules r rule step.named) out) in
             let none = nobody_left a p start past vs c end l (from_within a r rule step.named) left in
             absurd (omega arith))
       ]
@@ -144,7 +141,7 @@ ends_rest a p s c whole values empty =
 abbrev pub EndsByEvent : List Element → Type 0
 EndsByEvent past = (e : ℕ) × (older : List Element) × (past ≡ Event e ∷ older)
 
-pub by_event : (a : Automaton) (p : Pattern) (start : ℕ) (past : List Element) → 1 ≤ length p.events → Legal a p start past → is_complete p past ≡ true → EndsByEvent past
+pub by_event : (a : Automaton) (p : Pattern) (start : ℕ) (past : List Element) → 1 ≤ length p.events → LegalWord a p start past → is_complete p past ≡ true → EndsByEvent past
 unfolding has_event
 by_event a p start [] some legal complete = absurd (false≢true (all_below-at (length p.events) (has_event []) complete 0 some))
 by_event a p start (Event e ∷ older) some legal complete = (e, older, refl)
@@ -161,12 +158,12 @@ event_exists p older None t = absurd (false≢true t)
 event_exists p older (Some event) t = (event, refl)
 
 -- the last event happens at the end of the run, since the newest element's does and doesn't come after it
-last_at_end : (a : Automaton) (p : Pattern) (start : ℕ) (past : List Element) (vs : List ℕ) (firings : List (List ℕ)) → ComesLast p → Legal a p start past → is_complete p past ≡ true → WordFires a p start past vs firings → (run : RunsThrough a p past vs firings) → (last : ℕ) → last + 1 ≡ length p.events → get_or run.occurs.positions last 0 ≡ length (steps_of firings)
+last_at_end : (a : Automaton) (p : Pattern) (start : ℕ) (past : List Element) (vs : List ℕ) (firings : List (List ℕ)) → ComesLast p → LegalWord a p start past → is_complete p past ≡ true → WordFires a p start past vs firings → (run : RunsThrough a p past vs firings) → (last : ℕ) → last + 1 ≡ length p.events → get_or run.occurs.positions last 0 ≡ length (steps_of firings)
 last_at_end a p start past vs firings comes legal complete fires run last is =
     let n = length p.events in
     let w = by_event a p start past comes.some legal complete in
     let e = w.0 in
-    let child : In (Event e) (children a p [] start w.1) = (subst (Legal a p start) w.2 legal).0 in
+    let child : In (Event e) (children a p [] start w.1) = (subst (LegalWord a p start) w.2 legal).0 in
     let ready = and_parts (not (has_event w.1 e)) (follows p w.1 (slice_get p.events e)) (event_ready a p [] start w.1 e child) in
     let event = event_exists p w.1 (slice_get p.events e) ready.1 in
     let exists : e < n = slice_get_within p.events e event.0 event.1 in
@@ -185,9 +182,6 @@ last_at_end a p start past vs firings comes legal complete fires run last is =
           omega arith)
     ]
 
-same_config : (x y : Config) → Some x ≡ Some y → x ≡ y
-same_config x y e = cc
-
 pub steps_rest : StepsOfSolutionsRest
 unfolding meanings
 steps_rest a p early comes s firings fires =
@@ -204,7 +198,7 @@ steps_rest a p early comes s firings fires =
       rests = record {
         occurs = run.occurs;
         at_end = last_at_end a p s.start s.past s.values firings comes s.legal s.complete fires run;
-        rests = λ c at. subst (AtRest a) (same_config end.config c (sym end.there ∙ at)) rest;
+        rests = λ c at. subst (AtRest a) (same_Some end.config c (sym end.there ∙ at)) rest;
       };
     }
 

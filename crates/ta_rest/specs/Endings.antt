@@ -1,9 +1,9 @@
 -- The ending of a pattern: the pattern whose last event comes after all its others (this project's profile)
 use Rattle.std.specs.Prelude.{ℕ, ◌+◌, ◌-◌, ◌^◌, ◌≤◌, ◌≡◌, ◌⊎◌, List, [], ◌∷◌, ◌++◌, length, slice_get, Some}
 use Rattle.std.proofs.Props.{props}
+use Rattle.std.specs.List.{AllByRecursion, AllByRecursion-prop}
 use Rattle.ta_automaton.specs.declared.pattern.Event.{Event}
 use Rattle.ta_automaton.specs.declared.pattern.Pattern.{Pattern}
-use Rattle.ta_automaton.specs.Lists.{Each, Each-prop}
 
 -- the mask of the events below a number
 abbrev pub events_below : ℕ → ℕ
@@ -60,5 +60,5 @@ pub record ComesLast (p : Pattern) : Type 0 where
 ComesLast-prop : (p : Pattern) → IsProp (ComesLast p)
 ComesLast-prop p = hlevel props
 
-pub EachComesLast-prop : (ps : List Pattern) → IsProp (Each ComesLast ps)
-EachComesLast-prop ps = Each-prop ComesLast ComesLast-prop ps
+pub EachComesLast-prop : (ps : List Pattern) → IsProp (AllByRecursion ComesLast ps)
+EachComesLast-prop ps = AllByRecursion-prop ComesLast ComesLast-prop ps

@@ -6,11 +6,11 @@ use Rattle.ta_automaton.specs.Places.{Whole}
 use Rattle.ta_automaton.specs.Runs.{Config, InScope, LoopsPure, value_at}
 use Rattle.ta_cert.specs.Tree.{Tree}
 use Rattle.ta_words.specs.declared.element.Element.{Element}
-use Rattle.ta_words.specs.Words.{Legal, is_complete}
+use Rattle.ta_words.specs.Words.{LegalWord, is_complete}
 use Rattle.ta_encode.specs.Laws.{WordFires, start_values, steps_of}
 use Rattle.ta_encode.specs.Refutes.{IsLeaf, ProofBy}
 use Rattle.ta_encode.specs.Search.{SolvesAt}
-use Rattle.ta_encode.specs.System.{combine}
+use Rattle.ta_encode.specs.System.{sum_of_products}
 use Rattle.ta_encode.specs.Unknowns.{meanings, place_coefficient, start_meanings}
 use Rattle.ta_rest.specs.Endings.{ComesLast, IsEnding}
 use Rattle.ta_rest.specs.Rest.{AtRest, ComeAfterEarlier, RestOccurs, RestSafe}
@@ -21,7 +21,7 @@ pub record RestSolved (a : Automaton) (p : Pattern) : Type 0 where
   pub start : ℕ
   pub is_start : start < 2 ^ length a.fall
   pub past : List Element
-  pub legal : Legal a p start past
+  pub legal : LegalWord a p start past
   pub complete : is_complete p past ≡ true
   pub values : List ℕ
   pub solves : SolvesAt (rest_search a p) (record { start = start; past = past; bounds = [] }) values
@@ -80,6 +80,6 @@ abbrev pub EndsOfSolutionsRest : Type 0
 EndsOfSolutionsRest =
     (a : Automaton) (p : Pattern) (s : RestSolved a p)
     → (c : Config) → Whole a c
-    → ((i : ℕ) → value_at c i ≡ combine (map (λ m. place_coefficient a m i) (meanings a p s.start s.past)) s.values)
+    → ((i : ℕ) → value_at c i ≡ sum_of_products (map (λ m. place_coefficient a m i) (meanings a p s.start s.past)) s.values)
     → ((l : ℕ) → IsBitSet p.empty l → slice_index c.counters l ≡ 0)
     → AtRest a c

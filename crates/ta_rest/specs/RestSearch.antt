@@ -4,7 +4,7 @@ use Rattle.std.specs.Prelude.{ℕ, ◌==◌, Bool, false, cond, not, ◌&&◌, L
 use Rattle.ta_automaton.specs.declared.rule.Rule.{Rule}
 use Rattle.ta_automaton.specs.declared.automaton.Automaton.{Automaton}
 use Rattle.ta_automaton.specs.declared.pattern.Pattern.{Pattern}
-use Rattle.ta_automaton.specs.Masks.{has_bit, all_below, implies, numbers_from}
+use Rattle.ta_base.specs.Masks.{has_bit, all_below, implies, numbers_from}
 use Rattle.ta_words.specs.declared.element.Element.{Element}
 use Rattle.ta_words.specs.Words.{children, has_fallen, has_rise, is_complete}
 use Rattle.ta_encode.specs.Unknowns.{meanings}

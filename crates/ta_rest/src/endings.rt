@@ -2,16 +2,17 @@
 #![tactic(auto)]
 
 ghost use Rattle.std.specs.Prelude.{ℕ, ◌≤◌, ◌<◌, ◌≡◌, ◌⊎◌, ◌↔◌, [], ◌∷◌, length, slice_get, Some, IsBitSet, IfOk};
+ghost use Rattle.std.specs.List.{AllByRecursion};
 ghost use Rattle.ta_automaton.specs.declared.pattern.Pattern.{Pattern};
-ghost use Rattle.ta_automaton.specs.Lists.{Each};
 ghost use Rattle.ta_rest.specs.Endings.{Endings, FewEvents, IsEnding, LastMoved, RestAdded, events_below};
 
 use std::alloc::{AllocError, Global};
-use ta_automaton::{Condition, Event, List, Pattern, Text};
+use ta_automaton::{Condition, Event, Pattern};
+use ta_base::{List, Text};
 
 /// The endings of patterns, in order.
 pub fn endings_of(alloc: Global, patterns: Vec<Pattern>) -> Result<Vec<Pattern>, AllocError>
-    requires { Each FewEvents patterns.items }
+    requires { AllByRecursion FewEvents patterns.items }
     ensures { IfOk result (λ endings. Endings patterns.items endings.items) }
 {
     let mut rest = patterns;

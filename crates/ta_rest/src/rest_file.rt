@@ -2,7 +2,7 @@
 #![tactic(auto)]
 
 ghost use Rattle.std.specs.Prelude.{◌≡◌};
-ghost use Rattle.ta_automaton.specs.Lists.{Each};
+ghost use Rattle.std.specs.List.{AllByRecursion};
 ghost use Rattle.ta_scope.specs.LongerCycles.{LoopsAlone, LoopsAlone-prop};
 ghost use Rattle.ta_rest.specs.Endings.{ComesLast, EachComesLast-prop};
 
@@ -16,7 +16,7 @@ pub struct RestFile {
     pub ending: ScopedFile,
     pub added: u16,
     pub ghost loops_alone: { LoopsAlone ending.file.automaton } by { LoopsAlone-prop ending.file.automaton },
-    pub ghost come_last: { Each ComesLast ending.file.patterns } by { EachComesLast-prop ending.file.patterns },
+    pub ghost come_last: { AllByRecursion ComesLast ending.file.patterns } by { EachComesLast-prop ending.file.patterns },
 }
 
 impl RestFile {

@@ -9,7 +9,8 @@ use crate::endings::{endings_of, without_events};
 use crate::fault::RestFault;
 use crate::rest_file::RestFile;
 use std::alloc::{AllocError, Global};
-use ta_automaton::{File, List};
+use ta_automaton::File;
+use ta_base::List;
 use ta_scope::{ScopedFile, first_longer_cycle};
 
 /// The file with the endings of its patterns, if every cycle of its rules is a self-loop; else the

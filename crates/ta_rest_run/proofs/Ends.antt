@@ -1,7 +1,7 @@
 -- runs with the same start and the same steps have the same end
-use Rattle.std.proofs.Common.{◌≡◌, inl, inr, ℕ, pos, List, arith, sym, ap, ◌∙◌, get_or}
-use Rattle.std.proofs.lemmas.Int.{ints}
+use Rattle.std.proofs.Common.{◌≡◌, inl, inr, ℕ, List, arith, sym, ap, ◌∙◌, get_or}
 use Rattle.std.proofs.lemmas.List.{ext_get_or}
+use Rattle.ta_base.proofs.Integers.{pos_same}
 use Rattle.ta_automaton.specs.declared.automaton.Automaton.{Automaton}
 use Rattle.ta_automaton.specs.Places.{Whole}
 use Rattle.ta_automaton.specs.Runs as runs
@@ -10,14 +10,14 @@ use Rattle.ta_automaton.proofs.RunLaws.{counters_by_firings, parameters_stay, sh
 use Rattle.ta_counter.proofs.Starting.{in_or_not, not_contained}
 use Rattle.ta_rest.proofs.Resting.{whole_at}
 use Rattle.ta_replay.specs.declared.run.Run.{Run}
-use Rattle.ta_replay.specs.Shows.{BeginsWith}
+use Rattle.ta_replay.specs.Shows.{IsFirstConfig}
 
 -- two configurations with the same parameters and counters
 pub record SameStart (c d : Config) : Type 0 where
   pub parameters : c.parameters ≡ d.parameters
   pub counters : (l : ℕ) → get_or c.counters l 0 ≡ get_or d.counters l 0
 
-pub begins_same : (a : Automaton) (run : Run) (c d : Config) → Initial a c → Initial a d → BeginsWith a run c → BeginsWith a run d → SameStart c d
+pub begins_same : (a : Automaton) (run : Run) (c d : Config) → Initial a c → Initial a d → IsFirstConfig a run c → IsFirstConfig a run d → SameStart c d
 begins_same a run c d i j b e = record {
   parameters = b.parameters ∙ sym e.parameters;
   counters = λ l. elim (in_or_not a.initial l) [
@@ -35,9 +35,6 @@ initial_whole a c i = record { parameters = i.admissible.count; shared = i.share
 pub end_whole : (a : Automaton) (first : Config) (rules : List ℕ) (later : List Config) → runs.Run a first rules later → (k : ℕ) (c : Config) → At first later k c → Whole a c
 end_whole a first rules later run k c at = whole_at a first rules later (initial_whole a first run.initial) run.steps k c at
 
-natural_same : (m n : ℕ) → pos m ≡ pos n → m ≡ n
-natural_same m n h = omega (arith, ints)
-
 -- they are the same after as many of the same steps
 pub ends_same : (a : Automaton) (first other : Config) (rules : List ℕ) (later latest : List Config) → runs.Run a first rules later → runs.Run a other rules latest → SameStart first other → (k : ℕ) (c d : Config) → At first later k c → At other latest k d → c ≡ d
 ends_same a first other rules later latest run also same k c d at there =
@@ -45,7 +42,7 @@ ends_same a first other rules later latest run also same k c d at there =
     let x = end_whole a other rules latest also k d there in
     config_same c d
     (parameters_stay a first rules later run k c at ∙ same.parameters ∙ sym (parameters_stay a other rules latest also k d there))
-    (ext_get_or 0 c.shared d.shared (w.shared ∙ sym x.shared) (λ i b. natural_same _ _ (shared_by_firings a first rules later run k c at i ∙ sym (shared_by_firings a other rules latest also k d there i))))
+    (ext_get_or 0 c.shared d.shared (w.shared ∙ sym x.shared) (λ i b. pos_same _ _ (shared_by_firings a first rules later run k c at i ∙ sym (shared_by_firings a other rules latest also k d there i))))
     (ext_get_or 0 c.counters d.counters (w.counters ∙ sym x.counters) (λ l b.
     let one = counters_by_firings a first rules later run k c at l in
     let two = counters_by_firings a other rules latest also k d there l in

@@ -1,9 +1,9 @@
 -- what is known of the run that is given
-use Rattle.std.proofs.Common.{◌≡◌, inl, inr, ℕ, true, cond, List, ◌∷◌, [], ◌++◌, sym, ap, ◌∙◌, subst}
+use Rattle.std.proofs.Common.{◌≡◌, inl, inr, ℕ, true, cond, List, ◌∷◌, [], ◌++◌, sym, ap, ◌∙◌, subst, slice_get, Some}
 use Rattle.std.proofs.lemmas.Bool.{cases_Bool}
+use Rattle.std.specs.List.{AllByRecursion}
 use Rattle.ta_automaton.specs.declared.file.File.{File}
-use Rattle.ta_automaton.specs.Lists.{Each}
-use Rattle.ta_automaton.specs.Masks.{has_bit}
+use Rattle.ta_base.specs.Masks.{has_bit}
 use Rattle.ta_automaton.specs.Runs.{InScope}
 use Rattle.ta_encode.specs.declared.encoded.Solution.{Solution}
 use Rattle.ta_rest.specs.Endings.{ComesLast}
@@ -15,15 +15,15 @@ use Rattle.ta_replay.specs.Fits.{Fits}
 use Rattle.ta_replay.specs.Replays.{ReplayStays}
 use Rattle.ta_replay.specs.Shows.{Shows}
 use Rattle.ta_witness.specs.Witness.{IsShortRun, WitnessOf}
-use Rattle.ta_rest_run.specs.Runs.{ComesToRest, IsRestSolution, RestWitnessOf, ending_run, marked_at_end}
+use Rattle.ta_rest_run.specs.Runs.{ComesToRest, IsRestSolution, OccursAtRest, RestWitnessOf, ending_run, marked_at_end}
 use Rattle.ta_rest_run.proofs.LastMark.{ends_with_mark}
-use Rattle.ta_rest_run.proofs.OwnRuns.{own_rest}
-use Rattle.ta_rest_run.proofs.Resting.{witnesses_rest}
+use Rattle.ta_rest_run.proofs.OwnRuns.{ending_steps, own_occurs, own_rest}
+use Rattle.ta_rest_run.proofs.Resting.{solution_occurs, witnesses_rest}
 
 -- the run of a solution of an ending's system of rest, replayed
 pub record Replayed (ending : File) (solution : Solution) (run : Run) : Type 0 where
   pub scope : InScope ending.automaton
-  pub last : Each ComesLast ending.patterns
+  pub last : AllByRecursion ComesLast ending.patterns
   pub solved : IsRestSolution ending solution
   pub witness : WitnessOf ending solution run
   pub fits : Fits ending run
@@ -34,12 +34,17 @@ pub record Replayed (ending : File) (solution : Solution) (run : Run) : Type 0 w
 own_of : (file ending : File) (added : ℕ) → EndingsOf file ending added → (solution : Solution) (marked run : Run) → Replayed ending solution marked → ending_run added run ≡ marked → RestWitnessOf file ending added solution run
 own_of file ending added ends solution marked run r e =
     let rests = witnesses_rest ending r.scope r.last solution r.solved marked r.witness in
+    let q = r.solved.pattern in
+    let occurs : OccursAtRest ending.automaton q (ending_run added run) = subst (OccursAtRest ending.automaton q) (sym e) (solution_occurs ending r.scope r.last solution r.solved marked r.witness) in
+    let number : run.pattern ≡ solution.pattern = sym (ending_steps added run).pattern ∙ ap (λ (x : Run). x.pattern) e ∙ r.witness.same_pattern in
+    let named : slice_get ending.patterns run.pattern ≡ Some q = ap (slice_get ending.patterns) number ∙ r.solved.named in
     let here : ComesToRest ending (ending_run added run) = subst (ComesToRest ending) (sym e) (record { fits = r.fits; shows = r.shows; stays = r.stays; rests = rests }) in
     record {
       witness = subst (WitnessOf ending solution) (sym e) r.witness;
       of_ending = here;
       short = subst (IsShortRun ending) (sym e) r.short;
       own = own_rest file ending added ends run here;
+      occurs = λ p at. own_occurs file ending added ends run p q at named occurs;
     }
 
 -- where no event was added

@@ -1,14 +1,16 @@
 -- the run of a solution of an added event's word ends with its mark
-use Rattle.std.proofs.Common.{◌≡◌, inl, inr, ℕ, ◌≤◌, ℤ, true, List, [], ◌∷◌, ◌++◌, map, length, length-append, append_assoc, append-nil, reverse, arith, sym, ap, ◌∙◌, refl, subst, slice_get, None, Option}
+use Rattle.std.proofs.Common.{◌≡◌, inl, inr, ℕ, ◌≤◌, ℤ, true, List, [], ◌∷◌, ◌++◌, map, length, length-append, append_assoc, append-nil, reverse, arith, sym, ap, ◌∙◌, subst, slice_get, None, Option}
 use Rattle.std.proofs.lemmas.List.{reverse-append, reverse-reverse}
 use Rattle.std.proofs.lemmas.Option.{same_Some}
+use Rattle.std.specs.List.{AllByRecursion}
+use Rattle.ta_base.proofs.Bits.{bit_set}
+use Rattle.ta_base.proofs.Each.{each_back}
+use Rattle.ta_witness.proofs.Making.{pieces_lines-append}
 use Rattle.ta_automaton.specs.declared.automaton.Automaton.{Automaton}
 use Rattle.ta_automaton.specs.declared.pattern.Event.{Event as PatternEvent}
 use Rattle.ta_automaton.specs.declared.pattern.Pattern.{Pattern}
 use Rattle.ta_automaton.specs.declared.file.File.{File}
-use Rattle.ta_automaton.specs.Lists.{Each}
-use Rattle.ta_automaton.specs.Masks.{has_bit}
-use Rattle.ta_automaton.proofs.MaskTests.{bit_set}
+use Rattle.ta_base.specs.Masks.{has_bit}
 use Rattle.ta_words.specs.declared.element.Element.{Element}
 use Rattle.ta_words.specs.declared.element.Element.TheVariants.{Event}
 use Rattle.ta_encode.specs.declared.encoded.Solution.{Solution}
@@ -20,18 +22,12 @@ use Rattle.ta_replay.specs.declared.run.RunLine.{RunLine}
 use Rattle.ta_replay.specs.declared.run.RunLine.TheVariants.{Mark}
 use Rattle.ta_replay.specs.Fits.{Fits, LineFits}
 use Rattle.ta_replay.specs.Pieces.{Piece, last_lines, piece_lines, pieces_lines, step_line}
-use Rattle.ta_replay.proofs.ListSteps.{each_back}
 use Rattle.ta_witness.specs.Witness.{WitnessOf}
 use Rattle.ta_witness.proofs.Backward.{PiecesBack, pieces_back, values_of}
 use Rattle.ta_witness.proofs.Witnesses.{parts_of}
 use Rattle.ta_rest_run.specs.Runs.{IsRestSolution}
 use Rattle.ta_rest_run.proofs.OwnRuns.{ending_at}
 use Rattle.ta_rest_run.proofs.Resting.{rest_at, solutions_solve}
-
--- the lines of pieces whose newest one ends with a mark
-lines_append : (us vs : List Piece) → pieces_lines (us ++ vs) ≡ pieces_lines us ++ pieces_lines vs
-lines_append [] vs = refl
-lines_append (u ∷ us) vs = ap (λ (ls : List RunLine). piece_lines u ++ ls) (lines_append us vs) ∙ sym (append_assoc (piece_lines u) (pieces_lines us) (pieces_lines vs))
 
 -- lines that end with the mark of an event
 abbrev EndsWithMark : ℕ → List RunLine → Type 0
@@ -49,7 +45,7 @@ newest_marked a value e older (piece ∷ back) h =
     let steps = map step_line piece.steps in (
       before ++ steps,
       ap pieces_lines (reverse-append (piece ∷ []) back)
-          ∙ lines_append (reverse back) (piece ∷ [])
+          ∙ pieces_lines-append (reverse back) (piece ∷ [])
           ∙ ap (λ (ls : List RunLine). before ++ ls) (append-nil (piece_lines piece) ∙ marked_piece piece e h.0.ends.0 h.0.ends.1)
           ∙ sym (append_assoc before steps (Mark e ∷ [])),
     )
@@ -84,6 +80,6 @@ ends_with_mark file ending added ends solution s run fits w bit =
     let some : 1 ≤ length s.pattern.events = subst (λ (y : Pattern). 1 ≤ length y.events) same (omega arith) in
     let found = ends_marked ending solution s run some w in
     let front = found.1.0 in
-    let fit = each_back (LineFits ending.automaton q) front (Mark found.0 ∷ []) (subst (Each (LineFits ending.automaton q)) found.1.1 fits.lines) in
+    let fit = each_back (LineFits ending.automaton q) front (Mark found.0 ∷ []) (subst (AllByRecursion (LineFits ending.automaton q)) found.1.1 fits.lines) in
     let zero_is : found.0 ≡ 0 = (let b = fit.0 in omega arith) in
     (front, found.1.1 ∙ ap (λ e. front ++ Mark e ∷ []) zero_is)

@@ -4,38 +4,37 @@ use Rattle.std.specs.Prelude.{slice_index}
 use Rattle.std.proofs.lemmas.Bool.{cases_Bool, false≢true}
 use Rattle.std.proofs.lemmas.Nat.Bits.{bit_at_ones}
 use Rattle.std.proofs.lemmas.Option.{same_Some, slice_get-get_or, slice_get_within}
+use Rattle.std.specs.List.{AllByRecursion}
+use Rattle.ta_base.proofs.Bits.{at_set, bit_set, bit_true}
+use Rattle.ta_base.proofs.Each.{each_at, each_from, each_front}
+use Rattle.ta_base.proofs.Lists.{slice_get_left, slice_get_right}
 use Rattle.ta_linear.specs.Values.{point_of}
 use Rattle.ta_automaton.specs.declared.automaton.Automaton.{Automaton}
 use Rattle.ta_automaton.specs.declared.condition.Condition.{Condition}
 use Rattle.ta_automaton.specs.declared.pattern.Event.{Event}
 use Rattle.ta_automaton.specs.declared.pattern.Pattern.{Pattern}
 use Rattle.ta_automaton.specs.declared.file.File.{File}
-use Rattle.ta_automaton.specs.Lists.{Each}
-use Rattle.ta_automaton.specs.Masks.{has_bit}
+use Rattle.ta_base.specs.Masks.{has_bit}
 use Rattle.ta_automaton.specs.Runs as runs
 use Rattle.ta_automaton.specs.Runs.{At, Config, Holds}
-use Rattle.ta_automaton.proofs.MaskTests.{bit_set, bit_true}
-use Rattle.ta_automaton.proofs.Thresholds.{after_earlier, each_at, pattern_within}
+use Rattle.ta_automaton.proofs.Thresholds.{after_earlier, pattern_within}
 use Rattle.ta_automaton.proofs.Trails.{run_length}
 use Rattle.ta_counter.specs.Configs.{naturals}
 use Rattle.ta_counter.specs.Values.{Value}
-use Rattle.ta_scope.proofs.Reaching.{at_set}
 use Rattle.ta_rest.specs.Endings.{Endings, IsEnding, LastMoved, RestAdded, events_below}
 use Rattle.ta_rest.specs.Faults.{EndingsOf}
-use Rattle.ta_rest.specs.Rest.{AtRest, ComeAfterEarlier}
-use Rattle.ta_rest.proofs.EndingLaws.{back_of, moved_count, no_event}
+use Rattle.ta_rest.specs.Rest.{AtRest, ComeAfterEarlier, RestOccurs}
+use Rattle.ta_rest.proofs.EndingLaws.{back_of, endings_rest, moved_count, no_event}
 use Rattle.ta_rest.proofs.EndingShapes.{ending_last}
 use Rattle.ta_replay.specs.declared.run.Run.{Run}
 use Rattle.ta_replay.specs.declared.run.RunLine.{RunLine}
 use Rattle.ta_replay.specs.declared.run.RunLine.TheVariants.{Step, Mark}
 use Rattle.ta_replay.specs.Fits.{LineFits}
 use Rattle.ta_replay.specs.Replays.{ConditionStays, LineStays, NumbersStay, ValuesAfter}
-use Rattle.ta_replay.specs.Shows.{BeginsWith, MarkedOnce, MarksAt, ShowsPattern, unit_steps}
+use Rattle.ta_replay.specs.Shows.{IsFirstConfig, MarkedOnce, MarksAt, ShowsPattern, unit_steps}
 use Rattle.ta_replay.proofs.Lines.{unit_steps-append}
-use Rattle.ta_replay.proofs.ListSteps.{each_front, slice_get_left, slice_get_right}
-use Rattle.ta_witness.proofs.Witnesses.{each_item}
 use Rattle.ta_rest_run.specs.Laws.{OwnRunsRest}
-use Rattle.ta_rest_run.specs.Runs.{ending_run, marked_at_end}
+use Rattle.ta_rest_run.specs.Runs.{OccursAtRest, ending_run, marked_at_end}
 use Rattle.ta_rest_run.proofs.Ends.{begins_same, ends_same}
 
 -- the pattern of an ending
@@ -80,7 +79,7 @@ line_moved : (a : Automaton) (p q : Pattern) → LastMoved p.events q.events →
 line_moved a p q m (Step r factor) fits = fits
 line_moved a p q m (Mark e) fits = let c = moved_count p.events q.events m in omega arith
 
-lines_moved : (a : Automaton) (p q : Pattern) → LastMoved p.events q.events → (lines : List RunLine) → Each (LineFits a q) lines → Each (LineFits a p) lines
+lines_moved : (a : Automaton) (p q : Pattern) → LastMoved p.events q.events → (lines : List RunLine) → AllByRecursion (LineFits a q) lines → AllByRecursion (LineFits a p) lines
 lines_moved a p q m [] fits = tt
 lines_moved a p q m (line ∷ lines) fits = (line_moved a p q m line fits.0, lines_moved a p q m lines fits.1)
 
@@ -155,7 +154,7 @@ stays_added a p q run h m s = record {
 
 -- what a pattern's own run needs: it fits, it shows the pattern, and no number leaves the range
 record Accepted (a : Automaton) (p : Pattern) (run : Run) : Type 0 where
-  lines : Each (LineFits a p) run.lines
+  lines : AllByRecursion (LineFits a p) run.lines
   shows : ShowsPattern a p run
   stays : NumbersStay a p run
 
@@ -169,7 +168,7 @@ accepted_moved a p q run h m early s = record {
 
 accepted_added : (a : Automaton) (p q : Pattern) (run : Run) → IsEnding p q → RestAdded p.events q.events → Accepted a q (marked_at_end run) → Accepted a p run
 accepted_added a p q run h m s = record {
-  lines = each_item (LineFits a p) run.lines (λ i line at. line_added a p q run m s.shows i line at (each_at (LineFits a q) run.lines i line (each_front (LineFits a q) run.lines (Mark 0 ∷ []) s.lines) at));
+  lines = each_from (LineFits a p) run.lines (λ i line at. line_added a p q run m s.shows i line at (each_at (LineFits a q) run.lines i line (each_front (LineFits a q) run.lines (Mark 0 ∷ []) s.lines) at));
   shows = shows_added a p q run h m s.shows;
   stays = stays_added a p q run h m s.stays;
 }
@@ -207,11 +206,28 @@ ending_steps added run = both (has_bit added run.pattern) where
   both true = record { parameters = refl; counts = refl; pattern = refl; steps = unit_steps-append run.lines (Mark 0 ∷ []) ∙ append-nil (unit_steps run.lines) }
   both false = record { parameters = refl; counts = refl; pattern = refl; steps = refl }
 
-begins_moved : (a : Automaton) (r s : Run) (c : Config) → SameSteps r s → BeginsWith a s c → BeginsWith a r c
+begins_moved : (a : Automaton) (r s : Run) (c : Config) → SameSteps r s → IsFirstConfig a s c → IsFirstConfig a r c
 begins_moved a r s c same b = record {
   parameters = b.parameters ∙ ap naturals (sym same.parameters);
   counts = λ j l at. b.counts j l at ∙ ap (λ (zs : List ℤ). slice_index (naturals zs) j) (sym same.counts);
 }
+
+-- where an ending comes to rest in its run, the file's own pattern does in its own
+pub own_occurs : (file ending : File) (added : ℕ) → EndingsOf file ending added → (run : Run) (p q : Pattern) → slice_get file.patterns run.pattern ≡ Some p → slice_get ending.patterns run.pattern ≡ Some q → OccursAtRest ending.automaton q (ending_run added run) → OccursAtRest file.automaton p run
+own_occurs file ending added ends run p q named at o =
+    let r = ending_run added run in
+    let same = ending_steps added run in
+    let w = ending_at file.patterns ending.patterns ends.patterns run.pattern q at in
+    let is : IsEnding p q = subst (λ (x : Pattern). IsEnding x q) (same_Some w.0 p (sym w.1 ∙ named)) w.2 in
+    let there : OccursAtRest file.automaton q r = subst (λ (a : Automaton). OccursAtRest a q r) ends.automaton o in
+    record {
+      first = there.first;
+      begins = record {
+        parameters = there.begins.parameters ∙ ap naturals same.parameters;
+        counts = λ j l initial. there.begins.counts j l initial ∙ ap (λ (zs : List ℤ). slice_index (naturals zs) j) same.counts;
+      };
+      occurs = (endings_rest file.automaton p q is there.first (unit_steps run.lines)).1 (subst (RestOccurs file.automaton q there.first) same.steps there.occurs);
+    }
 
 -- wherever the one shows a pattern it ends where the other does
 end_alike : (a : Automaton) (p q : Pattern) (r s : Run) → SameSteps r s → (x : ShowsPattern a p r) (y : ShowsPattern a q s) (c d : Config) → At x.first x.later (length (unit_steps r.lines)) c → At y.first y.later (length (unit_steps s.lines)) d → c ≡ d
@@ -257,9 +273,9 @@ own_rest file ending added ends run c =
         pattern = p;
         named = w.1;
         parameters = ap (λ (zs : List ℤ). length zs) (sym same.parameters) ∙ c.fits.parameters ∙ ap (λ (a : Automaton). length a.parameters) ends.automaton;
-        parameters_natural = subst (Each Value) same.parameters c.fits.parameters_natural;
+        parameters_natural = subst (AllByRecursion Value) same.parameters c.fits.parameters_natural;
         counts = ap (λ (zs : List ℤ). length zs) (sym same.counts) ∙ c.fits.counts ∙ ap (λ (a : Automaton). length a.initial) ends.automaton;
-        counts_natural = subst (Each Value) same.counts c.fits.counts_natural;
+        counts_natural = subst (AllByRecursion Value) same.counts c.fits.counts_natural;
         lines = own.lines;
       };
       shows = record { pattern = p; named = w.1; shows = own.shows };

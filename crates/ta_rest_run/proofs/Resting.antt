@@ -1,16 +1,17 @@
 -- the run of a solution of a system of rest ends at rest
 use Rattle.std.proofs.Common.{◌≡◌, ℕ, ◌+◌, ◌<◌, ◌^◌, ℤ, true, List, [], ◌∷◌, ◌++◌, map, length, take, reverse, unsigned_abs, arith, sym, ap, ◌∙◌, refl, subst}
 use Rattle.std.specs.Prelude.{slice_index}
+use Rattle.std.specs.List.{AllByRecursion}
+use Rattle.ta_base.proofs.Bits.{bit_set}
+use Rattle.ta_base.proofs.Each.{each_at}
 use Rattle.ta_automaton.specs.declared.automaton.Automaton.{Automaton}
 use Rattle.ta_automaton.specs.declared.pattern.Pattern.{Pattern}
 use Rattle.ta_automaton.specs.declared.file.File.{File}
-use Rattle.ta_automaton.specs.Masks.{has_bit}
+use Rattle.ta_base.specs.Masks.{has_bit}
 use Rattle.ta_automaton.specs.Runs.{At, Config, InScope}
-use Rattle.ta_automaton.specs.Runs as runs
-use Rattle.ta_automaton.proofs.MaskTests.{bit_set}
-use Rattle.ta_automaton.proofs.Thresholds.{after_earlier, each_at, pattern_within}
+use Rattle.ta_automaton.proofs.Thresholds.{after_earlier, pattern_within}
 use Rattle.ta_words.specs.declared.element.Element.{Element}
-use Rattle.ta_words.specs.Words.{Legal, is_complete}
+use Rattle.ta_words.specs.Words.{LegalWord, is_complete}
 use Rattle.ta_encode.specs.declared.encoded.Solution.{Solution}
 use Rattle.ta_encode.specs.Laws.{SolvedWord, WordFires, start_values, steps_of}
 use Rattle.ta_encode.specs.Search.{SolvesAt}
@@ -18,18 +19,19 @@ use Rattle.ta_encode.specs.System.{AllHold, LinearRow, word_rows}
 use Rattle.ta_encode.specs.Unknowns.{start_meanings}
 use Rattle.ta_rest.specs.Endings.{ComesLast}
 use Rattle.ta_rest.specs.Laws.{RestSolved}
-use Rattle.ta_rest.specs.Rest.{AtRest, ComeAfterEarlier}
+use Rattle.ta_rest.specs.Rest.{AtRest, ComeAfterEarlier, RestOccurs}
 use Rattle.ta_rest.specs.RestSearch.{rest_search}
 use Rattle.ta_rest.proofs.EndingLaws.{end_config}
 use Rattle.ta_rest.proofs.Solutions.{end_hold, steps_rest}
 use Rattle.ta_replay.specs.declared.run.Run.{Run}
-use Rattle.ta_replay.specs.Shows.{BeginsWith, ShowsPattern, unit_steps}
+use Rattle.ta_replay.specs.Shows.{IsFirstConfig, ShowsPattern, unit_steps}
+use Rattle.ta_witness.specs.Witness.{WitnessOf}
 use Rattle.ta_witness.proofs.Backward.{piece_rules, pieces_back, pieces_fire, values_of}
 use Rattle.ta_witness.proofs.Marks.{all_steps}
 use Rattle.ta_witness.proofs.Starts.{counts_are, parameters_are}
 use Rattle.ta_witness.proofs.Witnesses.{Parts, parts_of}
 use Rattle.ta_rest_run.specs.Laws.{RestSolutionsSolve, RestWitnessesRest}
-use Rattle.ta_rest_run.specs.Runs.{IsRestSolution}
+use Rattle.ta_rest_run.specs.Runs.{IsRestSolution, OccursAtRest}
 use Rattle.ta_rest_run.proofs.Ends.{begins_same, ends_same}
 
 -- the same solution, of the word and the start set that it names
@@ -42,14 +44,14 @@ rest_at file solution s =
       start = solution.start_mask;
       is_start = subst (λ n. n < 2 ^ length a.fall) s.start r.is_start;
       past = reverse solution.word;
-      legal = subst (λ (q : List Element). Legal a p solution.start_mask q) s.word (subst (λ n. Legal a p n r.past) s.start r.legal);
+      legal = subst (λ (q : List Element). LegalWord a p solution.start_mask q) s.word (subst (λ n. LegalWord a p n r.past) s.start r.legal);
       complete = subst (λ (q : List Element). is_complete p q ≡ true) s.word r.complete;
       values = r.values;
       solves = subst (λ (q : List Element). SolvesAt (rest_search a p) (record { start = solution.start_mask; past = q; bounds = [] }) r.values) s.word (subst (λ n. SolvesAt (rest_search a p) (record { start = n; past = r.past; bounds = [] }) r.values) s.start r.solves);
     }
 
 -- a solution of the word's system of rest solves its own
-pub solved_word : (a : Automaton) (p : Pattern) (start : ℕ) (word : List Element) (vs : List ℕ) → Legal a p start (reverse word) → is_complete p (reverse word) ≡ true → SolvesAt (rest_search a p) (record { start = start; past = reverse word; bounds = [] }) vs → SolvedWord a p start word vs
+pub solved_word : (a : Automaton) (p : Pattern) (start : ℕ) (word : List Element) (vs : List ℕ) → LegalWord a p start (reverse word) → is_complete p (reverse word) ≡ true → SolvesAt (rest_search a p) (record { start = start; past = reverse word; bounds = [] }) vs → SolvedWord a p start word vs
 solved_word a p start word vs legal complete solves = record {
   legal = legal;
   complete = complete;
@@ -71,15 +73,15 @@ solutions_solve file solution s =
     }
 
 -- the run begins where the solution's steps do
-begins_there : (a : Automaton) (p : Pattern) (start : ℕ) (word : List Element) (vs : List ℕ) (run : Run) → Parts a p start word vs run → (first : Config) → length first.parameters ≡ length a.parameters → start_values a p first ≡ take (length (start_meanings a p)) vs → ((l : ℕ) → has_bit p.empty l ≡ true → slice_index first.counters l ≡ 0) → BeginsWith a run first
+begins_there : (a : Automaton) (p : Pattern) (start : ℕ) (word : List Element) (vs : List ℕ) (run : Run) → Parts a p start word vs run → (first : Config) → length first.parameters ≡ length a.parameters → start_values a p first ≡ take (length (start_meanings a p)) vs → ((l : ℕ) → has_bit p.empty l ≡ true → slice_index first.counters l ≡ 0) → IsFirstConfig a run first
 begins_there a p start word vs run h first count begins empty = record {
   parameters = sym (ap (λ (zs : List ℤ). map unsigned_abs zs) h.parameters ∙ parameters_are a p start (reverse word) vs first count begins);
   counts = λ j l there. counts_are a p start (reverse word) vs first count begins empty j l there ∙ ap (λ (cs : List ℤ). slice_index (map unsigned_abs cs) j) (sym h.counts);
 }
 
--- wherever a run of these pieces leads, it ends where the solution's steps do, which is at rest
-ends_at_rest : (a : Automaton) (p q : Pattern) → InScope a → ComeAfterEarlier p → ComesLast p → (r : RestSolved a p) (word : List Element) → r.past ≡ reverse word → (run : Run) → Parts a p r.start word r.values run → (s : ShowsPattern a q run) (c : Config) → At s.first s.later (length (unit_steps run.lines)) c → AtRest a c
-ends_at_rest a p q scope early last r word is run h s c at =
+-- a pattern occurs in the run of the pieces of its solution, and its last event happens at the run's end, which is at rest
+pieces_rest : (a : Automaton) (p : Pattern) → InScope a → ComeAfterEarlier p → ComesLast p → (r : RestSolved a p) (word : List Element) → r.past ≡ reverse word → (run : Run) → Parts a p r.start word r.values run → OccursAtRest a p run
+pieces_rest a p scope early last r word is run h =
     let back = pieces_back a (values_of a p r.start (reverse word) r.values) word h.pieces h.are in
     let firings = map piece_rules (reverse h.pieces) in
     let fires = pieces_fire a scope p r.start (reverse word) r.values (reverse h.pieces) back in
@@ -87,17 +89,29 @@ ends_at_rest a p q scope early last r word is run h s c at =
     let o = rest.rests.occurs in
     let steps : unit_steps run.lines ≡ steps_of firings = ap unit_steps h.lines ∙ sym (all_steps h.pieces) in
     let empty : (l : ℕ) → has_bit p.empty l ≡ true → slice_index rest.first.counters l ≡ 0 = (λ l b. o.kept_empty l (bit_set p.empty l b) 0 rest.first (omega arith)) in
-    let begins = begins_there a p r.start word r.values run h rest.first o.run.initial.admissible.count rest.begins empty in
-    let here = subst (λ (rules : List ℕ). runs.Run a s.first rules s.later) steps s.follows in
-    let there = subst (λ (rules : List ℕ). At s.first s.later (length rules) c) steps at in
-    let end = end_config a p rest.first (steps_of firings) o in
-    let same : c ≡ end.0 = ends_same a s.first rest.first (steps_of firings) s.later o.later here o.run (begins_same a run s.first rest.first s.follows.initial o.run.initial s.begins begins) (length (steps_of firings)) c end.0 there end.1 in
-    subst (AtRest a) (sym same) (rest.rests.rests end.0 end.1)
+    record {
+      first = rest.first;
+      begins = begins_there a p r.start word r.values run h rest.first o.run.initial.admissible.count rest.begins empty;
+      occurs = subst (RestOccurs a p rest.first) (sym steps) rest.rests;
+    }
 
-pub witnesses_rest : RestWitnessesRest
-witnesses_rest file scope last solution s run w shown c at =
+pub solution_occurs : (file : File) → InScope file.automaton → AllByRecursion ComesLast file.patterns → (solution : Solution) (s : IsRestSolution file solution) (run : Run) → WitnessOf file solution run → OccursAtRest file.automaton s.pattern run
+solution_occurs file scope last solution s run w =
     let a = file.automaton in
     let p = s.pattern in
     let early = after_earlier (length a.parameters + length a.shared + length a.locations) (length a.locations) p (pattern_within file solution.pattern p s.named) in
     let parts = parts_of file solution (solutions_solve file solution s) run w in
-    ends_at_rest a p shown.pattern scope early (each_at ComesLast file.patterns solution.pattern p last s.named) (rest_at file solution s) solution.word refl run parts shown.shows c at
+    pieces_rest a p scope early (each_at ComesLast file.patterns solution.pattern p last s.named) (rest_at file solution s) solution.word refl run parts
+
+-- wherever such a run leads, it ends where these steps do, which is at rest
+ends_at_rest : (a : Automaton) (p q : Pattern) (run : Run) → OccursAtRest a p run → (s : ShowsPattern a q run) (c : Config) → At s.first s.later (length (unit_steps run.lines)) c → AtRest a c
+ends_at_rest a p q run o s c at =
+    let rules = unit_steps run.lines in
+    let there = o.occurs.occurs in
+    let end = end_config a p o.first rules there in
+    let same : c ≡ end.0 = ends_same a s.first o.first rules s.later there.later s.follows there.run (begins_same a run s.first o.first s.follows.initial there.run.initial s.begins o.begins) (length rules) c end.0 at end.1 in
+    subst (AtRest a) (sym same) (o.occurs.rests end.0 end.1)
+
+pub witnesses_rest : RestWitnessesRest
+witnesses_rest file scope last solution s run w shown c at =
+    ends_at_rest file.automaton s.pattern shown.pattern run (solution_occurs file scope last solution s run w) shown.shows c at

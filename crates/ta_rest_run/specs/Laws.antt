@@ -1,7 +1,7 @@
 -- What the runs of solutions of systems of rest say
 use Rattle.std.specs.Prelude.{ℕ, ◌≡◌}
+use Rattle.std.specs.List.{AllByRecursion}
 use Rattle.ta_automaton.specs.declared.file.File.{File}
-use Rattle.ta_automaton.specs.Lists.{Each}
 use Rattle.ta_automaton.specs.Runs.{InScope}
 use Rattle.ta_encode.specs.declared.encoded.Solution.{Solution}
 use Rattle.ta_rest.specs.Endings.{ComesLast}
@@ -18,7 +18,7 @@ RestSolutionsSolve =
 -- the run of a solution of a system of rest ends in a configuration at rest, where the last event of each pattern comes after all others
 abbrev pub RestWitnessesRest : Type 0
 RestWitnessesRest =
-    (file : File) → InScope file.automaton → Each ComesLast file.patterns
+    (file : File) → InScope file.automaton → AllByRecursion ComesLast file.patterns
     → (solution : Solution) → IsRestSolution file solution
     → (run : Run) → WitnessOf file solution run
     → EndRests file run

@@ -1,19 +1,20 @@
 -- Runs of solutions of systems of rest, for a file's own patterns (this project's profile)
 use Rattle.std.specs.Prelude.{ℕ, pos, ◌≡◌, if◌then◌else◌, [], ◌∷◌, ◌++◌, length, map, reverse, slice_get, Some}
+use Rattle.ta_automaton.specs.declared.automaton.Automaton.{Automaton}
 use Rattle.ta_automaton.specs.declared.pattern.Pattern.{Pattern}
 use Rattle.ta_automaton.specs.declared.file.File.{File}
-use Rattle.ta_automaton.specs.Masks.{has_bit}
+use Rattle.ta_base.specs.Masks.{has_bit}
 use Rattle.ta_automaton.specs.Runs.{At, Config}
 use Rattle.ta_encode.specs.declared.encoded.Solution.{Solution}
 use Rattle.ta_rest.specs.Faults.{EndingsOf}
 use Rattle.ta_rest.specs.Laws.{RestSolved}
-use Rattle.ta_rest.specs.Rest.{AtRest}
+use Rattle.ta_rest.specs.Rest.{AtRest, RestOccurs}
 use Rattle.ta_rest.specs.declared.rest_file.RestFile.{RestFile}
 use Rattle.ta_replay.specs.declared.run.Run.{Run}
 use Rattle.ta_replay.specs.declared.run.RunLine.TheVariants.{Mark}
 use Rattle.ta_replay.specs.Fits.{Fits}
 use Rattle.ta_replay.specs.Replays.{ReplayStays}
-use Rattle.ta_replay.specs.Shows.{Shows, unit_steps}
+use Rattle.ta_replay.specs.Shows.{IsFirstConfig, Shows, unit_steps}
 use Rattle.ta_witness.specs.Witness.{IsShortRun, WitnessOf}
 
 -- the word of a solution is complete and legal for its pattern and start set, and its values are natural numbers that solve
@@ -48,13 +49,25 @@ pub record ComesToRest (file : File) (run : Run) : Type 0 where
   pub stays : ReplayStays file run
   pub rests : EndRests file run
 
+-- the pattern occurs in the steps of the run, from a configuration with its parameters and start counts, and the run has come to rest
+-- at its end, where the pattern's last event happens
+pub record OccursAtRest (a : Automaton) (p : Pattern) (run : Run) : Type 0 where
+  pub first : Config
+  pub begins : IsFirstConfig a run first
+  pub occurs : RestOccurs a p first (unit_steps run.lines)
+
+-- so does the pattern that the run names
+abbrev pub OwnOccurs : File → Run → Type 0
+OwnOccurs file run = (p : Pattern) → slice_get file.patterns run.pattern ≡ Some p → OccursAtRest file.automaton p run
+
 -- the run of a solution of an ending's system of rest, less the mark of an added event: it comes to rest as a run of the ending, with
--- this mark, and as one of the file's own pattern
+-- this mark, and as one of the file's own pattern, whose last event happens at its end
 pub record RestWitnessOf (file ending : File) (added : ℕ) (solution : Solution) (run : Run) : Type 0 where
   pub witness : WitnessOf ending solution (ending_run added run)
   pub of_ending : ComesToRest ending (ending_run added run)
   pub short : IsShortRun ending (ending_run added run)
   pub own : ComesToRest file run
+  pub occurs : OwnOccurs file run
 
 -- the same for each file whose patterns have these endings
 abbrev pub OwnWitness : RestFile → Solution → Run → Type 0

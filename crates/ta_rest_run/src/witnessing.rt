@@ -10,7 +10,7 @@ ghost use Rattle.ta_witness.specs.Witness.{WitnessFaultOf};
 ghost use Rattle.ta_rest_run.specs.Runs.{IsRestSolution, OwnWitness, marked_at_end};
 
 use std::alloc::Global;
-use ta_automaton::List;
+use ta_base::List;
 use ta_encode::Solution;
 use ta_replay::Run;
 use ta_rest::RestFile;

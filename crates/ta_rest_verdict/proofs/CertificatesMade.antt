@@ -1,10 +1,7 @@
 -- the text of the trees of safe endings is a certificate that a judge accepts
-use Rattle.std.proofs.Common.{◌≡◌, ◌∙◌, ℕ, ◌≤◌, List, [], ◌++◌, Some, slice_get, refl, sym, ap, subst, arith}
+use Rattle.std.proofs.Common.{◌≡◌, ◌∙◌, ℕ, ◌≤◌, List, [], ◌++◌, Some, slice_get, refl, sym, ap, subst}
 use Rattle.ta_automaton.specs.declared.file.File.{File}
 use Rattle.ta_automaton.specs.declared.pattern.Pattern.{Pattern}
-use Rattle.ta_automaton.specs.Lists.{Each}
-use Rattle.ta_automaton.specs.Runs.{LoopsPure}
-use Rattle.ta_automaton.proofs.Thresholds.{each_at}
 use Rattle.ta_cert.specs.Certificates.{AreWritable, cert_lines, cert_text, head_text, proofs_text}
 use Rattle.ta_cert.specs.Laws.{AreShort}
 use Rattle.ta_cert.specs.declared.line.Line.TheVariants as line
@@ -14,7 +11,6 @@ use Rattle.ta_check.specs.Certificate.{RestCertificate}
 use Rattle.ta_check.specs.Subjects.{claiming}
 use Rattle.ta_claim.specs.declared.claim.Claim.TheVariants.{RestSafe}
 use Rattle.ta_report.specs.declared.verdict.Verdict.{Verdict}
-use Rattle.ta_rest.specs.Endings.{ComesLast}
 use Rattle.ta_rest.specs.RestSearch.{rest_search}
 use Rattle.ta_rest.proofs.Resting.{no_pairs_good}
 use Rattle.ta_resting.proofs.RestsVisited.{proof_made}

@@ -1,22 +1,20 @@
 -- what is known of verdicts at rest as they are made and counted
-use Rattle.std.proofs.Common.{◌≡◌, ℕ, suc, ◌+◌, ◌<◌, ◌≤◌, List, [], ◌∷◌, ◌++◌, length, length-append, take, arith, refl, sym, ap, subst, ◌∙◌, Some, slice_get}
+use Rattle.std.proofs.Common.{◌≡◌, ℕ, ◌+◌, ◌<◌, List, [], ◌∷◌, ◌++◌, length, length-append, take, arith, sym, ap, subst, ◌∙◌}
 use Rattle.std.proofs.Math.Seq.{take-length}
 use Rattle.std.proofs.lemmas.List.{length-take-le}
+use Rattle.std.specs.List.{AllByRecursion}
+use Rattle.ta_base.proofs.Each.{each_push}
+use Rattle.ta_base.proofs.Lists.{some_at, take_next}
 use Rattle.ta_automaton.specs.declared.file.File.{File}
 use Rattle.ta_automaton.specs.declared.pattern.Pattern.{Pattern}
-use Rattle.ta_automaton.specs.Lists.{Each}
 use Rattle.ta_words.specs.Calls.{OfPattern}
-use Rattle.ta_encode.proofs.Switch.{some_at}
-use Rattle.ta_replay.proofs.Lines.{take_next}
-use Rattle.ta_replay.proofs.ListSteps.{each_push}
 use Rattle.ta_report.specs.declared.verdict.Verdict.{Verdict}
 use Rattle.ta_report.specs.declared.verdict.Verdict.TheVariants.{Safe, Unsafe, Spent, Overflow}
 use Rattle.ta_report.specs.Report.{VerdictFits}
-use Rattle.ta_rest.specs.Endings.{Endings}
 use Rattle.ta_rest.specs.Faults.{EndingsOf}
 use Rattle.ta_rest.specs.declared.rest_file.RestFile.{RestFile}
 use Rattle.ta_rest.proofs.EndingShapes.{endings_count}
-use Rattle.ta_resting.specs.Verdicts.{AreRestVerdicts, OwnVerdict, RestVerdictHolds, RestVerdictsHold}
+use Rattle.ta_resting.specs.Verdicts.{OwnVerdict, RestVerdictHolds, RestVerdictsHold}
 use Rattle.ta_rest_verdict.specs.Verdicts.{OwnVerdicts}
 
 -- one more verdict at the end
@@ -37,7 +35,7 @@ own_fits file ending added budget number own p (Unsafe nodes run) h fits = (fits
 own_fits file ending added budget number own p (Spent nodes) h fits = fits
 own_fits file ending added budget number own p (Overflow node kind) h fits = fits
 
-all_fit : (file ending : File) (added budget number : ℕ) (owns ps : List Pattern) (vs : List Verdict) → RestVerdictsHold file ending added budget number owns ps vs → Each (VerdictFits ending) vs → Each (VerdictFits file) vs
+all_fit : (file ending : File) (added budget number : ℕ) (owns ps : List Pattern) (vs : List Verdict) → RestVerdictsHold file ending added budget number owns ps vs → AllByRecursion (VerdictFits ending) vs → AllByRecursion (VerdictFits file) vs
 all_fit file ending added budget number [] [] [] hold fit = tt
 all_fit file ending added budget number [] [] (v ∷ vs) hold fit = absurd hold
 all_fit file ending added budget number [] (p ∷ ps) vs hold fit = absurd hold
@@ -50,7 +48,7 @@ all_fit file ending added budget number (o ∷ owns) (p ∷ ps) (v ∷ vs) hold 
 pub record RestSoFar (rest : RestFile) (budget count done : ℕ) (vs : List Verdict) : Type 0 where
   pub counted : count ≡ length rest.ending.file.patterns
   pub long : length vs ≡ done
-  pub fit : Each (VerdictFits rest.ending.file) vs
+  pub fit : AllByRecursion (VerdictFits rest.ending.file) vs
   pub hold : (file : File) → EndingsOf file rest.ending.file rest.added → RestVerdictsHold file rest.ending.file rest.added budget 0 (take done file.patterns) (take done rest.ending.file.patterns) vs
 
 pub rest_more : (rest : RestFile) (budget count done : ℕ) (vs : List Verdict) (v : Verdict) → RestSoFar rest budget count done vs → done < count → OfPattern rest.ending.file done (λ p. OwnVerdict rest budget done p v) → VerdictFits rest.ending.file v → RestSoFar rest budget count (done + 1) (vs ++ v ∷ [])
@@ -75,10 +73,6 @@ rest_more rest budget count done vs v so below here fits =
           subst (λ (os : List Pattern). RestVerdictsHold file ending rest.added budget 0 os (take (done + 1) ending.patterns) (vs ++ v ∷ [])) (sym (take_next file.patterns done own.0 own.1))
           (subst (λ (ps : List Pattern). RestVerdictsHold file ending rest.added budget 0 (take done file.patterns ++ own.0 ∷ []) ps (vs ++ v ∷ [])) (sym (take_next ending.patterns done p at.1)) more);
     }
-
--- before any verdict
-pub rest_none : (rest : RestFile) (budget count : ℕ) → count ≡ length rest.ending.file.patterns → RestSoFar rest budget count 0 []
-rest_none rest budget count counted = record { counted = counted; long = refl; fit = tt; hold = λ file ends. tt }
 
 -- a verdict on each of all patterns
 pub rest_all : (rest : RestFile) (budget count : ℕ) (vs : List Verdict) → RestSoFar rest budget count count vs → OwnVerdicts rest budget vs

@@ -6,9 +6,7 @@ use Rattle.ta_cert.specs.Certificates.{cert_text}
 use Rattle.ta_cert.specs.declared.line.Node.{Node}
 use Rattle.ta_cert.specs.declared.line.Proof.{Proof}
 use Rattle.ta_report.specs.declared.verdict.Verdict.{Verdict}
-use Rattle.ta_rest.specs.Faults.{EndingsOf}
 use Rattle.ta_rest.specs.RestSearch.{rest_search}
-use Rattle.ta_resting.specs.Verdicts.{AreRestVerdicts}
 use Rattle.ta_verdict.specs.Certificates.{AreTreesOf, safe_ones}
 use Rattle.ta_walk.specs.Ends.{TreeIs}
 

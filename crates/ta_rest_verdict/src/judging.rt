@@ -2,24 +2,24 @@
 #![tactic(auto)]
 
 ghost use Rattle.std.specs.Prelude.{ℕ, ◌≡◌, ◌<◌, ◌≤◌, [], IfOk, false, length, List, true};
-ghost use Rattle.ta_automaton.specs.Lists.{Each};
+ghost use Rattle.std.specs.List.{AllByRecursion};
 ghost use Rattle.ta_check.specs.Certificate.{RestCertificate};
 ghost use Rattle.ta_report.specs.Report.{VerdictFits};
 ghost use Rattle.ta_resting.specs.Verdicts.{OwnVerdict};
 ghost use Rattle.ta_shell.specs.Puts.{texts_joined};
 ghost use Rattle.ta_words.specs.Calls.{OfPattern};
 ghost use Rattle.ta_verdict.specs.Certificates.{safe_numbers, safe_ones};
-ghost use Rattle.ta_verdict.specs.Drafts.{AddsTree, Drafted, HasProofs, HasTrees};
+ghost use Rattle.ta_verdict.specs.Drafts.{AddsTree, DraftHasTree, HasProofs, HasTrees};
 ghost use Rattle.ta_rest_verdict.specs.Certificates.{RestCertificateOf, rest_tree};
 ghost use Rattle.ta_rest_verdict.specs.Verdicts.{OwnVerdicts};
 
 use std::alloc::{AllocError, Global};
+use ta_base::List;
 use ta_cert::Line;
 use ta_dense::NarrowDictionary;
 use ta_report::Verdict;
 use ta_rest::RestFile;
 use ta_resting::rest_verdict;
-use ta_shelf::List;
 use ta_verdict::{Draft, Judged, is_safe};
 
 /// Gives a verdict on each pattern of a file whose runs are to come to rest, and the certificate of
@@ -34,7 +34,7 @@ pub fn judge_rest(
     requires limit { nodes ≤ 1000000000 }
     ensures verdicts { IfOk result (λ judged. OwnVerdicts rest.now nodes judged.verdicts) }
     ensures all { IfOk result (λ judged. length judged.verdicts ≡ length rest.now.ending.file.patterns) }
-    ensures fit { IfOk result (λ judged. Each (VerdictFits rest.now.ending.file) judged.verdicts) }
+    ensures fit { IfOk result (λ judged. AllByRecursion (VerdictFits rest.now.ending.file) judged.verdicts) }
     ensures certificate { wanted ≡ true → IfOk result (λ judged. RestCertificateOf rest.now.ending.file nodes judged.verdicts (texts_joined judged.certificate)) }
     ensures accepted { wanted ≡ true → IfOk result (λ judged. RestCertificate rest.now.ending.file (texts_joined judged.certificate) (safe_numbers rest.now.ending.file judged.verdicts)) }
     ensures unwanted { wanted ≡ false → IfOk result (λ judged. judged.certificate ≡ []) }
@@ -59,7 +59,7 @@ fn verdicts_on(
     requires limit { nodes ≤ 1000000000 }
     ensures verdicts { IfOk result (λ verdicts. OwnVerdicts rest.now nodes verdicts.items) }
     ensures all { IfOk result (λ verdicts. length verdicts.items ≡ length rest.now.ending.file.patterns) }
-    ensures fit { IfOk result (λ verdicts. Each (VerdictFits rest.now.ending.file) verdicts.items) }
+    ensures fit { IfOk result (λ verdicts. AllByRecursion (VerdictFits rest.now.ending.file) verdicts.items) }
     ensures trees { (head : List ℕ) → HasProofs draft.old head [] → IfOk result (λ verdicts. HasTrees (rest_tree rest.now.ending.file nodes) head (safe_ones 0 rest.now.ending.file.patterns verdicts.items) draft.new) }
     ensures wanted { IfOk result (λ verdicts. draft.new.wanted ≡ draft.old.wanted) }
 {
@@ -108,7 +108,7 @@ fn drafted_verdict(
     requires exists { pattern < length rest.now.ending.file.patterns }
     ensures holds { IfOk result (λ verdict. OfPattern rest.now.ending.file pattern (λ p. OwnVerdict rest.now nodes pattern p verdict)) }
     ensures fits { IfOk result (VerdictFits rest.now.ending.file) }
-    ensures drafted { IfOk result (λ verdict. OfPattern rest.now.ending.file pattern (λ p. Drafted (rest_tree rest.now.ending.file nodes) p verdict draft.old draft.new)) }
+    ensures drafted { IfOk result (λ verdict. OfPattern rest.now.ending.file pattern (λ p. DraftHasTree (rest_tree rest.now.ending.file nodes) p verdict draft.old draft.new)) }
 {
     rest_verdict::<NarrowDictionary, Draft>(alloc, rest, pattern, nodes, draft)
 }

@@ -1,14 +1,14 @@
 -- the nodes of a whole tree of words of rest are a proof, and a whole node solves its word
-use Rattle.std.proofs.Common.{◌≡◌, ℕ, ◌+◌, ◌<◌, ◌≤◌, ◌^◌, List, [], ◌∷◌, ◌++◌, length, Some, slice_get, arith, sym, ap, ◌∙◌, append-nil, subst}
-use Rattle.ta_linear.specs.declared.row.System.{System}
+use Rattle.std.proofs.Common.{◌≡◌, ℕ, ◌+◌, ◌≤◌, List, [], ◌∷◌, ◌++◌, length, Some, slice_get, arith, sym, ap, ◌∙◌, append-nil, subst}
+use Rattle.std.specs.List.{AllByRecursion}
+use Rattle.ta_walk.proofs.Nodes.{few_variables}
 use Rattle.ta_automaton.specs.declared.automaton.Automaton.{Automaton}
 use Rattle.ta_automaton.specs.declared.file.File.{File}
 use Rattle.ta_automaton.specs.declared.pattern.Pattern.{Pattern}
-use Rattle.ta_automaton.specs.Lists.{Each}
 use Rattle.ta_cert.specs.declared.line.Node.{Node}
 use Rattle.ta_cert.specs.declared.line.Node.TheVariants as node
 use Rattle.ta_cert.specs.Lines.{IsNode}
-use Rattle.ta_words.specs.Words.{Legal}
+use Rattle.ta_words.specs.Words.{LegalWord}
 use Rattle.ta_encode.specs.PatternSearch.{all_starts}
 use Rattle.ta_encode.specs.Refutes.{IsLeaf}
 use Rattle.ta_encode.specs.Search.{Pending, parts}
@@ -16,10 +16,8 @@ use Rattle.ta_encode.specs.System.{AllHold}
 use Rattle.ta_encode.proofs.Moments.{AllHold-left}
 use Rattle.ta_encode.proofs.Preorders.{in_order, weaker_proof}
 use Rattle.ta_cursor.specs.Range.{IsJudged}
-use Rattle.ta_cursor.specs.TreeCalls.{IsSmall}
 use Rattle.ta_cursor.proofs.PatternWords.{comes_legal}
 use Rattle.ta_cursor.proofs.RowCounts.{few_unknowns}
-use Rattle.ta_dense.specs.Slack.{variables}
 use Rattle.ta_simplex.proofs.FewMultipliers.{few_multipliers}
 use Rattle.ta_rest.specs.RestSearch.{rest_rows, rest_search}
 use Rattle.ta_rest.proofs.Resting.{refuted_rests}
@@ -36,15 +34,11 @@ use Rattle.ta_resting.specs.Ends.{IsProofOf}
 use Rattle.ta_resting.specs.Laws.{RefutedRestsAreSafe, RestsAreSolved}
 
 -- the words with which the search of rest begins
-starts_wait : (a : Automaton) (p : Pattern) → Each (Waits (rest_search a p) 0) (all_starts a)
+starts_wait : (a : Automaton) (p : Pattern) → AllByRecursion (Waits (rest_search a p) 0) (all_starts a)
 starts_wait a p = roots_wait (rest_search a p) (starts_unbounded a)
 
--- a small system has few variables
-few_variables : (w : Pending) (z : System) → length w.bounds ≤ 1000000000 → IsSmall w.bounds z → variables z < 2 ^ 32
-few_variables w z few small = omega arith
-
 -- a node that stands at a word has few pairs
-node_few : (file : File) (number : ℕ) (p : Pattern) (w : Pending) (n : Node) → slice_get file.patterns number ≡ Some p → Legal file.automaton p w.start w.past → NodeAt (rest_search file.automaton p) w n → HasFewPairs n
+node_few : (file : File) (number : ℕ) (p : Pattern) (w : Pending) (n : Node) → slice_get file.patterns number ≡ Some p → LegalWord file.automaton p w.start w.past → NodeAt (rest_search file.automaton p) w n → HasFewPairs n
 node_few file number p w (node.Leaf ts) at legal stands =
     let z = stands.refuted.system in
     let unknowns = stands.refuted.is.unknowns in
@@ -54,11 +48,11 @@ node_few file number p w (node.Split unknown floor) at legal stands = tt
 
 -- nodes that can be written and have few pairs
 record Written (nodes : List Node) : Type 0 where
-  writable : Each IsNode nodes
-  few : Each HasFewPairs nodes
+  writable : AllByRecursion IsNode nodes
+  few : AllByRecursion HasFewPairs nodes
 
 -- each node that is visited within the budget is such a node
-nodes_written : (file : File) (number : ℕ) (p : Pattern) → slice_get file.patterns number ≡ Some p → (most : ℕ) (ws : List Pending) (ns : List Node) (rest : List Pending) → most + length ns ≤ 1000000000 → Each (Waits (rest_search file.automaton p) most) ws → Visits (rest_search file.automaton p) ws ns rest → Written ns
+nodes_written : (file : File) (number : ℕ) (p : Pattern) → slice_get file.patterns number ≡ Some p → (most : ℕ) (ws : List Pending) (ns : List Node) (rest : List Pending) → most + length ns ≤ 1000000000 → AllByRecursion (Waits (rest_search file.automaton p) most) ws → Visits (rest_search file.automaton p) ws ns rest → Written ns
 nodes_written file number p at most ws [] rest budget all v = record { writable = tt; few = tt }
 nodes_written file number p at most [] (n ∷ ns) rest budget all v = absurd v
 nodes_written file number p at most (w ∷ ws) (n ∷ ns) rest budget all v =

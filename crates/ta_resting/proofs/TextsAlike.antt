@@ -1,10 +1,11 @@
 -- a report names a file's own patterns as it names their endings
 use Rattle.std.proofs.Common.{◌≡◌, inl, inr, ℕ, zero, suc, true, List, [], ◌∷◌, ◌++◌, map, length, codes, Option, Some, slice_get, arith, sym, ap, ◌∙◌, refl, subst}
 use Rattle.std.proofs.lemmas.List.{map-append}
+use Rattle.std.specs.List.{AllByRecursion}
+use Rattle.ta_rest.proofs.EndingShapes.{endings_names}
 use Rattle.ta_automaton.specs.declared.automaton.Automaton.{Automaton}
 use Rattle.ta_automaton.specs.declared.file.File.{File}
 use Rattle.ta_automaton.specs.declared.pattern.Pattern.{Pattern}
-use Rattle.ta_automaton.specs.Lists.{Each}
 use Rattle.ta_automaton.specs.Patterns.{event_name, pattern_name}
 use Rattle.ta_replay.specs.declared.run.Run.{Run}
 use Rattle.ta_replay.specs.declared.run.RunLine.{RunLine}
@@ -30,7 +31,7 @@ line_alike a p q is (Mark event) fits = elim is.events [
   | inr added ↦ absurd (let none = ap length added.none in omega arith)
 ]
 
-lines_alike : (a : Automaton) (p q : Pattern) → IsEnding p q → (ls : List RunLine) → Each (LineFits a p) ls → map (line_of a q) ls ≡ map (line_of a p) ls
+lines_alike : (a : Automaton) (p q : Pattern) → IsEnding p q → (ls : List RunLine) → AllByRecursion (LineFits a p) ls → map (line_of a q) ls ≡ map (line_of a p) ls
 lines_alike a p q is [] fits = refl
 lines_alike a p q is (l ∷ ls) fits = ap (λ (x : List ℕ). x ∷ map (line_of a q) ls) (line_alike a p q is l fits.0) ∙ ap (λ (xs : List (List ℕ)). line_of a p l ∷ xs) (lines_alike a p q is ls fits.1)
 
@@ -46,12 +47,6 @@ ending_there (x ∷ ps) [] h k p at = absurd h
 ending_there (x ∷ ps) (y ∷ qs) h zero p at = let same : x ≡ p = cc in record { ending = y; named = refl; is = subst (λ (o : Pattern). IsEnding o y) same h.0 }
 ending_there (x ∷ ps) (y ∷ qs) h (suc k) p at = let there = ending_there ps qs h.1 k p at in record { ending = there.ending; named = there.named; is = there.is }
 
-names_alike : (ps qs : List Pattern) → Endings ps qs → map pattern_name qs ≡ map pattern_name ps
-names_alike [] [] h = refl
-names_alike [] (q ∷ qs) h = absurd h
-names_alike (p ∷ ps) [] h = absurd h
-names_alike (p ∷ ps) (q ∷ qs) h = ap (λ (n : List ℕ). n ∷ map pattern_name qs) h.0.name ∙ ap (λ (ns : List (List ℕ)). p.name ∷ ns) (names_alike ps qs h.1)
-
 -- the text of a run of the file's own pattern
 run_alike : (file ending : File) (added : ℕ) → EndingsOf file ending added → (run : Run) → Fits file run → run_text ending run ≡ run_text file run
 run_alike file ending added ends run fits =
@@ -61,7 +56,7 @@ run_alike file ending added ends run fits =
     let head : List (List ℕ) → List ℕ = λ names. named_line (codes "run ") (name_at names n) in
     let at = ending_there file.patterns ending.patterns ends.patterns n fits.pattern fits.named in
     let lines = ap (λ (o : Option Pattern). lines_of file.automaton o run.lines) at.named ∙ lines_alike file.automaton fits.pattern at.ending at.is run.lines fits.lines ∙ sym (ap (λ (o : Option Pattern). lines_of file.automaton o run.lines) fits.named) in
-    ap (λ (ns : List (List ℕ)). lines_text (head ns ∷ (value_lines (slots ending.automaton) values ++ (lines_of ending.automaton (slice_get ending.patterns n) run.lines ++ last)))) (names_alike file.patterns ending.patterns ends.patterns)
+    ap (λ (ns : List (List ℕ)). lines_text (head ns ∷ (value_lines (slots ending.automaton) values ++ (lines_of ending.automaton (slice_get ending.patterns n) run.lines ++ last)))) (endings_names file.patterns ending.patterns ends.patterns)
     ∙ ap (λ (a : Automaton). lines_text (head (map pattern_name file.patterns) ∷ (value_lines (slots a) values ++ (lines_of a (slice_get ending.patterns n) run.lines ++ last)))) ends.automaton
     ∙ ap (λ (ls : List (List ℕ)). lines_text (head (map pattern_name file.patterns) ∷ (value_lines (slots file.automaton) values ++ (ls ++ last)))) lines
 
@@ -71,7 +66,7 @@ part_alike file ending added ends (Unsafe nodes run) fits = run_alike file endin
 part_alike file ending added ends (Spent nodes) fits = refl
 part_alike file ending added ends (Overflow node kind) fits = refl
 
-told_alike : (file ending : File) (added : ℕ) → EndingsOf file ending added → (ps qs : List Pattern) (vs : List Verdict) → Endings ps qs → Each (VerdictFits file) vs → told_lines true ending qs vs ≡ told_lines true file ps vs
+told_alike : (file ending : File) (added : ℕ) → EndingsOf file ending added → (ps qs : List Pattern) (vs : List Verdict) → Endings ps qs → AllByRecursion (VerdictFits file) vs → told_lines true ending qs vs ≡ told_lines true file ps vs
 told_alike file ending added ends [] [] vs h fits = refl
 told_alike file ending added ends [] (q ∷ qs) vs h fits = absurd h
 told_alike file ending added ends (p ∷ ps) [] vs h fits = absurd h

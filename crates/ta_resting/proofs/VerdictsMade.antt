@@ -1,6 +1,7 @@
 -- what is known of verdicts on runs that come to rest, as they are made
 use Rattle.std.proofs.Common.{◌≡◌, ℕ, zero, suc, ◌<◌, ◌≤◌, List, [], ◌∷◌, length, sym, subst, Some, slice_get, Result, Ok, Err, IfOk}
 use Rattle.std.specs.declared.alloc.AllocError.{AllocError}
+use Rattle.ta_base.proofs.Lists.{some_at}
 use Rattle.ta_automaton.specs.declared.automaton.Automaton.{Automaton}
 use Rattle.ta_automaton.specs.declared.file.File.{File}
 use Rattle.ta_automaton.specs.declared.pattern.Pattern.{Pattern}
@@ -10,14 +11,13 @@ use Rattle.ta_encode.specs.Refutes.{IsLeaf}
 use Rattle.ta_encode.specs.Search.{Pending, Search}
 use Rattle.ta_encode.specs.declared.encoded.Solution.{Solution}
 use Rattle.ta_encode.proofs.Preorders.{in_order, weaker_proof}
-use Rattle.ta_encode.proofs.Switch.{some_at}
 use Rattle.ta_cursor.specs.Range.{IsJudged}
 use Rattle.ta_rest.specs.Endings.{Endings, IsEnding}
 use Rattle.ta_rest.specs.Rest.{RestSafe}
 use Rattle.ta_rest.specs.RestSearch.{rest_search}
 use Rattle.ta_rest.specs.declared.rest_file.RestFile.{RestFile}
 use Rattle.ta_rest.proofs.Resting.{refuted_show}
-use Rattle.ta_rest_run.specs.Runs.{IsRestSolution, OwnWitness}
+use Rattle.ta_rest_run.specs.Runs.{IsRestSolution}
 use Rattle.ta_replay.specs.declared.run.Run.{Run}
 use Rattle.ta_report.specs.declared.verdict.ReportKind.{ReportKind}
 use Rattle.ta_report.specs.declared.verdict.ReportKind.TheVariants as kind
@@ -26,13 +26,12 @@ use Rattle.ta_report.specs.declared.verdict.Verdict.TheVariants.{Safe, Unsafe, S
 use Rattle.ta_scope.proofs.Judging.{loops_pure}
 use Rattle.ta_claim.proofs.ClaimsShown.{come_after}
 use Rattle.ta_walk.specs.Ends.{IsSpent, NodeOf, TreeKept}
-use Rattle.ta_walk.specs.Visit.{LeavesAt}
+use Rattle.ta_walk.specs.Visit.{IsOutOfRangeAt}
 use Rattle.ta_walk.specs.declared.end.PlaceKind.{PlaceKind}
 use Rattle.ta_walk.proofs.DeterminedEnds.{node_with}
 use Rattle.ta_walk.proofs.SpentSplits.{split_of_words}
-use Rattle.ta_witness.specs.Witness.{WitnessLeaves}
 use Rattle.ta_resting.specs.Ends.{SolutionIn}
-use Rattle.ta_resting.specs.Verdicts.{IsNotSafe, KeepsSafe, OwnVerdict, RestLeavesIn, place_of}
+use Rattle.ta_resting.specs.Verdicts.{IsNotSafe, KeepsSafe, OwnVerdict, RestIsOutOfRangeIn, place_of}
 use Rattle.ta_resting.proofs.RestsVisited.{found_solved, proof_made}
 
 -- the ending of a pattern of a number
@@ -78,24 +77,15 @@ solution_found file number within budget nodes solution found =
     found_solved file number at.0 at.1 budget nodes solution (found at.0 at.1)
 
 -- where a visit says that a number leaves the range, it does
-leaves_in : (ending : File) (number : ℕ) (p : Pattern) (k : PlaceKind) (r : ReportKind) (w : Pending) → place_of r ≡ k → LeavesAt (rest_search ending.automaton p) w k → RestLeavesIn ending number p r w
-leaves_in ending number p k (kind.Pivot pivot) w same leaves = subst (LeavesAt (rest_search ending.automaton p) w) (sym same) leaves
-leaves_in ending number p k kind.Leaf w same leaves = subst (LeavesAt (rest_search ending.automaton p) w) (sym same) leaves
-leaves_in ending number p k kind.Run w same leaves = absurd (subst (LeavesAt (rest_search ending.automaton p) w) (sym same) leaves)
+rest_out_of_range_in : (ending : File) (number : ℕ) (p : Pattern) (k : PlaceKind) (r : ReportKind) (w : Pending) → place_of r ≡ k → IsOutOfRangeAt (rest_search ending.automaton p) w k → RestIsOutOfRangeIn ending number p r w
+rest_out_of_range_in ending number p k (kind.Pivot pivot) w same leaves = subst (IsOutOfRangeAt (rest_search ending.automaton p) w) (sym same) leaves
+rest_out_of_range_in ending number p k kind.Leaf w same leaves = subst (IsOutOfRangeAt (rest_search ending.automaton p) w) (sym same) leaves
+rest_out_of_range_in ending number p k kind.Run w same leaves = absurd (subst (IsOutOfRangeAt (rest_search ending.automaton p) w) (sym same) leaves)
 
-pub overflow_verdict : (rest : RestFile) (budget number : ℕ) (p : Pattern) (node : ℕ) (k : PlaceKind) (r : ReportKind) → place_of r ≡ k → NodeOf (rest_search rest.ending.file.automaton p) budget node (λ w. LeavesAt (rest_search rest.ending.file.automaton p) w k) → OwnVerdict rest budget number p (Overflow node r)
+pub overflow_verdict : (rest : RestFile) (budget number : ℕ) (p : Pattern) (node : ℕ) (k : PlaceKind) (r : ReportKind) → place_of r ≡ k → NodeOf (rest_search rest.ending.file.automaton p) budget node (λ w. IsOutOfRangeAt (rest_search rest.ending.file.automaton p) w k) → OwnVerdict rest budget number p (Overflow node r)
 overflow_verdict rest budget number p node k r same found file ends own at =
     let f = rest.ending.file in
-    node_with (rest_search f.automaton p) budget node (λ w. LeavesAt (rest_search f.automaton p) w k) (RestLeavesIn f number p r) found (leaves_in f number p k r found.word same found.holds)
-
--- the run of a whole node comes to rest, or it leaves the range
-pub unsafe_verdict : (rest : RestFile) (budget number : ℕ) (p : Pattern) (node : ℕ) (solution : Solution) (run : Run) → NodeOf (rest_search rest.ending.file.automaton p) budget node (SolutionIn (rest_search rest.ending.file.automaton p) number solution) → OwnWitness rest solution run → OwnVerdict rest budget number p (Unsafe node run)
-unsafe_verdict rest budget number p node solution run found witness file ends own at = record { solution = solution; node = found; is = witness file ends }
-
-pub run_leaves : (rest : RestFile) (budget number : ℕ) (p : Pattern) (node : ℕ) (solution : Solution) → NodeOf (rest_search rest.ending.file.automaton p) budget node (SolutionIn (rest_search rest.ending.file.automaton p) number solution) → WitnessLeaves rest.ending.file solution → OwnVerdict rest budget number p (Overflow node kind.Run)
-run_leaves rest budget number p node solution found leaves file ends own at =
-    let s = rest_search rest.ending.file.automaton p in
-    node_with s budget node (SolutionIn s number solution) (RestLeavesIn rest.ending.file number p kind.Run) found (record { solution = solution; whole = found.holds; run = leaves })
+    node_with (rest_search f.automaton p) budget node (λ w. IsOutOfRangeAt (rest_search f.automaton p) w k) (RestIsOutOfRangeIn f number p r) found (rest_out_of_range_in f number p k r found.word same found.holds)
 
 keeps_nothing : (s : Search) (budget : ℕ) (Keeps : List Node → Type 0) (v : Verdict) → IsNotSafe v → KeepsSafe s budget Keeps v
 keeps_nothing s budget Keeps (Safe nodes leaves) other = absurd other

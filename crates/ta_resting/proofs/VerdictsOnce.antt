@@ -1,9 +1,7 @@
 -- a pattern of a file has one verdict on its runs that come to rest for one budget
-use Rattle.std.proofs.Common.{◌≡◌, ◌⊎◌, inl, inr, ◌+◌, ℕ, ℤ, suc, List, [], ◌∷◌, Some, slice_get, reverse, refl, sym, ap, subst, ◌∙◌, arith}
-use Rattle.std.proofs.lemmas.List.{reverse-reverse}
+use Rattle.std.proofs.Common.{◌≡◌, ◌⊎◌, inl, inr, ◌+◌, ℕ, ℤ, suc, List, [], ◌∷◌, Some, slice_get, refl, sym, ap, subst, ◌∙◌, arith}
 use Rattle.ta_automaton.specs.declared.file.File.{File}
 use Rattle.ta_automaton.specs.declared.pattern.Pattern.{Pattern}
-use Rattle.ta_words.specs.declared.element.Element.{Element}
 use Rattle.ta_encode.specs.Search.{Pending}
 use Rattle.ta_encode.specs.declared.encoded.Solution.{Solution}
 use Rattle.ta_replay.specs.declared.run.Run.{Run}
@@ -14,13 +12,13 @@ use Rattle.ta_rest_run.proofs.Once.{one_rest_witness}
 use Rattle.ta_rest_run.proofs.Resting.{solutions_solve}
 use Rattle.ta_walk.specs.declared.end.PlaceKind.{PlaceKind}
 use Rattle.ta_walk.specs.declared.end.PlaceKind.TheVariants as place
-use Rattle.ta_walk.specs.Ends.{Ending, IsEnding, Left, NodeOf, Solved, Stopped, Whole, leaf_count}
+use Rattle.ta_walk.specs.Ends.{Ending, IsVisitEnding, Left, NodeOf, Solved, Stopped, Whole, leaf_count}
 use Rattle.ta_walk.specs.Visit.{WholeAt}
-use Rattle.ta_walk.proofs.DeterminedEnds.{endings_once, node_with}
+use Rattle.ta_walk.proofs.DeterminedEnds.{endings_once, node_with, word_same}
 use Rattle.ta_report.specs.declared.verdict.ReportKind.TheVariants as kind
 use Rattle.ta_report.specs.declared.verdict.Verdict.{Verdict}
 use Rattle.ta_report.specs.declared.verdict.Verdict.TheVariants.{Safe, Unsafe, Spent, Overflow}
-use Rattle.ta_witness.specs.Witness.{WitnessLeaves, WitnessOf}
+use Rattle.ta_witness.specs.Witness.{WitnessOutOfRange, WitnessOf}
 use Rattle.ta_witness.proofs.WitnessOnce.{one_witness}
 use Rattle.ta_resting.specs.Ends.{SolutionIn}
 use Rattle.ta_resting.specs.Laws.{RestVerdictsAreDetermined}
@@ -46,7 +44,7 @@ record LeftBy (ending : File) (number : ℕ) (p : Pattern) (count : ℕ) (w : Pe
   solution : Solution
   found : FoundBy ending number p w values solution
   says : v ≡ Overflow count kind.Run
-  leaves : WitnessLeaves ending solution
+  leaves : WitnessOutOfRange ending solution
 
 -- the verdict where a visit says that a number leaves the range
 abbrev SaysPlace : ℕ → PlaceKind → Verdict → Type 0
@@ -64,7 +62,7 @@ Gives ending added number p (Left node k) v = SaysPlace node k v
 -- the search of a pattern's words of rest ends as a verdict says
 record EndOf (ending : File) (added budget number : ℕ) (p : Pattern) (v : Verdict) : Type 0 where
   end : Ending
-  is : IsEnding (rest_search ending.automaton p) budget end
+  is : IsVisitEnding (rest_search ending.automaton p) budget end
   gives : Gives ending added number p end v
 
 end_of : (file ending : File) (added budget number : ℕ) (own p : Pattern) (v : Verdict) → slice_get ending.patterns number ≡ Some p → RestVerdictHolds file ending added budget number own p v → EndOf ending added budget number p v
@@ -102,9 +100,6 @@ end_of file ending added budget number own p (Overflow node kind.Run) at h =
         leaves = leaves.run;
       };
     }
-
-word_same : (xs ys zs : List Element) → reverse xs ≡ zs → reverse ys ≡ zs → xs ≡ ys
-word_same xs ys zs is are = sym (reverse-reverse xs) ∙ ap reverse (is ∙ sym are) ∙ reverse-reverse ys
 
 -- there is one solution at a word with such values
 solution_once : (ending : File) (number : ℕ) (p : Pattern) (w : Pending) (values : List ℤ) (x y : Solution) → FoundBy ending number p w values x → FoundBy ending number p w values y → x ≡ y

@@ -1,8 +1,8 @@
 -- What the ends of visits of words of rest say
 use Rattle.std.specs.Prelude.{ℕ, ◌≤◌, ◌≡◌, List, length, slice_get, Some}
+use Rattle.std.specs.List.{AllByRecursion}
 use Rattle.ta_automaton.specs.declared.file.File.{File}
 use Rattle.ta_automaton.specs.declared.pattern.Pattern.{Pattern}
-use Rattle.ta_automaton.specs.Lists.{Each}
 use Rattle.ta_automaton.specs.Runs.{LoopsPure}
 use Rattle.ta_cert.specs.declared.line.Node.{Node}
 use Rattle.ta_encode.specs.declared.encoded.Solution.{Solution}
@@ -44,5 +44,5 @@ RestVerdictsAreDetermined =
 abbrev pub RestTextsAreAlike : Type 0
 RestTextsAreAlike =
     (file ending : File) (added : ℕ) → EndingsOf file ending added
-    → (sample : ReportSample) (vs : List Verdict) → Each (VerdictFits file) vs
+    → (sample : ReportSample) (vs : List Verdict) → AllByRecursion (VerdictFits file) vs
     → rest_text ending sample vs ≡ rest_text file sample vs

@@ -1,8 +1,8 @@
 -- What is said of a pattern whose runs are to come to rest, and when it holds (this project's profile)
 use Rattle.std.specs.Prelude.{ℕ, ◌+◌, ◌≡◌, List, [], ◌∷◌, slice_get, Some}
+use Rattle.std.specs.List.{AllByRecursion}
 use Rattle.ta_automaton.specs.declared.file.File.{File}
 use Rattle.ta_automaton.specs.declared.pattern.Pattern.{Pattern}
-use Rattle.ta_automaton.specs.Lists.{Each}
 use Rattle.ta_cert.specs.declared.line.Node.{Node}
 use Rattle.ta_encode.specs.declared.encoded.Solution.{Solution}
 use Rattle.ta_encode.specs.Search.{Pending, Search}
@@ -19,10 +19,10 @@ use Rattle.ta_report.specs.declared.verdict.Verdict.TheVariants.{Safe, Unsafe, S
 use Rattle.ta_report.specs.Report.{VerdictFits}
 use Rattle.ta_walk.specs.Ends.{IsSpent, NodeOf, TreeIs, TreeKept, leaf_count}
 use Rattle.ta_walk.specs.Splits.{HasAtMost, WasSplit}
-use Rattle.ta_walk.specs.Visit.{LeavesAt}
+use Rattle.ta_walk.specs.Visit.{IsOutOfRangeAt}
 use Rattle.ta_walk.specs.declared.end.PlaceKind.{PlaceKind}
 use Rattle.ta_walk.specs.declared.end.PlaceKind.TheVariants as place
-use Rattle.ta_witness.specs.Witness.{WitnessLeaves}
+use Rattle.ta_witness.specs.Witness.{WitnessOutOfRange}
 use Rattle.ta_resting.specs.Ends.{IsProofOf, SolutionIn}
 
 -- the place of a walk that a report names
@@ -54,23 +54,23 @@ pub record RestSpentHolds (ending : File) (p : Pattern) (budget nodes : ℕ) : T
   pub split : HasAtMost ending.automaton p [] budget → WasSplit (rest_search ending.automaton p) budget
 
 -- the word is that of a whole node, and a number of the replay of its run leaves the range
-pub record RestRunLeaves (ending : File) (number : ℕ) (p : Pattern) (w : Pending) : Type 0 where
+pub record RestRunOutOfRange (ending : File) (number : ℕ) (p : Pattern) (w : Pending) : Type 0 where
   pub solution : Solution
   pub whole : SolutionIn (rest_search ending.automaton p) number solution w
-  pub run : WitnessLeaves ending solution
+  pub run : WitnessOutOfRange ending solution
 
 -- where a number of a node leaves the range: in a pivot, in the check of the leaf that it is, or in the replay of its run
-abbrev pub RestLeavesIn : File → ℕ → Pattern → ReportKind → Pending → Type 0
-RestLeavesIn ending number p (kind.Pivot pivot) w = LeavesAt (rest_search ending.automaton p) w (place.Pivot pivot)
-RestLeavesIn ending number p kind.Leaf w = LeavesAt (rest_search ending.automaton p) w place.Leaf
-RestLeavesIn ending number p kind.Run w = RestRunLeaves ending number p w
+abbrev pub RestIsOutOfRangeIn : File → ℕ → Pattern → ReportKind → Pending → Type 0
+RestIsOutOfRangeIn ending number p (kind.Pivot pivot) w = IsOutOfRangeAt (rest_search ending.automaton p) w (place.Pivot pivot)
+RestIsOutOfRangeIn ending number p kind.Leaf w = IsOutOfRangeAt (rest_search ending.automaton p) w place.Leaf
+RestIsOutOfRangeIn ending number p kind.Run w = RestRunOutOfRange ending number p w
 
 -- a verdict on a file's own pattern of a number holds, for a budget of nodes of the tree of its ending
 abbrev pub RestVerdictHolds : File → File → ℕ → ℕ → ℕ → Pattern → Pattern → Verdict → Type 0
 RestVerdictHolds file ending added budget number own p (Safe nodes leaves) = RestSafeHolds file ending own p budget nodes leaves
 RestVerdictHolds file ending added budget number own p (Unsafe nodes run) = RestUnsafeHolds file ending added number p budget nodes run
 RestVerdictHolds file ending added budget number own p (Spent nodes) = RestSpentHolds ending p budget nodes
-RestVerdictHolds file ending added budget number own p (Overflow node kind) = NodeOf (rest_search ending.automaton p) budget node (RestLeavesIn ending number p kind)
+RestVerdictHolds file ending added budget number own p (Overflow node kind) = NodeOf (rest_search ending.automaton p) budget node (RestIsOutOfRangeIn ending number p kind)
 
 -- so it does for each file whose patterns have these endings
 abbrev pub OwnVerdict : RestFile → ℕ → ℕ → Pattern → Verdict → Type 0
@@ -102,4 +102,4 @@ RestVerdictsHold file ending added budget number _ _ _ = ⊥
 -- a verdict on each pattern of a file, in order: each holds, its numbers are below 2^64, and its run fits the file
 pub record AreRestVerdicts (file ending : File) (added budget : ℕ) (verdicts : List Verdict) : Type 0 where
   pub hold : RestVerdictsHold file ending added budget 0 file.patterns ending.patterns verdicts
-  pub fit : Each (VerdictFits file) verdicts
+  pub fit : AllByRecursion (VerdictFits file) verdicts

@@ -8,7 +8,8 @@ ghost use Rattle.ta_resting.specs.Ends.{IsWalkEndOf};
 
 use crate::visiting::rest_visit;
 use std::alloc::{AllocError, Global};
-use ta_cert::{List, Node};
+use ta_base::List;
+use ta_cert::Node;
 use ta_dense::Dictionary;
 use ta_rest::RestFile;
 use ta_walk::{Keeper, VisitEnd, WalkEnd};

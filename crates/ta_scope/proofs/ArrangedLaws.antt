@@ -1,28 +1,23 @@
 -- arranged steps are legal
 use Rattle.std.proofs.Common.{◌≡◌, ℕ, ℤ, pos, ◌+ℤ◌, ◌≤ℤ◌, List, [], ◌∷◌, ◌++◌, inl, arith, sym, ap, ◌∙◌, refl, subst, slice_get, Some}
 use Rattle.std.proofs.lemmas.Int.{ints}
+use Rattle.ta_base.proofs.Lists.{without_last}
+use Rattle.ta_base.proofs.Members.{In-right, last_of}
 use Rattle.ta_linear.specs.Values.{RowHolds}
 use Rattle.ta_automaton.specs.declared.rule.Rule.{Rule}
 use Rattle.ta_automaton.specs.declared.automaton.Automaton.{Automaton}
-use Rattle.ta_automaton.specs.Masks.{In}
+use Rattle.ta_base.specs.Masks.{In}
 use Rattle.ta_automaton.specs.Places.{location_place}
 use Rattle.ta_automaton.specs.Runs.{Config, value_at, InScope}
 use Rattle.ta_automaton.specs.Sums.{total}
 use Rattle.ta_automaton.proofs.Sums.{total-append, terms_value-same}
-use Rattle.ta_automaton.proofs.MaskTests.{In-right}
 use Rattle.ta_automaton.proofs.Thresholds.{falls as falls_rows, fall_back}
-use Rattle.ta_automaton.proofs.Onward.{change_of, Onward, Piece, after, without_last, later_after, fire_in_order}
+use Rattle.ta_automaton.proofs.Onward.{change_of, Onward, Piece, after, later_after, fire_in_order}
 use Rattle.ta_automaton.proofs.Rearranged.{each_rule_from}
-use Rattle.ta_scope.specs.Arranged.{Counts, ArrangedOf, count_at, steps_along}
-use Rattle.ta_scope.specs.Legal.{ArrangedStepsAreLegal, ArrangedStepsReachTheEnd, GuardsHold, Passable, LeadsToEnd, unit_steps, fall_mask, value_after, value_at_end}
+use Rattle.ta_scope.specs.Arranged.{AreRuleCounts, ArrangedOf, count_at, steps_along}
+use Rattle.ta_scope.specs.Legal.{ArrangedStepsAreLegal, ArrangedStepsReachTheEnd, GuardsHold, Passable, LeadsToEnd, arranged_steps, fall_mask, value_after_steps, value_at_end}
 use Rattle.ta_scope.proofs.Circulations.{Rest, rest_same, rest_all, weighted}
 use Rattle.ta_scope.proofs.Listing.{in_along, along_total, along_onward}
-
--- a list with an item has a last one
-last_of : (o : ℕ) (os : List ℕ) → In o os → (last : ℕ) × (os ≡ without_last os ++ last ∷ [])
-last_of o [] i = absurd i
-last_of o (q ∷ []) i = (q, refl)
-last_of o (q ∷ r ∷ os) i = let w = last_of r (r ∷ os) (inl refl) in (w.0, ap (λ (xs : List ℕ). q ∷ xs) w.1)
 
 -- what the steps have from their list
 pub record FromCounts (a : Automaton) (counts : List ℤ) (os : List ℕ) : Type 0 where
@@ -31,16 +26,16 @@ pub record FromCounts (a : Automaton) (counts : List ℤ) (os : List ℕ) : Type
   pub above : (q : ℕ) → In q os → pos 1 ≤ℤ count_at counts q
   pub sums : (i : ℕ) → total (change_of a i) os ≡ weighted a counts i
 
-pub from_counts : (a : Automaton) → InScope a → (counts : List ℤ) → Counts a counts → (steps : List (ℕ × ℤ)) → ArrangedOf a counts steps → FromCounts a counts (unit_steps steps)
+pub from_counts : (a : Automaton) → InScope a → (counts : List ℤ) → AreRuleCounts a counts → (steps : List (ℕ × ℤ)) → ArrangedOf a counts steps → FromCounts a counts (arranged_steps steps)
 from_counts a scope counts c steps s =
     let rest : Rest a counts s.rest = rest_all a scope counts counts s.later s.rest (rest_same a counts c) s.taken_out in
-    let along : FromCounts a counts (unit_steps (steps_along a s.rest s.order)) = record {
+    let along : FromCounts a counts (arranged_steps (steps_along a s.rest s.order)) = record {
       onward = along_onward a s.rest s.rules s.support s.no_cycle s.order s.ordered;
       named = λ q i. let w = in_along a s.rest s.order q i in let step = w.2 in (step.rule, step.named);
       above = λ q i. let w = in_along a s.rest s.order q i in let step = w.2 in omega (arith, ints, step.above, rest.less q);
       sums = λ i. along_total a s.rest rest.natural s.order s.ordered.each_once i ∙ rest.sums i;
     } in
-    subst (λ (xs : List (ℕ × ℤ)). FromCounts a counts (unit_steps xs)) (sym s.listed) along
+    subst (λ (xs : List (ℕ × ℤ)). FromCounts a counts (arranged_steps xs)) (sym s.listed) along
 
 legal : (a : Automaton) (counts : List ℤ) (os : List ℕ) → FromCounts a counts os → (c : Config) → Passable a c counts os → LeadsToEnd a c counts os
 legal a counts os f c p =
@@ -63,13 +58,13 @@ legal a counts os f c p =
     }
 
 pub arranged_legal : ArrangedStepsAreLegal
-arranged_legal a scope counts natural steps s c p = legal a counts (unit_steps steps) (from_counts a scope counts natural steps s) c p
+arranged_legal a scope counts natural steps s c p = legal a counts (arranged_steps steps) (from_counts a scope counts natural steps s) c p
 
 -- fall guards that hold at the end hold before the last step
-before_last : (a : Automaton) (counts : List ℤ) (os : List ℕ) → FromCounts a counts os → (c : Config) → GuardsHold a counts fall_mask a.fall (value_at_end a c counts) → (front : List ℕ) (last : ℕ) → os ≡ front ++ last ∷ [] → GuardsHold a counts fall_mask a.fall (value_after a c front)
+before_last : (a : Automaton) (counts : List ℤ) (os : List ℕ) → FromCounts a counts os → (c : Config) → GuardsHold a counts fall_mask a.fall (value_at_end a c counts) → (front : List ℕ) (last : ℕ) → os ≡ front ++ last ∷ [] → GuardsHold a counts fall_mask a.fall (value_after_steps a c front)
 before_last a counts os f c falls front last cut r rule named above j row at set =
     let within : In last os = subst (In last) (sym cut) (In-right last front (last ∷ []) (inl refl)) in
-    let point = value_after a c front in
+    let point = value_after_steps a c front in
     let later = later_after a point (last ∷ []) (f.named last within, tt) in
     let same : (i : ℕ) → after a point (last ∷ []) i ≡ value_at_end a c counts i = (λ i. omega (arith, ints, total-append (change_of a i) front (last ∷ []), ap (total (change_of a i)) cut, f.sums i)) in
     let held : RowHolds (value_at_end a c counts) row = falls r rule named above j row at set in
@@ -78,4 +73,4 @@ before_last a counts os f c falls front last cut r rule named above j row at set
 pub arranged_end : ArrangedStepsReachTheEnd
 arranged_end a scope counts natural steps s c whole rise fall ends =
     let f = from_counts a scope counts natural steps s in
-    legal a counts (unit_steps steps) f c (record { whole = whole; rise = rise; fall = before_last a counts (unit_steps steps) f c fall; natural = ends })
+    legal a counts (arranged_steps steps) f c (record { whole = whole; rise = rise; fall = before_last a counts (arranged_steps steps) f c fall; natural = ends })

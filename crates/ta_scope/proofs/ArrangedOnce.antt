@@ -1,16 +1,16 @@
 -- Counts have one list of arranged steps.
-use Rattle.std.proofs.Common.{◌≡◌, ◌⊎◌, inl, inr, ℕ, ℤ, suc, ◌<◌, List, [], ◌∷◌, ◌++◌, length, take, arith, sym, ap, ◌∙◌, refl, subst, slice_get, Some, Contains, append_assoc, append-nil}
+use Rattle.std.proofs.Common.{◌≡◌, inl, inr, ℕ, ℤ, suc, ◌<◌, List, [], ◌∷◌, ◌++◌, length, take, arith, sym, ap, ◌∙◌, refl, subst, slice_get, Some, Contains, append_assoc, append-nil}
 use Rattle.std.specs.Prelude.{IsBitSet}
 use Rattle.std.proofs.lemmas.Bool.{cases_lt}
 use Rattle.std.proofs.lemmas.Int.{ints}
+use Rattle.std.specs.List.{AllByRecursion}
+use Rattle.ta_base.proofs.Members.{in_or}
 use Rattle.ta_automaton.specs.declared.rule.Rule.{Rule}
 use Rattle.ta_automaton.specs.declared.automaton.Automaton.{Automaton}
-use Rattle.ta_automaton.specs.Lists.{Each}
-use Rattle.ta_automaton.specs.Masks.{In}
-use Rattle.ta_scope.specs.Arranged.{AllTakenOut, FirstPath, LeastCount, LeastCycle, NoLater, NotAbove, Subtracted, Support, TakenOut, count_at, steps_along}
+use Rattle.ta_scope.specs.Arranged.{AllTakenOut, FirstPath, LeastCount, LeastCycle, NoLater, NotAbove, SubtractsFrom, Support, TakenOut, count_at, steps_along}
 use Rattle.ta_scope.specs.Cycles.{NoCycle}
 use Rattle.ta_scope.specs.Legal.{ArrangedStepsAreDetermined}
-use Rattle.ta_scope.specs.Order.{IsOrder, Next, Ready}
+use Rattle.ta_scope.specs.Order.{IsLocationOrder, Next, Ready}
 use Rattle.ta_scope.proofs.OrderLaws.{placed}
 
 -- each rule of a mask is one of another
@@ -21,7 +21,7 @@ Within m n = (r : ℕ) → IsBitSet m r → IsBitSet n r
 support_within : (counts : List ℤ) (m n : ℕ) → Support counts m → Support counts n → Within m n
 support_within counts m n first second = λ r set. (second r).1 ((first r).0 set)
 
-each_within : (m n : ℕ) (rules : List ℕ) → Within m n → Each (IsBitSet m) rules → Each (IsBitSet n) rules
+each_within : (m n : ℕ) (rules : List ℕ) → Within m n → AllByRecursion (IsBitSet m) rules → AllByRecursion (IsBitSet n) rules
 each_within m n [] within each = tt
 each_within m n (r ∷ rs) within each = (within r each.0, each_within m n rs within each.1)
 
@@ -75,17 +75,6 @@ least_once counts rules x y first second =
     let there = second.is in
     omega (arith, ints)
 
--- a number is among others, or not
-in_or : (r : ℕ) (rules : List ℕ) → In r rules ⊎ (In r rules → ⊥)
-in_or r [] = inr (λ none. none)
-in_or r (q ∷ qs) = elim (cases_lt r q) [
-  | inl less ↦ elim (in_or r qs) [ inl in_rest ↦ inl (inr in_rest) | inr none ↦ inr (λ is. elim is [ inl same ↦ omega (arith, less, same) | inr in_rest ↦ none in_rest ]) ]
-  | inr least ↦ elim (cases_lt q r) [
-    | inl more ↦ elim (in_or r qs) [ inl in_rest ↦ inl (inr in_rest) | inr none ↦ inr (λ is. elim is [ inl same ↦ omega (arith, more, same) | inr in_rest ↦ none in_rest ]) ]
-    | inr most ↦ inl (inl (omega (arith, least, most)))
-  ]
-]
-
 -- counts that are the same for each rule are one list
 counts_once : (xs ys : List ℤ) → length xs ≡ length ys → ((r : ℕ) → count_at xs r ≡ count_at ys r) → xs ≡ ys
 counts_once [] [] long same = refl
@@ -96,7 +85,7 @@ counts_once (x ∷ xs) (y ∷ ys) long same =
     let tail = counts_once xs ys (omega arith) (λ r. same (suc r)) in
     ap (λ z. z ∷ xs) head ∙ ap (λ zs. y ∷ zs) tail
 
-subtracted_once : (rules : List ℕ) (amount : ℤ) (before xs ys : List ℤ) → Subtracted rules amount before xs → Subtracted rules amount before ys → xs ≡ ys
+subtracted_once : (rules : List ℕ) (amount : ℤ) (before xs ys : List ℤ) → SubtractsFrom rules amount before xs → SubtractsFrom rules amount before ys → xs ≡ ys
 subtracted_once rules amount before xs ys first second =
     counts_once xs ys (first.each_rule ∙ sym second.each_rule) (λ r. elim (in_or r rules) [
       | inl is ↦ first.these r is ∙ sym (second.these r is)
@@ -112,7 +101,7 @@ taken_once a before xs ys first second =
     let rules : first.number ∷ first.back ≡ second.number ∷ second.back = ap (λ r. r ∷ first.back) cycle.0 ∙ ap (λ rs. second.number ∷ rs) cycle.1 in
     let least = subst (λ rs. LeastCount before rs first.amount) rules first.least in
     let amount = least_once before (second.number ∷ second.back) first.amount second.amount least second.least in
-    let taken = subst (λ z. Subtracted (second.number ∷ second.back) z before xs) amount (subst (λ rs. Subtracted rs first.amount before xs) rules first.subtracted) in
+    let taken = subst (λ z. SubtractsFrom (second.number ∷ second.back) z before xs) amount (subst (λ rs. SubtractsFrom rs first.amount before xs) rules first.subtracted) in
     subtracted_once (second.number ∷ second.back) second.amount before xs ys taken second.subtracted
 
 -- nothing is taken out where no rule of the support lies on a cycle
@@ -176,7 +165,7 @@ all_same a m n done (x ∷ xs) (y ∷ ys) mn nm first second all every =
     ap (λ z. z ∷ xs) same ∙ ap (λ zs. y ∷ zs) rest
 
 -- the order by the rules of a support is one
-order_once : (a : Automaton) (m n : ℕ) (xs ys : List ℕ) → Within m n → Within n m → IsOrder a m xs → IsOrder a n ys → xs ≡ ys
+order_once : (a : Automaton) (m n : ℕ) (xs ys : List ℕ) → Within m n → Within n m → IsLocationOrder a m xs → IsLocationOrder a n ys → xs ≡ ys
 order_once a m n xs ys mn nm first second =
     all_same a m n [] xs ys mn nm (built_on a m [] xs first.built) (built_on a n [] ys second.built) (placed a m xs first) (placed a n ys second)
 

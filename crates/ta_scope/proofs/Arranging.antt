@@ -1,18 +1,17 @@
 -- arranged steps are of existing rules, each at most once, and no rule fires more often than its count
-use Rattle.std.proofs.Common.{◌≡◌, ◌≢◌, ◌⊎◌, inl, inr, ℕ, zero, suc, ◌+◌, ◌<◌, ◌≤◌, ℤ, pos, ◌≤ℤ◌, List, [], ◌∷◌, ◌++◌, map, length, Bool, true, false, cond, arith, sym, ap, ◌∙◌, refl, subst, slice_get, Some}
+use Rattle.std.proofs.Common.{◌≡◌, ◌⊎◌, inl, inr, ℕ, ◌+◌, ◌<◌, ◌≤◌, ℤ, pos, ◌≤ℤ◌, List, [], ◌∷◌, ◌++◌, map, length, Bool, true, arith, sym, ap, ◌∙◌, refl, subst, slice_get, Some}
 use Rattle.std.specs.Prelude.{filter}
-use Rattle.std.proofs.lemmas.Int.{ints}
 use Rattle.std.proofs.lemmas.Bool.{cases_Bool}
 use Rattle.std.proofs.lemmas.Bool.Decides.{eqb_tells}
 use Rattle.std.proofs.lemmas.List.{map-append}
-use Rattle.std.proofs.lemmas.Option.{slice_get_within}
+use Rattle.std.proofs.lemmas.Option.{slice_get_within, same_Some}
+use Rattle.std.specs.List.{AllByRecursion}
+use Rattle.ta_base.proofs.Each.{each_append, each_listed}
+use Rattle.ta_base.proofs.Lists.{filter_false, filter_true}
 use Rattle.ta_automaton.specs.declared.rule.Rule.{Rule}
 use Rattle.ta_automaton.specs.declared.automaton.Automaton.{Automaton}
-use Rattle.ta_automaton.specs.Lists.{Each}
-use Rattle.ta_automaton.specs.Masks.{In, numbers_from}
+use Rattle.ta_base.specs.Masks.{In, numbers_from}
 use Rattle.ta_automaton.specs.Sums.{times_in}
-use Rattle.ta_automaton.proofs.Fired.{filter_true, filter_false}
-use Rattle.ta_automaton.proofs.Rearranged.{in_cases}
 use Rattle.ta_automaton.proofs.Thresholds.{from_within}
 use Rattle.ta_scope.specs.Arranged.{count_at, is_step_from, steps_along}
 use Rattle.ta_scope.specs.Legal.{ArrangedStepsAreWithin, StepsWithin}
@@ -24,7 +23,7 @@ use Rattle.ta_scope.proofs.Listing.{StepFrom, step_from}
 abbrev rule_of : (ℕ × ℤ) → ℕ
 rule_of step = step.0
 
-times-append : (r : ℕ) (xs ys : List ℕ) → times_in r (xs ++ ys) ≡ times_in r xs + times_in r ys
+pub times-append : (r : ℕ) (xs ys : List ℕ) → times_in r (xs ++ ys) ≡ times_in r xs + times_in r ys
 unfolding times_in
 times-append r [] ys = omega arith
 times-append r (x ∷ xs) ys = omega (arith, times-append r xs ys)
@@ -56,27 +55,13 @@ fewer_listed t count (n ∷ ns) r = elim (cases_Bool (t n)) [
   | inr e ↦ rw (filter_false t n ns e) (omega (arith, fewer_listed t count ns r))
 ]
 
-each_listed : (P : (ℕ × ℤ) → Type 0) (t : ℕ → Bool) (count : ℕ → ℤ) (ns : List ℕ) → ((n : ℕ) → t n ≡ true → P (n, count n)) → Each P (map {B = ℕ × ℤ} (λ q. (q, count q)) (filter t ns))
-each_listed P t count [] h = tt
-each_listed P t count (n ∷ ns) h = elim (cases_Bool (t n)) [
-  | inl e ↦ subst (λ (xs : List ℕ). Each P (map {B = ℕ × ℤ} (λ q. (q, count q)) xs)) (sym (filter_true t n ns e)) (h n e, each_listed P t count ns h)
-  | inr e ↦ subst (λ (xs : List ℕ). Each P (map {B = ℕ × ℤ} (λ q. (q, count q)) xs)) (sym (filter_false t n ns e)) (each_listed P t count ns h)
-]
-
-each_append : {X : Type 0} (P : X → Type 0) (xs ys : List X) → Each P xs → Each P ys → Each P (xs ++ ys)
-each_append P [] ys h g = g
-each_append P (x ∷ xs) ys h g = (h.0, each_append P xs ys h.1 g)
-
 -- what holds of each rule that leaves a location with a count above 0 holds of each step along an order
-each_along : (P : (ℕ × ℤ) → Type 0) (a : Automaton) (counts : List ℤ) (ls : List ℕ) → ((l r : ℕ) → StepFrom a counts l r → P (r, count_at counts r)) → Each P (steps_along a counts ls)
+each_along : (P : (ℕ × ℤ) → Type 0) (a : Automaton) (counts : List ℤ) (ls : List ℕ) → ((l r : ℕ) → StepFrom a counts l r → P (r, count_at counts r)) → AllByRecursion P (steps_along a counts ls)
 each_along P a counts [] h = tt
 each_along P a counts (l ∷ ls) h =
     each_append P (steps_from a counts l (length a.rules)) (steps_along a counts ls)
     (each_listed P (is_step_from a counts l) (count_at counts) (numbers_from 0 (length a.rules)) (λ n e. h l n (step_from a counts l n e)))
     (each_along P a counts ls h)
-
-same_rule : (x y : Rule) → Some x ≡ Some y → x ≡ y
-same_rule x y e = cc
 
 -- a rule is among the steps from its source alone
 from_source : (a : Automaton) (counts : List ℤ) (r : ℕ) (rule : Rule) → slice_get a.rules r ≡ Some rule → (l : ℕ) → times_in r (map rule_of (steps_from a counts l (length a.rules))) ≤ times_in rule.from (l ∷ [])
@@ -90,7 +75,7 @@ from_source a counts r rule named l =
       | inl none ↦ omega (arith, none)
       | inr i ↦ (
           let s = step_from a counts l r (in_listed t (count_at counts) ns r i) in
-          let from : rule.from ≡ l = ap (λ (x : Rule). x.from) (same_rule rule s.rule (sym named ∙ s.named)) ∙ s.from in
+          let from : rule.from ≡ l = ap (λ (x : Rule). x.from) (same_Some rule s.rule (sym named ∙ s.named)) ∙ s.from in
           elim (eqb_tells l rule.from) [ inl e ↦ rw e.0 (omega (arith, most, once)) | inr ne ↦ absurd (ne.1 (sym from)) ])
     ]
 
@@ -103,7 +88,7 @@ along_once a counts r rule named (l ∷ ls) =
     omega (arith, here, both, along_once a counts r rule named ls)
 
 -- a rule among the steps
-in_steps : (a : Automaton) (counts : List ℤ) (r : ℕ) (steps : List (ℕ × ℤ)) → Each (λ (step : ℕ × ℤ). (rule : Rule) × (slice_get a.rules step.0 ≡ Some rule)) steps → In r (map rule_of steps) → (rule : Rule) × (slice_get a.rules r ≡ Some rule)
+in_steps : (a : Automaton) (counts : List ℤ) (r : ℕ) (steps : List (ℕ × ℤ)) → AllByRecursion (λ (step : ℕ × ℤ). (rule : Rule) × (slice_get a.rules step.0 ≡ Some rule)) steps → In r (map rule_of steps) → (rule : Rule) × (slice_get a.rules r ≡ Some rule)
 in_steps a counts r [] h i = absurd i
 in_steps a counts r (step ∷ steps) h (inl e) = (h.0.0, ap (slice_get a.rules) e ∙ h.0.1)
 in_steps a counts r (step ∷ steps) h (inr i) = in_steps a counts r steps h.1 i

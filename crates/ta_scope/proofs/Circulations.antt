@@ -4,24 +4,26 @@ use Rattle.std.proofs.lemmas.Int.{ints}
 use Rattle.std.proofs.lemmas.Bool.Decides.{eqb_tells}
 use Rattle.std.proofs.lemmas.Option.{slice_get_within}
 use Rattle.std.proofs.Math.IntN.{*ℤ-zero}
-use Rattle.ta_linear.proofs.Integers.{distributes, mul_left_comm}
+use Rattle.std.specs.List.{AllByRecursion}
+use Rattle.ta_base.proofs.Each.{each_in, each_weaker}
+use Rattle.ta_base.proofs.Integers.{by_one, distributes, mul_left_comm}
 use Rattle.ta_automaton.specs.declared.automaton.Automaton.{Automaton}
-use Rattle.ta_automaton.specs.Lists.{Each, Distinct}
-use Rattle.ta_automaton.specs.Masks.{In, numbers_from}
+use Rattle.ta_base.specs.Lists.{Distinct}
+use Rattle.ta_base.specs.Masks.{In, numbers_from}
 use Rattle.ta_automaton.specs.Runs.{Walk, InScope}
 use Rattle.ta_automaton.specs.Sums.{total, times_in}
 use Rattle.ta_automaton.proofs.Sums.{total-same, total-add, total-times}
-use Rattle.ta_automaton.proofs.Fired.{EachOnce, firings, times_one}
+use Rattle.ta_automaton.proofs.Fired.{EachOnce, firings}
 use Rattle.ta_automaton.proofs.Onward.{change_of}
 use Rattle.ta_automaton.proofs.Circuits.{circuit_total}
 use Rattle.ta_automaton.proofs.Rearranged.{circuit_pure}
 use Rattle.ta_scope.specs.Cycles.{NoCycle}
 use Rattle.ta_scope.specs.Inside.Taking.{IsLeastCycle}
-use Rattle.ta_scope.specs.Arranged.{count_at, Counts, Support, LeastCount, Subtracted, TakenOut, AllTakenOut}
+use Rattle.ta_scope.specs.Arranged.{count_at, AreRuleCounts, Support, LeastCount, SubtractsFrom, TakenOut, AllTakenOut}
 use Rattle.ta_scope.proofs.Taken.{sum_of, sum_less, counted}
 use Rattle.ta_scope.proofs.FirstPaths.{cycle_distinct, cycle_walk}
 
-none_times : (r : ℕ) (xs : List ℕ) → Each (λ y. r ≡ y → ⊥) xs → times_in r xs ≡ 0
+pub none_times : (r : ℕ) (xs : List ℕ) → AllByRecursion (λ y. r ≡ y → ⊥) xs → times_in r xs ≡ 0
 unfolding times_in
 none_times r [] h = refl
 none_times r (y ∷ ys) h = elim (eqb_tells y r) [ inl e ↦ absurd (h.0 (sym e.1)) | inr ne ↦ rw ne.0 (omega (arith, none_times r ys h.1)) ]
@@ -31,7 +33,7 @@ pub in_times : (r : ℕ) (xs : List ℕ) → Distinct xs → (In r xs × (times_
 unfolding times_in
 in_times r [] d = inr ((λ i. i), refl)
 in_times r (x ∷ xs) d = elim (eqb_tells x r) [
-  | inl e ↦ inl (inl (sym e.1), rw e.0 (omega (arith, none_times r xs (subst (λ z. Each (λ y. z ≡ y → ⊥) xs) e.1 d.0))))
+  | inl e ↦ inl (inl (sym e.1), rw e.0 (omega (arith, none_times r xs (subst (λ z. AllByRecursion (λ y. z ≡ y → ⊥) xs) e.1 d.0))))
   | inr ne ↦ elim (in_times r xs d.1) [
     | inl w ↦ inl (inr w.0, rw ne.0 (let t = w.1 in omega arith))
     | inr w ↦ inr ((λ i. elim i [ inl e ↦ ne.1 (sym e) | inr j ↦ w.0 j ]), rw ne.0 (let t = w.1 in omega arith))
@@ -62,7 +64,7 @@ weighted a counts i = total (λ r. change_of a i r *ℤ count_at counts r) (numb
 -- the counts before are those after and the amount for each rule of the cycle
 split_count : (a : Automaton) (before after : List ℤ) (t : TakenOut a before after) (r : ℕ) → count_at before r ≡ (count_at after r +ℤ (t.amount *ℤ pos (times_in r (t.number ∷ t.back))))
 split_count a before after t r = elim (in_times r (t.number ∷ t.back) (cycle_distinct a t.rules t.number t.back t.cycle)) [
-  | inl w ↦ rw w.1 (omega (arith, ints, t.subtracted.these r w.0, times_one t.amount))
+  | inl w ↦ rw w.1 (omega (arith, ints, t.subtracted.these r w.0, by_one t.amount))
   | inr w ↦ rw w.1 (omega (arith, ints, t.subtracted.others r w.0, *ℤ-zero t.amount))
 ]
 
@@ -82,11 +84,6 @@ taken_total a scope before after t i =
     (λ r. ap (λ z. change_of a i r *ℤ z) (split_count a before after t r) ∙ distributes (change_of a i r) (count_at after r) (t.amount *ℤ pos (times_in r circuit))) in
     let sum = total-add (λ r. change_of a i r *ℤ count_at after r) (λ r. change_of a i r *ℤ (t.amount *ℤ pos (times_in r circuit))) n in
     omega (arith, ints, parts, sum, scaled)
-
-each_in : (P : ℕ → Type 0) (xs : List ℕ) (q : ℕ) → Each P xs → In q xs → P q
-each_in P [] q h i = absurd i
-each_in P (x ∷ xs) q h (inl e) = subst P (sym e) h.0
-each_in P (x ∷ xs) q h (inr i) = each_in P xs q h.1 i
 
 -- the amount is above 0
 pub amount_above : (a : Automaton) (before after : List ℤ) (t : TakenOut a before after) → pos 1 ≤ℤ t.amount
@@ -115,11 +112,8 @@ pub record Rest (a : Automaton) (counts rest : List ℤ) : Type 0 where
   pub less : (r : ℕ) → count_at rest r ≤ℤ count_at counts r
   pub sums : (i : ℕ) → weighted a rest i ≡ weighted a counts i
 
-pub rest_same : (a : Automaton) (counts : List ℤ) → Counts a counts → Rest a counts counts
+pub rest_same : (a : Automaton) (counts : List ℤ) → AreRuleCounts a counts → Rest a counts counts
 rest_same a counts c = record { each_rule = c.each_rule; natural = c.natural; less = λ r. omega (arith, ints); sums = λ i. refl }
-
-pub rest_counts : (a : Automaton) (counts rest : List ℤ) → Rest a counts rest → Counts a rest
-rest_counts a counts rest r = record { each_rule = r.each_rule; natural = r.natural }
 
 pub rest_taken : (a : Automaton) → InScope a → (counts before after : List ℤ) → Rest a counts before → TakenOut a before after → Rest a counts after
 rest_taken a scope counts before after h t = record {
@@ -134,11 +128,11 @@ rest_all a scope counts before [] rest h t = subst (Rest a counts) t h
 rest_all a scope counts before (next ∷ later) rest h t = rest_all a scope counts next later rest (rest_taken a scope counts before next h t.0) t.1
 
 -- natural numbers are left
-pub taken_counts : (a : Automaton) (before after : List ℤ) → Counts a before → TakenOut a before after → Counts a after
+pub taken_counts : (a : Automaton) (before after : List ℤ) → AreRuleCounts a before → TakenOut a before after → AreRuleCounts a after
 taken_counts a before after c t = record { each_rule = t.subtracted.each_rule ∙ c.each_rule; natural = λ r. (taken_natural a before after t c.natural r).0 }
 
 -- their sum is less
-pub taken_less : (a : Automaton) (before after : List ℤ) → Counts a before → TakenOut a before after → sum_of after < sum_of before
+pub taken_less : (a : Automaton) (before after : List ℤ) → AreRuleCounts a before → TakenOut a before after → sum_of after < sum_of before
 taken_less a before after c t =
     let q = t.least.rule in
     let member = each_in (IsBitSet t.rules) (t.number ∷ t.back) q (t.cycle.member, t.cycle.path.members) t.least.member in
@@ -147,17 +141,17 @@ taken_less a before after c t =
     let amount = amount_above a before after t in
     sum_less after before t.subtracted.each_rule (taken_natural a before after t c.natural) q (counted before q above) (omega (arith, ints))
 
-walk_within : (a : Automaton) (x : ℕ) (rs : List ℕ) (y : ℕ) (n : ℕ) → length a.rules ≤ n → Walk a x rs y → Each (λ r. r < n) rs
+walk_within : (a : Automaton) (x : ℕ) (rs : List ℕ) (y : ℕ) (n : ℕ) → length a.rules ≤ n → Walk a x rs y → AllByRecursion (λ r. r < n) rs
 walk_within a x [] y n enough w = tt
 walk_within a x (r ∷ rs) y n enough w = ((let b = slice_get_within a.rules r w.0 w.1 in omega arith), walk_within a (w.0).to rs y n enough w.3)
 
-pub least_within : (a : Automaton) (rules : ℕ) (cycle : List ℕ) (n : ℕ) → length a.rules ≤ n → IsLeastCycle a rules cycle → Each (λ r. r < n) cycle
-least_within a rules cycle n enough c = subst (Each (λ r. r < n)) (sym c.is) (walk_within a c.least.rule.from (c.number ∷ c.back) c.least.rule.from n enough (cycle_walk a rules c.number c.back c.least))
+pub least_within : (a : Automaton) (rules : ℕ) (cycle : List ℕ) (n : ℕ) → length a.rules ≤ n → IsLeastCycle a rules cycle → AllByRecursion (λ r. r < n) cycle
+least_within a rules cycle n enough c = subst (AllByRecursion (λ r. r < n)) (sym c.is) (walk_within a c.least.rule.from (c.number ∷ c.back) c.least.rule.from n enough (cycle_walk a rules c.number c.back c.least))
 
 pub least_distinct : (a : Automaton) (rules : ℕ) (cycle : List ℕ) → IsLeastCycle a rules cycle → Distinct cycle
 least_distinct a rules cycle c = subst Distinct (sym c.is) (cycle_distinct a rules c.number c.back c.least)
 
-pub least_taken : (a : Automaton) (before after : List ℤ) (rules : ℕ) (cycle : List ℕ) → Support before rules → (c : IsLeastCycle a rules cycle) → (amount : ℤ) × LeastCount before cycle amount × Subtracted cycle amount before after → TakenOut a before after
+pub least_taken : (a : Automaton) (before after : List ℤ) (rules : ℕ) (cycle : List ℕ) → Support before rules → (c : IsLeastCycle a rules cycle) → (amount : ℤ) × LeastCount before cycle amount × SubtractsFrom cycle amount before after → TakenOut a before after
 least_taken a before after rules cycle support c w = record {
   rules = rules;
   support = support;
@@ -166,15 +160,11 @@ least_taken a before after rules cycle support c w = record {
   cycle = c.least;
   amount = w.0;
   least = subst (λ (xs : List ℕ). LeastCount before xs w.0) c.is w.1;
-  subtracted = subst (λ (xs : List ℕ). Subtracted xs w.0 before after) c.is w.2;
+  subtracted = subst (λ (xs : List ℕ). SubtractsFrom xs w.0 before after) c.is w.2;
 }
-
-each_same : (P Q : ℕ → Type 0) (xs : List ℕ) → ((x : ℕ) → P x → Q x) → Each P xs → Each Q xs
-each_same P Q [] f h = tt
-each_same P Q (x ∷ xs) f h = (f x h.0, each_same P Q xs f h.1)
 
 -- two masks of one support have the same cycles
 pub no_cycle_same : (a : Automaton) (counts : List ℤ) (m n : ℕ) → Support counts m → Support counts n → NoCycle a m → NoCycle a n
 no_cycle_same a counts m n s t none r rule named member cycle =
     let over : (q : ℕ) → IsBitSet n q → IsBitSet m q = (λ q b. (s q).1 ((t q).0 b)) in
-    none r rule named (over r member) (cycle.0, cycle.1, each_same (IsBitSet n) (IsBitSet m) cycle.0 over cycle.2)
+    none r rule named (over r member) (cycle.0, cycle.1, each_weaker (IsBitSet n) (IsBitSet m) cycle.0 over cycle.2)

@@ -1,16 +1,18 @@
 -- where every remaining location has a remaining other one that leads to it, there is a cycle
-use Rattle.std.proofs.Common.{◌≡◌, ◌⊎◌, inl, inr, ℕ, zero, suc, ◌+◌, ◌<◌, List, [], ◌∷◌, length, arith, sym, ap, ◌∙◌, refl, subst, slice_get, get_or, Some, Contains, IsBitSet}
+use Rattle.std.proofs.Common.{◌≡◌, ◌⊎◌, inl, inr, ℕ, zero, suc, ◌+◌, ◌<◌, List, [], ◌∷◌, length, arith, sym, ap, ◌∙◌, refl, subst, slice_get, Some, Contains, IsBitSet}
 use Rattle.std.proofs.lemmas.Bool.Decides.{eqb_tells}
-use Rattle.std.proofs.lemmas.Option.{slice_get_read, slice_get_within}
+use Rattle.std.proofs.lemmas.Option.{slice_get_within}
+use Rattle.std.specs.List.{AllByRecursion}
+use Rattle.ta_base.proofs.Bits.{set_or}
+use Rattle.ta_base.proofs.Each.{distinct_length, each_weaker, find_or}
+use Rattle.ta_base.proofs.Members.{contains_or}
 use Rattle.ta_automaton.specs.declared.rule.Rule.{Rule}
 use Rattle.ta_automaton.specs.declared.automaton.Automaton.{Automaton}
-use Rattle.ta_automaton.specs.Lists.{Each, Distinct}
+use Rattle.ta_base.specs.Lists.{Distinct}
 use Rattle.ta_automaton.specs.Runs.{Walk}
 use Rattle.ta_automaton.proofs.Thresholds.{from_within}
 use Rattle.ta_scope.specs.Cycles.{Reaches, NoCycle}
 use Rattle.ta_scope.specs.Order.{Blocks, Ready}
-use Rattle.ta_scope.proofs.Places.{contains_or, distinct_length}
-use Rattle.ta_scope.proofs.Reaching.{set_or}
 
 -- a rule of the mask that leads to a location from another one that remains
 abbrev pub Blocker : List Rule → ℕ → List ℕ → ℕ → Type 0
@@ -66,24 +68,12 @@ free_or all rules placed location = elim (free_below all rules placed location (
   | inl none ↦ inl (λ r rule named member blocks. none r rule (slice_get_within all r rule named) named member blocks)
 ]
 
--- a number is an item that has a property, or differs from each item
-find_or : (P : ℕ → Type 0) (p : ℕ) (xs : List ℕ) → Each P xs → P p ⊎ Each (λ y. p ≡ y → ⊥) xs
-find_or P p [] h = inr tt
-find_or P p (x ∷ xs) h = elim (eqb_tells p x) [
-  | inl e ↦ inl (subst P (sym e.1) h.0)
-  | inr ne ↦ elim (find_or P p xs h.1) [ inl q ↦ inl q | inr a ↦ inr (ne.1, a) ]
-]
-
-each_map : (P Q : ℕ → Type 0) (xs : List ℕ) → ((x : ℕ) → P x → Q x) → Each P xs → Each Q xs
-each_map P Q [] f h = tt
-each_map P Q (x ∷ xs) f h = (f x h.0, each_map P Q xs f h.1)
-
 -- where no location is ready
 abbrev pub NoneReady : Automaton → ℕ → List ℕ → Type 0
 NoneReady a rules placed = (l : ℕ) → l < length a.locations → ¬ Ready a rules placed l
 
 -- going from location to location against the rules comes back to one that was seen
-go_back : (a : Automaton) (rules : ℕ) (placed : List ℕ) → NoCycle a rules → NoneReady a rules placed → (fuel c : ℕ) (seen : List ℕ) → Each (λ m. m < length a.locations) (c ∷ seen) → Distinct (c ∷ seen) → Each (Reaches a rules c) (c ∷ seen) → ¬ Contains placed c → length a.locations < fuel + length (c ∷ seen) → ⊥
+go_back : (a : Automaton) (rules : ℕ) (placed : List ℕ) → NoCycle a rules → NoneReady a rules placed → (fuel c : ℕ) (seen : List ℕ) → AllByRecursion (λ m. m < length a.locations) (c ∷ seen) → Distinct (c ∷ seen) → AllByRecursion (Reaches a rules c) (c ∷ seen) → ¬ Contains placed c → length a.locations < fuel + length (c ∷ seen) → ⊥
 go_back a rules placed acyclic none zero c seen below distinct walks remains long =
     absurd (let short = distinct_length (length a.locations) (c ∷ seen) distinct below in omega arith)
 go_back a rules placed acyclic none (suc fuel) c seen below distinct walks remains long = elim (free_or a.rules rules placed c) [
@@ -95,7 +85,7 @@ go_back a rules placed acyclic none (suc fuel) c seen below distinct walks remai
       elim (find_or (Reaches a rules c) rule.from (c ∷ seen) walks) [
         | inl back ↦ acyclic w.0 rule named w.3 (back.0, subst (λ z. Walk a z back.0 rule.from) (sym b.to) back.1, back.2)
         | inr new ↦ go_back a rules placed acyclic none fuel rule.from (c ∷ seen) (from_within a w.0 rule named, below) (new, distinct)
-            (([], refl, tt), each_map (Reaches a rules c) (Reaches a rules rule.from) (c ∷ seen) (λ m walk. (w.0 ∷ walk.0, (rule, named, refl, subst (λ z. Walk a z walk.0 m) (sym b.to) walk.1), (w.3, walk.2))) walks)
+            (([], refl, tt), each_weaker (Reaches a rules c) (Reaches a rules rule.from) (c ∷ seen) (λ m walk. (w.0 ∷ walk.0, (rule, named, refl, subst (λ z. Walk a z walk.0 m) (sym b.to) walk.1), (w.3, walk.2))) walks)
             b.remains (omega arith)
       ])
 ]
@@ -106,10 +96,6 @@ none_remains a rules placed acyclic none l below = elim (contains_or l placed) [
   | inl c ↦ c
   | inr remains ↦ absurd (go_back a rules placed acyclic none (length a.locations) l [] (below, tt) (tt, tt) (([], refl, tt), tt) remains (omega arith))
 ]
-
--- the rule that the code reads at an index
-pub read_at : (rules items : List Rule) (i : ℕ) (rule : Rule) → items ≡ rules → i < length items → rule ≡ get_or items i rule → slice_get rules i ≡ Some rule
-read_at rules items i rule same within is = subst (λ (xs : List Rule). slice_get xs i ≡ Some rule) same (slice_get_read items (length items) i rule refl within is)
 
 -- what holds of each earlier rule and of this one holds of each rule before the next
 pub rules_more : (rules : List Rule) (P : ℕ → Rule → Type 0) (i : ℕ) (rule : Rule) → slice_get rules i ≡ Some rule → P i rule → ((q : ℕ) (other : Rule) → q < i → slice_get rules q ≡ Some other → P q other) → (q : ℕ) (other : Rule) → q < i + 1 → slice_get rules q ≡ Some other → P q other

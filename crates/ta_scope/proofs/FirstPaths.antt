@@ -1,9 +1,13 @@
 -- first paths have no rule twice
-use Rattle.std.proofs.Common.{◌≡◌, ◌⊎◌, inl, inr, ℕ, ◌<◌, List, [], ◌∷◌, ◌++◌, length, arith, sym, ap, ◌∙◌, refl, subst, slice_get, Some, length-append, IsBitSet}
+use Rattle.std.proofs.Common.{◌≡◌, ◌⊎◌, inl, inr, ℕ, ◌<◌, List, [], ◌∷◌, ◌++◌, length, arith, sym, ap, ◌∙◌, refl, subst, slice_get, Some, IsBitSet}
 use Rattle.std.proofs.lemmas.Bool.Decides.{eqb_tells}
+use Rattle.std.specs.List.{AllByRecursion}
+use Rattle.std.proofs.lemmas.Option.{same_Some}
+use Rattle.ta_base.proofs.Each.{each_behind}
+use Rattle.ta_base.proofs.Lists.{longer_front}
 use Rattle.ta_automaton.specs.declared.rule.Rule.{Rule}
 use Rattle.ta_automaton.specs.declared.automaton.Automaton.{Automaton}
-use Rattle.ta_automaton.specs.Lists.{Each, Distinct}
+use Rattle.ta_base.specs.Lists.{Distinct}
 use Rattle.ta_automaton.specs.Runs.{Walk}
 use Rattle.ta_scope.specs.Arranged.{NotAbove, NoLater, FirstPath, LeastCycle}
 
@@ -13,7 +17,7 @@ pub record Cut (q : ℕ) (rs : List ℕ) : Type 0 where
   pub behind : List ℕ
   pub cut : rs ≡ front ++ q ∷ behind
 
-pub cut_or : (q : ℕ) (rs : List ℕ) → Cut q rs ⊎ Each (λ r. q ≡ r → ⊥) rs
+pub cut_or : (q : ℕ) (rs : List ℕ) → Cut q rs ⊎ AllByRecursion (λ r. q ≡ r → ⊥) rs
 cut_or q [] = inr tt
 cut_or q (r ∷ rs) = elim (eqb_tells q r) [
   | inl e ↦ inl (record { front = []; behind = rs; cut = ap (λ x. x ∷ rs) (sym e.1) })
@@ -23,20 +27,10 @@ cut_or q (r ∷ rs) = elim (eqb_tells q r) [
   ]
 ]
 
-same_rule : (x y : Rule) → Some x ≡ Some y → x ≡ y
-same_rule x y e = cc
-
 -- what a walk goes on with behind one of its rules
 walk_behind : (a : Automaton) (x : ℕ) (front : List ℕ) (q : ℕ) (behind : List ℕ) (y : ℕ) (rule : Rule) → slice_get a.rules q ≡ Some rule → Walk a x (front ++ q ∷ behind) y → Walk a rule.to behind y
-walk_behind a x [] q behind y rule named w = subst (λ (r : Rule). Walk a r.to behind y) (same_rule w.0 rule (sym w.1 ∙ named)) w.3
+walk_behind a x [] q behind y rule named w = subst (λ (r : Rule). Walk a r.to behind y) (same_Some w.0 rule (sym w.1 ∙ named)) w.3
 walk_behind a x (r ∷ front) q behind y rule named w = walk_behind a (w.0).to front q behind y rule named w.3
-
-each_behind : (P : ℕ → Type 0) (front : List ℕ) (q : ℕ) (behind : List ℕ) → Each P (front ++ q ∷ behind) → Each P behind
-each_behind P [] q behind h = h.1
-each_behind P (r ∷ front) q behind h = each_behind P front q behind h.1
-
-longer : (front : List ℕ) (q : ℕ) (behind : List ℕ) → length behind < length (front ++ q ∷ behind)
-longer front q behind = omega (arith, length-append front (q ∷ behind))
 
 -- a list isn't later than a shorter one
 not_later : (rs qs : List ℕ) → length qs < length rs → NoLater rs qs → ⊥
@@ -59,14 +53,14 @@ first_rest a rules from r rs to p = record {
   first = λ other walk members. no_later_rest r rs other (p.first (r ∷ other) (p.walk.0, p.walk.1, p.walk.2, walk) (p.members.0, members));
 }
 
-first_once : (a : Automaton) (rules from r : ℕ) (rs : List ℕ) (to : ℕ) → FirstPath a rules from (r ∷ rs) to → Each (λ q. r ≡ q → ⊥) rs
+first_once : (a : Automaton) (rules from r : ℕ) (rs : List ℕ) (to : ℕ) → FirstPath a rules from (r ∷ rs) to → AllByRecursion (λ q. r ≡ q → ⊥) rs
 first_once a rules from r rs to p = elim (cut_or r rs) [
   | inr none ↦ none
   | inl w ↦ absurd (
       let rule = p.walk.0 in
       let walk : Walk a rule.to w.behind to = walk_behind a rule.to w.front r w.behind to rule p.walk.1 (subst (λ (xs : List ℕ). Walk a rule.to xs to) w.cut p.walk.3) in
-      let members : Each (IsBitSet rules) w.behind = each_behind (IsBitSet rules) w.front r w.behind (subst (Each (IsBitSet rules)) w.cut p.members.1) in
-      not_later (r ∷ rs) (r ∷ w.behind) (let e = ap (λ (xs : List ℕ). length xs) w.cut in let l = longer w.front r w.behind in omega arith)
+      let members : AllByRecursion (IsBitSet rules) w.behind = each_behind (IsBitSet rules) w.front r w.behind (subst (AllByRecursion (IsBitSet rules)) w.cut p.members.1) in
+      not_later (r ∷ rs) (r ∷ w.behind) (let e = ap (λ (xs : List ℕ). length xs) w.cut in let l = longer_front w.front r w.behind in omega arith)
       (p.first (r ∷ w.behind) (rule, p.walk.1, p.walk.2, walk) (p.members.0, members)))
 ]
 
@@ -78,12 +72,12 @@ first_distinct a rules from (r ∷ rs) to p = (first_once a rules from r rs to p
 -- no rule is twice on a least cycle
 pub cycle_distinct : (a : Automaton) (rules number : ℕ) (back : List ℕ) → LeastCycle a rules number back → Distinct (number ∷ back)
 cycle_distinct a rules number back c = (once (cut_or number back), first_distinct a rules c.rule.to back c.rule.from c.path) where
-  once : Cut number back ⊎ Each (λ q. number ≡ q → ⊥) back → Each (λ q. number ≡ q → ⊥) back
+  once : Cut number back ⊎ AllByRecursion (λ q. number ≡ q → ⊥) back → AllByRecursion (λ q. number ≡ q → ⊥) back
   once (inr none) = none
   once (inl w) = absurd (
       let walk : Walk a c.rule.to w.behind c.rule.from = walk_behind a c.rule.to w.front number w.behind c.rule.from c.rule c.named (subst (λ (xs : List ℕ). Walk a c.rule.to xs c.rule.from) w.cut c.path.walk) in
-      let members : Each (IsBitSet rules) w.behind = each_behind (IsBitSet rules) w.front number w.behind (subst (Each (IsBitSet rules)) w.cut c.path.members) in
-      not_later back w.behind (let e = ap (λ (xs : List ℕ). length xs) w.cut in let l = longer w.front number w.behind in omega arith)
+      let members : AllByRecursion (IsBitSet rules) w.behind = each_behind (IsBitSet rules) w.front number w.behind (subst (AllByRecursion (IsBitSet rules)) w.cut c.path.members) in
+      not_later back w.behind (let e = ap (λ (xs : List ℕ). length xs) w.cut in let l = longer_front w.front number w.behind in omega arith)
       (c.path.first w.behind walk members))
 
 -- the rules of a least cycle lead round

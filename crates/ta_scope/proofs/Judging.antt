@@ -1,15 +1,16 @@
 -- rules at fault and scope
-use Rattle.std.proofs.Common.{◌≡◌, ◌≢◌, ◌⊎◌, inl, inr, ℕ, zero, suc, ℤ, pos, negsuc, ◌≤ℤ◌, List, [], ◌∷◌, length, arith, refl, sym, slice_get, get_or, Some, IsBitSet, ◌↔◌}
+use Rattle.std.proofs.Common.{◌≡◌, ◌≢◌, inl, inr, ℕ, ℤ, pos, ◌≤ℤ◌, List, [], ◌∷◌, length, arith, refl, sym, slice_get, get_or, Some, IsBitSet, ◌↔◌}
 use Rattle.std.proofs.lemmas.Int.{ints}
 use Rattle.std.proofs.lemmas.Bool.Decides.{eqb_tells}
+use Rattle.std.specs.List.{AllByRecursion}
+use Rattle.ta_base.proofs.Integers.{zero_or_more}
 use Rattle.ta_linear.specs.Terms.{coefficient}
 use Rattle.ta_automaton.specs.declared.rule.Rule.{Rule}
 use Rattle.ta_automaton.specs.declared.automaton.Automaton.{Automaton}
-use Rattle.ta_automaton.specs.Lists.{Each}
 use Rattle.ta_automaton.specs.Shape.{Update}
 use Rattle.ta_automaton.specs.Runs.{InScope, LoopsPure}
 use Rattle.ta_automaton.proofs.Thresholds.{rule_within, natural_terms, updates_natural, to_within}
-use Rattle.ta_scope.specs.Cycles.{every_rule, Leads}
+use Rattle.ta_scope.specs.Cycles.{every_rule, IsReachTable}
 use Rattle.ta_scope.specs.Faults.{AtFault}
 use Rattle.ta_scope.proofs.Reaching.{every_walk}
 
@@ -21,14 +22,9 @@ in_scope a none r rule named updates walk back = none r rule named (record { upd
 pub fault_out : (a : Automaton) (r : ℕ) (rule : Rule) → slice_get a.rules r ≡ Some rule → AtFault a rule → ¬ InScope a
 fault_out a r rule named f scope = scope r rule named f.updates f.walk f.back
 
-none_or_some : (z : ℤ) → pos 0 ≤ℤ z → (z ≡ pos 0) ⊎ (pos 1 ≤ℤ z)
-none_or_some (pos zero) h = inl refl
-none_or_some (pos (suc n)) h = inr (omega (arith, ints))
-none_or_some (negsuc n) h = absurd (omega (arith, ints))
-
 -- in scope, a self-loop has no update
 pub loops_pure : (a : Automaton) → InScope a → LoopsPure a
-loops_pure a scope r rule named loop x = elim (none_or_some (coefficient rule.updates x) (updates_natural a r rule named x)) [
+loops_pure a scope r rule named loop x = elim (zero_or_more (coefficient rule.updates x) (updates_natural a r rule named x)) [
   | inl e ↦ e
   | inr some ↦ absurd (scope r rule named (x, some) [] (sym loop))
 ]
@@ -38,7 +34,7 @@ no_update [] x e = refl
 no_update (t ∷ ts) x e = absurd (cc)
 
 -- a first update adds something to its variable
-first_update : (shared : ℕ) (ts : List (ℕ × ℤ)) → Each (Update shared) ts → ts ≢ [] → (x : ℕ) × (pos 1 ≤ℤ coefficient ts x)
+first_update : (shared : ℕ) (ts : List (ℕ × ℤ)) → AllByRecursion (Update shared) ts → ts ≢ [] → (x : ℕ) × (pos 1 ≤ℤ coefficient ts x)
 first_update shared [] h some = absurd (some refl)
 first_update shared (t ∷ ts) h some =
     let least = (h.0).least in
@@ -46,7 +42,7 @@ first_update shared (t ∷ ts) h some =
     (t.0, elim (eqb_tells t.0 t.0) [ inl e ↦ rw e.0 (omega (arith, ints)) | inr ne ↦ absurd (ne.1 refl) ])
 
 -- a rule is at fault exactly where it has updates and the table of all rules leads from its target back to its source
-pub fault_exactly : (a : Automaton) (table : List ℕ) (r : ℕ) (rule : Rule) → Leads a every_rule table → slice_get a.rules r ≡ Some rule → ((rule.updates ≢ []) × IsBitSet (get_or table rule.to 0) rule.from) ↔ AtFault a rule
+pub fault_exactly : (a : Automaton) (table : List ℕ) (r : ℕ) (rule : Rule) → IsReachTable a every_rule table → slice_get a.rules r ≡ Some rule → ((rule.updates ≢ []) × IsBitSet (get_or table rule.to 0) rule.from) ↔ AtFault a rule
 fault_exactly a table r rule leads named =
     let exact = leads.exact rule.to rule.from (to_within a r rule named) in (
       λ (updates, back). let walk = exact.0 back in record {

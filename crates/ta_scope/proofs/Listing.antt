@@ -1,5 +1,5 @@
 -- steps along an order of the locations go forward, and have the end of the counts
-use Rattle.std.proofs.Common.{◌≡◌, ◌≢◌, inl, inr, ℕ, zero, suc, ◌+◌, ◌<◌, ℤ, pos, negsuc, ◌+ℤ◌, ◌*ℤ◌, ◌≤ℤ◌, List, [], ◌∷◌, ◌++◌, map, length, take, replicate, eqb, cond, Bool, true, false, ◌&&◌, arith, sym, ap, ◌∙◌, refl, subst, slice_get, Option, Some, None, IsBitSet, Contains, append_assoc, append-nil, zero-add}
+use Rattle.std.proofs.Common.{◌≡◌, ◌≢◌, inl, inr, ℕ, zero, suc, ◌+◌, ◌<◌, ℤ, pos, ◌+ℤ◌, ◌*ℤ◌, ◌≤ℤ◌, List, [], ◌∷◌, ◌++◌, map, length, replicate, eqb, cond, Bool, true, false, ◌&&◌, arith, sym, ap, ◌∙◌, refl, subst, slice_get, Option, Some, None, IsBitSet, Contains, append_assoc, append-nil, zero-add}
 use Rattle.std.specs.Prelude.{filter, int_lt, unsigned_abs}
 use Rattle.std.proofs.lemmas.Int.{ints}
 use Rattle.std.proofs.lemmas.Bool.{cases_Bool, and_parts, false≢true, eqb-true}
@@ -8,43 +8,40 @@ use Rattle.std.proofs.lemmas.Grind.{flat_map-append}
 use Rattle.std.proofs.lemmas.List.{map-append}
 use Rattle.std.proofs.lemmas.List.Elements.{filter-append}
 use Rattle.std.proofs.Math.IntN.{*ℤ-zero, zero-*ℤ}
-use Rattle.ta_linear.proofs.Integers.{distributes}
+use Rattle.std.proofs.lemmas.Option.{same_Some}
+use Rattle.ta_base.proofs.Integers.{above_zero, abs_natural, by_one, distributes, not_above_zero}
+use Rattle.ta_base.proofs.Lists.{filter_false, filter_true, get_middle, one_step, take_front}
+use Rattle.ta_base.proofs.Members.{contains_left, in_append, in_replicate}
+use Rattle.ta_base.proofs.Ranges.{numbers_more}
 use Rattle.ta_automaton.specs.declared.rule.Rule.{Rule}
 use Rattle.ta_automaton.specs.declared.automaton.Automaton.{Automaton}
 use Rattle.ta_automaton.specs.Laws.{leads_out_of}
-use Rattle.ta_automaton.specs.Masks.{In, numbers_from}
+use Rattle.ta_base.specs.Masks.{In, numbers_from}
 use Rattle.ta_automaton.specs.Places.{rule_change}
 use Rattle.ta_automaton.specs.Sums.{total, times_in}
 use Rattle.ta_automaton.proofs.Sums.{total-append, total-same, total-zero, total-swap}
-use Rattle.ta_automaton.proofs.Fired.{times_one, filter_true, filter_false}
 use Rattle.ta_automaton.proofs.Thresholds.{from_within}
 use Rattle.ta_automaton.proofs.Onward.{change_of, NoneInto, Onward}
-use Rattle.ta_automaton.proofs.Rearranged.{in_cases, none_from}
+use Rattle.ta_automaton.proofs.Rearranged.{none_from}
 use Rattle.ta_scope.specs.Cycles.{NoCycle}
-use Rattle.ta_scope.specs.Order.{Next, Built, IsOrder}
+use Rattle.ta_scope.specs.Order.{Next, IsBuilt, IsLocationOrder}
 use Rattle.ta_scope.specs.Arranged.{count_at, Support, is_step_from, steps_along}
-use Rattle.ta_scope.specs.Legal.{unit_steps}
+use Rattle.ta_scope.specs.Legal.{arranged_steps}
 use Rattle.ta_scope.specs.Inside.Listed.{steps_from}
-use Rattle.ta_scope.proofs.Places.{contains_here, contains_later, contains_cases}
 use Rattle.ta_scope.proofs.Circulations.{weighted}
-
-in_replicate : (q k n : ℕ) → In q (replicate k n) → q ≡ n
-in_replicate q zero n i = absurd i
-in_replicate q (suc k) n (inl e) = e
-in_replicate q (suc k) n (inr i) = in_replicate q k n i
 
 -- the unit steps of the rules that pass a test
 abbrev passed : (ℕ → Bool) → (ℕ → ℤ) → List ℕ → List ℕ
-passed test count ns = unit_steps (map (λ r. (r, count r)) (filter test ns))
+passed test count ns = arranged_steps (map (λ r. (r, count r)) (filter test ns))
 
 in_passed : (test : ℕ → Bool) (count : ℕ → ℤ) (ns : List ℕ) (q : ℕ) → In q (passed test count ns) → test q ≡ true
 in_passed test count [] q i = absurd i
 in_passed test count (n ∷ ns) q i = elim (cases_Bool (test n)) [
-  | inl e ↦ elim (in_cases q (replicate (unsigned_abs (count n)) n) (passed test count ns) (subst (λ (xs : List ℕ). In q (unit_steps (map (λ r. (r, count r)) xs))) (filter_true test n ns e) i)) [
+  | inl e ↦ elim (in_append q (replicate (unsigned_abs (count n)) n) (passed test count ns) (subst (λ (xs : List ℕ). In q (arranged_steps (map (λ r. (r, count r)) xs))) (filter_true test n ns e) i)) [
     | inl j ↦ ap test (in_replicate q (unsigned_abs (count n)) n j) ∙ e
     | inr j ↦ in_passed test count ns q j
   ]
-  | inr e ↦ in_passed test count ns q (subst (λ (xs : List ℕ). In q (unit_steps (map (λ r. (r, count r)) xs))) (filter_false test n ns e) i)
+  | inr e ↦ in_passed test count ns q (subst (λ (xs : List ℕ). In q (arranged_steps (map (λ r. (r, count r)) xs))) (filter_false test n ns e) i)
 ]
 
 -- a rule that leaves a location with a count above 0
@@ -53,12 +50,6 @@ pub record StepFrom (a : Automaton) (counts : List ℤ) (l r : ℕ) : Type 0 whe
   pub named : slice_get a.rules r ≡ Some rule
   pub from : rule.from ≡ l
   pub above : pos 1 ≤ℤ count_at counts r
-
-above_zero : (z : ℤ) → int_lt (pos 0) z ≡ true → pos 1 ≤ℤ z
-above_zero z h = grind (arith, ints)
-
-not_above_zero : (z : ℤ) → int_lt (pos 0) z ≡ false → z ≤ℤ pos 0
-not_above_zero z h = grind (arith, ints)
 
 leaving : (l : ℕ) (o : Option Rule) → leads_out_of l o ≡ true → (rule : Rule) × (o ≡ Some rule) × (rule.from ≡ l)
 leaving l None h = absurd (false≢true h)
@@ -70,13 +61,13 @@ step_from a counts l r h =
     let w = leaving l (slice_get a.rules r) parts.0 in
     record { rule = w.0; named = w.1; from = w.2; above = above_zero (count_at counts r) parts.1 }
 
-steps_cons : (a : Automaton) (counts : List ℤ) (l : ℕ) (ls : List ℕ) → unit_steps (steps_along a counts (l ∷ ls)) ≡ passed (is_step_from a counts l) (count_at counts) (numbers_from 0 (length a.rules)) ++ unit_steps (steps_along a counts ls)
+steps_cons : (a : Automaton) (counts : List ℤ) (l : ℕ) (ls : List ℕ) → arranged_steps (steps_along a counts (l ∷ ls)) ≡ passed (is_step_from a counts l) (count_at counts) (numbers_from 0 (length a.rules)) ++ arranged_steps (steps_along a counts ls)
 steps_cons a counts l ls = flat_map-append (λ (step : ℕ × ℤ). replicate (unsigned_abs step.1) step.0) (map (λ r. (r, count_at counts r)) (filter (is_step_from a counts l) (numbers_from 0 (length a.rules)))) (steps_along a counts ls)
 
 -- each unit step leaves a location of the order and has a count above 0
-pub in_along : (a : Automaton) (counts : List ℤ) (ls : List ℕ) (q : ℕ) → In q (unit_steps (steps_along a counts ls)) → (l : ℕ) × In l ls × StepFrom a counts l q
+pub in_along : (a : Automaton) (counts : List ℤ) (ls : List ℕ) (q : ℕ) → In q (arranged_steps (steps_along a counts ls)) → (l : ℕ) × In l ls × StepFrom a counts l q
 in_along a counts [] q i = absurd i
-in_along a counts (l ∷ ls) q i = elim (in_cases q (passed (is_step_from a counts l) (count_at counts) (numbers_from 0 (length a.rules))) (unit_steps (steps_along a counts ls)) (subst (In q) (steps_cons a counts l ls) i)) [
+in_along a counts (l ∷ ls) q i = elim (in_append q (passed (is_step_from a counts l) (count_at counts) (numbers_from 0 (length a.rules))) (arranged_steps (steps_along a counts ls)) (subst (In q) (steps_cons a counts l ls) i)) [
   | inl j ↦ (l, inl refl, step_from a counts l q (in_passed (is_step_from a counts l) (count_at counts) (numbers_from 0 (length a.rules)) q j))
   | inr j ↦ (let w = in_along a counts ls q j in (w.0, inr w.1, w.2))
 ]
@@ -86,27 +77,12 @@ abbrev After : Automaton → ℕ → List ℕ → List ℕ → Type 0
 After a rules placed [] = Unit {0}
 After a rules placed (l ∷ ls) = Next a rules placed l × After a rules (placed ++ l ∷ []) ls
 
-get_middle : (xs : List ℕ) (y : ℕ) (ys : List ℕ) → slice_get (xs ++ y ∷ ys) (length xs) ≡ Some y
-get_middle [] y ys = refl
-get_middle (x ∷ xs) y ys = get_middle xs y ys
-
-take_front : (xs ys : List ℕ) → take (length xs) (xs ++ ys) ≡ xs
-take_front [] ys = refl
-take_front (x ∷ xs) ys = ap (λ (zs : List ℕ). x ∷ zs) (take_front xs ys)
-
-after_from : (a : Automaton) (rules : ℕ) (placed ls : List ℕ) → Built a rules (placed ++ ls) → After a rules placed ls
+after_from : (a : Automaton) (rules : ℕ) (placed ls : List ℕ) → IsBuilt a rules (placed ++ ls) → After a rules placed ls
 after_from a rules placed [] built = tt
 after_from a rules placed (l ∷ ls) built = (
   subst (λ (xs : List ℕ). Next a rules xs l) (take_front placed (l ∷ ls)) (built (length placed) l (get_middle placed l ls)),
-  after_from a rules (placed ++ l ∷ []) ls (subst (Built a rules) (sym (append_assoc placed (l ∷ []) ls)) built),
+  after_from a rules (placed ++ l ∷ []) ls (subst (IsBuilt a rules) (sym (append_assoc placed (l ∷ []) ls)) built),
 )
-
-contains_left : (x : ℕ) (xs ys : List ℕ) → Contains xs x → Contains (xs ++ ys) x
-contains_left x [] ys c = let b = c.1 in absurd (omega arith)
-contains_left x (z ∷ xs) ys c = elim (contains_cases x z xs c) [
-  | inl e ↦ subst (λ w. Contains (w ∷ (xs ++ ys)) x) (sym e) (contains_here x (xs ++ ys))
-  | inr d ↦ contains_later x z (xs ++ ys) (contains_left x xs ys d)
-]
 
 -- a later location isn't placed yet
 not_placed : (a : Automaton) (rules : ℕ) (placed ls : List ℕ) → After a rules placed ls → (m : ℕ) → In m ls → Contains placed m → ⊥
@@ -121,19 +97,16 @@ onward_append a l (x ∷ xs) ys from none h = (
   onward_append a l xs ys (λ q i. from q (inr i)) none.1 h,
 )
 
-same_rule : (x y : Rule) → Some x ≡ Some y → x ≡ y
-same_rule x y e = cc
-
 -- the unit steps along an order by the support go forward
-onward_along : (a : Automaton) (counts : List ℤ) (rules : ℕ) → Support counts rules → NoCycle a rules → (placed ls : List ℕ) → After a rules placed ls → Onward a (unit_steps (steps_along a counts ls))
+onward_along : (a : Automaton) (counts : List ℤ) (rules : ℕ) → Support counts rules → NoCycle a rules → (placed ls : List ℕ) → After a rules placed ls → Onward a (arranged_steps (steps_along a counts ls))
 onward_along a counts rules support acyclic placed [] h = tt
 onward_along a counts rules support acyclic placed (l ∷ ls) h =
     let xs = passed (is_step_from a counts l) (count_at counts) (numbers_from 0 (length a.rules)) in
-    let ys = unit_steps (steps_along a counts ls) in
+    let ys = arranged_steps (steps_along a counts ls) in
     let into : (q : ℕ) → In q (xs ++ ys) → (rule : Rule) → slice_get a.rules q ≡ Some rule → rule.to ≢ l = (λ q i rule named to.
     let w = in_along a counts (l ∷ ls) q (subst (In q) (sym (steps_cons a counts l ls)) i) in
     let s = w.2 in
-    let same : s.rule ≡ rule = same_rule s.rule rule (sym s.named ∙ named) in
+    let same : s.rule ≡ rule = same_Some s.rule rule (sym s.named ∙ named) in
     let from : rule.from ≡ w.0 = ap (λ (r : Rule). r.from) (sym same) ∙ s.from in
     let member : IsBitSet rules q = (support q).1 s.above in
     elim (eqb_tells rule.from l) [
@@ -142,11 +115,11 @@ onward_along a counts rules support acyclic placed (l ∷ ls) h =
     ]) in
     let from : (q : ℕ) → In q xs → (rule : Rule) → slice_get a.rules q ≡ Some rule → rule.from ≡ l = (λ q i rule named.
     let s = step_from a counts l q (in_passed (is_step_from a counts l) (count_at counts) (numbers_from 0 (length a.rules)) q i) in
-    let same : s.rule ≡ rule = same_rule s.rule rule (sym s.named ∙ named) in
+    let same : s.rule ≡ rule = same_Some s.rule rule (sym s.named ∙ named) in
     ap (λ (r : Rule). r.from) (sym same) ∙ s.from) in
     subst (Onward a) (sym (steps_cons a counts l ls)) (onward_append a l xs ys from (none_from a l (xs ++ ys) into) (onward_along a counts rules support acyclic (placed ++ l ∷ []) ls h.1))
 
-pub along_onward : (a : Automaton) (counts : List ℤ) (rules : ℕ) → Support counts rules → NoCycle a rules → (order : List ℕ) → IsOrder a rules order → Onward a (unit_steps (steps_along a counts order))
+pub along_onward : (a : Automaton) (counts : List ℤ) (rules : ℕ) → Support counts rules → NoCycle a rules → (order : List ℕ) → IsLocationOrder a rules order → Onward a (arranged_steps (steps_along a counts order))
 along_onward a counts rules support acyclic order is = onward_along a counts rules support acyclic [] order (after_from a rules [] order is.built)
 
 -- sums over the unit steps
@@ -155,11 +128,7 @@ unfolding total
 replicate_total g zero r = sym (*ℤ-zero (g r))
 replicate_total g (suc n) r =
     let next : pos (suc n) ≡ (pos n +ℤ pos 1) = omega (arith, ints) in
-    omega (arith, ints, replicate_total g n r, ap (λ z. g r *ℤ z) next, distributes (g r) (pos n) (pos 1), times_one (g r))
-
-abs_natural : (z : ℤ) → pos 0 ≤ℤ z → pos (unsigned_abs z) ≡ z
-abs_natural (pos n) h = refl
-abs_natural (negsuc n) h = absurd (omega (arith, ints))
+    omega (arith, ints, replicate_total g n r, ap (λ z. g r *ℤ z) next, distributes (g r) (pos n) (pos 1), by_one (g r))
 
 passed_total : (g : ℕ → ℤ) (test : ℕ → Bool) (count : ℕ → ℤ) → ((r : ℕ) → pos 0 ≤ℤ count r) → (ns : List ℕ) → total g (passed test count ns) ≡ total (λ r. cond (test r) (g r *ℤ count r) (pos 0)) ns
 unfolding total
@@ -171,12 +140,12 @@ passed_total g test count natural (n ∷ ns) = elim (cases_Bool (test n)) [
   | inr e ↦ rw e (omega (arith, ints, passed_total g test count natural ns))
 ]
 
-along_parts : (a : Automaton) (counts : List ℤ) → ((r : ℕ) → pos 0 ≤ℤ count_at counts r) → (g : ℕ → ℤ) (ls : List ℕ) → total g (unit_steps (steps_along a counts ls)) ≡ total (λ l. total (λ r. cond (is_step_from a counts l r) (g r *ℤ count_at counts r) (pos 0)) (numbers_from 0 (length a.rules))) ls
+along_parts : (a : Automaton) (counts : List ℤ) → ((r : ℕ) → pos 0 ≤ℤ count_at counts r) → (g : ℕ → ℤ) (ls : List ℕ) → total g (arranged_steps (steps_along a counts ls)) ≡ total (λ l. total (λ r. cond (is_step_from a counts l r) (g r *ℤ count_at counts r) (pos 0)) (numbers_from 0 (length a.rules))) ls
 unfolding total
 along_parts a counts natural g [] = refl
 along_parts a counts natural g (l ∷ ls) =
     let ns = numbers_from 0 (length a.rules) in
-    omega (arith, ints, ap (total g) (steps_cons a counts l ls), total-append g (passed (is_step_from a counts l) (count_at counts) ns) (unit_steps (steps_along a counts ls)), passed_total g (is_step_from a counts l) (count_at counts) natural ns, along_parts a counts natural g ls)
+    omega (arith, ints, ap (total g) (steps_cons a counts l ls), total-append g (passed (is_step_from a counts l) (count_at counts) ns) (arranged_steps (steps_along a counts ls)), passed_total g (is_step_from a counts l) (count_at counts) natural ns, along_parts a counts natural g ls)
 
 -- a sum whose parts but those of one number are 0
 picked : (z : ℤ) (f : ℕ) (ls : List ℕ) → total (λ l. cond (eqb f l && true) z (pos 0)) ls ≡ (z *ℤ pos (times_in f ls))
@@ -186,7 +155,7 @@ picked z f (l ∷ ls) = elim (eqb_tells l f) [
   | inl e ↦ elim (eqb_tells f l) [
     | inl d ↦ rw (e.0, d.0) (
         let next : pos (1 + times_in f ls) ≡ (pos (times_in f ls) +ℤ pos 1) = omega (arith, ints) in
-        omega (arith, ints, picked z f ls, ap (λ y. z *ℤ y) next, distributes z (pos (times_in f ls)) (pos 1), times_one z))
+        omega (arith, ints, picked z f ls, ap (λ y. z *ℤ y) next, distributes z (pos (times_in f ls)) (pos 1), by_one z))
     | inr ne ↦ absurd (ne.1 (sym e.1))
   ]
   | inr ne ↦ elim (eqb_tells f l) [
@@ -205,7 +174,7 @@ no_test o z ls b e = total-zero (λ l. cond (leads_out_of l o && b) z (pos 0)) l
 one_source : (a : Automaton) (order : List ℕ) → ((l : ℕ) → l < length a.locations → times_in l order ≡ 1) → (o : Option Rule) → ((rule : Rule) → o ≡ Some rule → rule.from < length a.locations) → (z : ℤ) → pos 0 ≤ℤ z → (i : ℕ) → total (λ l. cond (leads_out_of l o && int_lt (pos 0) z) (rule_change a o i *ℤ z) (pos 0)) order ≡ (rule_change a o i *ℤ z)
 one_source a order once None within z natural i = total-zero _ order (λ l. refl) ∙ sym (zero-*ℤ z)
 one_source a order once (Some rule) within z natural i = elim (cases_Bool (int_lt (pos 0) z)) [
-  | inl e ↦ rw e (picked (rule_change a (Some rule) i *ℤ z) rule.from order ∙ ap (λ (n : ℕ). (rule_change a (Some rule) i *ℤ z) *ℤ pos n) (once rule.from (within rule refl)) ∙ times_one (rule_change a (Some rule) i *ℤ z))
+  | inl e ↦ rw e (picked (rule_change a (Some rule) i *ℤ z) rule.from order ∙ ap (λ (n : ℕ). (rule_change a (Some rule) i *ℤ z) *ℤ pos n) (once rule.from (within rule refl)) ∙ by_one (rule_change a (Some rule) i *ℤ z))
   | inr e ↦ (
       let below = not_above_zero z e in
       let none : z ≡ pos 0 = omega (arith, ints) in
@@ -213,22 +182,12 @@ one_source a order once (Some rule) within z natural i = elim (cases_Bool (int_l
 ]
 
 -- the unit steps along an order have the end of the counts
-pub along_total : (a : Automaton) (counts : List ℤ) → ((r : ℕ) → pos 0 ≤ℤ count_at counts r) → (order : List ℕ) → ((l : ℕ) → l < length a.locations → times_in l order ≡ 1) → (i : ℕ) → total (change_of a i) (unit_steps (steps_along a counts order)) ≡ weighted a counts i
+pub along_total : (a : Automaton) (counts : List ℤ) → ((r : ℕ) → pos 0 ≤ℤ count_at counts r) → (order : List ℕ) → ((l : ℕ) → l < length a.locations → times_in l order ≡ 1) → (i : ℕ) → total (change_of a i) (arranged_steps (steps_along a counts order)) ≡ weighted a counts i
 along_total a counts natural order once i =
     let ns = numbers_from 0 (length a.rules) in
     along_parts a counts natural (change_of a i) order
     ∙ total-swap (λ l r. cond (is_step_from a counts l r) (change_of a i r *ℤ count_at counts r) (pos 0)) order ns
     ∙ total-same (λ r. total (λ l. cond (is_step_from a counts l r) (change_of a i r *ℤ count_at counts r) (pos 0)) order) (λ r. change_of a i r *ℤ count_at counts r) ns (λ r. one_source a order once (slice_get a.rules r) (λ rule named. from_within a r rule named) (count_at counts r) (natural r) i)
-
-numbers_more : (k n : ℕ) → numbers_from k (n + 1) ≡ numbers_from k n ++ (k + n) ∷ []
-numbers_more k n = ap (numbers_from k) (let e : n + 1 ≡ suc n = omega arith in e) ∙ more k n where
-  more : (k n : ℕ) → numbers_from k (suc n) ≡ numbers_from k n ++ (k + n) ∷ []
-  more k zero = ap (λ (x : ℕ). x ∷ []) (let e : k ≡ k + 0 = omega arith in e)
-  more k (suc n) = ap (λ (xs : List ℕ). k ∷ xs) (more (k + 1) n ∙ ap (λ (x : ℕ). numbers_from (k + 1) n ++ x ∷ []) (let e : k + 1 + n ≡ k + suc n = omega arith in e))
-
-one_step : (count : ℕ → ℤ) (n : ℕ) (b : Bool) (z : ℤ) → z ≡ count n → map {B = ℕ × ℤ} (λ r. (r, count r)) (cond b (n ∷ []) []) ≡ cond b ((n, z) ∷ []) []
-one_step count n true z e = ap (λ (y : ℤ). (n, y) ∷ []) (sym e)
-one_step count n false z e = refl
 
 -- the steps of one more rule
 pub steps_more : (a : Automaton) (counts : List ℤ) (l n : ℕ) (rule : Rule) (z : ℤ) → slice_get a.rules n ≡ Some rule → z ≡ count_at counts n → steps_from a counts l (n + 1) ≡ steps_from a counts l n ++ cond (eqb rule.from l && int_lt (pos 0) z) ((n, z) ∷ []) []

@@ -4,7 +4,7 @@ use Rattle.std.proofs.lemmas.Bool.Decides.{eqb_tells}
 use Rattle.ta_automaton.specs.declared.rule.Rule.{Rule}
 use Rattle.ta_automaton.specs.declared.automaton.Automaton.{Automaton}
 use Rattle.ta_automaton.proofs.Thresholds.{to_within}
-use Rattle.ta_scope.specs.Cycles.{every_rule, Leads}
+use Rattle.ta_scope.specs.Cycles.{every_rule, IsReachTable}
 use Rattle.ta_scope.specs.LongerCycles.{LoopsAlone, OnLongerCycle}
 use Rattle.ta_scope.proofs.Reaching.{every_walk}
 
@@ -16,7 +16,7 @@ loops_alone a none r rule named walk back = elim (eqb_tells rule.from rule.to) [
 ]
 
 -- a rule is on one exactly where it leads between two locations and the table of all rules leads from its target back to its source
-pub longer_exactly : (a : Automaton) (table : List ℕ) (r : ℕ) (rule : Rule) → Leads a every_rule table → slice_get a.rules r ≡ Some rule → ((rule.from ≢ rule.to) × IsBitSet (get_or table rule.to 0) rule.from) ↔ OnLongerCycle a rule
+pub longer_exactly : (a : Automaton) (table : List ℕ) (r : ℕ) (rule : Rule) → IsReachTable a every_rule table → slice_get a.rules r ≡ Some rule → ((rule.from ≢ rule.to) × IsBitSet (get_or table rule.to 0) rule.from) ↔ OnLongerCycle a rule
 longer_exactly a table r rule leads named =
     let exact = leads.exact rule.to rule.from (to_within a r rule named) in (
       λ (apart, back). let walk = exact.0 back in record { apart = apart; walk = walk.0; back = walk.1 },

@@ -1,36 +1,32 @@
 -- what growing masks of locations say of walks
-use Rattle.std.proofs.Common.{◌≡◌, ◌⊎◌, inl, inr, ℕ, ◌<◌, ◌^◌, List, [], ◌∷◌, ◌++◌, arith, sym, ap, ◌∙◌, refl, subst, slice_get, Some, IsBitSet, ◌%◌, ◌*◌, ◌↔◌, bit_or, w32, zero, suc, length, length-append, get_or}
+use Rattle.std.proofs.Common.{◌≡◌, inl, inr, ℕ, ◌<◌, ◌^◌, List, [], ◌∷◌, ◌++◌, arith, sym, ap, ◌∙◌, refl, subst, slice_get, Some, IsBitSet, ◌%◌, ◌*◌, ◌↔◌, bit_or, w32, length, length-append, get_or}
 use Rattle.std.specs.Int.{bit_at}
-use Rattle.std.proofs.Math.Nat.{mod-eq_of_lt}
-use Rattle.std.proofs.lemmas.Nat.{le_or_l, pow_below}
+use Rattle.std.proofs.lemmas.Nat.{le_or_l}
 use Rattle.std.proofs.lemmas.Nat.Bits.{bit_at_set_same, bit_at_set_other, bit_at-pow_same, bit_at-pow_other, bit_at_ones}
 use Rattle.std.proofs.lemmas.Option.{slice_get_within}
-use Rattle.std.proofs.lemmas.Bool.{eqb-true, eq-eqb}
 use Rattle.std.proofs.lemmas.Bool.Decides.{eqb_tells}
+use Rattle.std.specs.List.{AllByRecursion}
+use Rattle.ta_base.proofs.Bits.{at_set, set_at, set_or}
+use Rattle.ta_base.proofs.Each.{each_push}
+use Rattle.ta_base.proofs.Lists.{get_or_push, get_pushed}
+use Rattle.ta_base.proofs.Naturals.{one_bit}
 use Rattle.ta_automaton.specs.declared.rule.Rule.{Rule}
 use Rattle.ta_automaton.specs.declared.automaton.Automaton.{Automaton}
 use Rattle.ta_automaton.specs.Runs.{Walk}
-use Rattle.ta_automaton.specs.Lists.{Each}
 use Rattle.ta_scope.specs.Cycles.{every_rule, Reaches}
-use Rattle.ta_automaton.proofs.MaskTests.{bit_true, bit_set}
-use Rattle.ta_automaton.proofs.Thresholds.{from_within, to_within}
-use Rattle.ta_automaton.specs.Masks.{has_bit}
-use Rattle.ta_scope.specs.Inside.Reached.{LeadsOut, Grown, Closed}
+use Rattle.ta_automaton.proofs.Thresholds.{to_within}
+use Rattle.ta_scope.specs.Inside.Reached.{LeadsOut, AddsLocation, IsClosed}
 
 pub walk_push : (a : Automaton) (x : ℕ) (rs : List ℕ) (y r : ℕ) (rule : Rule) → Walk a x rs y → slice_get a.rules r ≡ Some rule → rule.from ≡ y → Walk a x (rs ++ r ∷ []) rule.to
 walk_push a x [] y r rule walk named from = (rule, named, from ∙ sym walk, refl)
 walk_push a x (q ∷ rs) y r rule walk named from = (walk.0, walk.1, walk.2, walk_push a (walk.0).to rs y r rule walk.3 named from)
-
-pub each_push : (P : ℕ → Type 0) (xs : List ℕ) (x : ℕ) → Each P xs → P x → Each P (xs ++ x ∷ [])
-each_push P [] x h p = (p, tt)
-each_push P (y ∷ ys) x h p = (h.0, each_push P ys x h.1 p)
 
 -- a mask that has the first location, and only locations to which rules of a mask lead from it
 pub record Reached (a : Automaton) (rules first mask : ℕ) : Type 0 where
   pub has_first : IsBitSet mask first
   pub walks : (l : ℕ) → IsBitSet mask l → Reaches a rules first l
 
-pub reached_more : (a : Automaton) (rules first mask more : ℕ) → Reached a rules first mask → Grown a rules mask more → Reached a rules first more
+pub reached_more : (a : Automaton) (rules first mask more : ℕ) → Reached a rules first mask → AddsLocation a rules mask more → Reached a rules first more
 reached_more a rules first mask more reached grown = record {
   has_first = grown.kept first reached.has_first;
   walks = λ l b. elim (grown.added l b) [
@@ -43,19 +39,8 @@ reached_more a rules first mask more reached grown = record {
   ];
 }
 
-pub set_at : (n i : ℕ) → IsBitSet n i → bit_at n i ≡ 1
-unfolding has_bit
-set_at n i h = eqb-true (bit_at n i) 1 (bit_true n i h)
-
-pub at_set : (n i : ℕ) → bit_at n i ≡ 1 → IsBitSet n i
-unfolding has_bit
-at_set n i h = bit_set n i (eq-eqb (bit_at n i) 1 h)
-
-pub set_or : (n i : ℕ) → IsBitSet n i ⊎ (IsBitSet n i → ⊥)
-set_or n i = elim (eqb_tells (bit_at n i) 1) [ inl e ↦ inl (at_set n i e.1) | inr ne ↦ inr (λ h. ne.1 (set_at n i h)) ]
-
 -- a walk from a location of a closed mask stays in it
-pub walk_stays : (a : Automaton) (rules mask : ℕ) → Closed a rules mask → (x : ℕ) (rs : List ℕ) (y : ℕ) → IsBitSet mask x → Walk a x rs y → Each (IsBitSet rules) rs → IsBitSet mask y
+pub walk_stays : (a : Automaton) (rules mask : ℕ) → IsClosed a rules mask → (x : ℕ) (rs : List ℕ) (y : ℕ) → IsBitSet mask x → Walk a x rs y → AllByRecursion (IsBitSet rules) rs → IsBitSet mask y
 walk_stays a rules mask closed x [] y b walk each = subst (IsBitSet mask) walk b
 walk_stays a rules mask closed x (r ∷ rs) y b walk each =
     let rule = walk.0 in
@@ -69,7 +54,7 @@ walk_stays a rules mask closed x (r ∷ rs) y b walk each =
 abbrev pub bit_of : ℕ → ℕ
 bit_of l = 1 * 2 ^ l % 4294967296
 
-pub grown_by : (a : Automaton) (rules mask r : ℕ) (rule : Rule) → slice_get a.rules r ≡ Some rule → LeadsOut rules mask r rule → rule.to < 32 → Grown a rules mask (bit_or mask (1 * 2 ^ rule.to % 4294967296))
+pub grown_by : (a : Automaton) (rules mask r : ℕ) (rule : Rule) → slice_get a.rules r ≡ Some rule → LeadsOut rules mask r rule → rule.to < 32 → AddsLocation a rules mask (bit_or mask (1 * 2 ^ rule.to % 4294967296))
 grown_by a rules mask r rule named out within = record {
   number = r;
   rule = rule;
@@ -95,15 +80,6 @@ grown_greater rules mask r rule out within = elim (eqb_tells mask (bit_or mask (
 pub to_fits : (a : Automaton) (r : ℕ) (rule : Rule) → slice_get a.rules r ≡ Some rule → rule.to < 32
 to_fits a r rule named = let b = to_within a r rule named in let limit = a.shape.limits.locations_limit in omega arith
 
-pub from_fits : (a : Automaton) (r : ℕ) (rule : Rule) → slice_get a.rules r ≡ Some rule → rule.from < 32
-from_fits a r rule named = let b = from_within a r rule named in let limit = a.shape.limits.locations_limit in omega arith
-
--- a mask that begins with one location
-pub one_bit : (l : ℕ) → l < 32 → 1 * 2 ^ l % 4294967296 ≡ 2 ^ l
-one_bit l h =
-    let below : 2 ^ l < 2 ^ 32 = pow_below l 32 h in
-    mod-eq_of_lt (omega arith) ∙ (let e : 1 * 2 ^ l ≡ 2 ^ l = omega arith in e)
-
 pub reached_first : (a : Automaton) (rules first : ℕ) → first < 32 → Reached a rules first (1 * 2 ^ first % 4294967296)
 reached_first a rules first within =
     let same : bit_of first ≡ 2 ^ first = one_bit first within in
@@ -116,17 +92,8 @@ reached_first a rules first within =
     }
 
 -- where the mask is closed, it has exactly the locations that the first one leads to
-pub reaches_exactly : (a : Automaton) (rules first mask : ℕ) → Reached a rules first mask → Closed a rules mask → (y : ℕ) → IsBitSet mask y ↔ Reaches a rules first y
+pub reaches_exactly : (a : Automaton) (rules first mask : ℕ) → Reached a rules first mask → IsClosed a rules mask → (y : ℕ) → IsBitSet mask y ↔ Reaches a rules first y
 reaches_exactly a rules first mask reached closed y = (reached.walks y, λ w. walk_stays a rules mask closed first w.0 y reached.has_first w.1 w.2)
-
-get_push : (xs : List ℕ) (x y : ℕ) → x < length xs → get_or (xs ++ y ∷ []) x 0 ≡ get_or xs x 0
-get_push [] x y b = absurd (omega arith)
-get_push (z ∷ zs) zero y b = refl
-get_push (z ∷ zs) (suc x) y b = get_push zs x y (omega arith)
-
-get_pushed : (xs : List ℕ) (y : ℕ) → get_or (xs ++ y ∷ []) (length xs) 0 ≡ y
-get_pushed [] y = refl
-get_pushed (z ∷ zs) y = get_pushed zs y
 
 -- the masks of the first locations
 abbrev pub LeadsSoFar : Automaton → ℕ → List ℕ → Type 0
@@ -135,14 +102,14 @@ LeadsSoFar a rules table = (x y : ℕ) → x < length table → IsBitSet (get_or
 pub leads_push : (a : Automaton) (rules : ℕ) (table : List ℕ) (mask : ℕ) → LeadsSoFar a rules table → ((y : ℕ) → IsBitSet mask y ↔ Reaches a rules (length table) y) → LeadsSoFar a rules (table ++ mask ∷ [])
 leads_push a rules table mask before here x y b = elim (eqb_tells x (length table)) [
   | inl e ↦ subst (λ z. IsBitSet (get_or (table ++ mask ∷ []) z 0) y ↔ Reaches a rules z y) (sym e.1) (subst (λ m. IsBitSet m y ↔ Reaches a rules (length table) y) (sym (get_pushed table mask)) (here y))
-  | inr ne ↦ (let within : x < length table = omega (arith, ne.1, b, length-append table (mask ∷ [])) in subst (λ m. IsBitSet m y ↔ Reaches a rules x y) (sym (get_push table x mask within)) (before x y within))
+  | inr ne ↦ (let within : x < length table = omega (arith, ne.1, b, length-append table (mask ∷ [])) in subst (λ m. IsBitSet m y ↔ Reaches a rules x y) (sym (get_or_push table x mask within)) (before x y within))
 ]
 
 -- every rule is in the mask of all rules
 pub every_bit : (r : ℕ) → r < 128 → IsBitSet every_rule r
 every_bit r b = at_set every_rule r (bit_at_ones 128 r b)
 
-pub every_walk : (a : Automaton) (x : ℕ) (rs : List ℕ) (y : ℕ) → Walk a x rs y → Each (IsBitSet every_rule) rs
+pub every_walk : (a : Automaton) (x : ℕ) (rs : List ℕ) (y : ℕ) → Walk a x rs y → AllByRecursion (IsBitSet every_rule) rs
 every_walk a x [] y walk = tt
 every_walk a x (r ∷ rs) y walk = (
   every_bit r (let b = slice_get_within a.rules r walk.0 walk.1 in let limit = a.shape.limits.rules_limit in omega arith),

@@ -1,12 +1,12 @@
 -- An automaton is in scope, or has a first rule at fault.
-use Rattle.std.proofs.Common.{◌≡◌, ℕ, zero, suc, ◌+◌, ◌<◌, ◌≤◌, length, slice_get, Some, inl, inr, ⊎_elim, subst, arith}
+use Rattle.std.proofs.Common.{◌≡◌, ℕ, zero, suc, ◌+◌, ◌<◌, ◌≤◌, length, slice_get, Some, ⊎_elim, subst, arith}
 use Rattle.std.proofs.lemmas.Bool.{cases_lt}
 use Rattle.std.proofs.lemmas.Option.{slice_get_within}
 use Rattle.ta_syntax.specs.AnswerLaws.{Either}
 use Rattle.ta_automaton.specs.Runs.{InScope}
 use Rattle.ta_automaton.specs.declared.rule.Rule.{Rule}
 use Rattle.ta_automaton.specs.declared.automaton.Automaton.{Automaton}
-use Rattle.ta_scope.specs.Faults.{AtFault, FirstFault}
+use Rattle.ta_scope.specs.Faults.{AtFault, FirstRuleFault}
 
 module _ (a : Automaton) where
   -- no rule below k is at fault
@@ -14,7 +14,7 @@ module _ (a : Automaton) where
   NoneBelow k = (q : ℕ) (earlier : Rule) → q < k → slice_get a.rules q ≡ Some earlier → ¬ AtFault a earlier
 
   abbrev Found : Type 0
-  Found = (number : ℕ) × FirstFault a number
+  Found = (number : ℕ) × FirstRuleFault a number
 
   one_more : (k : ℕ) → NoneBelow k → ¬ Found → NoneBelow (k + 1)
   one_more k none nowhere q rule low named at_fault =

@@ -1,18 +1,19 @@
 -- counts from which an amount is subtracted
-use Rattle.std.proofs.Common.{true, false, ◌≡◌, ◌≢◌, ◌⊎◌, inl, inr, ℕ, zero, suc, ◌+◌, ◌<◌, ◌≤◌, ℤ, pos, negsuc, ◌+ℤ◌, ◌-ℤ◌, ◌≤ℤ◌, List, [], ◌∷◌, ◌++◌, length, take, get_or, set, arith, sym, ap, ◌∙◌, refl, subst, IsBitSet, ◌↔◌, length-set}
-use Rattle.std.specs.Prelude.{unsigned_abs, int_lt}
+use Rattle.std.proofs.Common.{◌≡◌, ◌≢◌, ◌⊎◌, inl, inr, ℕ, zero, suc, ◌+◌, ◌<◌, ◌≤◌, ℤ, pos, ◌+ℤ◌, ◌-ℤ◌, ◌≤ℤ◌, List, [], ◌∷◌, ◌++◌, length, take, get_or, set, arith, sym, ap, ◌∙◌, refl, subst, IsBitSet, ◌↔◌, length-set}
+use Rattle.std.specs.Prelude.{unsigned_abs}
 use Rattle.std.specs.Int.{int_min, bit_at}
 use Rattle.std.proofs.lemmas.Int.{ints}
-use Rattle.std.proofs.lemmas.Bool.{cases_lt, cases_Bool}
+use Rattle.std.proofs.lemmas.Bool.{cases_lt}
 use Rattle.std.proofs.lemmas.Bool.Decides.{eqb_tells}
 use Rattle.std.proofs.lemmas.List.{get_or_past, take_more, take_all, get_or-set_same, get_or-set_other}
+use Rattle.ta_base.proofs.Bits.{set_at}
+use Rattle.ta_base.proofs.Each.{not_before}
+use Rattle.ta_base.proofs.Integers.{abs_less, abs_less_than, min_cases}
+use Rattle.ta_base.proofs.Members.{In-left, In-right, in_append, in_get_or}
 use Rattle.ta_automaton.specs.declared.automaton.Automaton.{Automaton}
-use Rattle.ta_automaton.specs.Lists.{Each, Distinct}
-use Rattle.ta_automaton.specs.Masks.{In}
-use Rattle.ta_automaton.proofs.Rearranged.{in_cases}
-use Rattle.ta_automaton.proofs.MaskTests.{In-left, In-right}
-use Rattle.ta_scope.specs.Arranged.{count_at, Support, LeastCount, Subtracted, TakenOut, AllTakenOut}
-use Rattle.ta_scope.proofs.Reaching.{set_at}
+use Rattle.ta_base.specs.Lists.{Distinct}
+use Rattle.ta_base.specs.Masks.{In}
+use Rattle.ta_scope.specs.Arranged.{count_at, Support, LeastCount, SubtractsFrom, TakenOut, AllTakenOut}
 
 -- the support of the first counts
 abbrev pub SupportBefore : List ℤ → ℕ → ℕ → Type 0
@@ -52,36 +53,14 @@ pub record LeastSoFar (counts : List ℤ) (rules : List ℕ) (n : ℕ) (amount :
   pub is : count_at counts rule ≡ amount
   pub least : (r : ℕ) → In r (take n rules) → amount ≤ℤ count_at counts r
 
-get_in : (xs : List ℕ) (i d : ℕ) → i < length xs → In (get_or xs i d) xs
-get_in [] i d h = absurd (omega arith)
-get_in (x ∷ xs) zero d h = inl refl
-get_in (x ∷ xs) (suc i) d h = inr (get_in xs i d (omega arith))
-
-pub each_get : (P : ℕ → Type 0) (xs : List ℕ) (i d : ℕ) → Each P xs → i < length xs → P (get_or xs i d)
-each_get P [] i d e h = absurd (omega arith)
-each_get P (x ∷ xs) zero d e h = e.0
-each_get P (x ∷ xs) (suc i) d e h = each_get P xs i d e.1 (omega arith)
-
 pub least_first : (counts : List ℤ) (rules : List ℕ) (x : ℕ) (amount : ℤ) → 1 ≤ length rules → x ≡ get_or rules 0 0 → amount ≡ count_at counts x → LeastSoFar counts rules 0 amount
-least_first counts rules x amount some at is = record { rule = x; member = subst (λ r. In r rules) (sym at) (get_in rules 0 0 (omega arith)); is = sym is; least = λ r i. absurd i }
-
-lt_true : (a b : ℤ) → int_lt b a ≡ true → b ≤ℤ a
-lt_true a b h = grind (arith, ints)
-
-lt_false : (a b : ℤ) → int_lt b a ≡ false → a ≤ℤ b
-lt_false a b h = grind (arith, ints)
-
-min_cases : (a b : ℤ) → ((int_min a b ≡ a) × (a ≤ℤ b)) ⊎ ((int_min a b ≡ b) × (b ≤ℤ a))
-min_cases a b = elim (cases_Bool (int_lt b a)) [
-  | inl e ↦ inr (rw e refl, lt_true a b e)
-  | inr e ↦ inl (rw e refl, lt_false a b e)
-]
+least_first counts rules x amount some at is = record { rule = x; member = subst (λ r. In r rules) (sym at) (in_get_or rules 0 0 (omega arith)); is = sym is; least = λ r i. absurd i }
 
 -- one more rule
 pub least_more : (counts : List ℤ) (rules : List ℕ) (n x : ℕ) (amount count : ℤ) → LeastSoFar counts rules n amount → n < length rules → x ≡ get_or rules n 0 → count ≡ count_at counts x → LeastSoFar counts rules (n + 1) (int_min amount count)
 least_more counts rules n x amount count s within at is = pick (min_cases amount count) where
   below : (m : ℤ) → m ≤ℤ amount → m ≤ℤ count → (r : ℕ) → In r (take (n + 1) rules) → m ≤ℤ count_at counts r
-  below m low here r i = elim (in_cases r (take n rules) (x ∷ []) (subst (In r) (take_more rules n 0 within ∙ ap (λ (y : ℕ). take n rules ++ y ∷ []) (sym at)) i)) [
+  below m low here r i = elim (in_append r (take n rules) (x ∷ []) (subst (In r) (take_more rules n 0 within ∙ ap (λ (y : ℕ). take n rules ++ y ∷ []) (sym at)) i)) [
     | inl j ↦ omega (arith, ints, s.least r j)
     | inr (inl e) ↦ (let same = ap (count_at counts) e in omega (arith, ints))
     | inr (inr none) ↦ absurd none
@@ -89,28 +68,16 @@ least_more counts rules n x amount count s within at is = pick (min_cases amount
 
   pick : ((int_min amount count ≡ amount) × (amount ≤ℤ count)) ⊎ ((int_min amount count ≡ count) × (count ≤ℤ amount)) → LeastSoFar counts rules (n + 1) (int_min amount count)
   pick (inl w) = record { rule = s.rule; member = s.member; is = s.is ∙ sym w.0; least = below (int_min amount count) (let e = w.0 in omega (arith, ints)) (let e = w.0 in let l = w.1 in omega (arith, ints)) }
-  pick (inr w) = record { rule = x; member = subst (λ r. In r rules) (sym at) (get_in rules n 0 within); is = sym is ∙ sym w.0; least = below (int_min amount count) (let e = w.0 in let l = w.1 in omega (arith, ints)) (let e = w.0 in omega (arith, ints)) }
+  pick (inr w) = record { rule = x; member = subst (λ r. In r rules) (sym at) (in_get_or rules n 0 within); is = sym is ∙ sym w.0; least = below (int_min amount count) (let e = w.0 in let l = w.1 in omega (arith, ints)) (let e = w.0 in omega (arith, ints)) }
 
 pub least_all : (counts : List ℤ) (rules : List ℕ) (n : ℕ) (amount : ℤ) → length rules ≤ n → LeastSoFar counts rules n amount → LeastCount counts rules amount
 least_all counts rules n amount enough s = record { rule = s.rule; member = s.member; is = s.is; least = λ r i. s.least r (subst (In r) (sym (take_all n rules enough)) i) }
 
 -- an amount subtracted from one more count
-pub subtracted_none : (rules : List ℕ) (amount : ℤ) (counts : List ℤ) → Subtracted (take 0 rules) amount counts counts
+pub subtracted_none : (rules : List ℕ) (amount : ℤ) (counts : List ℤ) → SubtractsFrom (take 0 rules) amount counts counts
 subtracted_none rules amount counts = record { each_rule = refl; these = λ r i. absurd i; others = λ r out. refl }
 
-each_not_in : (x : ℕ) (xs : List ℕ) → Each (λ y. x ≡ y → ⊥) xs → In x xs → ⊥
-each_not_in x [] e i = i
-each_not_in x (y ∷ ys) e (inl q) = e.0 q
-each_not_in x (y ∷ ys) e (inr i) = each_not_in x ys e.1 i
-
--- an item of distinct ones isn't among those before it
-pub not_before : (xs : List ℕ) (n d : ℕ) → Distinct xs → n < length xs → In (get_or xs n d) (take n xs) → ⊥
-not_before [] n d e h i = absurd (omega arith)
-not_before (x ∷ xs) zero d e h i = i
-not_before (x ∷ xs) (suc n) d e h (inl q) = each_not_in x xs e.0 (subst (λ y. In y xs) q (get_in xs n d (omega arith)))
-not_before (x ∷ xs) (suc n) d e h (inr i) = not_before xs n d e.1 (omega arith) i
-
-pub subtracted_more : (rules : List ℕ) (amount : ℤ) (before now : List ℤ) (n x : ℕ) (count : ℤ) → Distinct rules → n < length rules → x ≡ get_or rules n 0 → x < length before → Subtracted (take n rules) amount before now → count ≡ (count_at now x -ℤ amount) → Subtracted (take (n + 1) rules) amount before (set now x count)
+pub subtracted_more : (rules : List ℕ) (amount : ℤ) (before now : List ℤ) (n x : ℕ) (count : ℤ) → Distinct rules → n < length rules → x ≡ get_or rules n 0 → x < length before → SubtractsFrom (take n rules) amount before now → count ≡ (count_at now x -ℤ amount) → SubtractsFrom (take (n + 1) rules) amount before (set now x count)
 subtracted_more rules amount before now n x count distinct within at exists s is = record {
   each_rule = length-set now x count ∙ s.each_rule;
   these = λ r i. elim (eqb_tells r x) [
@@ -120,7 +87,7 @@ subtracted_more rules amount before now n x count distinct within at exists s is
         let was = s.others x fresh in
         let same = ap (count_at before) e.1 in
         omega (arith, ints))
-    | inr ne ↦ elim (in_cases r (take n rules) (x ∷ []) (subst (In r) more i)) [
+    | inr ne ↦ elim (in_append r (take n rules) (x ∷ []) (subst (In r) more i)) [
       | inl j ↦ (let here = get_or-set_other now x r count (pos 0) ne.1 in let was = s.these r j in omega (arith, ints))
       | inr (inl e) ↦ absurd (ne.1 e)
       | inr (inr none) ↦ absurd none
@@ -137,14 +104,14 @@ subtracted_more rules amount before now n x count distinct within at exists s is
   fresh i = not_before rules n 0 distinct within (subst (λ y. In y (take n rules)) at i)
 
 -- what is still there before it is subtracted
-pub not_subtracted : (rules : List ℕ) (amount : ℤ) (before now : List ℤ) (n x : ℕ) → Distinct rules → n < length rules → x ≡ get_or rules n 0 → Subtracted (take n rules) amount before now → ((r : ℕ) → In r rules → amount ≤ℤ count_at before r) → (count_at now x ≡ count_at before x) × (amount ≤ℤ count_at before x)
+pub not_subtracted : (rules : List ℕ) (amount : ℤ) (before now : List ℤ) (n x : ℕ) → Distinct rules → n < length rules → x ≡ get_or rules n 0 → SubtractsFrom (take n rules) amount before now → ((r : ℕ) → In r rules → amount ≤ℤ count_at before r) → (count_at now x ≡ count_at before x) × (amount ≤ℤ count_at before x)
 not_subtracted rules amount before now n x distinct within at s least = (
   s.others x (λ i. not_before rules n 0 distinct within (subst (λ y. In y (take n rules)) at i)),
-  least x (subst (λ r. In r rules) (sym at) (get_in rules n 0 within)),
+  least x (subst (λ r. In r rules) (sym at) (in_get_or rules n 0 within)),
 )
 
-pub subtracted_all : (rules : List ℕ) (amount : ℤ) (before now : List ℤ) (n : ℕ) → length rules ≤ n → Subtracted (take n rules) amount before now → Subtracted rules amount before now
-subtracted_all rules amount before now n enough s = subst (λ (xs : List ℕ). Subtracted xs amount before now) (take_all n rules enough) s
+pub subtracted_all : (rules : List ℕ) (amount : ℤ) (before now : List ℤ) (n : ℕ) → length rules ≤ n → SubtractsFrom (take n rules) amount before now → SubtractsFrom rules amount before now
+subtracted_all rules amount before now n enough s = subst (λ (xs : List ℕ). SubtractsFrom xs amount before now) (take_all n rules enough) s
 
 -- a chain with one more circulation
 pub taken_more : (a : Automaton) (counts : List ℤ) (later : List (List ℤ)) (before after : List ℤ) → AllTakenOut a counts later before → TakenOut a before after → AllTakenOut a counts (later ++ after ∷ []) after
@@ -156,16 +123,6 @@ abbrev pub sum_of : List ℤ → ℕ
 sum_of [] = 0
 sum_of (z ∷ zs) = unsigned_abs z + sum_of zs
 
-abs_less : (x y : ℤ) → pos 0 ≤ℤ x → x ≤ℤ y → unsigned_abs x ≤ unsigned_abs y
-abs_less (pos m) (pos n) low h = omega (arith, ints)
-abs_less (pos m) (negsuc n) low h = absurd (omega (arith, ints))
-abs_less (negsuc m) y low h = absurd (omega (arith, ints))
-
-abs_below : (x y : ℤ) → pos 0 ≤ℤ x → (x +ℤ pos 1) ≤ℤ y → unsigned_abs x < unsigned_abs y
-abs_below (pos m) (pos n) low h = omega (arith, ints)
-abs_below (pos m) (negsuc n) low h = absurd (omega (arith, ints))
-abs_below (negsuc m) y low h = absurd (omega (arith, ints))
-
 sum_no_more : (xs ys : List ℤ) → length xs ≡ length ys → ((r : ℕ) → (pos 0 ≤ℤ count_at xs r) × (count_at xs r ≤ℤ count_at ys r)) → sum_of xs ≤ sum_of ys
 sum_no_more [] ys e h = omega arith
 sum_no_more (x ∷ xs) [] e h = absurd (omega arith)
@@ -174,5 +131,5 @@ sum_no_more (x ∷ xs) (y ∷ ys) e h = let here = h 0 in omega (arith, abs_less
 pub sum_less : (xs ys : List ℤ) → length xs ≡ length ys → ((r : ℕ) → (pos 0 ≤ℤ count_at xs r) × (count_at xs r ≤ℤ count_at ys r)) → (q : ℕ) → q < length ys → (count_at xs q +ℤ pos 1) ≤ℤ count_at ys q → sum_of xs < sum_of ys
 sum_less xs [] e h q b less = absurd (omega arith)
 sum_less [] (y ∷ ys) e h q b less = absurd (omega arith)
-sum_less (x ∷ xs) (y ∷ ys) e h zero b less = let here = h 0 in omega (arith, abs_below x y here.0 less, sum_no_more xs ys (omega arith) (λ r. h (suc r)))
+sum_less (x ∷ xs) (y ∷ ys) e h zero b less = let here = h 0 in omega (arith, abs_less_than x y here.0 less, sum_no_more xs ys (omega arith) (λ r. h (suc r)))
 sum_less (x ∷ xs) (y ∷ ys) e h (suc q) b less = let here = h 0 in omega (arith, abs_less x y here.0 here.1, sum_less xs ys (omega arith) (λ r. h (suc r)) q (omega arith) less)

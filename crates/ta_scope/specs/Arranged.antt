@@ -1,20 +1,20 @@
 -- Arranged steps: counts of rules without their circulations, as steps that go forward (this project's profile)
 use Rattle.std.specs.Prelude.{ℕ, ℤ, pos, ◌<◌, ◌≡◌, ◌≤ℤ◌, ◌-ℤ◌, ◌⊎◌, ◌↔◌, ◌&&◌, Bool, List, [], ◌∷◌, length, map, filter, flat_map, int_lt, slice_get, slice_index_or, Some, IsBitSet}
+use Rattle.std.specs.List.{AllByRecursion}
 use Rattle.ta_automaton.specs.declared.rule.Rule.{Rule}
 use Rattle.ta_automaton.specs.declared.automaton.Automaton.{Automaton}
 use Rattle.ta_automaton.specs.Laws.{leads_out_of}
-use Rattle.ta_automaton.specs.Lists.{Each}
-use Rattle.ta_automaton.specs.Masks.{In, numbers_from}
+use Rattle.ta_base.specs.Masks.{In, numbers_from}
 use Rattle.ta_automaton.specs.Runs.{Walk}
 use Rattle.ta_scope.specs.Cycles.{OnCycle, NoCycle}
-use Rattle.ta_scope.specs.Order.{IsOrder}
+use Rattle.ta_scope.specs.Order.{IsLocationOrder}
 
 -- the count of a rule
 abbrev pub count_at : List ℤ → ℕ → ℤ
 count_at counts r = slice_index_or counts r (pos 0)
 
 -- one natural number for each rule
-pub record Counts (a : Automaton) (counts : List ℤ) : Type 0 where
+pub record AreRuleCounts (a : Automaton) (counts : List ℤ) : Type 0 where
   pub each_rule : length counts ≡ length a.rules
   pub natural : (r : ℕ) → pos 0 ≤ℤ count_at counts r
 
@@ -35,8 +35,8 @@ NoLater rs qs = (length rs < length qs) ⊎ ((length rs ≡ length qs) × NotAbo
 -- the path of a mask's rules with the fewest rules, and among several such paths the least list of numbers
 pub record FirstPath (a : Automaton) (rules from : ℕ) (path : List ℕ) (to : ℕ) : Type 0 where
   pub walk : Walk a from path to
-  pub members : Each (IsBitSet rules) path
-  pub first : (other : List ℕ) → Walk a from other to → Each (IsBitSet rules) other → NoLater path other
+  pub members : AllByRecursion (IsBitSet rules) path
+  pub first : (other : List ℕ) → Walk a from other to → AllByRecursion (IsBitSet rules) other → NoLater path other
 
 -- the least rule on a cycle of a mask's rules, and the first path from its target back to its source
 pub record LeastCycle (a : Automaton) (rules number : ℕ) (back : List ℕ) : Type 0 where
@@ -54,7 +54,7 @@ pub record LeastCount (counts : List ℤ) (rules : List ℕ) (amount : ℤ) : Ty
   pub least : (r : ℕ) → In r rules → amount ≤ℤ count_at counts r
 
 -- an amount is subtracted from the counts of some rules
-pub record Subtracted (rules : List ℕ) (amount : ℤ) (before after : List ℤ) : Type 0 where
+pub record SubtractsFrom (rules : List ℕ) (amount : ℤ) (before after : List ℤ) : Type 0 where
   pub each_rule : length after ≡ length before
   pub these : (r : ℕ) → In r rules → count_at after r ≡ (count_at before r -ℤ amount)
   pub others : (r : ℕ) → ¬ In r rules → count_at after r ≡ count_at before r
@@ -68,7 +68,7 @@ pub record TakenOut (a : Automaton) (before after : List ℤ) : Type 0 where
   pub cycle : LeastCycle a rules number back
   pub amount : ℤ
   pub least : LeastCount before (number ∷ back) amount
-  pub subtracted : Subtracted (number ∷ back) amount before after
+  pub subtracted : SubtractsFrom (number ∷ back) amount before after
 
 -- circulations are taken out, one after another
 abbrev pub AllTakenOut : Automaton → List ℤ → List (List ℤ) → List ℤ → Type 0
@@ -93,5 +93,5 @@ pub record ArrangedOf (a : Automaton) (counts : List ℤ) (steps : List (ℕ × 
   pub support : Support rest rules
   pub no_cycle : NoCycle a rules
   pub order : List ℕ
-  pub ordered : IsOrder a rules order
+  pub ordered : IsLocationOrder a rules order
   pub listed : steps ≡ steps_along a rest order

@@ -17,7 +17,7 @@ pub record AtFault (a : Automaton) (rule : Rule) : Type 0 where
   pub back : Walk a rule.to walk rule.from
 
 -- the number of the first rule at fault
-pub record FirstFault (a : Automaton) (number : ℕ) : Type 0 where
+pub record FirstRuleFault (a : Automaton) (number : ℕ) : Type 0 where
   pub rule : Rule
   pub named : slice_get a.rules number ≡ Some rule
   pub at_fault : AtFault a rule
@@ -25,5 +25,5 @@ pub record FirstFault (a : Automaton) (number : ℕ) : Type 0 where
 
 -- the first rule at fault, or want of memory
 abbrev pub ScopeFaultOf : Automaton → ScopeFault → Type 0
-ScopeFaultOf a (CycleUpdates number) = FirstFault a number
+ScopeFaultOf a (CycleUpdates number) = FirstRuleFault a number
 ScopeFaultOf a Memory = Unit {0}

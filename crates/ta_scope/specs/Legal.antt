@@ -1,23 +1,23 @@
 -- Arranged steps are legal (this project's profile)
 use Rattle.std.specs.Prelude.{ℕ, ℤ, pos, ◌<◌, ◌≡◌, ◌≤ℤ◌, ◌+ℤ◌, ◌*ℤ◌, ◌≤◌, List, [], ◌∷◌, ◌++◌, length, map, flat_map, replicate, unsigned_abs, slice_get, Some, IsBitSet}
+use Rattle.std.specs.List.{AllByRecursion}
 use Rattle.ta_linear.specs.Values.{RowHolds}
 use Rattle.ta_linear.specs.declared.row.Row.{Row}
 use Rattle.ta_automaton.specs.declared.rule.Rule.{Rule}
 use Rattle.ta_automaton.specs.declared.automaton.Automaton.{Automaton}
-use Rattle.ta_automaton.specs.Lists.{Each}
-use Rattle.ta_automaton.specs.Masks.{numbers_from}
+use Rattle.ta_base.specs.Masks.{numbers_from}
 use Rattle.ta_automaton.specs.Places.{Whole, rule_change, location_place}
 use Rattle.ta_automaton.specs.Runs.{Config, value_at, Steps, At, InScope}
 use Rattle.ta_automaton.specs.Sums.{total, times_in}
-use Rattle.ta_scope.specs.Arranged.{Counts, ArrangedOf, count_at}
+use Rattle.ta_scope.specs.Arranged.{AreRuleCounts, ArrangedOf, count_at}
 
 -- the unit steps of a list: each rule as often as its factor says
-abbrev pub unit_steps : List (ℕ × ℤ) → List ℕ
-unit_steps steps = flat_map (λ (step : ℕ × ℤ). replicate (unsigned_abs step.1) step.0) steps
+abbrev pub arranged_steps : List (ℕ × ℤ) → List ℕ
+arranged_steps steps = flat_map (λ (step : ℕ × ℤ). replicate (unsigned_abs step.1) step.0) steps
 
 -- the value at a place after some unit steps from a configuration
-abbrev pub value_after : Automaton → Config → List ℕ → ℕ → ℤ
-value_after a c rules place = value_at c place +ℤ total (λ r. rule_change a (slice_get a.rules r) place) rules
+abbrev pub value_after_steps : Automaton → Config → List ℕ → ℕ → ℤ
+value_after_steps a c rules place = value_at c place +ℤ total (λ r. rule_change a (slice_get a.rules r) place) rules
 
 -- the value at a place at the end that counts have from a configuration: what each rule adds there, times its count
 abbrev pub value_at_end : Automaton → Config → List ℤ → ℕ → ℤ
@@ -42,7 +42,7 @@ fall_mask rule = rule.fall
 pub record Passable (a : Automaton) (c : Config) (counts : List ℤ) (steps : List ℕ) : Type 0 where
   pub whole : Whole a c
   pub rise : GuardsHold a counts rise_mask a.rise (value_at c)
-  pub fall : (front : List ℕ) (last : ℕ) → steps ≡ front ++ last ∷ [] → GuardsHold a counts fall_mask a.fall (value_after a c front)
+  pub fall : (front : List ℕ) (last : ℕ) → steps ≡ front ++ last ∷ [] → GuardsHold a counts fall_mask a.fall (value_after_steps a c front)
   pub natural : (l : ℕ) → l < length a.locations → pos 0 ≤ℤ value_at_end a c counts (location_place a l)
 
 -- unit steps are legal one after another, and their end is the end that counts have
@@ -59,22 +59,22 @@ pub record LeadsToEnd (a : Automaton) (c : Config) (counts : List ℤ) (steps : 
 abbrev pub ArrangedStepsAreLegal : Type 0
 ArrangedStepsAreLegal =
     (a : Automaton) → InScope a
-    → (counts : List ℤ) → Counts a counts
+    → (counts : List ℤ) → AreRuleCounts a counts
     → (steps : List (ℕ × ℤ)) → ArrangedOf a counts steps
-    → (c : Config) → Passable a c counts (unit_steps steps)
-    → LeadsToEnd a c counts (unit_steps steps)
+    → (c : Config) → Passable a c counts (arranged_steps steps)
+    → LeadsToEnd a c counts (arranged_steps steps)
 
 -- the same where the fall guards of the support hold at the end of the counts
 abbrev pub ArrangedStepsReachTheEnd : Type 0
 ArrangedStepsReachTheEnd =
     (a : Automaton) → InScope a
-    → (counts : List ℤ) → Counts a counts
+    → (counts : List ℤ) → AreRuleCounts a counts
     → (steps : List (ℕ × ℤ)) → ArrangedOf a counts steps
     → (c : Config) → Whole a c
     → GuardsHold a counts rise_mask a.rise (value_at c)
     → GuardsHold a counts fall_mask a.fall (value_at_end a c counts)
     → ((l : ℕ) → l < length a.locations → pos 0 ≤ℤ value_at_end a c counts (location_place a l))
-    → LeadsToEnd a c counts (unit_steps steps)
+    → LeadsToEnd a c counts (arranged_steps steps)
 
 -- counts have one list of arranged steps
 abbrev pub ArrangedStepsAreDetermined : Type 0
@@ -82,14 +82,14 @@ ArrangedStepsAreDetermined = (a : Automaton) (counts : List ℤ) (xs ys : List (
 
 -- steps of existing rules, each rule at most once, and each as often as its factor says: at least once, at most its count
 pub record StepsWithin (a : Automaton) (counts : List ℤ) (steps : List (ℕ × ℤ)) : Type 0 where
-  pub exist : Each (λ (step : ℕ × ℤ). step.0 < length a.rules) steps
+  pub exist : AllByRecursion (λ (step : ℕ × ℤ). step.0 < length a.rules) steps
   pub once : (r : ℕ) → times_in r (map (λ (step : ℕ × ℤ). step.0) steps) ≤ 1
-  pub factors : Each (λ (step : ℕ × ℤ). (pos 1 ≤ℤ step.1) × (step.1 ≤ℤ count_at counts step.0)) steps
+  pub factors : AllByRecursion (λ (step : ℕ × ℤ). (pos 1 ≤ℤ step.1) × (step.1 ≤ℤ count_at counts step.0)) steps
 
 -- arranged steps are such steps of their counts
 abbrev pub ArrangedStepsAreWithin : Type 0
 ArrangedStepsAreWithin =
     (a : Automaton) → InScope a
-    → (counts : List ℤ) → Counts a counts
+    → (counts : List ℤ) → AreRuleCounts a counts
     → (steps : List (ℕ × ℤ)) → ArrangedOf a counts steps
     → StepsWithin a counts steps

@@ -30,16 +30,16 @@ Next-prop : (a : Automaton) (rules : ℕ) (placed : List ℕ) (location : ℕ) �
 Next-prop a rules placed location = hlevel (props, Ready-prop a rules placed)
 
 -- each item is the next location after the items before it
-abbrev pub Built : Automaton → ℕ → List ℕ → Type 0
-Built a rules order = (k l : ℕ) → slice_get order k ≡ Some l → Next a rules (take k order) l
+abbrev pub IsBuilt : Automaton → ℕ → List ℕ → Type 0
+IsBuilt a rules order = (k l : ℕ) → slice_get order k ≡ Some l → Next a rules (take k order) l
 
 -- each location once, again and again the least to which no rule of the mask leads from another remaining one
-pub record IsOrder (a : Automaton) (rules : ℕ) (order : List ℕ) : Type 0 where
+pub record IsLocationOrder (a : Automaton) (rules : ℕ) (order : List ℕ) : Type 0 where
   pub each_once : (l : ℕ) → l < length a.locations → times_in l order ≡ 1
-  pub built : Built a rules order
+  pub built : IsBuilt a rules order
 
-pub IsOrder-prop : (a : Automaton) (rules : ℕ) (order : List ℕ) → IsProp (IsOrder a rules order)
-IsOrder-prop a rules order = hlevel (props, Next-prop a rules)
+pub IsLocationOrder-prop : (a : Automaton) (rules : ℕ) (order : List ℕ) → IsProp (IsLocationOrder a rules order)
+IsLocationOrder-prop a rules order = hlevel (props, Next-prop a rules)
 
 -- the number of locations before a location in the order
 abbrev pub rank_of : List ℕ → ℕ → ℕ

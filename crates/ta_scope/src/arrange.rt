@@ -2,14 +2,15 @@
 #![tactic(auto)]
 
 ghost use Rattle.std.specs.Prelude.{ℕ, ℤ, pos, ◌<◌, ◌≡◌, ◌==◌, ◌&&◌, if◌then◌else◌, int_lt, List, [], ◌∷◌, ◌++◌, length, IfOk, IsOk};
-ghost use Rattle.ta_scope.specs.Arranged.{Counts, ArrangedOf, steps_along};
+ghost use Rattle.ta_scope.specs.Arranged.{AreRuleCounts, ArrangedOf, steps_along};
 ghost use Rattle.ta_scope.specs.Inside.Listed.{steps_from};
 
 use crate::circulation::{support_of, without_circulations};
 use crate::order::order_of;
 use crate::scoped::ScopedFile;
 use std::alloc::{AllocError, Global};
-use ta_automaton::{Automaton, List, Rule};
+use ta_automaton::{Automaton, Rule};
+use ta_base::List;
 
 /// Steps that go forward: the numbers of rules, each with how often it fires, from 1 on.
 #[derive(Drop)]
@@ -21,7 +22,7 @@ impl ScopedFile {
     /// The steps of counts, one for each rule: circulations are taken out, and what is left is
     /// listed by the order of the sources, then by number.
     pub fn arrange(&self, alloc: Global, counts: &[i128]) -> Result<Arranged, AllocError>
-        requires { Counts self.now.file.automaton counts.now }
+        requires { AreRuleCounts self.now.file.automaton counts.now }
         ensures { IfOk result (λ arranged. ArrangedOf self.now.file.automaton counts.now arranged.steps) }
     {
         let automaton = &self.file.automaton;

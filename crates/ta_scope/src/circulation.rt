@@ -2,10 +2,11 @@
 #![tactic(auto)]
 
 ghost use Rattle.std.specs.Prelude.{ℕ, ℤ, pos, ◌<◌, ◌≤◌, ◌≡◌, ◌⊎◌, ◌↔◌, ◌≤ℤ◌, length, slice_get, Some, IsTrue, IfOk, IfSome, IfNone, IsBitSet};
-ghost use Rattle.ta_automaton.specs.Masks.{In};
-ghost use Rattle.ta_automaton.specs.Lists.{Each, Distinct};
+ghost use Rattle.std.specs.List.{AllByRecursion};
+ghost use Rattle.ta_base.specs.Masks.{In};
+ghost use Rattle.ta_base.specs.Lists.{Distinct};
 ghost use Rattle.ta_scope.specs.Cycles.{OnCycle, NoCycle};
-ghost use Rattle.ta_scope.specs.Arranged.{Counts, Support, LeastCount, Subtracted, count_at};
+ghost use Rattle.ta_scope.specs.Arranged.{AreRuleCounts, Support, LeastCount, SubtractsFrom, count_at};
 ghost use Rattle.ta_scope.specs.Inside.Taking.{IsLeastCycle, IsCycleOf, FullyTakenOut};
 
 use crate::path::first_path;
@@ -19,7 +20,7 @@ pub fn without_circulations(
     automaton: &Automaton,
     counts: &[i128],
 ) -> Result<Vec<i128>, AllocError>
-    requires { Counts automaton.now counts.now }
+    requires { AreRuleCounts automaton.now counts.now }
     ensures { IfOk result (λ rest. FullyTakenOut automaton.now counts.now rest.items) }
 {
     let mut rest = Vec::new(alloc);
@@ -100,10 +101,10 @@ fn cycle_of(
 /// Subtracts the least of the counts of some rules from each of them.
 fn take_out(counts: &mut [i128], rules: &[u32])
     requires some { 1 ≤ length rules.now }
-    requires within { Each (λ r. r < length counts.old) rules.now }
+    requires within { AllByRecursion (λ r. r < length counts.old) rules.now }
     requires distinct { Distinct rules.now }
     requires natural { (r : ℕ) → pos 0 ≤ℤ count_at counts.old r }
-    ensures { (amount : ℤ) × LeastCount counts.old rules.now amount × Subtracted rules.now amount counts.old counts.new }
+    ensures { (amount : ℤ) × LeastCount counts.old rules.now amount × SubtractsFrom rules.now amount counts.old counts.new }
 {
     let amount = least_count(counts, rules);
     subtract(counts, rules, amount);
@@ -112,7 +113,7 @@ fn take_out(counts: &mut [i128], rules: &[u32])
 /// The least of the counts of some rules.
 fn least_count(counts: &[i128], rules: &[u32]) -> i128
     requires some { 1 ≤ length rules.now }
-    requires within { Each (λ r. r < length counts.now) rules.now }
+    requires within { AllByRecursion (λ r. r < length counts.now) rules.now }
     ensures { LeastCount counts.now rules.now result }
 {
     let mut least = counts[rules[0] as usize];
@@ -124,11 +125,11 @@ fn least_count(counts: &[i128], rules: &[u32]) -> i128
 
 /// Subtracts an amount from the counts of some rules.
 fn subtract(counts: &mut [i128], rules: &[u32], amount: i128)
-    requires within { Each (λ r. r < length counts.old) rules.now }
+    requires within { AllByRecursion (λ r. r < length counts.old) rules.now }
     requires distinct { Distinct rules.now }
     requires natural { pos 0 ≤ℤ amount }
     requires least { (r : ℕ) → In r rules.now → amount ≤ℤ count_at counts.old r }
-    ensures { Subtracted rules.now amount counts.old counts.new }
+    ensures { SubtractsFrom rules.now amount counts.old counts.new }
 {
     for number in rules {
         counts[*number as usize] -= amount;

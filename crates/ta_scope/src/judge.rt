@@ -3,7 +3,7 @@
 
 ghost use Rattle.std.specs.Prelude.{◌≢◌, ◌<◌, ◌↔◌, [], length, slice_index, IsTrue, IsBitSet, OnOk, IfErr};
 ghost use Rattle.ta_automaton.specs.Runs.{InScope};
-ghost use Rattle.ta_scope.specs.Cycles.{every_rule, Leads};
+ghost use Rattle.ta_scope.specs.Cycles.{every_rule, IsReachTable};
 ghost use Rattle.ta_scope.specs.Faults.{ScopeFaultOf};
 ghost use Rattle.ta_scope.specs.declared.fault.ScopeFault.TheVariants.{Memory};
 
@@ -24,7 +24,7 @@ pub fn judge(alloc: Global, automaton: &Automaton) -> Result<(), ScopeFault>
 
 /// Ok where no rule is at fault by a table of all rules, else the first one that is.
 fn first_at_fault(automaton: &Automaton, table: &[u32]) -> Result<(), ScopeFault>
-    requires { Leads automaton.now every_rule table.now }
+    requires { IsReachTable automaton.now every_rule table.now }
     ensures ok { OnOk result (InScope automaton.now) }
     ensures fault { IfErr result (λ fault. ScopeFaultOf automaton.now fault) }
     ensures out_of_scope { IfErr result (λ fault. ¬ InScope automaton.now) }

@@ -2,7 +2,7 @@
 #![tactic(auto)]
 
 ghost use Rattle.std.specs.Prelude.{ℕ, ◌≢◌, ◌<◌, ◌↔◌, length, slice_index, IsTrue, IfOk, IfSome, IfNone, IsBitSet};
-ghost use Rattle.ta_scope.specs.Cycles.{every_rule, Leads};
+ghost use Rattle.ta_scope.specs.Cycles.{every_rule, IsReachTable};
 ghost use Rattle.ta_scope.specs.LongerCycles.{FirstLongerCycle, LoopsAlone};
 
 use crate::reach::{is_on_cycle, leads};
@@ -21,7 +21,7 @@ pub fn first_longer_cycle(alloc: Global, automaton: &Automaton) -> Result<Option
 
 /// The same by a table of all rules.
 fn first_by_table(automaton: &Automaton, table: &[u32]) -> Option<u32>
-    requires { Leads automaton.now every_rule table.now }
+    requires { IsReachTable automaton.now every_rule table.now }
     ensures some { IfSome result (λ number. FirstLongerCycle automaton.now number) }
     ensures none { IfNone result (LoopsAlone automaton.now) }
 {

@@ -3,7 +3,7 @@
 
 ghost use Rattle.std.specs.Prelude.{ℕ, ◌<◌, ◌↔◌, length, IsTrue, IsBitSet, Contains, IfOk, IfSome, IfNone};
 ghost use Rattle.ta_scope.specs.Cycles.{NoCycle};
-ghost use Rattle.ta_scope.specs.Order.{Blocks, Ready, Next, IsOrder};
+ghost use Rattle.ta_scope.specs.Order.{Blocks, Ready, Next, IsLocationOrder};
 
 use crate::reach::has_rule;
 use std::alloc::{AllocError, Global};
@@ -13,7 +13,7 @@ use ta_automaton::{Automaton, Rule};
 /// and again the least location to which no rule of the mask leads from another remaining one.
 pub fn order_of(alloc: Global, automaton: &Automaton, rules: u128) -> Result<Vec<u32>, AllocError>
     requires { NoCycle automaton.now rules }
-    ensures { IfOk result (λ order. IsOrder automaton.now rules order.items) }
+    ensures { IfOk result (λ order. IsLocationOrder automaton.now rules order.items) }
 {
     let mut order = Vec::new(alloc);
     while let Some(location) = next_location(automaton, rules, order.as_slice()) {

@@ -4,11 +4,12 @@
 ghost use Rattle.std.specs.Prelude.{ℕ, ◌+◌, ◌<◌, ◌≤◌, ◌≡◌, ◌⊎◌, ◌↔◌, length, slice_get, Some, IsTrue, IfOk, IfSome, IfNone, IsBitSet};
 ghost use Rattle.ta_scope.specs.Cycles.{Reaches};
 ghost use Rattle.ta_scope.specs.Arranged.{FirstPath};
-ghost use Rattle.ta_scope.specs.Inside.Distances.{Distance, LeadsTo, Stepped, IsStep, FirstStep};
+ghost use Rattle.ta_scope.specs.Inside.Distances.{Distance, LeadsTo, AddsNextLocations, IsStep, FirstStep};
 
-use crate::reach::{contains, has_rule};
+use crate::reach::has_rule;
 use std::alloc::{AllocError, Global};
 use ta_automaton::{Automaton, Rule};
+use ta_base::masks::contains;
 
 /// The path of a mask's rules with the fewest rules, and among several such paths the least list of
 /// numbers.
@@ -130,7 +131,7 @@ fn distance(automaton: &Automaton, rules: u128, from: u32, to: u32) -> Option<u3
 
 /// The locations of a mask, and those to which rules lead from one of them.
 fn stepped(automaton: &Automaton, rules: u128, mask: u32) -> u32
-    ensures stepped { Stepped automaton.now rules mask result }
+    ensures stepped { AddsNextLocations automaton.now rules mask result }
     ensures grows { mask ≤ result }
 {
     let mut more = mask;

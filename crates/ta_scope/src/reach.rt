@@ -2,16 +2,17 @@
 #![tactic(auto)]
 
 ghost use Rattle.std.specs.Prelude.{ℕ, ◌<◌, ◌↔◌, length, slice_index, IsTrue, IfOk, IfSome, IfNone, IsBitSet};
-ghost use Rattle.ta_scope.specs.Cycles.{Reaches, Leads};
-ghost use Rattle.ta_scope.specs.Inside.Reached.{LeadsOut, Grown, Closed};
+ghost use Rattle.ta_scope.specs.Cycles.{Reaches, IsReachTable};
+ghost use Rattle.ta_scope.specs.Inside.Reached.{LeadsOut, AddsLocation, IsClosed};
 
 use std::alloc::{AllocError, Global};
 use ta_automaton::{Automaton, Rule};
+use ta_base::masks::contains;
 
 /// For each location the mask of the locations to which rules of a mask lead from it. Bit r of
 /// `rules` names rule r, and bit l of an item location l.
 pub fn leads(alloc: Global, automaton: &Automaton, rules: u128) -> Result<Vec<u32>, AllocError>
-    ensures { IfOk result (λ table. Leads automaton.now rules table.items) }
+    ensures { IfOk result (λ table. IsReachTable automaton.now rules table.items) }
 {
     let mut table = Vec::new(alloc);
     let count = automaton.locations.as_slice().len() as u32;
@@ -44,9 +45,9 @@ fn reached_from(automaton: &Automaton, rules: u128, location: u32) -> u32
 
 /// A mask with one more location, to which a rule leads out of the mask, if there is one.
 fn grown(automaton: &Automaton, rules: u128, mask: u32) -> Option<u32>
-    ensures some { IfSome result (λ more. Grown automaton.now rules mask more) }
+    ensures some { IfSome result (λ more. AddsLocation automaton.now rules mask more) }
     ensures greater { IfSome result (λ more. mask < more) }
-    ensures none { IfNone result (Closed automaton.now rules mask) }
+    ensures none { IfNone result (IsClosed automaton.now rules mask) }
 {
     for (number, rule) in automaton.rules.as_slice().iter().enumerate() {
         if leads_out(rules, mask, number as u32, rule) {
@@ -72,12 +73,4 @@ pub fn has_rule(rules: u128, number: u32) -> bool
     ensures { IsTrue result ↔ IsBitSet rules number }
 {
     rules & (1 << number) != 0
-}
-
-/// Whether a mask has a location.
-pub fn contains(mask: u32, location: u32) -> bool
-    requires { location < 32 }
-    ensures { IsTrue result ↔ IsBitSet mask location }
-{
-    mask & (1 << location) != 0
 }

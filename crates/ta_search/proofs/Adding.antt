@@ -1,13 +1,13 @@
 -- One hole more behind legal ones.
 use Rattle.std.proofs.Common.{ℕ, ◌*◌, ◌<◌, ◌≤◌, ◌≡◌, ◌++◌, inl, inr, false, nat_lt, List, [], ◌∷◌, length, refl, sym, ap, subst, ◌∙◌, length-append, arith}
 use Rattle.std.specs.Prelude.{IsTrue}
-use Rattle.std.proofs.lemmas.Bool.{cases_lt}
 use Rattle.std.proofs.lemmas.Bool.Decides.{Decides-ltb}
 use Rattle.std.proofs.Math.Nat.{mul_assoc}
+use Rattle.ta_base.proofs.Naturals.{at_most}
 use Rattle.ta_search.specs.declared.template.Hole.{Hole}
 use Rattle.ta_search.specs.declared.fault.TemplateFault.TheVariants as fault
-use Rattle.ta_search.specs.Holes.{AreTooMany, IsSpelled, hole_line, is_among, value_count, vector_count}
-use Rattle.ta_search.specs.Inside.Lines.{Adds, Declares, LineRefused}
+use Rattle.ta_search.specs.Holes.{AreTooMany, IsSpelledHole, hole_line, is_among, value_count, vector_count}
+use Rattle.ta_search.specs.Inside.Lines.{AddsHole, Declares, LineRefused}
 use Rattle.ta_search.proofs.HoleLines.{hole_of, same_hole}
 
 -- the choices with one hole more
@@ -30,16 +30,13 @@ declared_hole : (line name : List ℕ) (low high : ℕ) (d : Declares line name 
 declared_hole line name low high d = same_hole d.h (hole_of name low high) (sym d.name_is) (sym d.low_is) (sym d.high_is)
 
 abbrev pub HoleOfLine : List ℕ → Hole → Type 0
-HoleOfLine line h = IsSpelled h × (line ≡ hole_line h)
+HoleOfLine line h = IsSpelledHole h × (line ≡ hole_line h)
 
 pub of_line : (line name : List ℕ) (low high : ℕ) → Declares line name low high → HoleOfLine line (hole_of name low high)
 of_line line name low high d = subst (λ h. HoleOfLine line h) (declared_hole line name low high d) (d.spelled, d.text)
 
-at_most : (a b : ℕ) → (a < b → ⊥) → b ≤ a
-at_most a b f = elim (cases_lt a b) [ inl less ↦ absurd (f less) | inr most ↦ omega arith ]
-
 -- a hole that may stand behind these
-pub adds_is : (hs : List Hole) (line name taken : List ℕ) (low high : ℕ) → Declares line name low high → taken ≡ name → is_among hs name ≡ false → low ≤ high → high ≤ 1000000000 → (AreTooMany (hs ++ hole_of taken low high ∷ []) → ⊥) → Adds hs line (hole_of taken low high)
+pub adds_is : (hs : List Hole) (line name taken : List ℕ) (low high : ℕ) → Declares line name low high → taken ≡ name → is_among hs name ≡ false → low ≤ high → high ≤ 1000000000 → (AreTooMany (hs ++ hole_of taken low high ∷ []) → ⊥) → AddsHole hs line (hole_of taken low high)
 adds_is hs line name taken low high d same fresh some small few =
     let is = subst (λ n. HoleOfLine line (hole_of n low high)) (sym same) (of_line line name low high d) in
     record {

@@ -1,10 +1,10 @@
 -- what is found is safe
 use Rattle.std.proofs.Common.{◌≡◌, ◌∙◌, inl, inr, ℕ, ◌+◌, true, List, [], ◌∷◌, ◌++◌, length, map, refl, sym, ap, subst, append_assoc}
 use Rattle.std.proofs.lemmas.Bool.{false≢true}
+use Rattle.std.specs.List.{AllByRecursion}
 use Rattle.ta_automaton.specs.declared.file.File.{File}
 use Rattle.ta_automaton.specs.declared.pattern.Pattern.{Pattern}
-use Rattle.ta_automaton.specs.Lists.{Each}
-use Rattle.ta_automaton.specs.Masks.{numbers_from}
+use Rattle.ta_base.specs.Masks.{numbers_from}
 use Rattle.ta_automaton.specs.Runs as runs
 use Rattle.ta_check.specs.Certificate.{Certificate}
 use Rattle.ta_report.specs.declared.verdict.Verdict.{Verdict}
@@ -22,7 +22,7 @@ use Rattle.ta_search.specs.Searching.{AreTried, IsFound, IsSearchEnd, IsTried, L
 use Rattle.ta_search.specs.Vectors.{vectors}
 
 -- patterns whose verdicts are Safe are safe, and their numbers are all numbers
-all_safe : (file : File) (budget number : ℕ) (ps : List Pattern) (vs : List Verdict) → VerdictsHold file budget number ps vs → Each (λ v. is_safe v ≡ true) vs → Each (runs.Safe file.automaton) ps
+all_safe : (file : File) (budget number : ℕ) (ps : List Pattern) (vs : List Verdict) → VerdictsHold file budget number ps vs → AllByRecursion (λ v. is_safe v ≡ true) vs → AllByRecursion (runs.Safe file.automaton) ps
 all_safe file budget number [] vs hold all = tt
 all_safe file budget number (p ∷ ps) [] hold all = absurd hold
 all_safe file budget number (p ∷ ps) (Safe nodes leaves ∷ vs) hold all =
@@ -33,7 +33,7 @@ all_safe file budget number (p ∷ ps) (Unsafe nodes run ∷ vs) hold all = absu
 all_safe file budget number (p ∷ ps) (Spent nodes ∷ vs) hold all = absurd (false≢true all.0)
 all_safe file budget number (p ∷ ps) (Overflow node kind ∷ vs) hold all = absurd (false≢true all.0)
 
-all_numbers : (file : File) (budget number : ℕ) (ps : List Pattern) (vs : List Verdict) → VerdictsHold file budget number ps vs → Each (λ v. is_safe v ≡ true) vs → map (λ (one : SafeOne). one.number) (safe_ones number ps vs) ≡ numbers_from number (length ps)
+all_numbers : (file : File) (budget number : ℕ) (ps : List Pattern) (vs : List Verdict) → VerdictsHold file budget number ps vs → AllByRecursion (λ v. is_safe v ≡ true) vs → map (λ (one : SafeOne). one.number) (safe_ones number ps vs) ≡ numbers_from number (length ps)
 all_numbers file budget number [] vs hold all = refl
 all_numbers file budget number (p ∷ ps) [] hold all = absurd hold
 all_numbers file budget number (p ∷ ps) (Safe nodes leaves ∷ vs) hold all = ap (λ (ks : List ℕ). number ∷ ks) (all_numbers file budget (number + 1) ps vs hold.1 all.1)

@@ -3,12 +3,11 @@ use Rattle.std.proofs.Common.{ℕ, ◌+◌, ◌<◌, ◌≤◌, ◌≡◌, ◌�
 use Rattle.std.specs.Str.{bytes_eq}
 use Rattle.std.proofs.lemmas.Bool.{cases_Bool, cases_eq, cases_lt, false≢true}
 use Rattle.std.proofs.lemmas.Slice.Eq.{bytes_eq-Decides}
-use Rattle.ta_replay.specs.Inside.Reading.{SplitAt}
-use Rattle.ta_replay.specs.TextFaults.{Avoids}
-use Rattle.ta_replay.proofs.Bytes.{avoids-append}
+use Rattle.ta_base.specs.Bytes.{SplitAt, Avoids}
+use Rattle.ta_base.proofs.Lists.{avoids-append}
 use Rattle.ta_search.specs.declared.template.Hole.{Hole}
 use Rattle.ta_search.specs.declared.fault.TemplateFault.TheVariants as fault
-use Rattle.ta_search.specs.Holes.{AreHoles, AreTooMany, InRange, IsSpelled, head_text, hole_line, is_among, unknown_place, vector_count}
+use Rattle.ta_search.specs.Holes.{AreHoles, AreTooMany, HoleInRange, IsSpelledHole, head_text, hole_line, is_among, unknown_place, vector_count}
 use Rattle.ta_search.specs.Laws.{HasTemplate, HasTemplateFault}
 use Rattle.ta_search.proofs.Heads.{Read, head_read, read_more, read_none, read_refused, read_unfinished}
 
@@ -23,7 +22,7 @@ many_or hs = elim (cases_lt 4 (length hs)) [
 ]
 
 -- a hole is in range, or not
-range_or : (h : Hole) → ((h.high < h.low) ⊎ (1000000000 < h.high)) ⊎ InRange h
+range_or : (h : Hole) → ((h.high < h.low) ⊎ (1000000000 < h.high)) ⊎ HoleInRange h
 range_or h = elim (cases_lt h.high h.low) [
   | inl less ↦ inl (inl less)
   | inr some ↦ elim (cases_lt 1000000000 h.high) [
@@ -38,7 +37,7 @@ module _ (bytes : List ℕ) (no_template : ¬ HasTemplate bytes) (no_fault : ¬ 
   body hs behind (Some place) are text e = no_fault (fault.UnknownHole (length (head_text hs) + place), record { hs = hs; body = behind; place = place; holes = are; text = text; first = e; at = refl })
 
   -- the line of a hole
-  at_hole : (hs : List Hole) (rest line behind : List ℕ) (h : Hole) → Read bytes hs rest → SplitAt 10 rest line behind → (line ≡ codes "begin" → ⊥) → IsSpelled h → line ≡ hole_line h → ((g : Hole) → Read bytes (hs ++ g ∷ []) behind → ⊥) → ⊥
+  at_hole : (hs : List Hole) (rest line behind : List ℕ) (h : Hole) → Read bytes hs rest → SplitAt 10 rest line behind → (line ≡ codes "begin" → ⊥) → IsSpelledHole h → line ≡ hole_line h → ((g : Hole) → Read bytes (hs ++ g ∷ []) behind → ⊥) → ⊥
   at_hole hs rest line behind h read parted other spelled text next =
       elim (cases_Bool (is_among hs h.name)) [
         | inl before ↦ no_fault (fault.Repeated (length hs + 1), read_refused bytes rest line behind hs (length hs + 1) (fault.Repeated (length hs + 1)) read parted other refl (h, spelled, text, (refl, before)))

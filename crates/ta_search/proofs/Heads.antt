@@ -1,21 +1,18 @@
 -- What the reader of a template has read, and what is left.
-use Rattle.std.proofs.Common.{ℕ, ◌+◌, ◌≡◌, ◌||◌, ◌++◌, inl, inr, Bool, true, false, List, [], ◌∷◌, length, codes, refl, sym, ap, subst, ◌∙◌, length-append, append_assoc, arith}
+use Rattle.std.proofs.Common.{ℕ, ◌+◌, ◌≡◌, ◌++◌, inl, inr, false, List, [], ◌∷◌, length, codes, refl, sym, ap, subst, ◌∙◌, append_assoc, arith}
 use Rattle.std.specs.Str.{bytes_eq}
-use Rattle.std.proofs.lemmas.Bool.{false≢true}
+use Rattle.std.proofs.lemmas.Bool.{or_parts}
 use Rattle.std.proofs.lemmas.List.{map-append}
-use Rattle.std.proofs.lemmas.Slice.Eq.{bytes_eq-Decides}
-use Rattle.ta_automaton.specs.Lists.{Distinct}
-use Rattle.ta_replay.specs.Inside.Reading.{SplitAt}
-use Rattle.ta_replay.specs.TextFaults.{Avoids}
-use Rattle.ta_replay.proofs.ListSteps.{each_push}
+use Rattle.ta_base.specs.Lists.{Distinct}
+use Rattle.ta_base.specs.Bytes.{SplitAt, Avoids}
+use Rattle.ta_base.proofs.ByteLists.{differs}
+use Rattle.ta_base.proofs.Each.{each_push}
 use Rattle.ta_search.specs.declared.template.Hole.{Hole}
-use Rattle.ta_search.specs.declared.template.Template.{Template}
 use Rattle.ta_search.specs.declared.fault.TemplateFault.{TemplateFault}
 use Rattle.ta_search.specs.declared.fault.TemplateFault.TheVariants as fault
-use Rattle.ta_search.specs.Holes.{AreHoles, InRange, IsSpelled, head_text, hole_line, hole_lines, hole_names, is_among}
-use Rattle.ta_search.specs.Templates.{template_text}
-use Rattle.ta_search.specs.TemplateFaults.{Begins, FaultOf}
-use Rattle.ta_search.specs.Inside.Lines.{Adds, BodyRefused, LineRefused}
+use Rattle.ta_search.specs.Holes.{AreHoles, HoleInRange, IsSpelledHole, head_text, hole_line, hole_lines, hole_names, is_among}
+use Rattle.ta_search.specs.TemplateFaults.{BeginsWithHoles, FaultOf}
+use Rattle.ta_search.specs.Inside.Lines.{AddsHole, LineRefused}
 
 -- the lines of these holes, which are legal, are read
 pub record Read (bytes : List ℕ) (hs : List Hole) (rest : List ℕ) : Type 0 where
@@ -28,25 +25,17 @@ read_none bytes = record {
   text = refl;
 }
 
--- a name that none of these holes has differs from each of their names
-differs : (n m : List ℕ) → bytes_eq n m ≡ false → m ≡ n → ⊥
-differs n m e same = false≢true (sym e ∙ (bytes_eq-Decides n m).1 (sym same))
-
-fresh_here : (b c : Bool) → b || c ≡ false → (b ≡ false) × (c ≡ false)
-fresh_here true c e = absurd (false≢true (sym e))
-fresh_here false c e = (refl, e)
-
 distinct_push : (hs : List Hole) (h : Hole) → Distinct (hole_names hs) → is_among hs h.name ≡ false → Distinct (hole_names hs ++ h.name ∷ [])
 distinct_push [] h d fresh = (tt, tt)
 distinct_push (g ∷ hs) h d fresh =
-    let parts = fresh_here (bytes_eq h.name g.name) (is_among hs h.name) fresh in
+    let parts = or_parts (bytes_eq h.name g.name) (is_among hs h.name) fresh in
     (each_push (λ n. g.name ≡ n → ⊥) (hole_names hs) h.name d.0 (differs h.name g.name parts.0), distinct_push hs h d.1 parts.1)
 
 -- legal holes with one more
-pub holes_push : (hs : List Hole) (line : List ℕ) (h : Hole) → AreHoles hs → Adds hs line h → AreHoles (hs ++ h ∷ [])
+pub holes_push : (hs : List Hole) (line : List ℕ) (h : Hole) → AreHoles hs → AddsHole hs line h → AreHoles (hs ++ h ∷ [])
 holes_push hs line h are adds = record {
-  spelled = each_push IsSpelled hs h are.spelled adds.spelled;
-  ranges = each_push InRange hs h are.ranges adds.range;
+  spelled = each_push IsSpelledHole hs h are.spelled adds.spelled;
+  ranges = each_push HoleInRange hs h are.ranges adds.range;
   distinct = subst (λ (ns : List (List ℕ)). Distinct ns) (sym (map-append (λ (g : Hole). g.name) hs (h ∷ []))) (distinct_push hs h are.distinct adds.fresh);
   few = adds.few;
   vectors = adds.vectors;
@@ -60,13 +49,13 @@ lines_push (g ∷ hs) h behind =
     ∙ ap (λ xs. hole_line g ++ (10 ∷ xs)) (lines_push hs h behind)
     ∙ sym (append_assoc (hole_line g) (10 ∷ hole_lines (hs ++ h ∷ [])) behind)
 
-pub read_more : (bytes rest line behind : List ℕ) (hs : List Hole) (h : Hole) → Read bytes hs rest → SplitAt 10 rest line behind → Adds hs line h → Read bytes (hs ++ h ∷ []) behind
+pub read_more : (bytes rest line behind : List ℕ) (hs : List Hole) (h : Hole) → Read bytes hs rest → SplitAt 10 rest line behind → AddsHole hs line h → Read bytes (hs ++ h ∷ []) behind
 read_more bytes rest line behind hs h read parted adds = record {
   holes = holes_push hs line h read.holes adds;
   text = read.text ∙ ap (λ xs. hole_lines hs ++ xs) (parted.split ∙ ap (λ xs. xs ++ (10 ∷ behind)) adds.text) ∙ lines_push hs h behind;
 }
 
-begins : (bytes : List ℕ) (hs : List Hole) (rest next : List ℕ) (number : ℕ) → Read bytes hs rest → rest ≡ next → number ≡ length hs + 1 → Begins bytes hs next number
+begins : (bytes : List ℕ) (hs : List Hole) (rest next : List ℕ) (number : ℕ) → Read bytes hs rest → rest ≡ next → number ≡ length hs + 1 → BeginsWithHoles bytes hs next number
 begins bytes hs rest next number read e counted = record { holes = read.holes; text = read.text ∙ ap (λ xs. hole_lines hs ++ xs) e; place = counted }
 
 -- the text ends in a line
@@ -112,26 +101,3 @@ read_refused bytes rest line behind hs number fault.Memory read parted other cou
 pub head_read : (bytes rest line behind : List ℕ) (hs : List Hole) → Read bytes hs rest → SplitAt 10 rest line behind → line ≡ codes "begin" → bytes ≡ head_text hs ++ behind
 head_read bytes rest line behind hs read parted e =
     read.text ∙ ap (λ xs. hole_lines hs ++ xs) (parted.split ∙ ap (λ xs. xs ++ (10 ∷ behind)) e ∙ sym (append_assoc (codes "begin") (10 ∷ []) behind)) ∙ sym (append_assoc (hole_lines hs) (codes "begin" ++ (10 ∷ [])) behind)
-
--- a body is refused
-pub body_refused : (bytes rest line behind : List ℕ) (hs : List Hole) (offset : ℕ) (e : TemplateFault) → Read bytes hs rest → SplitAt 10 rest line behind → line ≡ codes "begin" → offset + length behind ≡ length bytes → BodyRefused hs offset behind e → FaultOf bytes e
-body_refused bytes rest line behind hs offset (fault.UnknownHole k) read parted is counted (place, unknown, at) =
-    let text = head_read bytes rest line behind hs read parted is in
-    record {
-      hs = hs;
-      body = behind;
-      place = place;
-      holes = read.holes;
-      text = text;
-      first = unknown;
-      at = at ∙ ap (λ n. n + place) (let lengths = ap (λ (xs : List ℕ). length xs) text in let both = length-append (head_text hs) behind in let same : offset ≡ length (head_text hs) = omega arith in same);
-    }
-body_refused bytes rest line behind hs offset fault.Memory read parted is counted bad = tt
-body_refused bytes rest line behind hs offset (fault.Line k) read parted is counted bad = absurd bad
-body_refused bytes rest line behind hs offset (fault.Repeated k) read parted is counted bad = absurd bad
-body_refused bytes rest line behind hs offset (fault.Range k) read parted is counted bad = absurd bad
-body_refused bytes rest line behind hs offset (fault.TooMany k) read parted is counted bad = absurd bad
-
--- a template is read
-pub whole_read : (bytes rest line behind : List ℕ) (hs : List Hole) (t : Template) → Read bytes hs rest → SplitAt 10 rest line behind → line ≡ codes "begin" → t.holes ≡ hs → t.body ≡ behind → template_text t ≡ bytes
-whole_read bytes rest line behind hs t read parted is holes body = ap (λ gs. head_text gs ++ t.body) holes ∙ ap (λ xs. head_text hs ++ xs) body ∙ sym (head_read bytes rest line behind hs read parted is)

@@ -1,63 +1,36 @@
 -- The lines of holes: their parts, and that a line is that of one hole.
-use Rattle.std.proofs.Common.{ℕ, ℤ, pos, ◌<◌, ◌^◌, ◌≡◌, ◌&&◌, ◌++◌, true, not, List, [], ◌∷◌, drop, codes, decimal, refl, sym, ap, subst, ◌∙◌, arith, lit<}
-use Rattle.std.specs.List.{AllByRecursion, list_all, list_any}
-use Rattle.std.specs.Prelude.{IsTrue}
-use Rattle.std.specs.Str.{IsAscii, IsUtf8, bytes_eq}
-use Rattle.std.proofs.lemmas.Bool.{false≢true}
-use Rattle.std.proofs.lemmas.Bool.Decides.{nat_tests}
+use Rattle.std.proofs.Common.{ℕ, ◌<◌, ◌^◌, ◌≡◌, ◌&&◌, ◌++◌, true, not, List, [], ◌∷◌, drop, codes, decimal, refl, sym, ap, subst, ◌∙◌, arith, lit<}
+use Rattle.std.specs.List.{list_all, list_any}
+use Rattle.std.specs.Str.{IsUtf8, bytes_eq}
+use Rattle.std.proofs.lemmas.Bool.{false≢true, and_parts}
 use Rattle.std.proofs.lemmas.Fmt.{decimal_injective}
 use Rattle.std.proofs.lemmas.List.{append_cancel_left}
 use Rattle.std.proofs.lemmas.Str.{IsUtf8-from_ascii}
-use Rattle.std.proofs.lemmas.Str.Ascii.{IsAscii-cons, IsAscii-nil}
-use Rattle.ta_syntax.specs.Kinds.{is_letter, is_word}
-use Rattle.ta_counter.specs.Values.{Value}
-use Rattle.ta_replay.specs.Reading.{IsNumber}
-use Rattle.ta_replay.specs.Inside.Reading.{SplitAt}
-use Rattle.ta_replay.specs.TextFaults.{Avoids, IsWord}
-use Rattle.ta_replay.proofs.Bytes.{avoids-append, both, first_byte, name_tells, not_parted}
-use Rattle.ta_replay.proofs.Decimals.{number_avoids, number_same, value_is}
-use Rattle.ta_replay.proofs.Forms.{word_avoids}
+use Rattle.ta_base.specs.Bytes.{is_letter, is_word, SplitAt, Avoids, IsWord}
+use Rattle.ta_base.specs.Decimals.{IsDecimal, NoDecimal}
+use Rattle.ta_base.proofs.ByteLists.{words_ascii}
+use Rattle.ta_base.proofs.DecimalDigits.{short_avoids}
+use Rattle.ta_base.proofs.Each.{word_avoids, word_tells}
+use Rattle.ta_base.proofs.Lists.{avoids-append, first_byte, heads, not_parted}
 use Rattle.ta_smt.specs.WordText.{is_name, keywords}
 use Rattle.ta_search.specs.declared.template.Hole.{Hole}
-use Rattle.ta_search.specs.Holes.{IsSpelled, hole_line}
-use Rattle.ta_search.specs.Inside.Lines.{Declares, IsHoleName, IsShortNumber}
+use Rattle.ta_search.specs.Holes.{IsSpelledHole, hole_line}
+use Rattle.ta_search.specs.Inside.Lines.{Declares, IsHoleName}
 
 -- a name is a word
 pub name_word : (bytes : List ℕ) → is_name bytes ≡ true → IsWord bytes
 name_word [] e = absurd (false≢true e)
 name_word (b ∷ bs) e =
-    let front = both (is_letter b && list_all is_word (b ∷ bs)) (not (list_any (bytes_eq (b ∷ bs)) keywords)) e in
-    let parts = both (is_letter b) (list_all is_word (b ∷ bs)) front.0 in
-    (name_tells (b ∷ bs) true (omega arith) parts.0 (sym parts.1)).0 refl
-
--- its bytes are ASCII
-word_ascii : (b : ℕ) → IsTrue (is_word b) → b < 128
-word_ascii b h = grind (arith, nat_tests)
-
-words_ascii : (bs : List ℕ) → AllByRecursion (λ b. IsTrue (is_word b)) bs → IsAscii bs
-words_ascii [] each = IsAscii-nil
-words_ascii (b ∷ bs) each = IsAscii-cons b bs (word_ascii b each.0) (words_ascii bs each.1)
+    let front = and_parts (is_letter b && list_all is_word (b ∷ bs)) (not (list_any (bytes_eq (b ∷ bs)) keywords)) e in
+    let parts = and_parts (is_letter b) (list_all is_word (b ∷ bs)) front.0 in
+    (word_tells (b ∷ bs) true (omega arith) parts.0 (sym parts.1)).0 refl
 
 -- and so they are UTF-8
 pub name_utf8 : (bytes : List ℕ) → is_name bytes ≡ true → IsUtf8 bytes
 name_utf8 bytes e = IsUtf8-from_ascii bytes (words_ascii bytes (name_word bytes e).each)
 
--- a number of ten digits is a value
-short_value : (n : ℕ) → n < 10 ^ 10 → Value (pos n)
-short_value n low = let large : 10 ^ 10 < 2 ^ 127 = lit< tt in value_is n (omega arith)
-
-short_avoids : (byte n : ℕ) → byte < 48 → n < 10 ^ 10 → Avoids byte (decimal n)
-short_avoids byte n below low = number_avoids byte (pos n) below (short_value n low)
-
-pub short_is : (bytes : List ℕ) (n : ℕ) → IsShortNumber bytes n → IsNumber bytes (pos n)
-short_is bytes n is = record { number = short_value n is.short; text = is.text }
-
--- it is the number that is read
-pub short_same : (bytes : List ℕ) (z : ℤ) (n : ℕ) → IsNumber bytes z → IsShortNumber bytes n → z ≡ pos n
-short_same bytes z n is short = number_same z (pos n) is.number (short_value n short.short) (sym is.text ∙ short.text)
-
 -- a line of a hole has no line feed
-pub line_avoids : (h : Hole) → IsSpelled h → Avoids 10 (hole_line h)
+pub line_avoids : (h : Hole) → IsSpelledHole h → Avoids 10 (hole_line h)
 line_avoids h is =
     let word : Avoids 10 (codes "hole ") = (λ e. cc, (λ e. cc, (λ e. cc, (λ e. cc, (λ e. cc, tt))))) in
     let name = word_avoids 10 h.name refl (name_word h.name is.name) in
@@ -66,57 +39,54 @@ line_avoids h is =
     avoids-append 10 (codes "hole ") (h.name ++ (32 ∷ decimal h.low ++ (32 ∷ decimal h.high))) word
     (avoids-append 10 h.name (32 ∷ decimal h.low ++ (32 ∷ decimal h.high)) name ((λ e. cc), avoids-append 10 (decimal h.low) (32 ∷ decimal h.high) low ((λ e. cc), high)))
 
-first_same : (a b : ℕ) (xs ys : List ℕ) → a ∷ xs ≡ b ∷ ys → a ≡ b
-first_same a b xs ys e = cc
-
 -- it isn't the line `begin`
 pub no_begin : (h : Hole) → hole_line h ≡ codes "begin" → ⊥
-no_begin h e = let first : ◌≡◌ {A = ℕ} 104 98 = first_same 104 98 (drop 1 (hole_line h)) (drop 1 (codes "begin")) e in omega arith
+no_begin h e = let first : ◌≡◌ {A = ℕ} 104 98 = heads 104 98 (drop 1 (hole_line h)) (drop 1 (codes "begin")) e in omega arith
 
 -- what stands behind the word of a line
 pub behind_word : (line rest : List ℕ) (h : Hole) → line ≡ codes "hole " ++ rest → line ≡ hole_line h → rest ≡ h.name ++ (32 ∷ decimal h.low ++ (32 ∷ decimal h.high))
 behind_word line rest h e is = append_cancel_left (codes "hole ") rest (h.name ++ (32 ∷ decimal h.low ++ (32 ∷ decimal h.high))) (sym e ∙ is)
 
 -- what stands before the first space, and behind it
-pub at_name : (line rest name numbers : List ℕ) (h : Hole) → line ≡ codes "hole " ++ rest → SplitAt 32 rest name numbers → IsSpelled h → line ≡ hole_line h → (name ≡ h.name) × (numbers ≡ decimal h.low ++ (32 ∷ decimal h.high))
+pub at_name : (line rest name numbers : List ℕ) (h : Hole) → line ≡ codes "hole " ++ rest → SplitAt 32 rest name numbers → IsSpelledHole h → line ≡ hole_line h → (name ≡ h.name) × (numbers ≡ decimal h.low ++ (32 ∷ decimal h.high))
 at_name line rest name numbers h e parted spelled is =
     first_byte 32 name h.name numbers (decimal h.low ++ (32 ∷ decimal h.high)) parted.first (word_avoids 32 h.name refl (name_word h.name spelled.name)) (sym parted.split ∙ behind_word line rest h e is)
 
 -- the two numbers
-pub at_numbers : (numbers low high : List ℕ) (h : Hole) → SplitAt 32 numbers low high → IsSpelled h → numbers ≡ decimal h.low ++ (32 ∷ decimal h.high) → (low ≡ decimal h.low) × (high ≡ decimal h.high)
+pub at_numbers : (numbers low high : List ℕ) (h : Hole) → SplitAt 32 numbers low high → IsSpelledHole h → numbers ≡ decimal h.low ++ (32 ∷ decimal h.high) → (low ≡ decimal h.low) × (high ≡ decimal h.high)
 at_numbers numbers low high h parted spelled is =
     first_byte 32 low (decimal h.low) high (decimal h.high) parted.first (short_avoids 32 h.low (omega arith) spelled.low_digits) (sym parted.split ∙ is)
 
 -- a line without a space behind its word is that of no hole
-pub no_name : (line rest : List ℕ) → line ≡ codes "hole " ++ rest → Avoids 32 rest → (h : Hole) → IsSpelled h → line ≡ hole_line h → ⊥
+pub no_name : (line rest : List ℕ) → line ≡ codes "hole " ++ rest → Avoids 32 rest → (h : Hole) → IsSpelledHole h → line ≡ hole_line h → ⊥
 no_name line rest e none h spelled is = not_parted 32 h.name (decimal h.low ++ (32 ∷ decimal h.high)) rest none (behind_word line rest h e is)
 
 -- nor is one without a space behind its name
-pub no_low : (line rest name numbers : List ℕ) → line ≡ codes "hole " ++ rest → SplitAt 32 rest name numbers → Avoids 32 numbers → (h : Hole) → IsSpelled h → line ≡ hole_line h → ⊥
+pub no_low : (line rest name numbers : List ℕ) → line ≡ codes "hole " ++ rest → SplitAt 32 rest name numbers → Avoids 32 numbers → (h : Hole) → IsSpelledHole h → line ≡ hole_line h → ⊥
 no_low line rest name numbers e parted none h spelled is = not_parted 32 (decimal h.low) (decimal h.high) numbers none (at_name line rest name numbers h e parted spelled is).1
 
 -- nor one with another name
-pub no_hole_name : (line rest name numbers : List ℕ) → line ≡ codes "hole " ++ rest → SplitAt 32 rest name numbers → (IsHoleName name → ⊥) → (h : Hole) → IsSpelled h → line ≡ hole_line h → ⊥
+pub no_hole_name : (line rest name numbers : List ℕ) → line ≡ codes "hole " ++ rest → SplitAt 32 rest name numbers → (IsHoleName name → ⊥) → (h : Hole) → IsSpelledHole h → line ≡ hole_line h → ⊥
 no_hole_name line rest name numbers e parted none h spelled is = none (subst IsHoleName (sym (at_name line rest name numbers h e parted spelled is).0) (record { name = spelled.name; short = spelled.short }))
 
 -- nor one with other numbers
-pub no_lowest : (line rest name numbers low high : List ℕ) → line ≡ codes "hole " ++ rest → SplitAt 32 rest name numbers → SplitAt 32 numbers low high → ((n : ℕ) → IsShortNumber low n → ⊥) → (h : Hole) → IsSpelled h → line ≡ hole_line h → ⊥
+pub no_lowest : (line rest name numbers low high : List ℕ) → line ≡ codes "hole " ++ rest → SplitAt 32 rest name numbers → SplitAt 32 numbers low high → NoDecimal (10 ^ 10) low → (h : Hole) → IsSpelledHole h → line ≡ hole_line h → ⊥
 no_lowest line rest name numbers low high e parted cut none h spelled is =
-    none h.low (record { text = (at_numbers numbers low high h cut spelled (at_name line rest name numbers h e parted spelled is).1).0; short = spelled.low_digits })
+    none h.low (record { text = (at_numbers numbers low high h cut spelled (at_name line rest name numbers h e parted spelled is).1).0; below = spelled.low_digits })
 
-pub no_highest : (line rest name numbers low high : List ℕ) → line ≡ codes "hole " ++ rest → SplitAt 32 rest name numbers → SplitAt 32 numbers low high → ((n : ℕ) → IsShortNumber high n → ⊥) → (h : Hole) → IsSpelled h → line ≡ hole_line h → ⊥
+pub no_highest : (line rest name numbers low high : List ℕ) → line ≡ codes "hole " ++ rest → SplitAt 32 rest name numbers → SplitAt 32 numbers low high → NoDecimal (10 ^ 10) high → (h : Hole) → IsSpelledHole h → line ≡ hole_line h → ⊥
 no_highest line rest name numbers low high e parted cut none h spelled is =
-    none h.high (record { text = (at_numbers numbers low high h cut spelled (at_name line rest name numbers h e parted spelled is).1).1; short = spelled.high_digits })
+    none h.high (record { text = (at_numbers numbers low high h cut spelled (at_name line rest name numbers h e parted spelled is).1).1; below = spelled.high_digits })
 
 -- a hole by its parts
 abbrev pub hole_of : List ℕ → ℕ → ℕ → Hole
 hole_of name low high = record { name = name; low = low; high = high }
 
 -- a line that is read
-pub declares : (line rest name numbers low high : List ℕ) (m n : ℕ) → line ≡ codes "hole " ++ rest → SplitAt 32 rest name numbers → SplitAt 32 numbers low high → IsHoleName name → IsShortNumber low m → IsShortNumber high n → Declares line name m n
+pub declares : (line rest name numbers low high : List ℕ) (m n : ℕ) → line ≡ codes "hole " ++ rest → SplitAt 32 rest name numbers → SplitAt 32 numbers low high → IsHoleName name → IsDecimal (10 ^ 10) low m → IsDecimal (10 ^ 10) high n → Declares line name m n
 declares line rest name numbers low high m n e parted cut named lowest highest = record {
   h = hole_of name m n;
-  spelled = record { name = named.name; short = named.short; low_digits = lowest.short; high_digits = highest.short };
+  spelled = record { name = named.name; short = named.short; low_digits = lowest.below; high_digits = highest.below };
   text = e ∙ ap (λ xs. codes "hole " ++ xs) (parted.split ∙ ap (λ xs. name ++ (32 ∷ xs)) (cut.split ∙ ap (λ xs. xs ++ (32 ∷ high)) lowest.text ∙ ap (λ xs. decimal m ++ (32 ∷ xs)) highest.text));
   name_is = refl;
   low_is = refl;
@@ -127,7 +97,7 @@ pub same_hole : (h g : Hole) → h.name ≡ g.name → h.low ≡ g.low → h.hig
 same_hole h g name low high = ap (λ n. hole_of n h.low h.high) name ∙ ap (λ n. hole_of g.name n h.high) low ∙ ap (hole_of g.name g.low) high
 
 -- a line is that of one hole
-pub one_hole : (h g : Hole) → IsSpelled h → IsSpelled g → hole_line h ≡ hole_line g → h ≡ g
+pub one_hole : (h g : Hole) → IsSpelledHole h → IsSpelledHole g → hole_line h ≡ hole_line g → h ≡ g
 one_hole h g is are e =
     let rest = behind_word (hole_line h) (h.name ++ (32 ∷ decimal h.low ++ (32 ∷ decimal h.high))) g refl e in
     let names = first_byte 32 h.name g.name (decimal h.low ++ (32 ∷ decimal h.high)) (decimal g.low ++ (32 ∷ decimal g.high)) (word_avoids 32 h.name refl (name_word h.name is.name)) (word_avoids 32 g.name refl (name_word g.name are.name)) rest in
@@ -140,6 +110,6 @@ one_hole h g is are e =
     same_hole h g names.0 (decimal_injective h.low g.low (omega arith) (omega arith) numbers.0) (decimal_injective h.high g.high (omega arith) (omega arith) numbers.1)
 
 -- what a line declares, by the parts that are read
-pub declared_is : (line rest name numbers low high taken : List ℕ) (v w : ℕ) → line ≡ codes "hole " ++ rest → SplitAt 32 rest name numbers → SplitAt 32 numbers low high → (taken ≡ name) × IsHoleName name → IsShortNumber low v → IsShortNumber high w → Declares line taken v w
+pub declared_is : (line rest name numbers low high taken : List ℕ) (v w : ℕ) → line ≡ codes "hole " ++ rest → SplitAt 32 rest name numbers → SplitAt 32 numbers low high → (taken ≡ name) × IsHoleName name → IsDecimal (10 ^ 10) low v → IsDecimal (10 ^ 10) high w → Declares line taken v w
 declared_is line rest name numbers low high taken v w e parted cut named lowest highest =
     subst (λ n. Declares line n v w) (sym named.0) (declares line rest name numbers low high v w e parted cut named.1 lowest highest)

@@ -7,6 +7,7 @@ mod HasAnswers
 pub mod OneFault
 mod VectorsNumbered
 mod Trying
+mod Places
 mod FoundLast
 mod OneEnd
 mod Outcoming

@@ -1,9 +1,11 @@
 -- a template has one end of its search
-use Rattle.std.proofs.Common.{◌≡◌, ◌∙◌, ◌⊎◌, inl, inr, ℕ, zero, suc, ◌<◌, ◌≤◌, Bool, true, List, [], ◌∷◌, length, Some, slice_get, refl, sym, ap, subst, arith}
+use Rattle.std.proofs.Common.{◌≡◌, ◌∙◌, ◌⊎◌, inl, inr, ℕ, ◌<◌, Bool, true, List, [], ◌∷◌, length, Some, slice_get, refl, sym, ap, subst}
 use Rattle.std.proofs.lemmas.Bool.{false≢true}
+use Rattle.std.specs.List.{AllByRecursion}
+use Rattle.ta_base.proofs.Each.{each_at}
+use Rattle.ta_base.proofs.Lists.{not_long}
 use Rattle.ta_automaton.specs.declared.file.File.{File}
 use Rattle.ta_automaton.specs.declared.pattern.Pattern.{Pattern}
-use Rattle.ta_automaton.specs.Lists.{Each}
 use Rattle.ta_meaning.specs.Laws.{FilesAreUnique, FirstFaultsAreUnique}
 use Rattle.ta_report.specs.declared.verdict.ReportSample.{ReportSample}
 use Rattle.ta_report.specs.declared.verdict.ReportSample.TheVariants as sample
@@ -18,7 +20,7 @@ use Rattle.ta_search.specs.declared.outcome.Tried.{Tried}
 use Rattle.ta_search.specs.declared.template.Template.{Template}
 use Rattle.ta_search.specs.Filling.{filled_text}
 use Rattle.ta_search.specs.Inside.Trying.{IsOfPattern}
-use Rattle.ta_search.specs.Outcomes.{IsRefused, IsSampled, IsUnknown, IsUnsafe, OutcomeHolds, is_safe, is_unsampled, safe_before}
+use Rattle.ta_search.specs.Outcomes.{IsRefusedFilling, IsSampled, IsUnknown, IsUnsafe, OutcomeHolds, is_safe, is_unsampled, safe_before}
 use Rattle.ta_search.specs.Searching.{AreTried, IsTried, SearchesAreDetermined, is_found}
 use Rattle.ta_search.specs.Vectors.{vectors}
 
@@ -43,7 +45,7 @@ record Decided (file : File) (vs : List Verdict) (o : Outcome) : Type 0 where
 -- or all are Safe
 record Proved (file : File) (budget : ℕ) (vs : List Verdict) (o : Outcome) : Type 0 where
   text : List ℕ
-  all : Each (λ v. is_safe v ≡ true) vs
+  all : AllByRecursion (λ v. is_safe v ≡ true) vs
   certificate : CertificateOf file budget vs text
   is : o ≡ outcome.Safe text
 
@@ -66,7 +68,7 @@ record ByText (bytes : List ℕ) (budget : ℕ) (o : Outcome) : Type 0 where
 
 record ByFault (bytes : List ℕ) (o : Outcome) : Type 0 where
   e : FileFault
-  refused : IsRefused bytes e
+  refused : IsRefusedFilling bytes e
   is : o ≡ outcome.Refused e
 
 record ByLength (bytes : List ℕ) (o : Outcome) : Type 0 where
@@ -135,7 +137,6 @@ by bytes budget (outcome.Safe certificate) h =
     }))
 
 -- ---- which is one
-
 pattern_once : (file : File) (p : Pattern) (v : Verdict) (a b : Outcome) → IsOfPattern file p v a → IsOfPattern file p v b → a ≡ b
 pattern_once file p (Safe nodes leaves) a b h k = absurd h
 pattern_once file p (Unsafe nodes run) a b h k = h ∙ sym k
@@ -147,11 +148,6 @@ not_safe file p (Safe nodes leaves) o is safe = is
 not_safe file p (Unsafe nodes run) o is safe = false≢true safe
 not_safe file p (Spent nodes) o is safe = false≢true safe
 not_safe file p (Overflow node kind) o is safe = false≢true safe
-
-each_at : (P : Verdict → Type 0) (vs : List Verdict) (k : ℕ) (v : Verdict) → Each P vs → slice_get vs k ≡ Some v → P v
-each_at P [] k v each at = cc
-each_at P (w ∷ ws) zero v each at = let same : w ≡ v = cc in subst P same each.0
-each_at P (w ∷ ws) (suc k) v each at = each_at P ws k v each.1 at
 
 decided_once : (file : File) (vs : List Verdict) (a b : Outcome) → Decided file vs a → Decided file vs b → a ≡ b
 decided_once file vs a b h k =
@@ -201,9 +197,6 @@ refused_once laws bytes a b h k =
     let yours = k.refused in
     h.is ∙ ap (λ (e : FileFault). outcome.Refused e) (laws.faults bytes h.e k.e mine.first yours.first) ∙ sym k.is
 
-not_long : (bytes : List ℕ) → 1048576 < length bytes → length bytes ≤ 1048576 → ⊥
-not_long bytes long within = omega arith
-
 not_legal : (bytes : List ℕ) (budget : ℕ) (a b : Outcome) → ByFault bytes a → ByText bytes budget b → ⊥
 not_legal bytes budget a b h k = let refused = h.refused in let sampled = k.sampled in let legal = sampled.legal in legal.no_fault h.e refused.first
 
@@ -219,7 +212,6 @@ outcome_once laws bytes budget a b (inr (inr h)) (inr (inl k)) = absurd (not_leg
 outcome_once laws bytes budget a b (inr (inr h)) (inr (inr k)) = text_gives laws bytes budget a b h k
 
 -- ---- one end
-
 tried_once : Laws → (t : Template) (budget : ℕ) (v : List ℕ) (x y : Tried) → IsTried t budget v x → IsTried t budget v y → x ≡ y
 tried_once laws t budget v x y h k =
     let values : x.values ≡ y.values = h.values ∙ sym k.values in

@@ -5,23 +5,23 @@ use Rattle.std.proofs.lemmas.Bool.{false≢true}
 use Rattle.std.proofs.lemmas.Nat.{mul-le}
 use Rattle.std.proofs.lemmas.Option.{same_Some}
 use Rattle.std.proofs.lemmas.Slice.Eq.{bytes_eq-Decides}
-use Rattle.ta_automaton.specs.Lists.{Each, Distinct}
-use Rattle.ta_replay.specs.TextFaults.{Avoids}
-use Rattle.ta_replay.proofs.Bytes.{first_byte, not_parted}
-use Rattle.ta_replay.proofs.ListSteps.{each_back}
+use Rattle.std.specs.List.{AllByRecursion}
+use Rattle.ta_base.specs.Lists.{Distinct}
+use Rattle.ta_base.specs.Bytes.{Avoids}
+use Rattle.ta_base.proofs.Each.{each_back}
+use Rattle.ta_base.proofs.Lists.{first_byte, not_parted}
 use Rattle.ta_search.specs.declared.template.Hole.{Hole}
 use Rattle.ta_search.specs.declared.template.Template.{Template}
 use Rattle.ta_search.specs.declared.fault.TemplateFault.{TemplateFault}
 use Rattle.ta_search.specs.declared.fault.TemplateFault.TheVariants as fault
-use Rattle.ta_search.specs.Holes.{AreHoles, InRange, IsSpelled, head_text, hole_line, hole_lines, hole_names, is_among, unknown_place, value_count, vector_count}
+use Rattle.ta_search.specs.Holes.{AreHoles, HoleInRange, IsSpelledHole, head_text, hole_line, hole_lines, hole_names, is_among, unknown_place, value_count, vector_count}
 use Rattle.ta_search.specs.Templates.{template_text}
-use Rattle.ta_search.specs.TemplateFaults.{FirstFault, HasHole, IsOtherLine}
-use Rattle.ta_search.specs.Inside.Lines.{Adds, HoleRefused}
+use Rattle.ta_search.specs.TemplateFaults.{FirstTemplateFault, HasHole, IsOtherLine}
+use Rattle.ta_search.specs.Inside.Lines.{AddsHole, HoleRefused}
 use Rattle.ta_search.proofs.HoleLines.{line_avoids, no_begin, one_hole}
 
 -- ---- the next hole of legal ones
-
-name_at : (P : List ℕ → Type 0) (hs : List Hole) (g : Hole) (later : List Hole) → Each P (hole_names (hs ++ (g ∷ later))) → P g.name
+name_at : (P : List ℕ → Type 0) (hs : List Hole) (g : Hole) (later : List Hole) → AllByRecursion P (hole_names (hs ++ (g ∷ later))) → P g.name
 name_at P [] g later each = each.0
 name_at P (h ∷ hs) g later each = name_at P hs g later each.1
 
@@ -34,33 +34,32 @@ fresh_front [] g later d = refl
 fresh_front (h ∷ hs) g later d =
     fresh_if g.name h.name (bytes_eq g.name h.name) (is_among hs g.name) (bytes_eq-Decides g.name h.name).0 (name_at (λ n. h.name ≡ n → ⊥) hs g later d.0) (fresh_front hs g later d.1)
 
-some_value : (h : Hole) → InRange h → 1 ≤ value_count h
+some_value : (h : Hole) → HoleInRange h → 1 ≤ value_count h
 some_value h range = let some = range.some in omega arith
 
-some_vector : (hs : List Hole) → Each InRange hs → 1 ≤ vector_count hs
+some_vector : (hs : List Hole) → AllByRecursion HoleInRange hs → 1 ≤ vector_count hs
 some_vector [] each = omega arith
 some_vector (h ∷ hs) each = let one = mul-le 1 1 (value_count h) (vector_count hs) (some_value h each.0) (some_vector hs each.1) in omega arith
 
-vectors_front : (hs : List Hole) (g : Hole) (later : List Hole) → Each InRange (hs ++ (g ∷ later)) → vector_count (hs ++ g ∷ []) ≤ vector_count (hs ++ (g ∷ later))
+vectors_front : (hs : List Hole) (g : Hole) (later : List Hole) → AllByRecursion HoleInRange (hs ++ (g ∷ later)) → vector_count (hs ++ g ∷ []) ≤ vector_count (hs ++ (g ∷ later))
 vectors_front [] g later each = mul-le (value_count g) 1 (value_count g) (vector_count later) (omega arith) (some_vector later each.1)
 vectors_front (h ∷ hs) g later each = mul-le (value_count h) (vector_count (hs ++ g ∷ [])) (value_count h) (vector_count (hs ++ (g ∷ later))) (omega arith) (vectors_front hs g later each.1)
 
-adds_next : (hs : List Hole) (g : Hole) (later : List Hole) → AreHoles (hs ++ (g ∷ later)) → Adds hs (hole_line g) g
+adds_next : (hs : List Hole) (g : Hole) (later : List Hole) → AreHoles (hs ++ (g ∷ later)) → AddsHole hs (hole_line g) g
 adds_next hs g later are =
     let vectors = vectors_front hs g later are.ranges in
     let most = are.vectors in
     let few = are.few in
     record {
-      spelled = (each_back IsSpelled hs (g ∷ later) are.spelled).0;
+      spelled = (each_back IsSpelledHole hs (g ∷ later) are.spelled).0;
       text = refl;
       fresh = fresh_front hs g later are.distinct;
-      range = (each_back InRange hs (g ∷ later) are.ranges).0;
+      range = (each_back HoleInRange hs (g ∷ later) are.ranges).0;
       few = omega (arith, length-append hs (g ∷ []), length-append hs (g ∷ later));
       vectors = omega arith;
     }
 
 -- ---- two heads of one text
-
 record Beyond (hs gs : List Hole) (r s : List ℕ) : Type 0 where
   next : Hole
   later : List Hole
@@ -79,7 +78,7 @@ compared_more h g hs gs r s e (inl same) = inl (ap (λ x. x ∷ hs) e ∙ ap (λ
 compared_more h g hs gs r s e (inr (inl b)) = inr (inl (beyond_more h g hs gs r s e b))
 compared_more h g hs gs r s e (inr (inr b)) = inr (inr (beyond_more g h gs hs s r (sym e) b))
 
-compare : (hs gs : List Hole) (r s : List ℕ) → Each IsSpelled hs → Each IsSpelled gs → hole_lines hs ++ r ≡ hole_lines gs ++ s → Compared hs gs r s
+compare : (hs gs : List Hole) (r s : List ℕ) → AllByRecursion IsSpelledHole hs → AllByRecursion IsSpelledHole gs → hole_lines hs ++ r ≡ hole_lines gs ++ s → Compared hs gs r s
 unfolding Compared
 compare [] [] r s is are e = inl (refl, e)
 compare [] (g ∷ gs) r s is are e = inr (inl (record { next = g; later = gs; more = refl; text = e ∙ append_assoc (hole_line g) (10 ∷ hole_lines gs) s }))
@@ -90,7 +89,7 @@ compare (h ∷ hs) (g ∷ gs) r s is are e =
 
 -- no hole may stand next
 Stops : List Hole → List ℕ → Type 0
-Stops hs r = (h : Hole) (behind : List ℕ) → Adds hs (hole_line h) h → r ≡ hole_line h ++ (10 ∷ behind) → ⊥
+Stops hs r = (h : Hole) (behind : List ℕ) → AddsHole hs (hole_line h) h → r ≡ hole_line h ++ (10 ∷ behind) → ⊥
 
 not_beyond : (hs gs : List Hole) (r s : List ℕ) → AreHoles gs → Stops hs r → Beyond hs gs r s → ⊥
 unfolding Stops
@@ -112,7 +111,7 @@ IsBegun body r = r ≡ codes "begin" ++ (10 ∷ body)
 
 -- the line of a hole
 record IsHole (h : Hole) (r : List ℕ) : Type 0 where
-  spelled : IsSpelled h
+  spelled : IsSpelledHole h
   behind : List ℕ
   text : r ≡ hole_line h ++ (10 ∷ behind)
 
@@ -150,7 +149,7 @@ data Ends (hs : List Hole) (r : List ℕ) (e : TemplateFault) : Type 0 where
   at_body : (body : List ℕ) (place : ℕ) → IsBegun body r → unknown_place hs body ≡ Some place → e ≡ fault.UnknownHole (length (head_text hs) + place) → Ends hs r e
 
 -- a refused hole may not stand next
-not_adds : (hs : List Hole) (h : Hole) (e : TemplateFault) (n : ℕ) → HoleRefused hs h e n → Adds hs (hole_line h) h → ⊥
+not_adds : (hs : List Hole) (h : Hole) (e : TemplateFault) (n : ℕ) → HoleRefused hs h e n → AddsHole hs (hole_line h) h → ⊥
 not_adds hs h (fault.Repeated k) n bad adds = false≢true (sym adds.fresh ∙ bad.1)
 not_adds hs h (fault.Range k) n (same, fresh, inl less) adds = let some = adds.range.some in omega arith
 not_adds hs h (fault.Range k) n (same, fresh, inr large) adds = let small = adds.range.small in omega arith
@@ -168,7 +167,7 @@ stops : (hs : List Hole) (r : List ℕ) (e : TemplateFault) → Ends hs r e → 
 unfolding Stops
 stops hs r e (at_line other same) h behind adds text = line_or_hole h r other (record { spelled = adds.spelled; behind = behind; text = text })
 stops hs r e (at_hole g is bad) h behind adds text =
-    not_adds hs g e (length hs + 1) bad (subst (λ x. Adds hs (hole_line x) x) (sym (hole_once g h r is (record { spelled = adds.spelled; behind = behind; text = text }))) adds)
+    not_adds hs g e (length hs + 1) bad (subst (λ x. AddsHole hs (hole_line x) x) (sym (hole_once g h r is (record { spelled = adds.spelled; behind = behind; text = text }))) adds)
 stops hs r e (at_body body place begun unknown same) h behind adds text = body_stops hs body r begun h behind adds text
 
 -- a hole is refused for one reason
@@ -206,7 +205,6 @@ ends_once hs r e f (at_body body place begun unknown so) (at_body other at start
     so ∙ ap (λ n. fault.UnknownHole (length (head_text hs) + n)) places ∙ sym same
 
 -- ---- of a text
-
 record Placed (bytes : List ℕ) (e : TemplateFault) : Type 0 where
   hs : List Hole
   rest : List ℕ
@@ -226,7 +224,7 @@ placed_hole bytes number hs h e has bad = record {
   ends = at_hole h (record { spelled = has.spelled; behind = has.behind; text = refl }) bad;
 }
 
-placed : (bytes : List ℕ) (e : TemplateFault) → FirstFault bytes e → Placed bytes e
+placed : (bytes : List ℕ) (e : TemplateFault) → FirstTemplateFault bytes e → Placed bytes e
 unfolding IsBegun OtherLine
 placed bytes (fault.Line k) is = record { hs = is.hs; rest = is.rest; holes = is.begins.holes; text = is.begins.text; ends = at_line is.fault (ap (λ n. fault.Line n) is.begins.place) }
 placed bytes (fault.Repeated k) is = placed_hole bytes k is.hs is.h (fault.Repeated k) is.has (is.has.begins.place, is.before)
@@ -242,7 +240,7 @@ placed bytes (fault.UnknownHole k) is = record {
 placed bytes fault.Memory is = absurd is
 
 -- a text has one first fault at most
-pub one_fault : (bytes : List ℕ) (e f : TemplateFault) → FirstFault bytes e → FirstFault bytes f → e ≡ f
+pub one_fault : (bytes : List ℕ) (e f : TemplateFault) → FirstTemplateFault bytes e → FirstTemplateFault bytes f → e ≡ f
 one_fault bytes e f is are =
     let p = placed bytes e is in
     let q = placed bytes f are in
@@ -273,7 +271,7 @@ no_end t r e is (at_body body place start unknown same) =
     absurd (cc)
 
 -- a template's text has no fault
-pub no_fault : (t : Template) (e : TemplateFault) → FirstFault (template_text t) e → ⊥
+pub no_fault : (t : Template) (e : TemplateFault) → FirstTemplateFault (template_text t) e → ⊥
 no_fault t e is =
     let p = placed (template_text t) e is in
     let same = one_place t.holes p.hs (codes "begin" ++ (10 ∷ t.body)) p.rest t.legal p.holes (begun_stops t) (stops p.hs p.rest e p.ends) (sym (begun t) ∙ p.text) in

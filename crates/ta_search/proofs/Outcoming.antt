@@ -2,12 +2,12 @@
 use Rattle.std.proofs.Common.{◌≡◌, ◌≢◌, ◌∙◌, ◌⊎◌, inl, inr, ℕ, suc, ◌+◌, ◌<◌, ◌≤◌, ℤ, false, true, List, [], ◌∷◌, length, Some, None, slice_get, IfOk, Result, refl, sym, ap, subst, arith}
 use Rattle.std.proofs.lemmas.List.Sums.{prefix_len_stops}
 use Rattle.std.proofs.lemmas.Option.{get_or_from_slice_get, slice_get_within}
+use Rattle.std.specs.List.{AllByRecursion}
+use Rattle.std.proofs.lemmas.Result.{IfOk-weaker}
+use Rattle.ta_base.proofs.Lists.{some_at}
 use Rattle.ta_automaton.specs.declared.file.File.{File}
 use Rattle.ta_automaton.specs.declared.pattern.Pattern.{Pattern}
-use Rattle.ta_automaton.specs.Lists.{Each}
 use Rattle.ta_check.specs.Certificate.{Certificate}
-use Rattle.ta_encode.proofs.Marking.{on_ok}
-use Rattle.ta_encode.proofs.Switch.{some_at}
 use Rattle.ta_meaning.specs.FirstFault.{FirstFault}
 use Rattle.ta_report.specs.declared.verdict.ReportSample.TheVariants as sample
 use Rattle.ta_report.specs.declared.verdict.Verdict.{Verdict}
@@ -20,10 +20,10 @@ use Rattle.ta_verdict.proofs.VerdictsMade.{as_many}
 use Rattle.ta_words.specs.Calls.{OfPattern}
 use Rattle.ta_search.specs.declared.outcome.Outcome.{Outcome}
 use Rattle.ta_search.specs.Inside.Trying.{IsOfPattern}
-use Rattle.ta_search.specs.Outcomes.{Decides, IsJudged, IsRefused, IsSafe, IsSampled, OutcomeHolds, is_safe, safe_before}
+use Rattle.ta_search.specs.Outcomes.{IsFirstNotSafe, HasVerdicts, IsRefusedFilling, IsSafe, IsSampled, OutcomeHolds, is_safe, safe_before}
 
 -- a fault that isn't want of memory refuses a text
-pub refused_by : (bytes : List ℕ) (e : FileFault) → length bytes ≤ 1048576 → (e ≡ fault.Memory) ⊎ FirstFault bytes e → e ≢ fault.Memory → IsRefused bytes e
+pub refused_by : (bytes : List ℕ) (e : FileFault) → length bytes ≤ 1048576 → (e ≡ fault.Memory) ⊎ FirstFault bytes e → e ≢ fault.Memory → IsRefusedFilling bytes e
 refused_by bytes e within (inl same) other = absurd (other same)
 refused_by bytes e within (inr first) other = record { within = within; first = first; told = other }
 
@@ -37,7 +37,7 @@ other_at vs v place same at =
 none_at : (v : Verdict) (vs : List Verdict) → slice_get (v ∷ vs) (1 + safe_before vs) ≡ None → slice_get vs (safe_before vs) ≡ None
 none_at v vs none = let e : 1 + safe_before vs ≡ suc (safe_before vs) = omega arith in subst (λ k. slice_get (v ∷ vs) k ≡ None) e none
 
-pub all_before : (vs : List Verdict) → slice_get vs (safe_before vs) ≡ None → Each (λ v. is_safe v ≡ true) vs
+pub all_before : (vs : List Verdict) → slice_get vs (safe_before vs) ≡ None → AllByRecursion (λ v. is_safe v ≡ true) vs
 all_before [] none = tt
 all_before (Safe nodes leaves ∷ vs) none = (refl, all_before vs (none_at (Safe nodes leaves) vs none))
 all_before (Unsafe nodes run ∷ vs) none = cc
@@ -51,7 +51,7 @@ numbered file budget vs v place are at =
     omega arith
 
 -- the outcome of the pattern that decides holds
-decided : (bytes : List ℕ) (budget : ℕ) (file : File) (vs : List Verdict) (p : Pattern) (v : Verdict) (o : Outcome) → IsJudged bytes budget file vs → Decides file vs p v → IsOfPattern file p v o → OutcomeHolds bytes budget o
+decided : (bytes : List ℕ) (budget : ℕ) (file : File) (vs : List Verdict) (p : Pattern) (v : Verdict) (o : Outcome) → HasVerdicts bytes budget file vs → IsFirstNotSafe file vs p v → IsOfPattern file p v o → OutcomeHolds bytes budget o
 decided bytes budget file vs p (Safe nodes leaves) o judged decides is = absurd is
 decided bytes budget file vs p (Unsafe nodes run) o judged decides is =
     subst (OutcomeHolds bytes budget) (sym is) (record { file = file; verdicts = vs; judged = judged; p = p; nodes = nodes; run = run; decides = decides; named = refl; shown = refl })
@@ -60,15 +60,15 @@ decided bytes budget file vs p (Spent nodes) o judged decides is =
 decided bytes budget file vs p (Overflow node kind) o judged decides is =
     subst (OutcomeHolds bytes budget) (sym is) (record { file = file; verdicts = vs; judged = judged; p = p; decides = decides; unknown = refl; named = refl })
 
-judged_by : (bytes : List ℕ) (budget : ℕ) (file : File) (vs : List Verdict) (values : List ℤ) → IsSampled bytes budget file (sample.Sample values) → AreVerdicts file budget vs → IsJudged bytes budget file vs
+judged_by : (bytes : List ℕ) (budget : ℕ) (file : File) (vs : List Verdict) (values : List ℤ) → IsSampled bytes budget file (sample.Sample values) → AreVerdicts file budget vs → HasVerdicts bytes budget file vs
 judged_by bytes budget file vs values sampled are = record { values = values; sampled = sampled; verdicts = are }
 
 pub pattern_holds : {E : Type 0} (bytes : List ℕ) (budget : ℕ) (file : File) (vs : List Verdict) (v : Verdict) (place : ℕ) (values : List ℤ) (result : Result Outcome E) → IsSampled bytes budget file (sample.Sample values) → AreVerdicts file budget vs → place ≡ safe_before vs → slice_get vs place ≡ Some v → OfPattern file place (λ p. IfOk result (IsOfPattern file p v)) → IfOk result (OutcomeHolds bytes budget)
 pattern_holds bytes budget file vs v place values result sampled are same at of =
     let here : slice_get vs (safe_before vs) ≡ Some v = ap (slice_get vs) (sym same) ∙ at in
     let p = some_at file.patterns (safe_before vs) (numbered file budget vs v (safe_before vs) are here) in
-    let decides : Decides file vs p.0 v = record { pattern = p.1; verdict = here } in
-    on_ok result (IsOfPattern file p.0 v) (OutcomeHolds bytes budget) (λ o is. decided bytes budget file vs p.0 v o (judged_by bytes budget file vs values sampled are) decides is) (of p.0 (ap (slice_get file.patterns) same ∙ p.1))
+    let decides : IsFirstNotSafe file vs p.0 v = record { pattern = p.1; verdict = here } in
+    IfOk-weaker result (IsOfPattern file p.0 v) (OutcomeHolds bytes budget) (λ o is. decided bytes budget file vs p.0 v o (judged_by bytes budget file vs values sampled are) decides is) (of p.0 (ap (slice_get file.patterns) same ∙ p.1))
 
 pub safe_holds : (bytes : List ℕ) (budget : ℕ) (file : File) (vs : List Verdict) (place : ℕ) (values : List ℤ) (text : List ℕ) → IsSampled bytes budget file (sample.Sample values) → AreVerdicts file budget vs → place ≡ safe_before vs → slice_get vs place ≡ None → CertificateOf file budget vs text → Certificate file text (safe_numbers file vs) → IsSafe bytes budget text
 safe_holds bytes budget file vs place values text sampled are same none certificate accepted =

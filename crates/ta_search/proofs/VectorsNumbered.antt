@@ -1,19 +1,13 @@
 -- the vectors of a template by their numbers
-use Rattle.std.proofs.Common.{◌≡◌, ◌∙◌, ℕ, zero, suc, ◌+◌, ◌*◌, ◌/◌, ◌%◌, ◌<◌, ◌≤◌, List, [], ◌∷◌, ◌++◌, length, map, drop, get_or, refl, sym, ap, subst, arith, length-append}
-use Rattle.std.proofs.Math.Nat.{div-lt_iff_lt-mul, mod-lt}
+use Rattle.std.proofs.Common.{◌≡◌, ◌∙◌, ℕ, zero, suc, ◌+◌, ◌*◌, ◌/◌, ◌%◌, ◌<◌, List, [], ◌∷◌, ◌++◌, length, map, drop, get_or, refl, sym, ap, subst, arith, length-append}
 use Rattle.std.proofs.lemmas.List.{drop_all, drop_more, get_or-append-add, get_or-map, get_or_append_left, length-map}
 use Rattle.std.proofs.lemmas.Nat.{div-add-mod'}
-use Rattle.ta_automaton.proofs.Fire.{length_numbers}
-use Rattle.ta_automaton.specs.Masks.{numbers_from}
+use Rattle.ta_base.proofs.Naturals.{quotient_below, rest_below}
+use Rattle.ta_base.proofs.Ranges.{length_numbers, numbers_get_or}
 use Rattle.ta_search.specs.declared.template.Hole.{Hole}
-use Rattle.ta_search.specs.Holes.{InRange, value_count, vector_count}
+use Rattle.ta_search.specs.Holes.{value_count, vector_count}
 use Rattle.ta_search.specs.Inside.Trying.{vector_at}
 use Rattle.ta_search.specs.Vectors.{each_before, hole_values, vectors}
-
-number_at : (k n i : ℕ) → i < n → get_or (numbers_from k n) i 0 ≡ k + i
-number_at k zero i h = absurd (omega arith)
-number_at k (suc n) zero h = omega arith
-number_at k (suc n) (suc i) h = let e : (k + 1) + i ≡ k + suc i = omega arith in number_at (k + 1) n i (omega arith) ∙ e
 
 -- vectors that begin with a value
 abbrev begun : ℕ → List (List ℕ) → List (List ℕ)
@@ -44,17 +38,6 @@ vectors_counted [] = refl
 vectors_counted (h ∷ hs) =
     each_count (hole_values h) (vectors hs) ∙ ap (λ n. n * length (vectors hs)) (length_numbers h.low (value_count h)) ∙ ap (λ n. value_count h * n) (vectors_counted hs)
 
-positive : (a m n : ℕ) → n < a * m → 0 < m
-positive a zero n h = absurd (omega arith)
-positive a (suc m) n h = omega arith
-
--- the number of a vector gives its first value and the number of the rest
-pub first_below : (a m n : ℕ) → n < a * m → n / m < a
-first_below a m n h = (div-lt_iff_lt-mul {k = m} {x = n} {y = a} (positive a m n h)).1 h
-
-pub rest_below : (a m n : ℕ) → n < a * m → (0 < m) × (n % m < m)
-rest_below a m n h = (positive a m n h, mod-lt n (positive a m n h))
-
 pub vector_numbered : (hs : List Hole) (place : ℕ) → place < vector_count hs → get_or (vectors hs) place [] ≡ vector_at hs place
 vector_numbered [] zero h = refl
 vector_numbered [] (suc place) h = refl
@@ -62,11 +45,11 @@ vector_numbered (h ∷ hs) place below =
     let m = vector_count hs in
     let q = place / m in
     let r = place % m in
-    let first : q < value_count h = first_below (value_count h) m place below in
+    let first : q < value_count h = quotient_below (value_count h) m place below in
     let rest : r < m = (rest_below (value_count h) m place below).1 in
     let many : q < length (hole_values h) = subst (λ n. q < n) (sym (length_numbers h.low (value_count h))) first in
     let e : q * m + r ≡ place = div-add-mod' place m in
-    ap (λ n. get_or (vectors (h ∷ hs)) n []) (sym e) ∙ each_at (hole_values h) (vectors hs) m q r (sym (vectors_counted hs)) many rest ∙ ap (λ v. v ∷ get_or (vectors hs) r []) (number_at h.low (value_count h) q first)
+    ap (λ n. get_or (vectors (h ∷ hs)) n []) (sym e) ∙ each_at (hole_values h) (vectors hs) m q r (sym (vectors_counted hs)) many rest ∙ ap (λ v. v ∷ get_or (vectors hs) r []) (numbers_get_or h.low (value_count h) q first)
     ∙ ap (λ (vs : List ℕ). (h.low + q) ∷ vs) (vector_numbered hs r rest)
 
 -- a vector has a value for each hole
@@ -81,14 +64,3 @@ vectors_left hs place below =
 
 pub none_left : (hs : List Hole) → drop (vector_count hs) (vectors hs) ≡ []
 none_left hs = let count = vectors_counted hs in drop_all (vector_count hs) (vectors hs) (omega arith)
-
--- the first value of a vector is one of its hole, and there are no more vectors of the other holes than of all
-pub value_within : (h : Hole) (hs : List Hole) (place : ℕ) → InRange h → place < vector_count (h ∷ hs) → h.low + place / vector_count hs ≤ h.high
-value_within h hs place range below = let first = first_below (value_count h) (vector_count hs) place below in let some = range.some in omega arith
-
-fewer : (a m : ℕ) → 0 < a → a * m ≤ 10000 → m ≤ 10000
-fewer zero m some few = absurd (omega arith)
-fewer (suc a) m some few = let e : suc a * m ≡ m + a * m = omega arith in omega arith
-
-pub fewer_left : (h : Hole) (hs : List Hole) → InRange h → vector_count (h ∷ hs) ≤ 10000 → vector_count hs ≤ 10000
-fewer_left h hs range few = let some = range.some in fewer (value_count h) (vector_count hs) (omega arith) few

@@ -1,46 +1,25 @@
 -- the vectors of a template are the choices, in lexicographic order
 use Rattle.std.proofs.Common.{inl, inr, ℕ, zero, suc, ◌+◌, ◌<◌, ◌≤◌, List, [], ◌∷◌, ◌++◌, map, refl, subst, arith}
-use Rattle.ta_automaton.specs.Lists.{Each}
-use Rattle.ta_automaton.specs.Masks.{In, numbers_from}
-use Rattle.ta_automaton.proofs.MaskTests.{In-left, In-map, In-numbers, In-right}
+use Rattle.std.specs.List.{AllByRecursion}
+use Rattle.ta_base.specs.Masks.{In, numbers_from}
+use Rattle.ta_base.proofs.Each.{each_all, each_append, each_made, each_weaker}
+use Rattle.ta_base.proofs.Members.{In-left, In-map, In-right}
+use Rattle.ta_base.proofs.Ranges.{In-numbers, each_number}
 use Rattle.ta_search.specs.declared.template.Hole.{Hole}
-use Rattle.ta_search.specs.Holes.{InRange, value_count}
+use Rattle.ta_search.specs.Holes.{HoleInRange, value_count}
 use Rattle.ta_search.specs.Vectors.{Ascend, IsBefore, IsChoice, VectorsAreChoices, each_before, hole_values, vectors}
-
-each_all : {X : Type 0} (P : X → Type 0) (xs : List X) → ((x : X) → P x) → Each P xs
-each_all P [] h = tt
-each_all P (x ∷ xs) h = (h x, each_all P xs h)
-
-each_append : {X : Type 0} (P : X → Type 0) (xs ys : List X) → Each P xs → Each P ys → Each P (xs ++ ys)
-each_append P [] ys h k = k
-each_append P (x ∷ xs) ys h k = (h.0, each_append P xs ys h.1 k)
-
--- what holds of each holds so of what it is made
-each_made : {X Y : Type 0} (P : X → Type 0) (Q : Y → Type 0) (f : X → Y) (xs : List X) → ((x : X) → P x → Q (f x)) → Each P xs → Each Q (map f xs)
-each_made P Q f [] gives h = tt
-each_made P Q f (x ∷ xs) gives h = (gives x h.0, each_made P Q f xs gives h.1)
-
-each_weaker : {X : Type 0} (P Q : X → Type 0) (xs : List X) → ((x : X) → P x → Q x) → Each P xs → Each Q xs
-each_weaker P Q [] gives h = tt
-each_weaker P Q (x ∷ xs) gives h = (gives x h.0, each_weaker P Q xs gives h.1)
-
-each_number : (k n : ℕ) → Each (λ x. (k ≤ x) × (x < k + n)) (numbers_from k n)
-each_number k zero = tt
-each_number k (suc n) =
-    ((omega arith, omega arith), each_weaker (λ x. (k + 1 ≤ x) × (x < (k + 1) + n)) (λ x. (k ≤ x) × (x < k + suc n)) (numbers_from (k + 1) n) (λ x h. let low = h.0 in let high = h.1 in (omega arith, omega arith)) (each_number (k + 1) n))
 
 -- a value in front of a vector
 abbrev put : ℕ → List ℕ → List ℕ
 put value vector = value ∷ vector
 
 -- ---- each vector is a choice
-
-choices_each : (h : Hole) (hs : List Hole) (values : List ℕ) (vs : List (List ℕ)) → Each (λ x. (h.low ≤ x) × (x ≤ h.high)) values → Each (IsChoice hs) vs → Each (IsChoice (h ∷ hs)) (each_before values vs)
+choices_each : (h : Hole) (hs : List Hole) (values : List ℕ) (vs : List (List ℕ)) → AllByRecursion (λ x. (h.low ≤ x) × (x ≤ h.high)) values → AllByRecursion (IsChoice hs) vs → AllByRecursion (IsChoice (h ∷ hs)) (each_before values vs)
 choices_each h hs [] vs range each = tt
 choices_each h hs (x ∷ xs) vs range each =
     each_append (IsChoice (h ∷ hs)) (map (put x) vs) (each_before xs vs) (each_made (IsChoice hs) (IsChoice (h ∷ hs)) (put x) vs (λ v is. let within = range.0 in (within.0, within.1, is)) each) (choices_each h hs xs vs range.1 each)
 
-are_choices : (hs : List Hole) → Each InRange hs → Each (IsChoice hs) (vectors hs)
+are_choices : (hs : List Hole) → AllByRecursion HoleInRange hs → AllByRecursion (IsChoice hs) (vectors hs)
 are_choices [] ranges = (tt, tt)
 are_choices (h ∷ hs) ranges =
     let range = ranges.0 in
@@ -50,7 +29,6 @@ are_choices (h ∷ hs) ranges =
     (are_choices hs ranges.1)
 
 -- ---- each choice is among them
-
 in_each : (x : ℕ) (v : List ℕ) (values : List ℕ) (vs : List (List ℕ)) → In x values → In v vs → In (x ∷ v) (each_before values vs)
 in_each x v [] vs h k = absurd h
 in_each x v (y ∷ ys) vs (inl e) k = In-left (x ∷ v) (map (put y) vs) (each_before ys vs) (subst (λ (z : ℕ). In (x ∷ v) (map (put z) vs)) e (In-map (put x) v vs k))
@@ -66,17 +44,16 @@ all_choices (h ∷ hs) (x ∷ v) is =
     in_each x v (hole_values h) (vectors hs) (In-numbers x h.low (value_count h) low (omega arith)) (all_choices hs v is.2)
 
 -- ---- in their order
-
 ascend_put : (x : ℕ) (vs : List (List ℕ)) → Ascend vs → Ascend (map (put x) vs)
 ascend_put x [] a = tt
 ascend_put x (v ∷ vs) a = (each_made (IsBefore v) (IsBefore (x ∷ v)) (put x) vs (λ w before. inr (refl, before)) a.0, ascend_put x vs a.1)
 
-ascend_append : (us ws : List (List ℕ)) → Ascend us → Ascend ws → Each (λ u. Each (IsBefore u) ws) us → Ascend (us ++ ws)
+ascend_append : (us ws : List (List ℕ)) → Ascend us → Ascend ws → AllByRecursion (λ u. AllByRecursion (IsBefore u) ws) us → Ascend (us ++ ws)
 ascend_append [] ws a b each = b
 ascend_append (u ∷ us) ws a b each = (each_append (IsBefore u) us ws a.0 each.0, ascend_append us ws a.1 b each.1)
 
 -- what begins with a greater value comes later
-later : (x : ℕ) (v values : List ℕ) (vs : List (List ℕ)) → Each (λ y. x < y) values → Each (IsBefore (x ∷ v)) (each_before values vs)
+later : (x : ℕ) (v values : List ℕ) (vs : List (List ℕ)) → AllByRecursion (λ y. x < y) values → AllByRecursion (IsBefore (x ∷ v)) (each_before values vs)
 later x v [] vs greater = tt
 later x v (y ∷ ys) vs greater =
     each_append (IsBefore (x ∷ v)) (map (put y) vs) (each_before ys vs) (each_made (λ w. Unit {0}) (IsBefore (x ∷ v)) (put y) vs (λ w h. inl greater.0) (each_all (λ w. Unit {0}) vs (λ w. tt))) (later x v ys vs greater.1)
@@ -87,7 +64,7 @@ ascend_each k (suc n) vs a =
     let rest = numbers_from (k + 1) n in
     let greater = each_weaker (λ x. (k + 1 ≤ x) × (x < (k + 1) + n)) (λ x. k < x) rest (λ x h. let low = h.0 in omega arith) (each_number (k + 1) n) in
     ascend_append (map (put k) vs) (each_before rest vs) (ascend_put k vs a) (ascend_each (k + 1) n vs a)
-    (each_made (λ w. Unit {0}) (λ u. Each (IsBefore u) (each_before rest vs)) (put k) vs (λ w h. later k w rest vs greater) (each_all (λ w. Unit {0}) vs (λ w. tt)))
+    (each_made (λ w. Unit {0}) (λ u. AllByRecursion (IsBefore u) (each_before rest vs)) (put k) vs (λ w h. later k w rest vs greater) (each_all (λ w. Unit {0}) vs (λ w. tt)))
 
 vectors_ascend : (hs : List Hole) → Ascend (vectors hs)
 vectors_ascend [] = (tt, tt)

@@ -1,25 +1,25 @@
 -- A template's body with values in its holes (this project's profile)
 use Rattle.std.specs.Prelude.{ℕ, ◌==◌, ◌&&◌, ◌++◌, Bool, true, false, List, [], ◌∷◌, decimal, if◌then◌else◌}
 use Rattle.std.specs.Str.{bytes_eq}
-use Rattle.ta_syntax.specs.Kinds.{is_word}
+use Rattle.ta_base.specs.Bytes.{is_word}
 use Rattle.ta_search.specs.declared.template.Hole.{Hole}
 use Rattle.ta_search.specs.declared.template.Template.{Template}
 use Rattle.ta_search.specs.Holes.{word_at}
 
 -- the value of the hole of this name
-abbrev pub value_of : List Hole → List ℕ → List ℕ → ℕ
-value_of [] values word = 0
-value_of (h ∷ hs) [] word = 0
-value_of (h ∷ hs) (value ∷ values) word = if bytes_eq word h.name then value else value_of hs values word
+abbrev pub hole_value : List Hole → List ℕ → List ℕ → ℕ
+hole_value [] values word = 0
+hole_value (h ∷ hs) [] word = 0
+hole_value (h ∷ hs) (value ∷ values) word = if bytes_eq word h.name then value else hole_value hs values word
 
 -- a `$` gives the value of the hole whose name stands behind it, in decimal; the letters, digits and `_` directly behind it (`named`) give
 -- nothing; every other byte gives itself
-abbrev pub filled : List Hole → List ℕ → Bool → List ℕ → List ℕ
-filled hs values named [] = []
-filled hs values named (b ∷ bs) =
-    if b == 36 then decimal (value_of hs values (word_at bs)) ++ filled hs values true bs
-    else (if named && is_word b then filled hs values true bs else b ∷ filled hs values false bs)
+abbrev pub filled_body : List Hole → List ℕ → Bool → List ℕ → List ℕ
+filled_body hs values named [] = []
+filled_body hs values named (b ∷ bs) =
+    if b == 36 then decimal (hole_value hs values (word_at bs)) ++ filled_body hs values true bs
+    else (if named && is_word b then filled_body hs values true bs else b ∷ filled_body hs values false bs)
 
 -- the text of a template's body with a value for each hole
 abbrev pub filled_text : Template → List ℕ → List ℕ
-filled_text t values = filled t.holes values false t.body
+filled_text t values = filled_body t.holes values false t.body

@@ -1,10 +1,10 @@
 -- Holes for coefficients, and the lines that declare them (this project's profile)
 use Rattle.std.specs.Prelude.{ℕ, suc, ◌-◌, ◌*◌, ◌^◌, ◌<◌, ◌≤◌, ◌==◌, ◌≡◌, ◌⊎◌, ◌&&◌, ◌++◌, Bool, true, not, List, [], ◌∷◌, length, map, take, codes, decimal, Option, None, Some, if◌then◌else◌, option_map}
-use Rattle.std.specs.List.{list_any, prefix_len}
+use Rattle.std.specs.List.{list_any, prefix_len, AllByRecursion, AllByRecursion-prop}
 use Rattle.std.specs.Str.{bytes_eq}
 use Rattle.std.proofs.Props.{props}
-use Rattle.ta_syntax.specs.Kinds.{is_word}
-use Rattle.ta_automaton.specs.Lists.{Each, Each-prop, Distinct, Distinct-prop}
+use Rattle.ta_base.specs.Bytes.{is_word}
+use Rattle.ta_base.specs.Lists.{Distinct, Distinct-prop}
 use Rattle.ta_replay.specs.RunText.{lines_text}
 use Rattle.ta_smt.specs.WordText.{is_name}
 use Rattle.ta_search.specs.declared.template.Hole.{Hole}
@@ -14,14 +14,14 @@ abbrev pub hole_names : List Hole → List (List ℕ)
 hole_names hs = map (λ h. h.name) hs
 
 -- a name of the grammar of at most 64 bytes, and two numbers of at most 10 digits
-pub record IsSpelled (h : Hole) : Type 0 where
+pub record IsSpelledHole (h : Hole) : Type 0 where
   pub name : is_name h.name ≡ true
   pub short : length h.name ≤ 64
   pub low_digits : h.low < 10 ^ 10
   pub high_digits : h.high < 10 ^ 10
 
 -- some value, and none above 1,000,000,000
-pub record InRange (h : Hole) : Type 0 where
+pub record HoleInRange (h : Hole) : Type 0 where
   pub some : h.low ≤ h.high
   pub small : h.high ≤ 1000000000
 
@@ -36,8 +36,8 @@ vector_count (h ∷ hs) = value_count h * vector_count hs
 
 -- at most four holes, each spelled so and in range, no two of a name, with at most 10,000 choices
 pub record AreHoles (hs : List Hole) : Type 0 where
-  pub spelled : Each IsSpelled hs
-  pub ranges : Each InRange hs
+  pub spelled : AllByRecursion IsSpelledHole hs
+  pub ranges : AllByRecursion HoleInRange hs
   pub distinct : Distinct (hole_names hs)
   pub few : length hs ≤ 4
   pub vectors : vector_count hs ≤ 10000
@@ -71,15 +71,15 @@ hole_lines hs = lines_text (map hole_line hs)
 abbrev pub head_text : List Hole → List ℕ
 head_text hs = hole_lines hs ++ (codes "begin" ++ (10 ∷ []))
 
-spelled-prop : (h : Hole) → IsProp (IsSpelled h)
+spelled-prop : (h : Hole) → IsProp (IsSpelledHole h)
 spelled-prop h = hlevel props
 
-range-prop : (h : Hole) → IsProp (InRange h)
+range-prop : (h : Hole) → IsProp (HoleInRange h)
 range-prop h = hlevel props
 
 -- that holes are legal is a proposition
 pub AreHoles-prop : (hs : List Hole) → IsProp (AreHoles hs)
-AreHoles-prop hs = hlevel (props, Each-prop IsSpelled spelled-prop hs, Each-prop InRange range-prop hs, Distinct-prop (hole_names hs))
+AreHoles-prop hs = hlevel (props, AllByRecursion-prop IsSpelledHole spelled-prop hs, AllByRecursion-prop HoleInRange range-prop hs, Distinct-prop (hole_names hs))
 
 -- so is that a body has no `$` but before names of holes
 pub unknown-prop : (hs : List Hole) (body : List ℕ) → IsProp (unknown_place hs body ≡ None)

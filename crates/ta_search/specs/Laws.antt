@@ -3,7 +3,7 @@ use Rattle.std.specs.Prelude.{ℕ, ◌≡◌, List}
 use Rattle.ta_search.specs.declared.template.Template.{Template}
 use Rattle.ta_search.specs.declared.fault.TemplateFault.{TemplateFault}
 use Rattle.ta_search.specs.Templates.{template_text}
-use Rattle.ta_search.specs.TemplateFaults.{FirstFault}
+use Rattle.ta_search.specs.TemplateFaults.{FirstTemplateFault}
 
 -- a text is that of one template at most
 abbrev pub OneTemplate : Type 0
@@ -12,8 +12,8 @@ OneTemplate = (t u : Template) → template_text t ≡ template_text u → (t.ho
 -- a template's text has no fault, and another one fault at most
 abbrev pub OneTemplateFault : Type 0
 OneTemplateFault =
-    ((t : Template) (e : TemplateFault) → FirstFault (template_text t) e → ⊥)
-    × ((bytes : List ℕ) (e f : TemplateFault) → FirstFault bytes e → FirstFault bytes f → e ≡ f)
+    ((t : Template) (e : TemplateFault) → FirstTemplateFault (template_text t) e → ⊥)
+    × ((bytes : List ℕ) (e f : TemplateFault) → FirstTemplateFault bytes e → FirstTemplateFault bytes f → e ≡ f)
 
 -- a text is that of a template
 abbrev pub HasTemplate : List ℕ → Type 0
@@ -21,7 +21,7 @@ HasTemplate bytes = (t : Template) × (template_text t ≡ bytes)
 
 -- a text has a first fault
 abbrev pub HasTemplateFault : List ℕ → Type 0
-HasTemplateFault bytes = (e : TemplateFault) × FirstFault bytes e
+HasTemplateFault bytes = (e : TemplateFault) × FirstTemplateFault bytes e
 
 -- a text is that of a template, or has a first fault: the two don't both fail. It is said so since no test of the specs tells whether a line is that of some hole.
 abbrev pub TemplatesHaveAnswers : Type 0

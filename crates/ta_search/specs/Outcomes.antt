@@ -1,9 +1,8 @@
 -- What comes of a template with values in its holes, within a budget of nodes (this project's profile)
 use Rattle.std.specs.Prelude.{ℕ, ℤ, ◌<◌, ◌≤◌, ◌≡◌, ◌≢◌, Bool, true, false, List, length, slice_get, Some}
-use Rattle.std.specs.List.{prefix_len}
+use Rattle.std.specs.List.{prefix_len, AllByRecursion}
 use Rattle.ta_automaton.specs.declared.file.File.{File}
 use Rattle.ta_automaton.specs.declared.pattern.Pattern.{Pattern}
-use Rattle.ta_automaton.specs.Lists.{Each}
 use Rattle.ta_check.specs.Certificate.{Certificate}
 use Rattle.ta_meaning.specs.FirstFault.{FirstFault}
 use Rattle.ta_meaning.specs.Reading.{Legal}
@@ -35,7 +34,7 @@ is_unsampled (sample.Spent count) = true
 is_unsampled (sample.Overflow node kind) = true
 
 -- the filled text is refused for this fault
-pub record IsRefused (bytes : List ℕ) (e : FileFault) : Type 0 where
+pub record IsRefusedFilling (bytes : List ℕ) (e : FileFault) : Type 0 where
   pub within : length bytes ≤ 1048576
   pub first : FirstFault bytes e
   pub told : e ≢ fault.Memory
@@ -52,7 +51,7 @@ pub record HasSample (bytes : List ℕ) (budget : ℕ) (s : ReportSample) : Type
   pub sampled : IsSampled bytes budget file s
 
 -- there are parameters with an initial configuration, and each pattern of the file has its verdict
-pub record IsJudged (bytes : List ℕ) (budget : ℕ) (file : File) (vs : List Verdict) : Type 0 where
+pub record HasVerdicts (bytes : List ℕ) (budget : ℕ) (file : File) (vs : List Verdict) : Type 0 where
   pub values : List ℤ
   pub sampled : IsSampled bytes budget file (sample.Sample values)
   pub verdicts : AreVerdicts file budget vs
@@ -62,7 +61,7 @@ abbrev pub safe_before : List Verdict → ℕ
 safe_before vs = prefix_len is_safe vs
 
 -- the first pattern in the order of the file whose verdict isn't Safe is this one, with this verdict
-pub record Decides (file : File) (verdicts : List Verdict) (p : Pattern) (v : Verdict) : Type 0 where
+pub record IsFirstNotSafe (file : File) (verdicts : List Verdict) (p : Pattern) (v : Verdict) : Type 0 where
   pub pattern : slice_get file.patterns (safe_before verdicts) ≡ Some p
   pub verdict : slice_get verdicts (safe_before verdicts) ≡ Some v
 
@@ -70,11 +69,11 @@ pub record Decides (file : File) (verdicts : List Verdict) (p : Pattern) (v : Ve
 pub record IsUnsafe (bytes : List ℕ) (budget : ℕ) (name text : List ℕ) : Type 0 where
   pub file : File
   pub verdicts : List Verdict
-  pub judged : IsJudged bytes budget file verdicts
+  pub judged : HasVerdicts bytes budget file verdicts
   pub p : Pattern
   pub nodes : ℕ
   pub run : Run
-  pub decides : Decides file verdicts p (Unsafe nodes run)
+  pub decides : IsFirstNotSafe file verdicts p (Unsafe nodes run)
   pub named : name ≡ p.name
   pub shown : text ≡ run_text file run
 
@@ -82,9 +81,9 @@ pub record IsUnsafe (bytes : List ℕ) (budget : ℕ) (name text : List ℕ) : T
 pub record IsUnknown (bytes : List ℕ) (budget : ℕ) (name : List ℕ) (v : Verdict) : Type 0 where
   pub file : File
   pub verdicts : List Verdict
-  pub judged : IsJudged bytes budget file verdicts
+  pub judged : HasVerdicts bytes budget file verdicts
   pub p : Pattern
-  pub decides : Decides file verdicts p v
+  pub decides : IsFirstNotSafe file verdicts p v
   pub unknown : is_unknown v ≡ true
   pub named : name ≡ p.name
 
@@ -92,15 +91,15 @@ pub record IsUnknown (bytes : List ℕ) (budget : ℕ) (name : List ℕ) (v : Ve
 pub record IsSafe (bytes : List ℕ) (budget : ℕ) (text : List ℕ) : Type 0 where
   pub file : File
   pub verdicts : List Verdict
-  pub judged : IsJudged bytes budget file verdicts
-  pub all : Each (λ v. is_safe v ≡ true) verdicts
+  pub judged : HasVerdicts bytes budget file verdicts
+  pub all : AllByRecursion (λ v. is_safe v ≡ true) verdicts
   pub certificate : CertificateOf file budget verdicts text
   pub accepted : Certificate file text (safe_numbers file verdicts)
 
 -- the outcome of a filled text holds, for a budget of nodes
 abbrev pub OutcomeHolds : List ℕ → ℕ → Outcome → Type 0
 OutcomeHolds bytes budget outcome.Long = 1048576 < length bytes
-OutcomeHolds bytes budget (outcome.Refused e) = IsRefused bytes e
+OutcomeHolds bytes budget (outcome.Refused e) = IsRefusedFilling bytes e
 OutcomeHolds bytes budget outcome.Empty = HasSample bytes budget sample.Empty
 OutcomeHolds bytes budget (outcome.SampleUnknown s) = HasSample bytes budget s × (is_unsampled s ≡ true)
 OutcomeHolds bytes budget (outcome.Unsafe name run) = IsUnsafe bytes budget name run

@@ -1,8 +1,8 @@
 -- The search for values of a template's holes with which every pattern is safe (this project's profile)
 use Rattle.std.specs.Prelude.{ℕ, ◌≡◌, Bool, true, false, List, [], ◌∷◌, ◌++◌, length, ◌⊎◌}
+use Rattle.std.specs.List.{AllByRecursion}
 use Rattle.ta_automaton.specs.declared.file.File.{File}
-use Rattle.ta_automaton.specs.Lists.{Each}
-use Rattle.ta_automaton.specs.Masks.{numbers_from}
+use Rattle.ta_base.specs.Masks.{numbers_from}
 use Rattle.ta_automaton.specs.Runs as runs
 use Rattle.ta_check.specs.Certificate.{Certificate}
 use Rattle.ta_encode.specs.Sample.{HasStart}
@@ -53,7 +53,7 @@ IsSearchEnd t budget end = AreTried t budget (vectors t.holes) end.tried end.fou
 pub record IsFound (bytes certificate : List ℕ) : Type 0 where
   pub file : File
   pub legal : Legal bytes file
-  pub safe : Each (runs.Safe file.automaton) file.patterns
+  pub safe : AllByRecursion (runs.Safe file.automaton) file.patterns
   pub parameters : List ℕ
   pub start : HasStart file.automaton parameters
   pub accepted : Certificate file certificate (numbers_from 0 (length file.patterns))

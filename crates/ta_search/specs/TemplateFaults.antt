@@ -1,13 +1,13 @@
 -- The first fault of a text that is no template (this project's profile)
 use Rattle.std.specs.Prelude.{ℕ, ◌+◌, ◌<◌, ◌≡◌, ◌≢◌, ◌⊎◌, ◌++◌, List, [], ◌∷◌, length, codes, false, true, Some}
-use Rattle.ta_replay.specs.TextFaults.{Avoids}
+use Rattle.ta_base.specs.Bytes.{Avoids}
 use Rattle.ta_search.specs.declared.template.Hole.{Hole}
 use Rattle.ta_search.specs.declared.fault.TemplateFault.{TemplateFault}
 use Rattle.ta_search.specs.declared.fault.TemplateFault.TheVariants as fault
-use Rattle.ta_search.specs.Holes.{IsSpelled, InRange, AreHoles, AreTooMany, is_among, unknown_place, hole_line, hole_lines, head_text}
+use Rattle.ta_search.specs.Holes.{IsSpelledHole, HoleInRange, AreHoles, AreTooMany, is_among, unknown_place, hole_line, hole_lines, head_text}
 
 -- the text begins with the lines of these holes, which are legal, and so many lines are before the rest, with it
-pub record Begins (bytes : List ℕ) (hs : List Hole) (rest : List ℕ) (number : ℕ) : Type 0 where
+pub record BeginsWithHoles (bytes : List ℕ) (hs : List Hole) (rest : List ℕ) (number : ℕ) : Type 0 where
   pub holes : AreHoles hs
   pub text : bytes ≡ hole_lines hs ++ rest
   pub place : number ≡ length hs + 1
@@ -18,21 +18,21 @@ pub record IsOtherLine (rest : List ℕ) : Type 0 where
   pub behind : List ℕ
   pub next : rest ≡ line ++ (10 ∷ behind)
   pub no_feed : Avoids 10 line
-  pub no_hole : (h : Hole) → IsSpelled h → line ≡ hole_line h → ⊥
+  pub no_hole : (h : Hole) → IsSpelledHole h → line ≡ hole_line h → ⊥
   pub no_begin : line ≢ codes "begin"
 
 -- S1: the line has another form, or the text ends before its line feed
-pub record IsMisformed (bytes : List ℕ) (number : ℕ) : Type 0 where
+pub record IsMisformedTemplate (bytes : List ℕ) (number : ℕ) : Type 0 where
   pub hs : List Hole
   pub rest : List ℕ
-  pub begins : Begins bytes hs rest number
+  pub begins : BeginsWithHoles bytes hs rest number
   pub fault : Avoids 10 rest ⊎ IsOtherLine rest
 
 -- the line is that of a hole, behind these holes
 pub record HasHole (bytes : List ℕ) (number : ℕ) (hs : List Hole) (h : Hole) : Type 0 where
   pub behind : List ℕ
-  pub begins : Begins bytes hs (hole_line h ++ (10 ∷ behind)) number
-  pub spelled : IsSpelled h
+  pub begins : BeginsWithHoles bytes hs (hole_line h ++ (10 ∷ behind)) number
+  pub spelled : IsSpelledHole h
 
 -- S2: the line's name stands before
 pub record IsRepeated (bytes : List ℕ) (number : ℕ) : Type 0 where
@@ -55,7 +55,7 @@ pub record IsOneTooMany (bytes : List ℕ) (number : ℕ) : Type 0 where
   pub h : Hole
   pub has : HasHole bytes number hs h
   pub fresh : is_among hs h.name ≡ false
-  pub range : InRange h
+  pub range : HoleInRange h
   pub many : AreTooMany (hs ++ (h ∷ []))
 
 -- S5: the first `$` of the body without a hole's name behind it stands at this offset of the text
@@ -70,7 +70,7 @@ pub record IsUnknownHole (bytes : List ℕ) (offset : ℕ) : Type 0 where
 
 -- why a text is no template; of memory nothing is said
 abbrev pub FaultOf : List ℕ → TemplateFault → Type 0
-FaultOf bytes (fault.Line number) = IsMisformed bytes number
+FaultOf bytes (fault.Line number) = IsMisformedTemplate bytes number
 FaultOf bytes (fault.Repeated number) = IsRepeated bytes number
 FaultOf bytes (fault.Range number) = IsOutOfRange bytes number
 FaultOf bytes (fault.TooMany number) = IsOneTooMany bytes number
@@ -78,6 +78,6 @@ FaultOf bytes (fault.UnknownHole offset) = IsUnknownHole bytes offset
 FaultOf bytes fault.Memory = Unit {0}
 
 -- such a fault, of the text
-abbrev pub FirstFault : List ℕ → TemplateFault → Type 0
-FirstFault bytes fault.Memory = ⊥
-FirstFault bytes e = FaultOf bytes e
+abbrev pub FirstTemplateFault : List ℕ → TemplateFault → Type 0
+FirstTemplateFault bytes fault.Memory = ⊥
+FirstTemplateFault bytes e = FaultOf bytes e

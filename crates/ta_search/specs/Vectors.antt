@@ -1,7 +1,7 @@
 -- The choices of a value for each hole of a template, in their order (this project's profile)
 use Rattle.std.specs.Prelude.{ℕ, ◌<◌, ◌≤◌, ◌≡◌, ◌⊎◌, List, [], ◌∷◌, ◌++◌, map}
-use Rattle.ta_automaton.specs.Lists.{Each}
-use Rattle.ta_automaton.specs.Masks.{In, numbers_from}
+use Rattle.std.specs.List.{AllByRecursion}
+use Rattle.ta_base.specs.Masks.{In, numbers_from}
 use Rattle.ta_search.specs.declared.template.Hole.{Hole}
 use Rattle.ta_search.specs.declared.template.Template.{Template}
 use Rattle.ta_search.specs.Holes.{value_count}
@@ -36,12 +36,12 @@ IsBefore (v ∷ vs) (w ∷ ws) = (v < w) ⊎ ((v ≡ w) × IsBefore vs ws)
 -- each comes before all that stand behind it
 abbrev pub Ascend : List (List ℕ) → Type 0
 Ascend [] = Unit {0}
-Ascend (v ∷ vs) = Each (IsBefore v) vs × Ascend vs
+Ascend (v ∷ vs) = AllByRecursion (IsBefore v) vs × Ascend vs
 
 -- the vectors of a template are just the choices of a value for each hole, in lexicographic order
 pub record AreChoices (t : Template) : Type 0 where
   pub ascend : Ascend (vectors t.holes)
-  pub choices : Each (IsChoice t.holes) (vectors t.holes)
+  pub choices : AllByRecursion (IsChoice t.holes) (vectors t.holes)
   pub all : (vector : List ℕ) → IsChoice t.holes vector → In vector (vectors t.holes)
 
 abbrev pub VectorsAreChoices : Type 0

@@ -5,7 +5,7 @@ ghost use Rattle.std.specs.Prelude.{◌≡◌};
 ghost use Rattle.ta_shell.specs.Puts.{texts_joined};
 
 use std::marker::Model;
-use ta_shelf::{List, Text};
+use ta_base::{List, Text};
 
 /// The text of a certificate in pieces, so that a long one is never copied as it grows. A contract
 /// sees it as the one text.

@@ -2,12 +2,14 @@
 #![tactic(auto)]
 
 ghost use Rattle.std.specs.Prelude.{◌≡◌, ◌++◌, IfOk, OnOk, decimal, length};
-ghost use Rattle.ta_search.specs.Filling.{filled_text, value_of};
+ghost use Rattle.ta_search.specs.Filling.{filled_text, hole_value};
 
-use crate::reading::{is_word, word_at};
+use crate::reading::word_at;
 use crate::template::{Hole, Template};
 use std::alloc::{AllocError, Global};
-use ta_syntax::List;
+use ta_base::List;
+use ta_base::bytes::is_word_byte;
+use ta_base::decimals::push_decimal;
 
 /// The text of a template's body with these values, one for each hole.
 pub fn fill(alloc: Global, template: &Template, values: &[u32]) -> Result<List<u8>, AllocError>
@@ -21,9 +23,9 @@ pub fn fill(alloc: Global, template: &Template, values: &[u32]) -> Result<List<u
     let mut rest = body;
     'bytes: while let Some((byte, behind)) = rest.split_first() {
         if *byte == b'$' {
-            push_number(alloc, &mut text, value_of(holes, values, word_at(behind)))?;
+            push_decimal(alloc, &mut text, value_of(holes, values, word_at(behind)))?;
             named = true;
-        } else if !(named && is_word(*byte)) {
+        } else if !(named && is_word_byte(*byte)) {
             text.push(*byte)?;
             named = false;
         }
@@ -34,7 +36,7 @@ pub fn fill(alloc: Global, template: &Template, values: &[u32]) -> Result<List<u
 
 /// The value of the hole of this name.
 fn value_of(holes: &[Hole], values: &[u32], word: &[u8]) -> u32
-    ensures { result ≡ value_of holes.now values.now word.now }
+    ensures { result ≡ hole_value holes.now values.now word.now }
 {
     match (holes.split_first(), values.split_first()) {
         (Some((hole, holes)), Some((value, values))) => {
@@ -46,13 +48,4 @@ fn value_of(holes: &[Hole], values: &[u32], word: &[u8]) -> u32
         }
         _ => 0,
     }
-}
-
-/// Adds a number in decimal.
-fn push_number(alloc: Global, text: &mut Vec<u8>, number: u32) -> Result<(), AllocError>
-    ensures { OnOk result (text.new.items ≡ text.old.items ++ decimal number) }
-{
-    let mut digits = String::new(alloc);
-    write!(&mut digits, "{}", number)?;
-    text.extend_from_slice(digits.as_bytes())
 }

@@ -2,6 +2,7 @@
 //! pattern is safe.
 #![tactic(auto)]
 
+mod beside;
 mod certificate;
 mod fault;
 mod filling;
@@ -12,6 +13,7 @@ mod printing;
 mod reading;
 mod searching;
 mod template;
+mod vector;
 
 pub use certificate::CertificateText;
 pub use fault::TemplateFault;

@@ -1,25 +1,27 @@
 //! The lines of a template's holes.
 #![tactic(auto)]
 
-ghost use Rattle.std.specs.Prelude.{◌≡◌, ◌≤◌, ◌<◌, ◌↔◌, ℕ, IfOk, IfErr, MatchOption, List, [], ◌∷◌, ◌++◌, codes, IsTrue};
-ghost use Rattle.ta_automaton.specs.Lists.{Each};
+ghost use Rattle.std.specs.Prelude.{◌≡◌, ◌≤◌, ◌<◌, ◌^◌, ◌↔◌, ℕ, IfOk, IfErr, MatchOption, List, [], ◌∷◌, ◌++◌, codes, IsTrue};
+ghost use Rattle.std.specs.List.{AllByRecursion};
+ghost use Rattle.ta_base.specs.Decimals.{IsDecimal, NoDecimal};
 ghost use Rattle.ta_search.specs.declared.template.Hole.{Hole};
-ghost use Rattle.ta_search.specs.Holes.{AreHoles, AreTooMany, InRange, IsSpelled, hole_line, is_among, vector_count, value_count};
-ghost use Rattle.ta_search.specs.Inside.Lines.{Adds, Declares, IsHoleName, IsShortNumber, LineRefused};
+ghost use Rattle.ta_search.specs.Holes.{AreHoles, AreTooMany, HoleInRange, IsSpelledHole, hole_line, is_among, vector_count, value_count};
+ghost use Rattle.ta_search.specs.Inside.Lines.{AddsHole, Declares, IsHoleName, LineRefused};
 
 use crate::fault::TemplateFault;
 use crate::template::Hole;
 use std::alloc::Global;
 use std::str;
-use ta_replay::{read_number, split_at_byte};
+use ta_base::Text;
+use ta_base::bytes::{after, split_at_byte};
+use ta_base::decimals::whole_decimal;
 use ta_smt::is_name;
-use ta_syntax::Text;
 
 /// The greatest value that is tried for a hole.
 const GREATEST: u64 = 1_000_000_000;
 
-/// The greatest number of 10 digits.
-const GREATEST_WRITTEN: i128 = 9_999_999_999;
+/// Numbers of at most 10 digits are below this.
+const TEN_DIGITS: u128 = 10_000_000_000;
 
 /// How many holes a template may have.
 const MOST_HOLES: usize = 4;
@@ -29,12 +31,9 @@ const MOST_VECTORS: u64 = 10_000;
 
 /// The number of at most 10 digits that the bytes are.
 fn short_number(digits: &[u8]) -> Option<u64>
-    ensures { MatchOption result ((n : ℕ) → IsShortNumber digits.now n → ⊥) (λ value. IsShortNumber digits.now value) }
+    ensures { MatchOption result (NoDecimal (10 ^ 10) digits.now) (λ value. IsDecimal (10 ^ 10) digits.now value) }
 {
-    let value = read_number(digits)?;
-    if value > GREATEST_WRITTEN {
-        return None;
-    }
+    let value = whole_decimal(digits, TEN_DIGITS)?;
     Some(value as u64)
 }
 
@@ -51,18 +50,11 @@ fn hole_name(bytes: &[u8]) -> Option<&str>
     if is_name(text) { Some(text) } else { None }
 }
 
-/// What stands behind the word of a hole's line.
-fn behind_word(line: &[u8]) -> Option<&[u8]>
-    ensures { MatchOption result ((rest : List ℕ) → line.now ≡ codes "hole " ++ rest → ⊥) (λ rest. line.now ≡ codes "hole " ++ rest.now) }
-{
-    line.strip_prefix(b"hole ".as_slice())
-}
-
 /// The name of a hole and its lowest and greatest value, where a line declares one.
 fn declared(line: &[u8]) -> Option<(&str, u64, u64)>
-    ensures { MatchOption result ((h : Hole) → IsSpelled h → line.now ≡ hole_line h → ⊥) (λ x. Declares line.now x.0.now x.1 x.2) }
+    ensures { MatchOption result ((h : Hole) → IsSpelledHole h → line.now ≡ hole_line h → ⊥) (λ x. Declares line.now x.0.now x.1 x.2) }
 {
-    let rest = behind_word(line)?;
+    let rest = after(line, b"hole ")?;
     let (name, numbers) = split_at_byte(rest, b' ')?;
     let (low, high) = split_at_byte(numbers, b' ')?;
     Some((hole_name(name)?, short_number(low)?, short_number(high)?))
@@ -88,7 +80,7 @@ fn value_count(low: u32, high: u32) -> u64
 
 /// How many choices of values there are.
 pub(crate) fn vector_count(holes: &[Hole]) -> u64
-    requires { Each InRange holes.now × (vector_count holes.now ≤ 10000) }
+    requires { AllByRecursion HoleInRange holes.now × (vector_count holes.now ≤ 10000) }
     ensures { result ≡ vector_count holes.now }
 {
     match holes.split_first() {
@@ -116,7 +108,7 @@ pub(crate) fn next_hole(
     number: u32,
 ) -> Result<Hole, TemplateFault>
     requires { AreHoles holes.now }
-    ensures adds { IfOk result (λ hole. Adds holes.now line.now hole) }
+    ensures adds { IfOk result (λ hole. AddsHole holes.now line.now hole) }
     ensures refused { IfErr result (λ e. LineRefused holes.now line.now number e) }
 {
     let Some((name, low, high)) = declared(line) else {

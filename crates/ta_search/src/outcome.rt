@@ -2,9 +2,9 @@
 #![tactic(auto)]
 
 use crate::certificate::CertificateText;
-use ta_automaton::Text;
+use ta_base::{List, Text};
 use ta_report::{ReportSample, Verdict};
-use ta_syntax::{FileFault, List};
+use ta_syntax::FileFault;
 
 /// What comes of a vector of values, within a budget of nodes.
 #[derive(Drop)]

@@ -8,7 +8,7 @@ ghost use Rattle.ta_search.specs.SearchText.{choice_text, end_line, outcome_text
 use crate::outcome::{Outcome, SearchEnd, Tried};
 use crate::template::{Hole, Template};
 use std::alloc::{AllocError, Global};
-use ta_automaton::Text;
+use ta_base::Text;
 use ta_report::{ReportKind, ReportSample, Verdict, file_fault_phrase};
 use ta_shell::Phrase;
 

@@ -2,8 +2,6 @@
 #![tactic(auto)]
 
 ghost use Rattle.std.specs.Prelude.{◌≡◌, ◌≤◌, ◌<◌, ◌+◌, ◌↔◌, IfOk, IfErr, IsTrue, codes, length};
-ghost use Rattle.std.specs.List.{prefix_len};
-ghost use Rattle.ta_syntax.specs.Kinds.{is_word};
 ghost use Rattle.ta_search.specs.Holes.{AreHoles, unknown_place, word_at};
 ghost use Rattle.ta_search.specs.Templates.{template_text};
 ghost use Rattle.ta_search.specs.TemplateFaults.{FaultOf};
@@ -13,8 +11,8 @@ use crate::fault::TemplateFault;
 use crate::lines::{is_among, next_hole};
 use crate::template::{Hole, Template};
 use std::alloc::Global;
-use ta_replay::split_at_byte;
-use ta_syntax::List;
+use ta_base::List;
+use ta_base::bytes::{split_at_byte, word_len};
 
 /// The template that a text is. The first line at fault is refused, and then the first `$` of the
 /// body without a hole's name behind it.
@@ -85,18 +83,4 @@ pub(crate) fn word_at(bytes: &[u8]) -> &[u8]
     ensures { result.now ≡ word_at bytes.now }
 {
     &bytes[..word_len(bytes)]
-}
-
-/// How many bytes at the front may stand in a name.
-fn word_len(bytes: &[u8]) -> usize
-    ensures { result ≡ prefix_len is_word bytes.now }
-{
-    bytes.iter().take_while(|byte| is_word(**byte)).count()
-}
-
-/// Whether a byte may stand in a name.
-pub(crate) fn is_word(byte: u8) -> bool
-    ensures { result ≡ is_word byte }
-{
-    byte.is_ascii_alphanumeric() || byte == b'_'
 }

@@ -1,38 +1,24 @@
 //! The search for values with which every pattern is safe.
 #![tactic(auto)]
 
-ghost use Rattle.std.specs.Prelude.{◌≡◌, ◌≤◌, ◌<◌, ◌++◌, IfOk, OnOk, List, ℕ, ℤ, false, true, length};
-ghost use Rattle.ta_automaton.specs.Lists.{Each};
-ghost use Rattle.ta_meaning.specs.Reading.{Legal};
-ghost use Rattle.ta_report.specs.Report.{VerdictFits};
-ghost use Rattle.ta_report.specs.declared.verdict.ReportSample.TheVariants.{Sample};
-ghost use Rattle.ta_search.specs.Filling.{filled_text};
-ghost use Rattle.ta_search.specs.Holes.{InRange, vector_count};
-ghost use Rattle.ta_search.specs.Inside.Trying.{IsOfPattern, vector_at};
-ghost use Rattle.ta_search.specs.Outcomes.{IsSampled, OutcomeHolds, is_safe, safe_before};
-ghost use Rattle.ta_search.specs.Searching.{IsSearchEnd, IsTried, LastIsFound, is_found};
-ghost use Rattle.ta_words.specs.Calls.{OfPattern};
+ghost use Rattle.std.specs.Prelude.{◌≡◌, ◌≤◌, ◌<◌, IfOk, true};
+ghost use Rattle.ta_search.specs.Holes.{vector_count};
+ghost use Rattle.ta_search.specs.Inside.Beside.{AtHand};
+ghost use Rattle.ta_search.specs.Inside.Trying.{vector_at};
+ghost use Rattle.ta_search.specs.Searching.{IsSearchEnd, IsTried, LastIsFound};
 
-use crate::certificate::CertificateText;
-use crate::filling::fill;
+use crate::beside::{take, try_beside};
 use crate::lines::vector_count;
-use crate::outcome::{Outcome, SearchEnd, Tried};
-use crate::template::{Hole, Template};
+use crate::outcome::{SearchEnd, Tried};
+use crate::template::Template;
+use crate::vector::{is_found, try_vector};
 use std::alloc::{AllocError, Global};
 use std::thread::Threads;
-use ta_automaton::{File, Text};
-use ta_meaning::read_file;
-use ta_replay::print_run;
-use ta_report::{ReportSample, Verdict};
-use ta_scope::ScopedFile;
-use ta_syntax::{FileFault, List};
-use ta_verdict::{judge_file, sample_of};
-
-/// How many bytes an automaton file may have.
-const LONGEST: usize = 1_048_576;
+use ta_base::List;
 
 /// Tries the vectors of a template in lexicographic order, up to the first with which every pattern
-/// is safe, each within a budget of nodes.
+/// is safe, each within a budget of nodes. Where there are threads, vectors are tried beside each other;
+/// the end is that of one thread which tries them in order.
 pub fn search<R: Threads + Sync>(
     rt: &R,
     alloc: Global,
@@ -45,9 +31,10 @@ pub fn search<R: Threads + Sync>(
     ensures found { IfOk result (λ end. end.found ≡ true → LastIsFound template.now end) }
 {
     let count = vector_count(template.holes.as_slice());
+    let mut at_hand = try_beside(rt, alloc, template, count, nodes)?;
     let mut tried = Vec::new(alloc);
     'vectors: for place in 0..count {
-        let next = try_vector(rt, alloc, template, place, nodes)?;
+        let next = next_tried(rt, alloc, template, place, nodes, &mut at_hand)?;
         let found = is_found(&next.outcome);
         tried.push(next)?;
         if found {
@@ -63,170 +50,24 @@ pub fn search<R: Threads + Sync>(
     })
 }
 
-/// Whether an outcome says that every pattern is safe.
-fn is_found(outcome: &Outcome) -> bool
-    ensures { result ≡ is_found outcome.now }
-{
-    matches!(outcome, Outcome::Safe { .. })
-}
-
-/// Tries the vector of a number.
-fn try_vector<R: Threads + Sync>(
+/// The vector of a number, tried: it is at hand, or else it is tried now.
+fn next_tried<R: Threads + Sync>(
     rt: &R,
     alloc: Global,
     template: &Template,
     place: u64,
     nodes: u64,
+    at_hand: &mut Vec<Option<Tried>>,
 ) -> Result<Tried, AllocError>
     requires place { place < vector_count template.now.holes }
     requires some { 0 < nodes }
     requires limit { nodes ≤ 1000000000 }
-    ensures { IfOk result (λ tried. IsTried template.now nodes (vector_at template.now.holes place) tried) }
+    requires at_hand { AtHand template.now nodes at_hand.old.items }
+    ensures tried { IfOk result (λ tried. IsTried template.now nodes (vector_at template.now.holes place) tried) }
+    ensures at_hand { AtHand template.now nodes at_hand.new.items }
 {
-    let mut values = Vec::new(alloc);
-    push_vector(&mut values, template.holes.as_slice(), place)?;
-    let bytes = fill(alloc, template, values.as_slice())?;
-    let outcome = text_outcome(rt, alloc, bytes.as_slice(), nodes)?;
-    Ok(Tried {
-        values: List::from_vec(values),
-        outcome,
-    })
-}
-
-/// Adds the values of the vector of a number.
-fn push_vector(values: &mut Vec<u32>, holes: &[Hole], place: u64) -> Result<(), AllocError>
-    requires ranges { Each InRange holes.now }
-    requires few { vector_count holes.now ≤ 10000 }
-    requires place { place < vector_count holes.now }
-    ensures { OnOk result (values.new.items ≡ values.old.items ++ vector_at holes.now place) }
-{
-    let Some((first, rest)) = holes.split_first() else {
-        return Ok(());
-    };
-    let count = vector_count(rest);
-    values.push(first.low + (place / count) as u32)?;
-    push_vector(values, rest, place % count)
-}
-
-/// What comes of a filled text.
-fn text_outcome<R: Threads + Sync>(
-    rt: &R,
-    alloc: Global,
-    bytes: &[u8],
-    nodes: u64,
-) -> Result<Outcome, AllocError>
-    requires some { 0 < nodes }
-    requires limit { nodes ≤ 1000000000 }
-    ensures { IfOk result (OutcomeHolds bytes.now nodes) }
-{
-    if bytes.len() > LONGEST {
-        return Ok(Outcome::Long);
+    match take(at_hand, place) {
+        Some(tried) => Ok(tried),
+        None => try_vector(rt, alloc, template, place, nodes),
     }
-    match read_file(alloc, bytes) {
-        Ok(scoped) => file_outcome(rt, alloc, &scoped, nodes),
-        Err(FileFault::Memory) => Err(AllocError),
-        Err(fault) => Ok(Outcome::Refused(fault)),
-    }
-}
-
-/// What comes of a file.
-fn file_outcome<R: Threads + Sync>(
-    rt: &R,
-    alloc: Global,
-    scoped: &ScopedFile,
-    nodes: u64,
-) -> Result<Outcome, AllocError>
-    requires some { 0 < nodes }
-    requires limit { nodes ≤ 1000000000 }
-    ensures { (bytes : List ℕ) → length bytes ≤ 1048576 → Legal bytes scoped.now.file → IfOk result (OutcomeHolds bytes nodes) }
-{
-    match sample_of(alloc, &scoped.file, nodes)? {
-        ReportSample::Sample(_) => patterns_outcome(rt, alloc, scoped, nodes),
-        ReportSample::Empty => Ok(Outcome::Empty),
-        ReportSample::Spent { count } => {
-            Ok(Outcome::SampleUnknown(ReportSample::Spent { count }))
-        }
-        ReportSample::Overflow { node, kind } => {
-            Ok(Outcome::SampleUnknown(ReportSample::Overflow { node, kind }))
-        }
-    }
-}
-
-/// What comes of a file that has a sample.
-fn patterns_outcome<R: Threads + Sync>(
-    rt: &R,
-    alloc: Global,
-    scoped: &ScopedFile,
-    nodes: u64,
-) -> Result<Outcome, AllocError>
-    requires some { 0 < nodes }
-    requires limit { nodes ≤ 1000000000 }
-    ensures { (bytes : List ℕ) (values : List ℤ) → IsSampled bytes nodes scoped.now.file (Sample values) → IfOk result (OutcomeHolds bytes nodes) }
-{
-    let judged = judge_file(rt, alloc, scoped, nodes, true)?;
-    let verdicts = judged.verdicts.as_slice();
-    let place = safe_before(verdicts);
-    match verdicts.get(place) {
-        Some(verdict) => pattern_outcome(alloc, &scoped.file, place, verdict),
-        None => Ok(Outcome::Safe {
-            certificate: CertificateText::from_pieces(judged.certificate),
-        }),
-    }
-}
-
-/// How many verdicts stand before the first that isn't Safe.
-fn safe_before(verdicts: &[Verdict]) -> usize
-    ensures { result ≡ safe_before verdicts.now }
-{
-    verdicts
-        .iter()
-        .take_while(|verdict| is_safe(verdict))
-        .count()
-}
-
-/// Whether a verdict says that a pattern is safe.
-fn is_safe(verdict: &Verdict) -> bool
-    ensures { result ≡ is_safe verdict.now }
-{
-    matches!(verdict, Verdict::Safe { .. })
-}
-
-/// What comes of a file by the verdict on its pattern of this number, which is the first that isn't Safe.
-fn pattern_outcome(
-    alloc: Global,
-    file: &File,
-    number: usize,
-    verdict: &Verdict,
-) -> Result<Outcome, AllocError>
-    requires exists { number < length file.now.patterns }
-    requires fits { VerdictFits file.now verdict.now }
-    requires other { is_safe verdict.now ≡ false }
-    ensures { OfPattern file.now number (λ p. IfOk result (IsOfPattern file.now p verdict.now)) }
-{
-    let name = copied(alloc, &file.patterns.as_slice()[number].name)?;
-    match verdict {
-        Verdict::Unsafe { run, .. } => Ok(Outcome::Unsafe {
-            pattern: name,
-            run: print_run(alloc, file, run)?,
-        }),
-        Verdict::Spent { nodes } => Ok(Outcome::Unknown {
-            pattern: name,
-            verdict: Verdict::Spent { nodes: *nodes },
-        }),
-        Verdict::Overflow { node, kind } => Ok(Outcome::Unknown {
-            pattern: name,
-            verdict: Verdict::Overflow {
-                node: *node,
-                kind: *kind,
-            },
-        }),
-        Verdict::Safe { .. } => unreachable!(),
-    }
-}
-
-/// A copy of a text.
-fn copied(alloc: Global, text: &Text) -> Result<Text, AllocError>
-    ensures { IfOk result (λ copy. copy ≡ text.now) }
-{
-    Ok(Text::from_string(String::from_str(alloc, text.as_str())?))
 }

@@ -4,7 +4,7 @@
 ghost use Rattle.std.specs.Prelude.{◌≡◌, None};
 ghost use Rattle.ta_search.specs.Holes.{AreHoles, AreHoles-prop, unknown_place, unknown-prop};
 
-use ta_syntax::{List, Text};
+use ta_base::{List, Text};
 
 /// A hole for a coefficient: its name, and the values that are tried, from the lower to the upper.
 #[derive(Drop)]

@@ -1,6 +1,6 @@
 -- the calls of a reading, one more at a time
 use Rattle.std.proofs.Common.{◌≡◌, ℕ, ◌+◌, ◌<◌, List, [], ◌∷◌, ◌++◌, length, length-append, append_assoc, append-nil, Ok, refl, sym, subst, ◌∙◌, ap, arith}
-use Rattle.ta_shelf.specs.Calls.{Call, bytes_of, bytes_given, ReadsOn, Spells}
+use Rattle.ta_shelf.specs.Calls.{Call, bytes_of, bytes_given, ReadsOn}
 
 pub bytes_given-append : (first later : List Call) → bytes_given (first ++ later) ≡ bytes_given first ++ bytes_given later
 bytes_given-append [] later = refl
@@ -34,10 +34,6 @@ pub record TurnsFrom (name : List ℕ) (start : ℕ) (read : List ℕ) (before n
   pub in_order : ReadsOn name start turns
   pub given : read ≡ bytes_given turns
 
--- the same of a whole file
-abbrev pub Turns : List ℕ → List ℕ → List Call → List Call → Type 0
-Turns name read before now = TurnsFrom name 0 read before now
-
 -- one more call gave the next bytes
 pub one_more : (name : List ℕ) (start : ℕ) (read piece all : List ℕ) (at : ℕ) (before now after : List Call) → TurnsFrom name start read before now → at ≡ start + length read → after ≡ now ++ (record { name = name; at = at; gave = Ok piece }) ∷ [] → 0 < length piece → all ≡ read ++ piece → TurnsFrom name start all before after
 one_more name start read piece all at before now after so_far place logged some whole =
@@ -49,10 +45,3 @@ one_more name start read piece all at before now after so_far place logged some 
       in_order = ReadsOn-then name start so_far.turns call so_far.in_order refl (omega (arith, place, size)) some;
       given = whole ∙ ap (λ bytes. bytes ++ piece) so_far.given ∙ sym (bytes_given-then so_far.turns (so_far.turns ++ call ∷ []) call refl);
     }
-
--- calls spell one text at most
-pub spells_one : (name : List ℕ) (calls : List Call) (bytes bytes' : List ℕ) → Spells name calls bytes → Spells name calls bytes' → bytes ≡ bytes'
-spells_one name calls bytes bytes' spells spells' = spelled spells ∙ sym (spelled spells')
-  where
-    spelled : {text : List ℕ} → Spells name calls text → text ≡ bytes_given calls
-    spelled {text} s = s.bytes ∙ sym (append-nil (bytes_given s.turns)) ∙ sym (bytes_given-then s.turns calls (record { name = name; at = length text; gave = Ok [] }) s.all)

@@ -1,5 +1,5 @@
 -- files of distinct names, one file at a time
-use Rattle.std.proofs.Common.{◌≡◌, ◌≢◌, ◌↔◌, ℕ, suc, List, [], ◌∷◌, Bool, true, false, Option, Some, None, refl, subst, sym, ◌∙◌, arith, Bor, if◌then◌else◌}
+use Rattle.std.proofs.Common.{◌≡◌, ◌≢◌, ◌↔◌, ℕ, suc, List, [], ◌∷◌, true, false, Option, Some, None, refl, subst, sym, ◌∙◌, arith, Bor}
 use Rattle.std.specs.List.{All}
 use Rattle.std.specs.Str.{bytes_eq}
 use Rattle.std.specs.Option.{is_some, option_copied}
@@ -8,12 +8,8 @@ use Rattle.std.proofs.lemmas.List.Elements.{All-nil, All-cons, All-head, All-tai
 use Rattle.std.proofs.lemmas.List.Kept.{AllPairs-cons}
 use Rattle.std.proofs.lemmas.Option.{none-some}
 use Rattle.std.proofs.lemmas.Slice.Eq.{bytes_eq-Decides}
+use Rattle.ta_base.proofs.Lists.{passed_over}
 use Rattle.ta_shelf.specs.Files.{AreDistinct, file_named}
-
--- a search that finds nothing passed over the first file and found nothing later
-passed_over : (b : Bool) (bytes : List ℕ) (later : Option (List ℕ)) → (if b then Some bytes else later) ≡ None → (b ≡ false) × (later ≡ None)
-passed_over true bytes later none = absurd (none-some bytes (sym none))
-passed_over false bytes later none = (refl, none)
 
 -- a name has no file where each file has another name
 pub none_named : (name : List ℕ) (files : List (List ℕ × List ℕ)) → All (λ f. name ≢ f.0) files → file_named name files ≡ None

@@ -1,7 +1,7 @@
 -- what a read of a whole file keeps from turn to turn
 use Rattle.std.proofs.Common.{◌+◌, ◌-◌, ◌∙◌, ap, drop, arith, length-append, ◌≡◌, ℕ, ◌<◌, ◌≤◌, List, [], ◌++◌, length, take, Some, None, Option, refl, sym, subst}
-use Rattle.std.proofs.Math.Seq.{take-add, take-append-add}
-use Rattle.std.proofs.lemmas.List.{drop-drop, length-drop, length-take-le, take-append-drop, take-append-le}
+use Rattle.std.proofs.Math.Seq.{take-add}
+use Rattle.std.proofs.lemmas.List.{drop-drop, length-drop, length-take-le, take-append-drop}
 use Rattle.std.proofs.lemmas.Option.{none-some}
 use Rattle.std.specs.Option.{IfSome, unwrap_or}
 use Rattle.ta_shelf.specs.Shelf.{ReadsBytes}
@@ -69,12 +69,6 @@ begins_with (Some bytes) read some so_far = record {
 pub begins_if : (files : Option (List ℕ → Option (List ℕ))) (name read given : List ℕ) → 0 < length read → read ≡ given → IfSome files (λ m. IsReadFrom (m name) 0 read) → IfSome files (λ m. BeginsWith (m name) given)
 begins_if None name read given some same so_far = tt
 begins_if (Some files) name read given some same so_far = subst (BeginsWith (files name)) same (begins_with (files name) read some so_far)
-
--- a part of a buffer behind its first bytes was filled in part
-pub filled_more : (a n : ℕ) (xs ys behind : List ℕ) → a ≤ length xs → n ≤ length ys → take (a + n) (take a xs ++ (ys ++ behind)) ≡ take a xs ++ take n ys
-filled_more a n xs ys behind fits few =
-    let size : length (take a xs) ≡ a = length-take-le a xs fits in
-    ap (λ k. take (k + n) (take a xs ++ (ys ++ behind))) (sym size) ∙ take-append-add (take a xs) (ys ++ behind) n ∙ ap (λ zs. take a xs ++ zs) (take-append-le n ys behind few)
 
 -- a buffer that isn't empty is full
 full : (file : Option (List ℕ)) (at : ℕ) (buffer : List ℕ) (count : ℕ) → count ≡ length buffer → 0 < length buffer → IsReadFrom file at (take count buffer) → FillsFrom file at buffer count

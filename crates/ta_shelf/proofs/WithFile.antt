@@ -3,24 +3,17 @@ use Rattle.std.proofs.Common.{◌≡◌, ◌≢◌, ℕ, zero, suc, ◌+◌, ◌
 use Rattle.std.specs.Prelude.{slice_get, is_ok, IfOk, IfErr}
 use Rattle.std.specs.List.{position, position_from}
 use Rattle.std.specs.Str.{bytes_eq}
-use Rattle.std.proofs.lemmas.Bool.{false_from_ne_true, true≢false}
+use Rattle.std.proofs.lemmas.Bool.{true≢false}
 use Rattle.std.proofs.lemmas.Iterator.Adapters.{position_from-zero}
 use Rattle.std.proofs.lemmas.List.{set-get_or}
 use Rattle.std.proofs.lemmas.List.Kept.{AllPairs-cons}
 use Rattle.std.proofs.lemmas.List.Quantifiers.{position-Some}
 use Rattle.std.proofs.lemmas.Option.{none-some, get_or_from_slice_get}
 use Rattle.std.proofs.lemmas.Slice.Eq.{bytes_eq-Decides}
+use Rattle.ta_base.proofs.ByteLists.{other_name, same_name}
 use Rattle.ta_shelf.specs.Files.{AreDistinct, file_named, with_file}
 use Rattle.ta_shelf.specs.Put.{bytes_held}
 use Rattle.ta_shelf.proofs.Distinct.{none_named, named_apart, distinct-head, distinct-tail}
-
--- a name is its own
-same_name : (name : List ℕ) → bytes_eq name name ≡ true
-same_name name = (bytes_eq-Decides name name).1 refl
-
--- two names that differ aren't equal
-other_name : (known name : List ℕ) → known ≢ name → bytes_eq known name ≡ false
-other_name known name differ = false_from_ne_true (bytes_eq known name) (λ e. differ ((bytes_eq-Decides known name).0 e))
 
 -- the file of the name at a place, the first of that name, holds other bytes
 with_file-at : (name bytes : List ℕ) (files : List (List ℕ × List ℕ)) (place : ℕ) (d : List ℕ × List ℕ) → place < length files → bytes_eq (get_or files place d).0 name ≡ true → ((k : ℕ) → k < place → bytes_eq (get_or files k d).0 name ≡ false) → set files place ((get_or files place d).0, bytes) ≡ with_file name bytes files

@@ -1,7 +1,7 @@
 -- what a write of a whole text keeps from turn to turn
 use Rattle.std.proofs.Common.{◌∙◌, ap, append_assoc, ◌≡◌, ◌≢◌, ℕ, zero, suc, ◌+◌, ◌-◌, ◌≤◌, List, ◌++◌, length, take, drop, Option, Some, None, Ok, refl}
-use Rattle.std.proofs.lemmas.List.{length-drop}
-use Rattle.std.proofs.Math.Seq.{take-add, take-length}
+use Rattle.std.proofs.Math.Seq.{take-add}
+use Rattle.ta_base.proofs.Lists.{rest_of}
 use Rattle.ta_shelf.specs.Sink.{with_text, StallsOnlyStalled}
 
 -- so much of a text was added, and no call failed or took nothing
@@ -15,10 +15,6 @@ pub record Written (before now : Option (List ℕ)) (text : List ℕ) (at faults
 pub with_text-append : (before : Option (List ℕ)) (text more : List ℕ) → with_text (with_text before text) more ≡ with_text before (text ++ more)
 with_text-append None text more = refl
 with_text-append (Some bytes) text more = ap Some (append_assoc bytes text more)
-
--- the text from a place on, as the code cuts it
-pub rest_of : (text : List ℕ) (at : ℕ) → take (length text - at) (drop at text) ≡ drop at text
-rest_of text at = rw (← length-drop at text) (take-length (drop at text))
 
 -- one more piece of the rest was added
 pub added-more : (before now next : Option (List ℕ)) (text : List ℕ) (at count : ℕ) → now ≡ with_text before (take at text) → next ≡ with_text now (take count (take (length text - at) (drop at text))) → next ≡ with_text before (take (at + count) text)

@@ -63,18 +63,18 @@ pub record ReadsFirst (name : List ℕ) (calls : List Call) (bytes : List ℕ) :
   pub given : bytes ≡ bytes_given calls
 
 -- turns filled a buffer from an offset on, or a last call gave no byte more or was refused
-abbrev pub EndsPiece : List ℕ → ℕ → List ℕ → Result ℕ ShelfFault → List Call → List Call → Type 0
-EndsPiece name at buffer (Ok count) turns calls =
+abbrev pub EndsFilling : List ℕ → ℕ → List ℕ → Result ℕ ShelfFault → List Call → List Call → Type 0
+EndsFilling name at buffer (Ok count) turns calls =
     (bytes_given turns ≡ take count buffer)
     × (((count ≡ length buffer) × (calls ≡ turns))
     ⊎ ((count < length buffer) × (calls ≡ turns ++ (record { name = name; at = at + count; gave = Ok [] }) ∷ [])))
-EndsPiece name at buffer (Err fault) turns calls = calls ≡ turns ++ (record { name = name; at = at + length (bytes_given turns); gave = Err fault }) ∷ []
+EndsFilling name at buffer (Err fault) turns calls = calls ≡ turns ++ (record { name = name; at = at + length (bytes_given turns); gave = Err fault }) ∷ []
 
 -- the calls of a reading of a piece that answers this
 pub record PieceBy (name : List ℕ) (at : ℕ) (buffer : List ℕ) (result : Result ℕ ShelfFault) (calls : List Call) : Type 0 where
   pub turns : List Call
   pub in_order : ReadsOn name at turns
-  pub ends : EndsPiece name at buffer result turns calls
+  pub ends : EndsFilling name at buffer result turns calls
 
 -- a list of calls grew by such ones
 pub record Grew (Such : List Call → Type 0) (before after : List Call) : Type 0 where

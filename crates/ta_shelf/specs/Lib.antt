@@ -2,7 +2,6 @@ pub mod Calls
 pub mod Counts
 pub mod Failing
 pub mod Files
-pub mod Lending
 pub mod Put
 pub mod Shelf
 pub mod Sink

@@ -8,9 +8,8 @@ ghost use Rattle.std.specs.Str.{bytes_eq};
 ghost use Rattle.ta_shelf.specs.Files.{AreDistinct, file_named, with_file};
 ghost use Rattle.ta_shelf.specs.Put.{bytes_held};
 
-use crate::list::List;
-use crate::text::Text;
 use std::alloc::AllocError;
+use ta_base::{List, Text};
 
 /// The bytes of the file of a name.
 pub fn find_file<'a>(files: &'a [(Text, List<u8>)], name: &str) -> Option<&'a List<u8>>

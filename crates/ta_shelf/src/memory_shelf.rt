@@ -10,12 +10,11 @@ ghost use Rattle.ta_shelf.specs.Shelf.{ReadsAt, CountsFaults, FailsExactly};
 
 use crate::failing::Failing;
 use crate::fault::{PutFault, ShelfFault};
-use crate::list::List;
 use crate::log::Entry;
 use crate::quiet_shelf::QuietShelf;
 use crate::shelf::Shelf;
-use crate::text::Text;
 use std::alloc::AllocError;
+use ta_base::{List, Text};
 
 /// Files in memory, which are told. The calls whose numbers are listed fail; the first is number 1,
 /// and calls past number 2^64 - 1 never fail. Where a change of a file fails or wants memory, all files

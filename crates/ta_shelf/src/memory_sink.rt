@@ -8,11 +8,11 @@ ghost use Rattle.ta_shelf.specs.Sink.{Adds, CountsFaults, FailsExactly, StallsOn
 
 use crate::failing::Failing;
 use crate::fault::Failed;
-use crate::list::List;
 use crate::room::Room;
 use crate::sink::Sink;
 use crate::stalls::stalls_after;
 use std::alloc::{AllocError, Global};
+use ta_base::List;
 
 /// A sink in memory that takes at most so many bytes a call until its room is full, and tells its
 /// bytes. The calls whose numbers are listed fail; the first is number 1, and calls past number

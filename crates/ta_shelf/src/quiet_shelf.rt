@@ -9,11 +9,10 @@ ghost use Rattle.ta_shelf.specs.Shelf.{ReadsAt, FailsOnlyFaulted, NeverFails};
 
 use crate::fault::{PutFault, ShelfFault};
 use crate::files::{append_file, create_file, find_file};
-use crate::list::List;
 use crate::log::{Entry, Log};
 use crate::shelf::Shelf;
-use crate::text::Text;
 use std::alloc::AllocError;
+use ta_base::{List, Text};
 
 /// Files in memory, which are told. No call fails; a change of a file may want memory, and then all
 /// files stay.

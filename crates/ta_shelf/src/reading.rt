@@ -8,9 +8,9 @@ ghost use Rattle.ta_shelf.specs.ReadWhole.{ReadsWhole, FailsOnlyFaulted};
 ghost use Rattle.ta_shelf.specs.Shelf.{FailsOnlyFaulted as PieceFailsOnlyFaulted};
 
 use crate::fault::{ShelfFault, WholeFault};
-use crate::list::List;
 use crate::shelf::Shelf;
 use std::alloc::Global;
+use ta_base::List;
 
 /// The bytes of a file, which may have up to `limit` of them.
 ///

@@ -6,13 +6,13 @@ use Rattle.ta_shelf.specs.Counts.{Faulted}
 use Rattle.ta_shelf.specs.Put.{OthersStay, Told, WhereTold}
 use Rattle.ta_shell.specs.declared.answer.Put.{Put}
 use Rattle.ta_shell.specs.Commands.{Decides, Exact, Meaning}
-use Rattle.ta_shell.specs.Ends.{Answered, End, Ends, Failed, FailureTold, Hindered, Performs, Quiet, State, Telling}
+use Rattle.ta_shell.specs.Ends.{IsAnswered, End, Ends, SinkFaltered, FailureTold, IsHindered, Performs, Quiet, State, Telling}
 use Rattle.ta_shell.specs.Ends.End.{Done, NoMemory, Stopped, Unput, Unread, Unwritten}
-use Rattle.ta_shell.specs.Puts.{Holds, KeptBut, Stand, StopAt, Within}
+use Rattle.ta_shell.specs.Puts.{HoldsPut, KeptBut, Stand, StopAt, PutsWithin}
 use Rattle.ta_shell.specs.Sights.{View, seen}
 
 -- the ends by their numbers
-by_number : {P : Type 0} (m : Meaning) (view : View) (number : ℕ) (before after : State) → End m view number before after → (number ≤ 2 → Answered m view number before after → P) → (3 ≤ number → number ≤ 4 → Hindered m view number before after → P) → (6 ≤ number → P) → P
+by_number : {P : Type 0} (m : Meaning) (view : View) (number : ℕ) (before after : State) → End m view number before after → (number ≤ 2 → IsAnswered m view number before after → P) → (3 ≤ number → number ≤ 4 → IsHindered m view number before after → P) → (6 ≤ number → P) → P
 by_number m view number before after (Done a) low middle high = let below = a.holds.low in let same = a.numbered in low (omega arith) a
 by_number m view number before after (Stopped h) low middle high = middle h.three h.four h
 by_number m view number before after (Unread h) low middle high = let six = h.six in high (omega arith)
@@ -21,7 +21,7 @@ by_number m view number before after (Unwritten h) low middle high = let six = h
 by_number m view number before after (NoMemory h) low middle high = let seven = h.seven in high (omega arith)
 
 -- with 0, 1 and 2 an answer was written whole
-pub answered : (m : Meaning) (view : View) (number : ℕ) (before after : State) → End m view number before after → number ≤ 2 → Answered m view number before after
+pub answered : (m : Meaning) (view : View) (number : ℕ) (before after : State) → End m view number before after → number ≤ 2 → IsAnswered m view number before after
 answered m view number before after end low = by_number m view number before after end (λ same a. a) (λ three four h. absurd (omega arith)) (λ six. absurd (omega arith))
 
 -- no command ends with 5
@@ -36,7 +36,7 @@ still : (number : ℕ) (before after : State) → number ≢ 6 → after.shelf.f
 still number before after other no_fault nothing =
     record { nothing_written = λ above o. rw nothing refl; shelf_kept = λ o. no_fault; out_calm = λ o. rw nothing (refl, refl); failed = λ six. absurd (other six) }
 
-failing : (number : ℕ) (before after : State) → number ≡ 6 → Faulted before.shelf.faults after.shelf.faults ⊎ Failed before.out after.out → Quiet number before after
+failing : (number : ℕ) (before after : State) → number ≡ 6 → Faulted before.shelf.faults after.shelf.faults ⊎ SinkFaltered before.out after.out → Quiet number before after
 failing number before after six failed =
     record { nothing_written = λ above other. absurd (other six); shelf_kept = λ other. absurd (other six); out_calm = λ other. absurd (other six); failed = λ _. failed }
 
@@ -74,18 +74,18 @@ kept_others (first ∷ names) name None (Some a) among stays = absurd stays
 kept_others (first ∷ names) name (Some b) None among stays = absurd stays
 kept_others (first ∷ names) name (Some b) (Some a) among stays = λ other outside. stays other (λ e. outside (subst (Contains (first ∷ names)) (sym e) among))
 
-holds_others : (put : Put) (before after : Option Told) → WhereTold (Holds put) before after → WhereTold (OthersStay put.name) before after
+holds_others : (put : Put) (before after : Option Told) → WhereTold (HoldsPut put) before after → WhereTold (OthersStay put.name) before after
 holds_others put None None h = tt
 holds_others put None (Some a) h = absurd h
 holds_others put (Some b) None h = absurd h
 holds_others put (Some b) (Some a) h = h.others
 
-kept_stand : (names : List (List ℕ)) (puts : List Put) (before after : Option Told) → Within names puts → Stand puts before after → KeptBut names before after
+kept_stand : (names : List (List ℕ)) (puts : List Put) (before after : Option Told) → PutsWithin names puts → Stand puts before after → KeptBut names before after
 kept_stand names [] before after within stand = kept_same names before after stand
 kept_stand names (put ∷ puts) before after within stand =
     kept_then names before stand.0 after (kept_others names put.name before stand.0 within.0 (holds_others put before stand.0 stand.1)) (kept_stand names puts stand.0 after within.1 stand.2)
 
-kept_stop : (names : List (List ℕ)) (name : List ℕ) (puts : List Put) (before after : Option Told) → Within names puts → StopAt name puts before after → KeptBut names before after
+kept_stop : (names : List (List ℕ)) (name : List ℕ) (puts : List Put) (before after : Option Told) → PutsWithin names puts → StopAt name puts before after → KeptBut names before after
 kept_stop names name [] before after within stop = absurd stop
 kept_stop names name (put ∷ puts) before after within stop =
     elim stop [
@@ -115,7 +115,7 @@ exact m calls number before after (Unwritten h) decides told is expected so = in
 exact m calls number before after (NoMemory h) decides told is expected so = inr (inr h.seven)
 
 -- a file at which the puts stop is one of those that may be put
-stops_among : (names : List (List ℕ)) (name : List ℕ) (puts : List Put) (before after : Option Told) → Within names puts → StopAt name puts before after → Contains names name
+stops_among : (names : List (List ℕ)) (name : List ℕ) (puts : List Put) (before after : Option Told) → PutsWithin names puts → StopAt name puts before after → Contains names name
 stops_among names name [] before after within stop = absurd stop
 stops_among names name (put ∷ puts) before after within stop =
     elim stop [ inl h ↦ subst (Contains names) h.0 within.0 | inr h ↦ stops_among names name puts h.0 after within.1 h.2 ]

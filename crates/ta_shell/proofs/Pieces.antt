@@ -8,7 +8,7 @@ use Rattle.ta_shelf.specs.WriteWhole.{AddsPrefix, AddsWhole, HasCause}
 use Rattle.ta_shelf.specs.declared.fault.SinkFault.{SinkFault}
 use Rattle.ta_shelf.specs.declared.fault.SinkFault.TheVariants.{Failed, Stuck}
 use Rattle.ta_shell.specs.declared.phrase.Piece.{Piece}
-use Rattle.ta_shell.specs.Ends.{Calm, Failed as SinkFailed, SinkState, Tells}
+use Rattle.ta_shell.specs.Ends.{Calm, SinkFaltered as SinkFailed, SinkState, Tells}
 use Rattle.ta_shell.specs.Lines.{piece_text, pieces_text}
 
 -- so many pieces were written whole

@@ -1,8 +1,8 @@
 -- what is seen of a file that is read in pieces
-use Rattle.std.proofs.Common.{◌≡◌, ◌∙◌, ◌+◌, ◌<◌, ◌≤◌, ◌⊎◌, ℕ, List, [], ◌∷◌, ◌++◌, length, take, drop, Option, None, Some, Result, Ok, Err, refl, sym, ap, subst, inl, inr, arith, append_assoc, length-append}
+use Rattle.std.proofs.Common.{◌≡◌, ◌∙◌, ◌+◌, ◌<◌, ◌≤◌, ◌⊎◌, ℕ, List, [], ◌∷◌, ◌++◌, length, take, drop, Option, None, Some, Ok, Err, refl, sym, ap, subst, inl, inr, arith, append_assoc, length-append}
 use Rattle.std.proofs.lemmas.List.{append-nil, drop_at, length-take-le, take-append-drop}
 use Rattle.std.specs.Option.{IfSome}
-use Rattle.ta_shelf.specs.Calls.{Call, EndsWith, Grew, PieceBy, ReadsFirst, ReadsOn, Spells, Stops, bytes_given}
+use Rattle.ta_shelf.specs.Calls.{Call, PieceBy, ReadsFirst, ReadsOn, Spells, Stops, bytes_given}
 use Rattle.ta_shelf.specs.Put.{Told}
 use Rattle.ta_shelf.specs.ReadPiece.{BeginsWith, FillsFrom, ReadsPiece}
 use Rattle.ta_shelf.specs.ReadWhole.{IsLonger}
@@ -11,10 +11,10 @@ use Rattle.ta_shelf.specs.declared.fault.ShelfFault.TheVariants as shelf
 use Rattle.ta_shelf.proofs.CallLemmas.{ReadsOn-append, bytes_given-append}
 use Rattle.ta_shell.specs.declared.answer.Refusal.{Refusal}
 use Rattle.ta_shell.specs.declared.answer.Refusal.TheVariants.{Refused, ReadFailed, PutFailed, Memory}
-use Rattle.ta_shell.specs.Lines.{file_line, longer_than, missing, phrase_text}
+use Rattle.ta_shell.specs.Lines.{file_line, longer_than, phrase_text}
 use Rattle.ta_shell.specs.Reading.{IsReading, SaysOfFile, UnreadBy}
-use Rattle.ta_shell.specs.Sights.{Absent, Begins, HasMore, Part, Whole, in_calls, seen, where_told}
-use Rattle.ta_shell.specs.Stages.{GoesOn, IsAtFault, IsBroken, Kind, Stage}
+use Rattle.ta_shell.specs.Sights.{Absent, Begins, HasMore, Whole, in_calls, seen, where_told}
+use Rattle.ta_shell.specs.Stages.{ReadingGoesOn, FileIsAtFault, IsBroken, Kind, Stage}
 
 -- calls that read the first bytes and then a piece: the piece is full, or it ended the file
 pub piece_read : (name text buffer : List ℕ) (at count : ℕ) (calls more : List Call) → ReadsFirst name calls text → at ≡ length text → count ≤ length buffer → PieceBy name at buffer (Ok count) more → ((count ≡ length buffer) × ReadsFirst name (calls ++ more) (text ++ take count buffer)) ⊎ ((count < length buffer) × Spells name (calls ++ more) (text ++ take count buffer))
@@ -144,7 +144,7 @@ module _ {A F T : Type 0} (kind : Kind A F) (value : T → A) (files : Option To
   stage_memory reading = record { reading = reading; yields = tt }
 
   -- there are more bytes than the limit allows, and reading went on behind those that it allows
-  pub stage_too_long : (refusal : Refusal) → SaysOfFile kind.limit name (longer_than kind.limit.bytes) refusal → IsReading name calls → HasMore (seen files calls) name kind.limit.bytes (GoesOn kind) → Stage {T = T} kind value files name (Err refusal) calls
+  pub stage_too_long : (refusal : Refusal) → SaysOfFile kind.limit name (longer_than kind.limit.bytes) refusal → IsReading name calls → HasMore (seen files calls) name kind.limit.bytes (ReadingGoesOn kind) → Stage {T = T} kind value files name (Err refusal) calls
   stage_too_long (Refused number who why) says reading more = record {
     reading = reading;
     yields = record { numbered = says.0; words = phrase_text why; said = ap (λ (n : List ℕ). file_line n (phrase_text why)) says.1; wrong = inl (inr (more, says.2)) };
@@ -154,7 +154,7 @@ module _ {A F T : Type 0} (kind : Kind A F) (value : T → A) (files : Option To
   stage_too_long Memory says reading more = absurd says
 
   -- the bytes are at a fault, or the first ones are
-  pub stage_faulty : (refusal : Refusal) (words : List ℕ) → SaysOfFile kind.limit name words refusal → IsReading name calls → ((said : List ℕ) → said ≡ words → IsAtFault kind (seen files calls) name said ⊎ IsBroken kind (seen files calls) name said) → Stage {T = T} kind value files name (Err refusal) calls
+  pub stage_faulty : (refusal : Refusal) (words : List ℕ) → SaysOfFile kind.limit name words refusal → IsReading name calls → ((said : List ℕ) → said ≡ words → FileIsAtFault kind (seen files calls) name said ⊎ IsBroken kind (seen files calls) name said) → Stage {T = T} kind value files name (Err refusal) calls
   stage_faulty (Refused number who why) words says reading faulty = record {
     reading = reading;
     yields = record { numbered = says.0; words = phrase_text why; said = ap (λ (n : List ℕ). file_line n (phrase_text why)) says.1; wrong = inr (faulty (phrase_text why) says.2) };

@@ -1,14 +1,13 @@
 -- files that are put one after the other
 use Rattle.std.proofs.Common.{◌≡◌, ◌∙◌, ◌<◌, ◌+◌, ℕ, suc, List, [], ◌∷◌, ◌++◌, length, take, drop, get_or, Option, refl, sym, ap, subst, inl, inr, drop-cons}
-use Rattle.std.proofs.Math.Seq.{take-length}
 use Rattle.std.proofs.lemmas.List.{take_more, take-append-drop}
 use Rattle.ta_shelf.specs.Put.{OthersStay, Told, WhereTold}
 use Rattle.ta_shell.specs.declared.answer.Put.{Put}
-use Rattle.ta_shell.specs.Puts.{Holds, Stand, StopAt}
+use Rattle.ta_shell.specs.Puts.{HoldsPut, Stand, StopAt}
 
 -- one more stands
-stand_one : (puts : List Put) (put : Put) (before now after : Option Told) → Stand puts before now → WhereTold (Holds put) now after → Stand (puts ++ put ∷ []) before after
-stand_one [] put before now after stand holds = (after, subst (λ (o : Option Told). WhereTold (Holds put) o after) stand holds, refl)
+stand_one : (puts : List Put) (put : Put) (before now after : Option Told) → Stand puts before now → WhereTold (HoldsPut put) now after → Stand (puts ++ put ∷ []) before after
+stand_one [] put before now after stand holds = (after, subst (λ (o : Option Told). WhereTold (HoldsPut put) o after) stand holds, refl)
 stand_one (p ∷ puts) put before now after stand holds = (stand.0, stand.1, stand_one puts put stand.0 now after stand.2 holds)
 
 -- the next one stops
@@ -20,13 +19,10 @@ next_of : (puts : List Put) (index : ℕ) (put : Put) → index < length puts �
 next_of puts index put below is =
     sym (take-append-drop index puts) ∙ ap (λ (ps : List Put). take index puts ++ ps) (drop-cons puts index put below ∙ ap (λ (p : Put). p ∷ drop (suc index) puts) is)
 
-pub stand_more : (puts : List Put) (index : ℕ) (put : Put) (before now after : Option Told) → Stand (take index puts) before now → index < length puts → get_or puts index put ≡ put → WhereTold (Holds put) now after → Stand (take (index + 1) puts) before after
+pub stand_more : (puts : List Put) (index : ℕ) (put : Put) (before now after : Option Told) → Stand (take index puts) before now → index < length puts → get_or puts index put ≡ put → WhereTold (HoldsPut put) now after → Stand (take (index + 1) puts) before after
 stand_more puts index put before now after stand below is holds =
     subst (λ (ps : List Put). Stand ps before after) (sym (take_more puts index put below ∙ ap (λ (p : Put). take index puts ++ p ∷ []) is)) (stand_one (take index puts) put before now after stand holds)
 
 pub stop_at : (puts : List Put) (index : ℕ) (put : Put) (before now after : Option Told) → Stand (take index puts) before now → index < length puts → get_or puts index put ≡ put → WhereTold (OthersStay put.name) now after → StopAt put.name puts before after
 stop_at puts index put before now after stand below is stays =
     subst (λ (ps : List Put). StopAt put.name ps before after) (sym (next_of puts index put below is)) (stop_one (take index puts) put (drop (suc index) puts) before now after stand stays)
-
-pub stand_all : (puts : List Put) (before after : Option Told) → Stand (take (length puts) puts) before after → Stand puts before after
-stand_all puts before after stand = subst (λ (ps : List Put). Stand ps before after) (take-length puts) stand

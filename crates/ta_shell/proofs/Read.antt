@@ -6,13 +6,13 @@ use Rattle.ta_shelf.specs.Put.{Told}
 use Rattle.ta_shell.specs.declared.answer.Answer.{Answer}
 use Rattle.ta_shell.specs.declared.answer.Refusal.{Refusal}
 use Rattle.ta_shell.specs.declared.answer.Refusal.TheVariants.{Refused, ReadFailed, PutFailed, Memory}
-use Rattle.ta_shell.specs.Commands.{Decides, IsSo, Judges, Meaning, Says}
-use Rattle.ta_shell.specs.Puts.{Within}
+use Rattle.ta_shell.specs.Commands.{Decides, IsSo, JudgementHolds, Meaning, Says}
+use Rattle.ta_shell.specs.Puts.{PutsWithin}
 use Rattle.ta_shell.specs.declared.phrase.Phrase.{Phrase}
 use Rattle.ta_shell.specs.Lines.{file_line, phrase_text}
-use Rattle.ta_shell.specs.Reading.{IsUnreadable, Reads}
+use Rattle.ta_shell.specs.Reading.{IsUnreadable, ReadsFile}
 use Rattle.ta_shell.specs.Sights.{Absent, Begins, View, in_files, seen}
-use Rattle.ta_shell.specs.Stages.{GoesOn, Hinders, IsAtFault, IsBroken, IsOf, Kind, Stage, after, finds, replies, settles}
+use Rattle.ta_shell.specs.Stages.{ReadingGoesOn, Hinders, FileIsAtFault, IsBroken, FileMeans, Kind, Stage, after, finds, replies, settles}
 use Rattle.ta_shell.proofs.Views.{Monotone, Sub, begins_some, has_more, not_absent, not_longer, sub_told, sub_within, whole_one}
 
 unreadable_more : (v w : View) → Sub v w → (name : List ℕ) (limit : ℕ) (Such : List ℕ → Type 0) (words : List ℕ) → IsUnreadable v name limit Such words → IsUnreadable w name limit Such words
@@ -22,18 +22,18 @@ unreadable_more v w sub name limit Such words h = elim h [
 ]
 
 module _ {A F : Type 0} (kind : Kind A F) where
-  pub is_more : (v w : View) → Sub v w → (name : List ℕ) (value : A) → IsOf kind v name value → IsOf kind w name value
+  pub is_more : (v w : View) → Sub v w → (name : List ℕ) (value : A) → FileMeans kind v name value → FileMeans kind w name value
   is_more v w sub name value h = record { bytes = h.bytes; had = has_more v w sub name kind.limit.bytes h.bytes h.had; means = h.means }
 
-  fault_more : (v w : View) → Sub v w → (name words : List ℕ) → IsAtFault kind v name words ⊎ IsBroken kind v name words → IsAtFault kind w name words ⊎ IsBroken kind w name words
+  fault_more : (v w : View) → Sub v w → (name words : List ℕ) → FileIsAtFault kind v name words ⊎ IsBroken kind v name words → FileIsAtFault kind w name words ⊎ IsBroken kind w name words
   fault_more v w sub name words h = elim h [
     | inl f ↦ inl (record { bytes = f.bytes; had = has_more v w sub name kind.limit.bytes f.bytes f.had; fault = f.fault; found = f.found; words_are = f.words_are })
     | inr b ↦ inr (record { bytes = b.bytes; seen = sub name (Begins b.bytes) b.seen; within = b.within; fault = b.fault; found = b.found; hopeless = b.hopeless; words_are = b.words_are })
   ]
 
-  wrong_more : (v w : View) → Sub v w → (name words : List ℕ) → IsUnreadable v name kind.limit.bytes (GoesOn kind) words ⊎ (IsAtFault kind v name words ⊎ IsBroken kind v name words) → IsUnreadable w name kind.limit.bytes (GoesOn kind) words ⊎ (IsAtFault kind w name words ⊎ IsBroken kind w name words)
+  wrong_more : (v w : View) → Sub v w → (name words : List ℕ) → IsUnreadable v name kind.limit.bytes (ReadingGoesOn kind) words ⊎ (FileIsAtFault kind v name words ⊎ IsBroken kind v name words) → IsUnreadable w name kind.limit.bytes (ReadingGoesOn kind) words ⊎ (FileIsAtFault kind w name words ⊎ IsBroken kind w name words)
   wrong_more v w sub name words h = elim h [
-    | inl unreadable ↦ inl (unreadable_more v w sub name kind.limit.bytes (GoesOn kind) words unreadable)
+    | inl unreadable ↦ inl (unreadable_more v w sub name kind.limit.bytes (ReadingGoesOn kind) words unreadable)
     | inr f ↦ inr (fault_more v w sub name words f)
   ]
 
@@ -57,14 +57,14 @@ module _ {A F : Type 0} (kind : Kind A F) where
       stage_refused three four Memory calls s = record { opened = inl s.reading; judges = tt }
 
       module _ (given : T) (first second : List Call) (s : Stage kind value files name (Ok given) first) where
-        is_of : IsOf kind (seen files (first ++ second)) name (value given)
+        is_of : FileMeans kind (seen files (first ++ second)) name (value given)
         is_of = record { bytes = s.yields.0; had = has_more (seen files first) (seen files (first ++ second)) (sub_within files [] first second) name kind.limit.bytes s.yields.0 s.yields.2; means = s.yields.3 }
 
         later : Sub (seen files second) (seen files (first ++ second))
         later = λ other sight h. subst (λ (calls : List Call). seen files (first ++ calls) other sight) (append-nil second) (sub_within files first second [] other sight h)
 
-        judged : (result : Result Answer Refusal) → ((v : A) → (rest v).puts ≡ puts) → Judges (rest (value given)) (seen files second) result → Judges (after kind name puts rest) (seen files (first ++ second)) result
-        judged (Ok answer) same h = record { low = h.low; holds = (value given, is_of, (rests (value given)).answers _ _ later answer h.holds); within = subst (λ (ps : List (List ℕ)). Within ps answer.puts) (same (value given)) h.within }
+        judged : (result : Result Answer Refusal) → ((v : A) → (rest v).puts ≡ puts) → JudgementHolds (rest (value given)) (seen files second) result → JudgementHolds (after kind name puts rest) (seen files (first ++ second)) result
+        judged (Ok answer) same h = record { low = h.low; holds = (value given, is_of, (rests (value given)).answers _ _ later answer h.holds); within = subst (λ (ps : List (List ℕ)). PutsWithin ps answer.puts) (same (value given)) h.within }
         judged (Err (Refused number who why)) same h = (h.0, h.1, inr (value given, is_of, (rests (value given)).refuses _ _ later number _ h.2))
         judged (Err (ReadFailed who)) same h = inr (value given, is_of, (rests (value given)).reads _ _ later who.now h)
         judged (Err (PutFailed who)) same h = absurd h
@@ -90,9 +90,9 @@ module _ {A F : Type 0} (kind : Kind A F) where
 
     module _ (told : Told) (fits : (bytes : List ℕ) (value : A) (fault : F) → kind.means bytes value → kind.at_fault bytes fault → ⊥) where
       -- a file that means a value is no hindrance
-      pub no_hindrance : (v : A) (number : ℕ) (line : List ℕ) → IsOf kind (in_files told) name v → Hinders kind (in_files told) name number line → ⊥
+      pub no_hindrance : (v : A) (number : ℕ) (line : List ℕ) → FileMeans kind (in_files told) name v → Hinders kind (in_files told) name number line → ⊥
       no_hindrance v number line is h = elim h.wrong [
-        | inl u ↦ elim u [ inl absent ↦ not_absent told name kind.limit.bytes is.bytes is.had absent.0 | inr longer ↦ not_longer told name kind.limit.bytes (GoesOn kind) is.bytes is.had longer.0 ]
+        | inl u ↦ elim u [ inl absent ↦ not_absent told name kind.limit.bytes is.bytes is.had absent.0 | inr longer ↦ not_longer told name kind.limit.bytes (ReadingGoesOn kind) is.bytes is.had longer.0 ]
         | inr wrong ↦ elim wrong [
           | inl f ↦ fits f.bytes v f.fault (subst (λ (bytes : List ℕ). kind.means bytes v) (whole_one told name kind.limit.bytes is.bytes f.bytes is.had f.had) is.means) f.found
           | inr b ↦
@@ -102,7 +102,7 @@ module _ {A F : Type 0} (kind : Kind A F) where
       ]
 
       -- either the file hinders, or the rest is so
-      fate : (number : ℕ) → IsSo (after kind name puts rest) (in_files told) number → ((line : List ℕ) × Hinders kind (in_files told) name number line) ⊎ ((v : A) × IsOf kind (in_files told) name v × IsSo (rest v) (in_files told) number)
+      fate : (number : ℕ) → IsSo (after kind name puts rest) (in_files told) number → ((line : List ℕ) × Hinders kind (in_files told) name number line) ⊎ ((v : A) × FileMeans kind (in_files told) name v × IsSo (rest v) (in_files told) number)
       fate number so = elim so [
         | inl a ↦ inr (a.2.0, a.2.1, inl (a.0, a.1, a.2.2))
         | inr r ↦ elim r.1 [ inl own ↦ inl (r.0, own) | inr h ↦ inr (h.0, h.1, inr (r.0, h.2)) ]
@@ -154,8 +154,8 @@ module _ {A : Type 0} (Is : A → Type 0) (Wrong : ℕ → List ℕ → Type 0) 
   pub finds_memory : (files : Option Told) → Says (finds Is Wrong puts rest) files (Err Memory) []
   finds_memory files = record { opened = inl refl; judges = tt }
 
-  judged_found : (view : View) (v : A) (result : Result Answer Refusal) → Is v → ((w : A) → (rest w).puts ≡ puts) → Judges (rest v) view result → Judges (finds Is Wrong puts rest) view result
-  judged_found view v (Ok answer) is same h = record { low = h.low; holds = (v, is, h.holds); within = subst (λ (ps : List (List ℕ)). Within ps answer.puts) (same v) h.within }
+  judged_found : (view : View) (v : A) (result : Result Answer Refusal) → Is v → ((w : A) → (rest w).puts ≡ puts) → JudgementHolds (rest v) view result → JudgementHolds (finds Is Wrong puts rest) view result
+  judged_found view v (Ok answer) is same h = record { low = h.low; holds = (v, is, h.holds); within = subst (λ (ps : List (List ℕ)). PutsWithin ps answer.puts) (same v) h.within }
   judged_found view v (Err (Refused number who why)) is same h = (h.0, h.1, inr (v, is, h.2))
   judged_found view v (Err (ReadFailed who)) is same h = (v, is, h)
   judged_found view v (Err (PutFailed who)) is same h = absurd h
@@ -186,13 +186,13 @@ replies_one puts Such Other view same number other so so' = elim so [
 -- from the bytes of a file to what they mean
 module _ {A F T : Type 0} (kind : Kind A F) (value : T → A) (files : Option Told) (name : List ℕ) (before last : List Call) where
   -- of a kind that is read whole before it is judged
-  whole_unreadable : ((bytes : List ℕ) → GoesOn kind bytes) → (view : View) (words : List ℕ) → IsUnreadable view name kind.limit.bytes (λ bytes. Unit {0}) words → IsUnreadable view name kind.limit.bytes (GoesOn kind) words
+  whole_unreadable : ((bytes : List ℕ) → ReadingGoesOn kind bytes) → (view : View) (words : List ℕ) → IsUnreadable view name kind.limit.bytes (λ bytes. Unit {0}) words → IsUnreadable view name kind.limit.bytes (ReadingGoesOn kind) words
   whole_unreadable never view words h = elim h [
     | inl absent ↦ inl absent
     | inr longer ↦ inr (record { bytes = longer.0.bytes; seen = longer.0.seen; more = longer.0.more; such = never (take kind.limit.bytes longer.0.bytes) }, longer.1)
   ]
 
-  unread : ((bytes : List ℕ) → GoesOn kind bytes) → (refusal : Refusal) (calls : List Call) → Reads files name kind.limit (Err refusal) calls → Stage {T = T} kind value files name (Err refusal) calls
+  unread : ((bytes : List ℕ) → ReadingGoesOn kind bytes) → (refusal : Refusal) (calls : List Call) → ReadsFile files name kind.limit (Err refusal) calls → Stage {T = T} kind value files name (Err refusal) calls
   unread never (Refused number who why) calls h = record {
     reading = h.reading;
     yields = record {
@@ -206,10 +206,10 @@ module _ {A F T : Type 0} (kind : Kind A F) (value : T → A) (files : Option To
   unread never (PutFailed who) calls h = absurd h.gives
   unread never Memory calls h = record { reading = h.reading; yields = tt }
 
-  pub grew_unread : ((bytes : List ℕ) → GoesOn kind bytes) → (refusal : Refusal) → Grew (Reads files name kind.limit (Err refusal)) before last → Grew (Stage {T = T} kind value files name (Err refusal)) before last
+  pub grew_unread : ((bytes : List ℕ) → ReadingGoesOn kind bytes) → (refusal : Refusal) → Grew (ReadsFile files name kind.limit (Err refusal)) before last → Grew (Stage {T = T} kind value files name (Err refusal)) before last
   grew_unread never refusal h = record { added = h.added; grown = h.grown; such = unread never refusal h.added h.such }
 
-  module _ (bytes : List ℕ) (h : Grew (Reads files name kind.limit (Ok bytes)) before last) where
+  module _ (bytes : List ℕ) (h : Grew (ReadsFile files name kind.limit (Ok bytes)) before last) where
     pub grew_means : (given : T) → kind.means bytes (value given) → Grew (Stage kind value files name (Ok given)) before last
     grew_means given means = record { added = h.added; grown = h.grown; such = record { reading = h.such.reading; yields = (bytes, h.such.gives.1, h.such.gives.0, means) } }
 

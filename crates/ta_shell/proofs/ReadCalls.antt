@@ -1,5 +1,5 @@
 -- what the calls of a reading give is seen in them and in the files
-use Rattle.std.proofs.Common.{List, [], ℕ, Option, None, Some, Result, Ok, Err, refl, sym, subst, inl, inr}
+use Rattle.std.proofs.Common.{List, [], ℕ, Option, None, Some, Result, Ok, Err, sym, subst, inl, inr}
 use Rattle.std.proofs.lemmas.List.{append-nil}
 use Rattle.std.specs.Prelude.{IfSome}
 use Rattle.ta_shelf.specs.Calls.{Call, ReadsBy, Spells, bytes_given}

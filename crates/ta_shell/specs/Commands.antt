@@ -7,7 +7,7 @@ use Rattle.ta_shell.specs.declared.answer.Refusal.{Refusal}
 use Rattle.ta_shell.specs.declared.answer.Refusal.TheVariants.{Refused, ReadFailed, PutFailed, Memory}
 use Rattle.ta_shell.specs.Lines.{file_line, phrase_text}
 use Rattle.ta_shell.specs.Sights.{View, in_files, seen}
-use Rattle.ta_shell.specs.Puts.{Within}
+use Rattle.ta_shell.specs.Puts.{PutsWithin}
 
 -- what a command says
 pub record Meaning : Type 1 where
@@ -23,23 +23,23 @@ pub record Meaning : Type 1 where
   pub puts : List (List ℕ)
 
 -- an answer holds of what is seen
-pub record Answers (m : Meaning) (view : View) (answer : Answer) : Type 0 where
+pub record AnswerHolds (m : Meaning) (view : View) (answer : Answer) : Type 0 where
   pub low : answer.number ≤ 2
   pub holds : m.answers view answer
-  pub within : Within m.puts answer.puts
+  pub within : PutsWithin m.puts answer.puts
 
 -- an answer holds, or what hinders does, or a file that is read failed
-abbrev pub Judges : Meaning → View → Result Answer Refusal → Type 0
-Judges m view (Ok answer) = Answers m view answer
-Judges m view (Err (Refused number name why)) = (3 ≤ number) × (number ≤ 4) × m.refuses view number (file_line name.now (phrase_text why))
-Judges m view (Err (ReadFailed name)) = m.reads view name.now
-Judges m view (Err (PutFailed name)) = ⊥
-Judges m view (Err Memory) = Unit {0}
+abbrev pub JudgementHolds : Meaning → View → Result Answer Refusal → Type 0
+JudgementHolds m view (Ok answer) = AnswerHolds m view answer
+JudgementHolds m view (Err (Refused number name why)) = (3 ≤ number) × (number ≤ 4) × m.refuses view number (file_line name.now (phrase_text why))
+JudgementHolds m view (Err (ReadFailed name)) = m.reads view name.now
+JudgementHolds m view (Err (PutFailed name)) = ⊥
+JudgementHolds m view (Err Memory) = Unit {0}
 
 -- the calls of a judgement, and what it says of what is seen in them and in the files
 pub record Says (m : Meaning) (files : Option Told) (result : Result Answer Refusal) (calls : List Call) : Type 0 where
   pub opened : m.opens calls
-  pub judges : Judges m (seen files calls) result
+  pub judges : JudgementHolds m (seen files calls) result
 
 -- some answer with this number holds, or something hinders with it
 abbrev pub IsSo : Meaning → View → ℕ → Type 0

@@ -6,7 +6,7 @@ use Rattle.ta_shelf.specs.Put.{Told}
 use Rattle.ta_shelf.specs.Sink.{with_text}
 use Rattle.ta_shelf.specs.WriteWhole.{AddsPrefix}
 use Rattle.ta_shell.specs.declared.answer.Answer.{Answer}
-use Rattle.ta_shell.specs.Commands.{Answers, Decides, Exact, Meaning}
+use Rattle.ta_shell.specs.Commands.{AnswerHolds, Decides, Exact, Meaning}
 use Rattle.ta_shell.specs.Lines.{file_line, memory_line, output_line}
 use Rattle.ta_shell.specs.Puts.{KeptBut, Stand, StopAt}
 use Rattle.ta_shell.specs.Sights.{View, seen}
@@ -38,8 +38,8 @@ state files calls faults written out_faults out_stalls told err_faults err_stall
 }
 
 -- a call on a sink failed, or took nothing
-abbrev pub Failed : SinkState → SinkState → Type 0
-Failed before after = Faulted before.faults after.faults ⊎ Stalled before.stalls after.stalls
+abbrev pub SinkFaltered : SinkState → SinkState → Type 0
+SinkFaltered before after = Faulted before.faults after.faults ⊎ Stalled before.stalls after.stalls
 
 -- no call on a sink failed or took nothing
 abbrev pub Calm : SinkState → SinkState → Type 0
@@ -48,12 +48,12 @@ Calm before after = (after.faults ≡ before.faults) × (after.stalls ≡ before
 -- a prefix of a line was added, and the whole line where the sink neither failed nor stood still
 pub record Tells (line : List ℕ) (before after : SinkState) : Type 0 where
   pub begun : AddsPrefix line before.written after.written
-  pub whole : (after.written ≡ with_text before.written line) ⊎ Failed before after
+  pub whole : (after.written ≡ with_text before.written line) ⊎ SinkFaltered before after
 
 -- an answer that holds: its files stand, and its text was written whole
-pub record Answered (m : Meaning) (view : View) (number : ℕ) (before after : State) : Type 0 where
+pub record IsAnswered (m : Meaning) (view : View) (number : ℕ) (before after : State) : Type 0 where
   pub answer : Answer
-  pub holds : Answers m view answer
+  pub holds : AnswerHolds m view answer
   pub numbered : number ≡ answer.number
   pub stand : Stand answer.puts before.shelf.files after.shelf.files
   pub no_fault : after.shelf.faults ≡ before.shelf.faults
@@ -62,7 +62,7 @@ pub record Answered (m : Meaning) (view : View) (number : ℕ) (before after : S
   pub silent : after.err ≡ before.err
 
 -- something hinders, which the line says
-pub record Hindered (m : Meaning) (view : View) (number : ℕ) (before after : State) : Type 0 where
+pub record IsHindered (m : Meaning) (view : View) (number : ℕ) (before after : State) : Type 0 where
   pub three : 3 ≤ number
   pub four : number ≤ 4
   pub line : List ℕ
@@ -85,7 +85,7 @@ pub record NotRead (m : Meaning) (view : View) (number : ℕ) (before after : St
 -- an answer that holds, whose files were put up to that of a name
 pub record PutsStop (m : Meaning) (view : View) (name : List ℕ) (before after : ShelfState) : Type 0 where
   pub answer : Answer
-  pub holds : Answers m view answer
+  pub holds : AnswerHolds m view answer
   pub stopped : StopAt name answer.puts before.files after.files
 
 -- the file of a name failed to be put
@@ -101,11 +101,11 @@ pub record NotPut (m : Meaning) (view : View) (number : ℕ) (before after : Sta
 pub record NotWritten (m : Meaning) (view : View) (number : ℕ) (before after : State) : Type 0 where
   pub six : number ≡ 6
   pub answer : Answer
-  pub holds : Answers m view answer
+  pub holds : AnswerHolds m view answer
   pub stand : Stand answer.puts before.shelf.files after.shelf.files
   pub no_fault : after.shelf.faults ≡ before.shelf.faults
   pub begun : AddsPrefix answer.text before.out.written after.out.written
-  pub failed : Failed before.out after.out
+  pub failed : SinkFaltered before.out after.out
   pub told : Tells output_line before.err after.err
 
 -- there was no memory, to judge or to put a file; no call failed
@@ -118,8 +118,8 @@ pub record OutOfMemory (m : Meaning) (view : View) (number : ℕ) (before after 
 
 -- one of these ends
 pub data End (m : Meaning) (view : View) (number : ℕ) (before after : State) : Type 0 where
-  Done : Answered m view number before after → End m view number before after
-  Stopped : Hindered m view number before after → End m view number before after
+  Done : IsAnswered m view number before after → End m view number before after
+  Stopped : IsHindered m view number before after → End m view number before after
   Unread : NotRead m view number before after → End m view number before after
   Unput : NotPut m view number before after → End m view number before after
   Unwritten : NotWritten m view number before after → End m view number before after
@@ -137,12 +137,12 @@ pub record Quiet (number : ℕ) (before after : State) : Type 0 where
   pub nothing_written : 2 < number → number ≢ 6 → after.out.written ≡ before.out.written
   pub shelf_kept : number ≢ 6 → after.shelf.faults ≡ before.shelf.faults
   pub out_calm : number ≢ 6 → Calm before.out after.out
-  pub failed : number ≡ 6 → Faulted before.shelf.faults after.shelf.faults ⊎ Failed before.out after.out
+  pub failed : number ≡ 6 → Faulted before.shelf.faults after.shelf.faults ⊎ SinkFaltered before.out after.out
 
 -- with 6 it is told that the output failed, or which file failed to be read or put
 abbrev pub FailureTold : Meaning → State → State → Type 0
 FailureTold m before after =
-    (Failed before.out after.out × Tells output_line before.err after.err)
+    (SinkFaltered before.out after.out × Tells output_line before.err after.err)
     ⊎ (Faulted before.shelf.faults after.shelf.faults
     × (Grew (λ read. (name : List ℕ) × m.reads (seen before.shelf.files read) name × Tells (file_line name (codes "read failed")) before.err after.err) before.shelf.calls after.shelf.calls
     ⊎ ((name : List ℕ) × Contains m.puts name × Tells (file_line name (codes "write failed")) before.err after.err)))
@@ -167,4 +167,4 @@ pub record Performs (m : Meaning) (number : ℕ) (before after : State) : Type 0
 abbrev pub Finishes : ℕ → List ℕ → ℕ → SinkState → SinkState → SinkState → SinkState → Type 0
 Finishes answered text number out out' err err' =
     ((number ≡ answered) × (out'.written ≡ with_text out.written text) × Calm out out' × (err' ≡ err))
-    ⊎ ((number ≡ 6) × AddsPrefix text out.written out'.written × Failed out out' × Tells output_line err err')
+    ⊎ ((number ≡ 6) × AddsPrefix text out.written out'.written × SinkFaltered out out' × Tells output_line err err')

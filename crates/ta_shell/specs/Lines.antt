@@ -39,15 +39,15 @@ abbrev pub memory_line : List ℕ
 memory_line = codes "tav: out of memory\n"
 
 -- the line of what hinders
-abbrev pub line_of : Refusal → List ℕ
-line_of (Refused number name why) = file_line name.now (phrase_text why)
-line_of (ReadFailed name) = file_line name.now (codes "read failed")
-line_of (PutFailed name) = file_line name.now (codes "write failed")
-line_of Memory = memory_line
+abbrev pub refusal_line : Refusal → List ℕ
+refusal_line (Refused number name why) = file_line name.now (phrase_text why)
+refusal_line (ReadFailed name) = file_line name.now (codes "read failed")
+refusal_line (PutFailed name) = file_line name.now (codes "write failed")
+refusal_line Memory = memory_line
 
 -- its number
-abbrev pub number_of : Refusal → ℕ
-number_of (Refused number name why) = number
-number_of (ReadFailed name) = 6
-number_of (PutFailed name) = 6
-number_of Memory = 7
+abbrev pub refusal_number : Refusal → ℕ
+refusal_number (Refused number name why) = number
+refusal_number (ReadFailed name) = 6
+refusal_number (PutFailed name) = 6
+refusal_number Memory = 7

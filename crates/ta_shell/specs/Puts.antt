@@ -25,25 +25,25 @@ pub record HoldsText (name text : List ℕ) (before after : Told) : Type 0 where
   pub others : OthersStay name before after
 
 -- a file holds what is put, and every other file is as it was
-abbrev pub Holds : Put → Told → Told → Type 0
-Holds put before after = HoldsText put.name (put_bytes put) before after
+abbrev pub HoldsPut : Put → Told → Told → Type 0
+HoldsPut put before after = HoldsText put.name (put_bytes put) before after
 
 -- each stands, one after the other
 abbrev pub Stand : List Put → Option Told → Option Told → Type 0
 Stand [] before after = after ≡ before
-Stand (put ∷ puts) before after = (middle : Option Told) × WhereTold (Holds put) before middle × Stand puts middle after
+Stand (put ∷ puts) before after = (middle : Option Told) × WhereTold (HoldsPut put) before middle × Stand puts middle after
 
 -- those before the file of a name stand; that file may hold any bytes or be absent; every other file is as it was
 abbrev pub StopAt : List ℕ → List Put → Option Told → Option Told → Type 0
 StopAt name [] before after = ⊥
 StopAt name (put ∷ puts) before after =
     ((put.name ≡ name) × WhereTold (OthersStay name) before after)
-    ⊎ ((middle : Option Told) × WhereTold (Holds put) before middle × StopAt name puts middle after)
+    ⊎ ((middle : Option Told) × WhereTold (HoldsPut put) before middle × StopAt name puts middle after)
 
 -- the files that are put are among those of these names
-abbrev pub Within : List (List ℕ) → List Put → Type 0
-Within names [] = Unit {0}
-Within names (put ∷ puts) = Contains names put.name × Within names puts
+abbrev pub PutsWithin : List (List ℕ) → List Put → Type 0
+PutsWithin names [] = Unit {0}
+PutsWithin names (put ∷ puts) = Contains names put.name × PutsWithin names puts
 
 -- every file but those of these names is as it was; where there are none, all are
 abbrev pub KeptBut : List (List ℕ) → Option Told → Option Told → Type 0

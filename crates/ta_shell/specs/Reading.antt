@@ -40,7 +40,7 @@ Gives view name limit calls (Err (PutFailed who)) = ⊥
 Gives view name limit calls (Err Memory) = Unit {0}
 
 -- the calls of a reading, and what it gives of what is seen in them and in the files
-pub record Reads (files : Option Told) (name : List ℕ) (limit : Limit) (result : Result (List ℕ) Refusal) (calls : List Call) : Type 0 where
+pub record ReadsFile (files : Option Told) (name : List ℕ) (limit : Limit) (result : Result (List ℕ) Refusal) (calls : List Call) : Type 0 where
   pub reading : IsReading name calls
   pub gives : Gives (seen files calls) name limit calls result
 

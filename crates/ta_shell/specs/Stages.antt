@@ -21,13 +21,13 @@ pub record Kind (A F : Type 0) : Type 1 where
   pub words : F → List ℕ
 
 -- the bytes of a name mean a value
-pub record IsOf {A F : Type 0} (kind : Kind A F) (view : View) (name : List ℕ) (value : A) : Type 0 where
+pub record FileMeans {A F : Type 0} (kind : Kind A F) (view : View) (name : List ℕ) (value : A) : Type 0 where
   pub bytes : List ℕ
   pub had : HasBytes view name kind.limit.bytes bytes
   pub means : kind.means bytes value
 
 -- a fault is in the bytes of a name
-pub record IsAtFault {A F : Type 0} (kind : Kind A F) (view : View) (name words : List ℕ) : Type 0 where
+pub record FileIsAtFault {A F : Type 0} (kind : Kind A F) (view : View) (name words : List ℕ) : Type 0 where
   pub bytes : List ℕ
   pub had : HasBytes view name kind.limit.bytes bytes
   pub fault : F
@@ -45,8 +45,8 @@ pub record IsBroken {A F : Type 0} (kind : Kind A F) (view : View) (name words :
   pub words_are : words ≡ kind.words fault
 
 -- reading goes on behind such bytes
-abbrev pub GoesOn : {A F : Type 0} → Kind A F → List ℕ → Type 0
-GoesOn {A} {F} kind bytes = (fault : F) → ¬ kind.broken bytes fault
+abbrev pub ReadingGoesOn : {A F : Type 0} → Kind A F → List ℕ → Type 0
+ReadingGoesOn {A} {F} kind bytes = (fault : F) → ¬ kind.broken bytes fault
 
 -- the file of a name is no use: the number is that of its kind, and the line says why. A fault before the limit comes before "too
 -- long"
@@ -54,7 +54,7 @@ pub record Hinders {A F : Type 0} (kind : Kind A F) (view : View) (name : List �
   pub numbered : number ≡ kind.limit.number
   pub words : List ℕ
   pub said : line ≡ file_line name words
-  pub wrong : IsUnreadable view name kind.limit.bytes (GoesOn kind) words ⊎ (IsAtFault kind view name words ⊎ IsBroken kind view name words)
+  pub wrong : IsUnreadable view name kind.limit.bytes (ReadingGoesOn kind) words ⊎ (FileIsAtFault kind view name words ⊎ IsBroken kind view name words)
 
 -- the calls read a file whole, and its bytes mean a value, and then come other calls
 pub record Then {A F : Type 0} (kind : Kind A F) (name : List ℕ) (rest : A → List Call → Type 0) (calls : List Call) : Type 0 where
@@ -70,9 +70,9 @@ pub record Then {A F : Type 0} (kind : Kind A F) (name : List ℕ) (rest : A →
 -- a file is read, and then comes what its value asks for; the files of these names may be put
 abbrev pub after : {A F : Type 0} → Kind A F → List ℕ → List (List ℕ) → (A → Meaning) → Meaning
 after {A} {F} kind name puts rest = record {
-  answers = λ view answer. (value : A) × IsOf kind view name value × (rest value).answers view answer;
-  refuses = λ view number line. Hinders kind view name number line ⊎ ((value : A) × IsOf kind view name value × (rest value).refuses view number line);
-  reads = λ view other. (other ≡ name) ⊎ ((value : A) × IsOf kind view name value × (rest value).reads view other);
+  answers = λ view answer. (value : A) × FileMeans kind view name value × (rest value).answers view answer;
+  refuses = λ view number line. Hinders kind view name number line ⊎ ((value : A) × FileMeans kind view name value × (rest value).refuses view number line);
+  reads = λ view other. (other ≡ name) ⊎ ((value : A) × FileMeans kind view name value × (rest value).reads view other);
   opens = λ calls. IsReading name calls ⊎ Then kind name (λ value. (rest value).opens) calls;
   puts = puts;
 }

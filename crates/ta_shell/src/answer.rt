@@ -6,7 +6,7 @@ ghost use Rattle.ta_shell.specs.Stages.{Writes};
 
 use crate::phrase::Phrase;
 use std::alloc::{AllocError, Global};
-use ta_shelf::{List, Text};
+use ta_base::{List, Text};
 
 /// What a file is to hold.
 #[derive(Drop)]

@@ -7,7 +7,8 @@ ghost use Rattle.ta_shell.specs.Putting.{PutCause, Puts, PutsAll, PutsText};
 ghost use Rattle.ta_shell.specs.Puts.{texts_joined};
 
 use crate::answer::{Content, Put, Refusal};
-use ta_shelf::{PutFault, Shelf, Text};
+use ta_base::Text;
+use ta_shelf::{PutFault, Shelf};
 
 /// Puts files on the shelf, one after the other.
 pub(crate) fn put_all<'a, S: Shelf>(shelf: &mut S, puts: &'a [Put]) -> Result<(), Refusal<'a>>

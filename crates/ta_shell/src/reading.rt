@@ -4,12 +4,13 @@
 ghost use Rattle.std.specs.Prelude.{◌≡◌, ◌≤◌};
 ghost use Rattle.ta_shelf.specs.Calls.{Grew};
 ghost use Rattle.ta_shell.specs.Lines.{longer_than, missing as missing_words};
-ghost use Rattle.ta_shell.specs.Reading.{ReadCause, Reads, SaysOfFile, UnreadBy};
+ghost use Rattle.ta_shell.specs.Reading.{ReadCause, ReadsFile, SaysOfFile, UnreadBy};
 
 use crate::answer::Refusal;
 use crate::phrase::Phrase;
 use std::alloc::Global;
-use ta_shelf::{List, Shelf, ShelfFault, WholeFault, read_whole};
+use ta_base::List;
+use ta_shelf::{Shelf, ShelfFault, WholeFault, read_whole};
 
 /// How many bytes a file may have, and the number that the process ends with where it is no use.
 #[derive(Clone, Copy, Drop)]
@@ -26,7 +27,7 @@ pub fn read_text<'a, S: Shelf>(
     limit: Limit,
 ) -> Result<List<u8>, Refusal<'a>>
     requires { limit.bytes ≤ 1073741824 }
-    ensures reads { Grew (Reads (S.files shelf.old) name.now limit result) (S.calls shelf.old) (S.calls shelf.new) }
+    ensures reads { Grew (ReadsFile (S.files shelf.old) name.now limit result) (S.calls shelf.old) (S.calls shelf.new) }
     ensures cause { ReadCause result (S.faults shelf.old) (S.faults shelf.new) }
     ensures kept { S.files shelf.new ≡ S.files shelf.old }
 {

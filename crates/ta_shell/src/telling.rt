@@ -4,7 +4,7 @@
 ghost use Rattle.std.specs.Prelude.{◌≡◌};
 ghost use Rattle.ta_shelf.specs.WriteWhole.{AddsWhole, HasCause};
 ghost use Rattle.ta_shell.specs.Ends.{SinkState, Tells};
-ghost use Rattle.ta_shell.specs.Lines.{file_line, line_of, number_of, phrase_text, piece_text, pieces_text};
+ghost use Rattle.ta_shell.specs.Lines.{file_line, refusal_line, refusal_number, phrase_text, piece_text, pieces_text};
 
 use crate::answer::Refusal;
 use crate::phrase::{Phrase, Piece};
@@ -21,8 +21,8 @@ pub fn tell_line<E: Sink>(err: &mut E, line: &str)
 
 /// Tells what hinders, and answers its number.
 pub(crate) fn tell_refusal<E: Sink>(refusal: &Refusal<'_>, err: &mut E) -> u8
-    ensures number { result ≡ number_of refusal.now }
-    ensures told { Tells (line_of refusal.now) (record { written = E.written err.old; faults = E.faults err.old; stalls = E.stalls err.old })
+    ensures number { result ≡ refusal_number refusal.now }
+    ensures told { Tells (refusal_line refusal.now) (record { written = E.written err.old; faults = E.faults err.old; stalls = E.stalls err.old })
         (record { written = E.written err.new; faults = E.faults err.new; stalls = E.stalls err.new }) }
 {
     match refusal {

@@ -1,13 +1,14 @@
 use Rattle.std.proofs.Common.{◌≡◌, ◌≢◌, ◌⊎◌, inl, inr, ℕ, suc, ◌+◌, ◌*◌, ◌<◌, ◌≤◌, List, [], ◌∷◌, length, get_or, Bool, true, false, arith, refl, sym, ap, ◌∙◌, subst, ℤ, pos, ◌*ℤ◌, ◌<ℤ◌, ◌≤ℤ◌}
-use Rattle.std.proofs.lemmas.Bool.{cases_eq, cases_order}
+use Rattle.std.proofs.lemmas.Bool.{cases_eq, cases_order, cases_Bool}
 use Rattle.std.proofs.lemmas.Int.{ints}
-use Rattle.ta_linear.proofs.Signs.{lt-zero_of_mul, ge-zero_of_mul, mul-lt-zero, mul-ge-zero, mul-le-zero, mul-le-zero_turned}
+use Rattle.ta_base.proofs.Integers.{ge-zero_of_mul, lt-zero_of_mul, mul-ge-zero, mul-le-zero, mul-le-zero_turned, mul-lt-zero}
+use Rattle.ta_base.proofs.Naturals.{switches}
 use Rattle.ta_dense.specs.Tableau.{Tableau, row_of, basic_of, non_basic_of}
 use Rattle.ta_dense.specs.Valid.{dot, IsDictionary}
 use Rattle.ta_simplex.proofs.Basic.{is_basic}
 use Rattle.ta_simplex.specs.LeastIndex.{Leaves}
 use Rattle.ta_dense.specs.Entering.{Enters}
-use Rattle.ta_simplex.proofs.Search.{switches, true_or_false, Moves, Stays, moves_or_stays, greatest_or_none}
+use Rattle.ta_simplex.proofs.Search.{Moves, Stays, moves_or_stays, greatest_or_none}
 
 -- a sum of numbers that are at most 0
 dot-le-zero : (cs : List ℤ) (us : List ℕ) (value : ℕ → ℤ) → ((j : ℕ) → j < length cs → (get_or cs j (pos 0) *ℤ value (get_or us j 0)) ≤ℤ pos 0) → dot cs us value ≤ℤ pos 0
@@ -173,10 +174,10 @@ no_basis_repeats A n at s t h moments same =
           absurd (let k = sym m.changes.left_after ∙ e ∙ m.changes.left_before in cc)
       | inl g ↦
           let f = λ (i : ℕ). is_basic (at i) g.0 in
-          let either = λ (i : ℕ). true_or_false (f i) in
+          let either = λ (i : ℕ). cases_Bool (f i) in
           let ends = same g.0 g.1 in
           let i = g.2.0 in
-          elim (true_or_false (f s)) [
+          elim (cases_Bool (f s)) [
             | inl yes_s ↦
                 let no_i = other_of (f i) (f s) true false g.2.3 yes_s (either i) in
                 let fall = switches f true false s i true_false either g.2.1 yes_s no_i in

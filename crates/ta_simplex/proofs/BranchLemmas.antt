@@ -1,28 +1,19 @@
 -- the systems of a branch: one more, fewer, and the pivots cut or longer
 use Rattle.std.proofs.Common.{◌≡◌, ℕ, zero, suc, ◌-◌, ◌≤◌, List, [], ◌∷◌, ◌++◌, length, map, take, drop, get_or, reverse, arith, refl, sym, ap, ◌∙◌, subst, Option, Some, None, ℤ, pos, ◌<ℤ◌}
 use Rattle.std.specs.Prelude.{option_to_list, remove, replicate}
-use Rattle.std.proofs.lemmas.List.{append-nil, reverse-append, length-append, length-map, length-take-le, get_or_append_left, take-map, take_all, take-append-drop}
-use Rattle.ta_linear.specs.Rows.{AllBelow}
+use Rattle.std.proofs.lemmas.List.{append-nil, reverse-append, length-append, length-map, length-take-le, get_or_append_left, take-map, take-append-drop}
 use Rattle.ta_linear.specs.declared.row.Row.{Row}
 use Rattle.ta_linear.specs.declared.row.System.{System}
 use Rattle.ta_dense.specs.Tableau.{Tableau}
-use Rattle.std.specs.List.{range_with_len}
-use Rattle.ta_dense.specs.Slack.{slack_rows, slack_tableau}
+use Rattle.ta_dense.specs.Slack.{slack_tableau}
 use Rattle.ta_dense.specs.Kept.{KeptPivot, kept_at, AreKept, StayInRange}
 use Rattle.ta_dense.specs.Extending.{MayBegin, FirstLeaving, extended, new_rows}
 use Rattle.ta_simplex.specs.LeastIndex.{IsCount, OverflowsAt}
-use Rattle.ta_simplex.specs.Follows.{after, Follows, Begins, GoesOn}
+use Rattle.ta_simplex.specs.Follows.{tableau_after, Follows, BeginsSystem, AddsPivots}
 use Rattle.ta_simplex.specs.Branch.{AreStanding, LastFits, StandsOn}
 use Rattle.ta_simplex.specs.declared.branch.Standing.{Standing}
 use Rattle.ta_simplex.proofs.Prefixes.{reached_after, size_reached, follows_extended, overflow_extended}
 use Rattle.ta_simplex.proofs.FollowLemmas.{follows_take, follows_append, follows_reached}
-
-abbrev start_of : ℕ → List Row → Tableau
-start_of n rows = record { non_basic = range_with_len 0 n; rows = slack_rows n n rows }
-
-same_start : (l : System) (n : ℕ) (below : AllBelow n l.rows) → n ≡ l.unknowns → slack_tableau l ≡ slack_tableau record { unknowns = n; rows = l.rows; within = below }
-unfolding slack_tableau
-same_start l n below e = ap (λ (m : ℕ). start_of m l.rows) (sym e)
 
 -- a greater count, and more rows
 pub standing_more : {D K : Type 0} (tableau : D → Tableau) (ks : List KeptPivot) (rows : List Row) (count more most all : ℕ) (os : List (Standing D K)) → count ≤ more → most ≤ all → AreStanding tableau ks rows count most os → AreStanding tableau ks rows more all os
@@ -66,7 +57,7 @@ standing_append tableau ks more rows count most [] s = tt
 standing_append tableau ks more rows count most (o ∷ os) s =
     (s.0, s.1, record { below = s.2.below; follows = follows_append (slack_tableau record { unknowns = o.unknowns; rows = take o.rows rows; within = s.2.below }) ks more o.pivots (tableau o.dictionary) s.2.follows }, standing_append tableau ks more rows o.pivots o.rows os s.3)
 
-pub standing_on : {D K : Type 0} (tableau : D → Tableau) (pivot_of : K → KeptPivot) (rows : List Row) (most : ℕ) (old new : List K) (os : List (Standing D K)) → GoesOn (map pivot_of old) (map pivot_of new) → AreStanding tableau (map pivot_of old) rows (length old) most os →
+pub standing_on : {D K : Type 0} (tableau : D → Tableau) (pivot_of : K → KeptPivot) (rows : List Row) (most : ℕ) (old new : List K) (os : List (Standing D K)) → AddsPivots (map pivot_of old) (map pivot_of new) → AreStanding tableau (map pivot_of old) rows (length old) most os →
     AreStanding tableau (map pivot_of new) rows (length new) most os
 standing_on {D = D} {K = K} tableau pivot_of rows most old new os goes s =
     let l = length-map old pivot_of in
@@ -100,21 +91,8 @@ standing_shared tableau ks rows other count unknowns same (o ∷ os) e h f s =
     let r = f.1 in
     standing_more tableau ks other count count o.rows (length other) (o ∷ os) (omega arith) (omega arith) (standing_rows tableau ks rows other count o.rows same (o ∷ os) e r (s.0, omega arith, s.2, s.3))
 
--- one more at the end
-pub standing_push : {D K : Type 0} (tableau : D → Tableau) (ks : List KeptPivot) (count : ℕ) (l : System) (xs ys : List (Standing D K)) (o : Standing D K) → ys ≡ xs ++ o ∷ [] → o.pivots ≡ count → o.unknowns ≡ l.unknowns → o.rows ≡ length l.rows → Follows (slack_tableau l) ks count (tableau o.dictionary) →
-    AreStanding tableau ks l.rows count (length l.rows) (reverse xs) → AreStanding tableau ks l.rows count (length l.rows) (reverse ys)
-standing_push {D = D} {K = K} tableau ks count l xs ys o e is unknowns rows f s =
-    let all : take o.rows l.rows ≡ l.rows = take_all o.rows l.rows (omega arith) in
-    let below = subst (λ (n : ℕ). AllBelow n l.rows) (sym unknowns) l.within in
-    let stands : StandsOn tableau ks l.rows o = record { below = below; follows = same_system l o.unknowns below unknowns ks o.pivots (tableau o.dictionary) (subst (λ (n : ℕ). Follows (slack_tableau l) ks n (tableau o.dictionary)) (sym is) f) } in
-    subst (λ (os : List (Standing D K)). AreStanding tableau ks l.rows count (length l.rows) os) (sym (ap reverse e ∙ reverse-append xs (o ∷ [])))
-    (omega arith, omega arith, subst (λ (rs : List Row). StandsOn tableau ks rs o) (sym all) stands, subst (λ (n : ℕ). AreStanding tableau ks l.rows n o.rows (reverse xs)) (sym is) (subst (λ (n : ℕ). AreStanding tableau ks l.rows count n (reverse xs)) (sym rows) s))
-  where
-    same_system : (l : System) (n : ℕ) (below : AllBelow n l.rows) → n ≡ l.unknowns → (ks : List KeptPivot) (count : ℕ) (t : Tableau) → Follows (slack_tableau l) ks count t → Follows (slack_tableau record { unknowns = n; rows = l.rows; within = below }) ks count t
-    same_system l n below e ks count t f = subst (λ (start : Tableau). Follows start ks count t) (same_start l n below e) f
-
 -- what extending asks
-pub may_begin : (s l : System) (ks : List KeptPivot) (count : ℕ) (t : Tableau) → Begins s l → Follows (slack_tableau s) ks count t → MayBegin t l
+pub may_begin : (s l : System) (ks : List KeptPivot) (count : ℕ) (t : Tableau) → BeginsSystem s l → Follows (slack_tableau s) ks count t → MayBegin t l
 may_begin s l ks count t b f =
     let size = size_reached s count t (follows_reached (slack_tableau s) ks count t f) in
     let columns = size.columns in
@@ -131,7 +109,7 @@ may_begin s l ks count t b f =
 pub are_kept : (s : System) (ks : List KeptPivot) (t : Tableau) → Follows (slack_tableau s) ks (length ks) t → AreKept (length t.non_basic) ks
 are_kept s ks t f j h =
     let made = f.made j h in
-    let u = after (slack_tableau s) ks j in
+    let u = tableau_after (slack_tableau s) ks j in
     let k = kept_at ks j in
     let size = size_reached s (length ks) t (follows_reached (slack_tableau s) ks (length ks) t f) in
     let there = size_reached s j u (reached_after (slack_tableau s) ks (length ks) f.made j (omega arith)) in
@@ -147,7 +125,7 @@ are_kept s ks t f j h =
 -- the last system, where the pivots are cut behind its own
 pub record CutLast {D K : Type 0} (tableau : D → Tableau) (ks : List KeptPivot) (count : ℕ) (xs : List (Standing D K)) (o : Standing D K) (l : System) : Type 0 where
   pub shorter : System
-  pub begins : Begins shorter l
+  pub begins : BeginsSystem shorter l
   pub follows : Follows (slack_tableau shorter) ks count (tableau o.dictionary)
   pub all : count ≡ length ks
   pub standing : AreStanding tableau ks l.rows count (length l.rows) (reverse xs)

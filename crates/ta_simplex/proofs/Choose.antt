@@ -1,14 +1,11 @@
-use Rattle.std.proofs.Common.{◌≡◌, ◌⊎◌, inl, inr, ℕ, zero, suc, ◌<◌, length, arith, sym, ap, subst, ℤ, pos, negsuc, ◌<ℤ◌, ◌≤ℤ◌}
+use Rattle.std.proofs.Common.{◌≡◌, ◌⊎◌, inl, inr, ℕ, zero, suc, ◌<◌, length, arith, sym, ap, subst, ℤ, pos, ◌<ℤ◌, ◌≤ℤ◌}
 use Rattle.std.proofs.lemmas.Bool.{cases_lt, cases_eq, cases_order}
 use Rattle.std.proofs.lemmas.Int.{ints}
+use Rattle.ta_base.proofs.Integers.{negative_or_not, positive_or_not}
 use Rattle.ta_dense.specs.Tableau.{Tableau, row_of, cell_of, basic_of, non_basic_of}
 use Rattle.ta_dense.specs.Valid.{IsDictionary}
-use Rattle.ta_simplex.specs.LeastIndex.{Leaves, Ended}
+use Rattle.ta_simplex.specs.LeastIndex.{Leaves, RuleEnds}
 use Rattle.ta_dense.specs.Entering.{Enters}
-
-negative_or_not : (z : ℤ) → (z <ℤ pos 0) ⊎ (pos 0 ≤ℤ z)
-negative_or_not (pos n) = inr (omega (arith, ints))
-negative_or_not (negsuc n) = inl (omega (arith, ints))
 
 -- among the first k places, the one of least name at which P holds, or it holds at none
 abbrev pub LeastAmong : (ℕ → ℕ) → (ℕ → Type 0) → (ℕ → Type 0) → ℕ → Type 0
@@ -70,11 +67,6 @@ leaving_or_none t =
       | inr none ↦ inr none
     ]
 
-positive_or_not : (z : ℤ) → (pos 0 <ℤ z) ⊎ (z ≤ℤ pos 0)
-positive_or_not (pos zero) = inr (omega (arith, ints))
-positive_or_not (pos (suc n)) = inl (omega (arith, ints))
-positive_or_not (negsuc n) = inr (omega (arith, ints))
-
 entering_or_none : (t : Tableau) (row : ℕ) → ((column : ℕ) × Enters t row column) ⊎ ((j : ℕ) → j < length t.non_basic → cell_of (row_of t row) j ≤ℤ pos 0)
 entering_or_none t row =
     elim (least_or_none (non_basic_of t) (λ j. pos 0 <ℤ cell_of (row_of t row) j) (λ j. cell_of (row_of t row) j ≤ℤ pos 0) (length t.non_basic) (λ j. positive_or_not (cell_of (row_of t row) j))) [
@@ -89,7 +81,7 @@ pub record Chosen (t : Tableau) : Type 0 where
   pub leaves : Leaves t row
   pub enters : Enters t row column
 
-pub choose : (t : Tableau) → Chosen t ⊎ Ended t
+pub choose : (t : Tableau) → Chosen t ⊎ RuleEnds t
 choose t =
     elim (leaving_or_none t) [
       | inl l ↦ elim (entering_or_none t l.0) [
@@ -120,7 +112,7 @@ same_column A n t row i j d p q =
       ]
     ]
 
-pub not_ended : (A : ℤ → (ℕ → ℤ) → Type 0) (n : ℕ) (t : Tableau) (row column : ℕ) → IsDictionary A n t → Leaves t row → Enters t row column → Ended t → ⊥
+pub not_ended : (A : ℤ → (ℕ → ℤ) → Type 0) (n : ℕ) (t : Tableau) (row column : ℕ) → IsDictionary A n t → Leaves t row → Enters t row column → RuleEnds t → ⊥
 not_ended A n t row column d l e (inl none) = let h = none row l.below in let k = l.negative in absurd (omega (arith, ints, h, k))
 not_ended A n t row column d l e (inr f) =
     let same = same_row A n t row f.0 d l f.1.leaves in

@@ -8,12 +8,12 @@ use Rattle.ta_dense.specs.Entering.{Enters}
 use Rattle.ta_dense.specs.Merge.{FirstOverflow}
 use Rattle.ta_dense.specs.Slack.{slack_tableau, variables, IsAssignment}
 use Rattle.ta_dense.specs.Laws.{DictionaryOf}
-use Rattle.ta_simplex.specs.LeastIndex.{Leaves, NoneLeaves, LeastStep, Reached, Stuck, OverflowsAt, Ended}
+use Rattle.ta_simplex.specs.LeastIndex.{Leaves, NoneLeaves, LeastStep, Reached, Stuck, OverflowsAt, RuleEnds}
 use Rattle.ta_simplex.proofs.Choose.{same_row, same_column, not_ended}
 use Rattle.ta_simplex.proofs.RunLemmas.{reached_dictionary, reached_same, ends_once, step_at, no_step_after}
 
 -- two ends of a run are one tableau
-pub end_same : (s : System) (j k : ℕ) (t u : Tableau) → Reached (slack_tableau s) j t → Ended t → Reached (slack_tableau s) k u → Ended u → t ≡ u
+pub end_same : (s : System) (j k : ℕ) (t u : Tableau) → Reached (slack_tableau s) j t → RuleEnds t → Reached (slack_tableau s) k u → RuleEnds u → t ≡ u
 end_same s j k t u r end q last =
     let same = ends_once s j k t u r end q last in
     reached_same s k t u (subst (λ (i : ℕ). Reached (slack_tableau s) i t) same r) q
@@ -42,12 +42,12 @@ no_step_on s c k t o r h =
     no_step s o.tableau next.1 o.row o.column o.at (reached_dictionary s o.steps o.tableau o.reached) o.leaves o.enters o.overflow (subst (λ (v : Tableau). LeastStep v next.1) same next.3)
 
 -- a run that ends has no such pivot
-pub ends_within : (s : System) (c k : ℕ) (t : Tableau) → OverflowsAt (slack_tableau s) c → Reached (slack_tableau s) k t → Ended t → ⊥
+pub ends_within : (s : System) (c k : ℕ) (t : Tableau) → OverflowsAt (slack_tableau s) c → Reached (slack_tableau s) k t → RuleEnds t → ⊥
 ends_within s c k t o r end =
     elim (cases_order o.steps k) [
       | inl same ↦
           let here = reached_same s k o.tableau t (subst (λ (i : ℕ). Reached (slack_tableau s) i o.tableau) same o.reached) r in
-          not_ended (IsAssignment s) (variables s) o.tableau o.row o.column (reached_dictionary s o.steps o.tableau o.reached) o.leaves o.enters (subst Ended (sym here) end)
+          not_ended (IsAssignment s) (variables s) o.tableau o.row o.column (reached_dictionary s o.steps o.tableau o.reached) o.leaves o.enters (subst RuleEnds (sym here) end)
       | inr other ↦ elim other [
         | inl less ↦ no_step_on s c k t o r less
         | inr more ↦ no_step_after s k o.steps t o.tableau r end o.reached more

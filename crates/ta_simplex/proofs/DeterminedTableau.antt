@@ -1,6 +1,7 @@
 -- two systems of the same numbers begin with one tableau
-use Rattle.std.proofs.Common.{◌≡◌, ℕ, suc, List, [], ◌∷◌, length, map, refl, ap, ◌∙◌, ℤ}
+use Rattle.std.proofs.Common.{◌≡◌, ℕ, suc, List, [], ◌∷◌, length, refl, ap, ◌∙◌}
 use Rattle.std.specs.List.{range_with_len}
+use Rattle.ta_base.proofs.Lists.{map_alike}
 use Rattle.ta_linear.specs.Terms.{coefficient}
 use Rattle.ta_linear.specs.declared.row.Row.{Row}
 use Rattle.ta_linear.specs.declared.row.System.{System}
@@ -8,14 +9,10 @@ use Rattle.ta_dense.specs.Slack.{coefficients, slack_row_of, slack_rows, slack_t
 use Rattle.ta_dense.proofs.SlackRows.{tableau_same}
 use Rattle.ta_simplex.specs.Laws.{SameRow, RowsAlike, SameNumbers}
 
-map_same : (f g : ℕ → ℤ) → ((u : ℕ) → f u ≡ g u) → (us : List ℕ) → map f us ≡ map g us
-map_same f g same [] = refl
-map_same f g same (u ∷ us) = let first = same u in let rest = map_same f g same us in cc
-
 slack_row_same : (n v : ℕ) (r q : Row) → SameRow r q → slack_row_of n v r ≡ slack_row_of n v q
 slack_row_same n v r q same =
     let constants = same.constant in
-    let cells : coefficients n r.form.terms ≡ coefficients n q.form.terms = map_same (coefficient r.form.terms) (coefficient q.form.terms) same.coefficients (range_with_len 0 n) in
+    let cells : coefficients n r.form.terms ≡ coefficients n q.form.terms = map_alike (coefficient r.form.terms) (coefficient q.form.terms) same.coefficients (range_with_len 0 n) in
     cc
 
 slack_rows_same : (n v : ℕ) (rs qs : List Row) → RowsAlike rs qs → slack_rows n v rs ≡ slack_rows n v qs

@@ -2,15 +2,12 @@
 use mathlib.Core.HLevel.{is_prop→PathP}
 use Rattle.std.proofs.Common.{◌≡◌, inl, inr, ℕ, suc, ◌<◌, List, [], ◌∷◌, length, arith, refl, sym, ap, ◌∙◌, subst, ℤ, pos, ◌<ℤ◌, Option, Some, None, slice_get}
 use Rattle.std.specs.Prelude.{IsSomeAnd}
-use Rattle.std.proofs.Props.{props}
+use Rattle.ta_base.proofs.Integers.{positive_prop}
 use Rattle.ta_linear.specs.declared.row.System.{System}
 use Rattle.ta_dense.specs.Tableau.{Tableau, row_of, basic_of, non_basic_of}
 use Rattle.ta_dense.specs.Laws.{DictionaryOf}
 use Rattle.ta_simplex.specs.Vertex.{GivesValues}
 use Rattle.ta_simplex.specs.declared.fraction.Fraction.{Fraction}
-
-positive_prop : (z : ℤ) → IsProp (pos 0 <ℤ z)
-positive_prop z = hlevel props
 
 -- a fraction is its top and its bottom
 fraction_same : (f g : Fraction) → f.top ≡ g.top → f.bottom ≡ g.bottom → f ≡ g

@@ -1,15 +1,16 @@
 use Rattle.std.proofs.Common.{◌≡◌, ◌⊎◌, inl, inr, ℕ, zero, suc, ◌+◌, ◌^◌, ◌<◌, ◌≤◌, arith, refl, sym, ap, ◌∙◌, subst, ℤ}
 use Rattle.std.proofs.lemmas.Bool.{cases_lt}
+use Rattle.ta_base.proofs.Naturals.{pigeon}
 use Rattle.ta_dense.specs.Tableau.{Tableau, pivoted}
 use Rattle.ta_dense.specs.Valid.{IsDictionary}
 use Rattle.ta_simplex.proofs.Basic.{is_basic}
 use Rattle.ta_dense.proofs.Keeps.{IsDictionary-pivoted}
-use Rattle.ta_simplex.specs.LeastIndex.{Leaves, Ended}
+use Rattle.ta_simplex.specs.LeastIndex.{Leaves, RuleEnds}
 use Rattle.ta_dense.specs.Entering.{Enters}
 use Rattle.ta_simplex.proofs.Bland.{Moment, no_basis_repeats}
 use Rattle.ta_simplex.proofs.Moments.{moment}
 use Rattle.ta_simplex.proofs.Choose.{Chosen, choose, same_row, same_column, not_ended}
-use Rattle.ta_simplex.proofs.Pigeon.{pigeon, mask, mask-below, mask-same}
+use Rattle.ta_simplex.proofs.Pigeon.{mask, mask-below, mask-same}
 
 -- how many steps of the rule follow, counted up to a bound
 unfoldable pub steps_left : ℕ → Tableau → ℕ
@@ -17,11 +18,11 @@ steps_left zero t = 0
 steps_left (suc b) t = elim (choose t) as (λ _. ℕ) [ inl s ↦ suc (steps_left b (pivoted t s.row s.column)) | inr ended ↦ 0 ]
 
 -- what steps_left says by the choice
-steps_cases : (b : ℕ) (t : Tableau) → ((s : Chosen t) × ((c : ℕ) → steps_left (suc c) t ≡ suc (steps_left c (pivoted t s.row s.column)))) ⊎ (Ended t × ((c : ℕ) → steps_left (suc c) t ≡ 0))
+steps_cases : (b : ℕ) (t : Tableau) → ((s : Chosen t) × ((c : ℕ) → steps_left (suc c) t ≡ suc (steps_left c (pivoted t s.row s.column)))) ⊎ (RuleEnds t × ((c : ℕ) → steps_left (suc c) t ≡ 0))
 unfolding steps_left
 steps_cases b t = go (choose t) refl
   where
-    go : (x : Chosen t ⊎ Ended t) → choose t ≡ x → ((s : Chosen t) × ((c : ℕ) → steps_left (suc c) t ≡ suc (steps_left c (pivoted t s.row s.column)))) ⊎ (Ended t × ((c : ℕ) → steps_left (suc c) t ≡ 0))
+    go : (x : Chosen t ⊎ RuleEnds t) → choose t ≡ x → ((s : Chosen t) × ((c : ℕ) → steps_left (suc c) t ≡ suc (steps_left c (pivoted t s.row s.column)))) ⊎ (RuleEnds t × ((c : ℕ) → steps_left (suc c) t ≡ 0))
     go (inl s) e = inl (s, λ c. rw (e, steps_left) refl)
     go (inr f) e = inr (f, λ c. rw (e, steps_left) refl)
 

@@ -15,7 +15,7 @@ use Rattle.ta_dense.specs.Kept.{KeptPivot, chosen_row, after_pivot}
 use Rattle.ta_dense.specs.Extending.{widened, raised}
 use Rattle.ta_dense.proofs.RowFacts.{record_same}
 use Rattle.ta_dense.proofs.SlackRows.{tableau_same}
-use Rattle.ta_simplex.specs.Follows.{Makes}
+use Rattle.ta_simplex.specs.Follows.{MakesPivot}
 use Rattle.ta_simplex.proofs.Widening.{zeros, cell_inside, cell_beyond, merged_widened, merged_chosen, turned_widened}
 
 -- a tableau of n columns with e more, and with more rows
@@ -110,7 +110,7 @@ padded_more cells kept n e h is =
     ap (λ (xs : List ℤ). xs ++ zeros e) is ∙ append_assoc kept (replicate (n - length kept) (pos 0)) (zeros e)
     ∙ ap (λ (xs : List ℤ). kept ++ xs) (replicate-append-replicate (n - length kept) e (pos 0) ∙ ap (λ (i : ℕ). replicate i (pos 0)) sum)
 
-pub chosen_more : (n e : ℕ) (t : Tableau) (k : KeptPivot) → length t.non_basic ≡ n → Makes t k → IsChosen (n + e) (widened n e (row_of t k.row)) k
+pub chosen_more : (n e : ℕ) (t : Tableau) (k : KeptPivot) → length t.non_basic ≡ n → MakesPivot t k → IsChosen (n + e) (widened n e (row_of t k.row)) k
 chosen_more n e t k columns makes = record {
   denominator = makes.denominator;
   constant = makes.constant;
@@ -122,7 +122,7 @@ new_rows_merged columns c k rows is =
     map_same (merged k.column c) (merged k.column (chosen_row columns k)) (λ r. merged_chosen k.column c (chosen_row columns k) r is.denominator is.constant is.cells) rows
 
 -- the pivot of the tableau with more
-pub pivoted_more : (n m e : ℕ) (t : Tableau) (rows : List TableauRow) (k : KeptPivot) → OfSize n m t → Makes t k →
+pub pivoted_more : (n m e : ℕ) (t : Tableau) (rows : List TableauRow) (k : KeptPivot) → OfSize n m t → MakesPivot t k →
     pivoted (with_more n e t rows) k.row k.column ≡ with_more n e (pivoted t k.row k.column) (after_pivot (n + e) k rows)
 pivoted_more n m e t rows k size makes =
     let row = k.row in
@@ -242,8 +242,8 @@ merges_chosen column c c' r d b cells h =
     λ some. (let g = same some in record { denominator = g.denominator; constant = g.constant; turned = g.turned; cells = g.cells })
 
 -- the rule makes the same pivot where no new row leaves the range
-pub makes_more : (n m e : ℕ) (t : Tableau) (rows : List TableauRow) (k : KeptPivot) → OfSize n m t → AreNewRows ((n + e) + m) rows → Makes t k →
-    RowsMergeBelow k.column (chosen_row (n + e) k) rows (length rows) → Makes (with_more n e t rows) k
+pub makes_more : (n m e : ℕ) (t : Tableau) (rows : List TableauRow) (k : KeptPivot) → OfSize n m t → AreNewRows ((n + e) + m) rows → MakesPivot t k →
+    RowsMergeBelow k.column (chosen_row (n + e) k) rows (length rows) → MakesPivot (with_more n e t rows) k
 makes_more n m e t rows k size new makes below =
     let at = old_row n e t rows k.row makes.leaves.below in
     let chosen = chosen_more n e t k size.columns makes in
@@ -272,7 +272,7 @@ makes_more n m e t rows k size new makes below =
     }
 
 -- where a new row leaves the range in it, that is the least such row
-pub overflows_more : (n m e : ℕ) (t : Tableau) (rows : List TableauRow) (k : KeptPivot) (new : ℕ) → OfSize n m t → Makes t k →
+pub overflows_more : (n m e : ℕ) (t : Tableau) (rows : List TableauRow) (k : KeptPivot) (new : ℕ) → OfSize n m t → MakesPivot t k →
     FirstRefused k.column (chosen_row (n + e) k) rows new → FirstOverflow (with_more n e t rows) k.row k.column (length t.rows + new)
 overflows_more n m e t rows k new size makes first =
     let at = old_row n e t rows k.row makes.leaves.below in

@@ -5,6 +5,7 @@ use Rattle.std.proofs.lemmas.Bool.Decides.{eqb_tells}
 use Rattle.std.proofs.lemmas.Int.{ints}
 use Rattle.std.proofs.lemmas.List.{length-set}
 use Rattle.std.proofs.lemmas.List.FromFn.{length-range_with_len}
+use Rattle.ta_base.proofs.Naturals.{pigeon}
 use Rattle.ta_linear.specs.Terms.{coefficient}
 use Rattle.ta_linear.specs.Leaf.{AreMultipliers}
 use Rattle.ta_linear.specs.declared.row.System.{System}
@@ -14,7 +15,6 @@ use Rattle.ta_dense.specs.Laws.{DictionaryOf}
 use Rattle.ta_simplex.specs.LeastIndex.{Reached}
 use Rattle.ta_simplex.specs.Refuted.{GivesMultipliers}
 use Rattle.ta_simplex.specs.Laws.{MultipliersAreFew}
-use Rattle.ta_simplex.proofs.Pigeon.{pigeon}
 use Rattle.ta_simplex.proofs.RunLemmas.{reached_dictionary}
 
 -- the first place of a number in a list, and the length where it is in none

@@ -12,20 +12,20 @@ use Rattle.ta_linear.specs.declared.row.System.{System}
 use Rattle.ta_dense.specs.Slack.{slack_tableau}
 use Rattle.ta_simplex.specs.LeastIndex.{Reached}
 use Rattle.ta_simplex.proofs.RunLemmas.{reached_dictionary}
-use Rattle.ta_simplex.specs.Follows.{after, Makes, Follows}
+use Rattle.ta_simplex.specs.Follows.{tableau_after, MakesPivot, Follows}
 use Rattle.ta_simplex.proofs.Prefixes.{reached_after}
 
-pub after_same : (start : Tableau) (ks ks' : List KeptPivot) (count : ℕ) → ((j : ℕ) → j < count → kept_at ks j ≡ kept_at ks' j) → (j : ℕ) → j ≤ count → after start ks j ≡ after start ks' j
+pub after_same : (start : Tableau) (ks ks' : List KeptPivot) (count : ℕ) → ((j : ℕ) → j < count → kept_at ks j ≡ kept_at ks' j) → (j : ℕ) → j ≤ count → tableau_after start ks j ≡ tableau_after start ks' j
 after_same start ks ks' count same zero h = refl
 after_same start ks ks' count same (suc j) h =
     ap (λ (t : Tableau). pivoted t (kept_at ks j).row (kept_at ks j).column) (after_same start ks ks' count same j (omega arith))
-    ∙ ap (λ (k : KeptPivot). pivoted (after start ks' j) k.row k.column) (same j (omega arith))
+    ∙ ap (λ (k : KeptPivot). pivoted (tableau_after start ks' j) k.row k.column) (same j (omega arith))
 
 -- only the pivots that are made count
 pub follows_same : (start : Tableau) (ks ks' : List KeptPivot) (count : ℕ) (t : Tableau) → ((j : ℕ) → j < count → kept_at ks j ≡ kept_at ks' j) → count ≤ length ks' → Follows start ks count t → Follows start ks' count t
 follows_same start ks ks' count t same h f = record {
   within = h;
-  made = λ j less. subst (λ (x : Tableau). Makes x (kept_at ks' j)) (after_same start ks ks' count same j (omega arith)) (subst (Makes (after start ks j)) (same j less) (f.made j less));
+  made = λ j less. subst (λ (x : Tableau). MakesPivot x (kept_at ks' j)) (after_same start ks ks' count same j (omega arith)) (subst (MakesPivot (tableau_after start ks j)) (same j less) (f.made j less));
   last = f.last ∙ after_same start ks ks' count same count (omega arith);
 }
 
@@ -54,7 +54,7 @@ follows_reached start ks count t f = subst (Reached start count) (sym f.last) (r
 pub follows_none : (start t : Tableau) (ks : List KeptPivot) → t ≡ start → Follows start ks 0 t
 follows_none start t ks e = record { within = omega arith; made = λ j h. absurd (omega arith); last = e }
 
-makes_here : (t : Tableau) (row column : ℕ) → Leaves t row → Enters t row column → AllMergeInRange t row column → length (row_of t row).cells ≡ length t.non_basic → Makes t (pivot_in t row column)
+makes_here : (t : Tableau) (row column : ℕ) → Leaves t row → Enters t row column → AllMergeInRange t row column → length (row_of t row).cells ≡ length t.non_basic → MakesPivot t (pivot_in t row column)
 makes_here t row column leaves enters in_range long =
     let none : length t.non_basic - length (row_of t row).cells ≡ 0 = omega arith in
     let inside = enters.below in
@@ -80,14 +80,14 @@ follows_push start ks t row column f leaves enters in_range long =
     let g = follows_append start ks (k ∷ []) (length ks) t f in
     let at : kept_at all (length ks) ≡ k = get_or_push ks k no_pivot (length ks) (omega arith) in
     let makes = makes_here t row column leaves enters in_range long in
-    let there = subst (λ (x : KeptPivot). Makes (after start all (length ks)) x) (sym at) (subst (λ (x : Tableau). Makes x k) g.last makes) in
+    let there = subst (λ (x : KeptPivot). MakesPivot (tableau_after start all (length ks)) x) (sym at) (subst (λ (x : Tableau). MakesPivot x k) g.last makes) in
     subst (λ (n : ℕ). Follows start all n (pivoted t row column)) (sym count) record {
       within = omega arith;
       made = λ j less. elim (cases_lt j (length ks)) [
         | inl below ↦ g.made j below
-        | inr last ↦ (let e : j ≡ length ks = omega arith in subst (λ (i : ℕ). Makes (after start all i) (kept_at all i)) (sym e) there)
+        | inr last ↦ (let e : j ≡ length ks = omega arith in subst (λ (i : ℕ). MakesPivot (tableau_after start all i) (kept_at all i)) (sym e) there)
       ];
-      last = ap (λ (x : Tableau). pivoted x row column) g.last ∙ ap (λ (x : KeptPivot). pivoted (after start all (length ks)) x.row x.column) (sym at);
+      last = ap (λ (x : Tableau). pivoted x row column) g.last ∙ ap (λ (x : KeptPivot). pivoted (tableau_after start all (length ks)) x.row x.column) (sym at);
     }
 
 -- the pivots of a run

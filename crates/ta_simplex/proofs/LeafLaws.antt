@@ -1,11 +1,12 @@
-use Rattle.std.proofs.Common.{◌≡◌, inl, inr, ℕ, zero, suc, ◌+◌, ◌<◌, ◌≤◌, List, [], ◌∷◌, length, get_or, cond, eqb, arith, refl, sym, ap, ◌∙◌, ℤ, pos, ◌+ℤ◌, ◌*ℤ◌, ◌-ℤ◌, neg_ℤ, ◌<ℤ◌, ◌≤ℤ◌}
+use Rattle.std.proofs.Common.{◌≡◌, inl, inr, ℕ, suc, ◌+◌, ◌<◌, List, [], ◌∷◌, length, get_or, cond, eqb, arith, refl, sym, ap, ◌∙◌, ℤ, pos, ◌+ℤ◌, ◌*ℤ◌, ◌-ℤ◌, neg_ℤ, ◌<ℤ◌, ◌≤ℤ◌}
 use Rattle.std.proofs.lemmas.Bool.{cases_eq}
 use Rattle.std.proofs.lemmas.Bool.Decides.{eqb_tells}
 use Rattle.std.proofs.lemmas.Int.{ints}
-use Rattle.ta_linear.proofs.Integers.{expand, mul_comm}
-use Rattle.ta_dense.proofs.Single.{single, single-at, single-elsewhere}
+use Rattle.std.proofs.Math.IntN.{*ℤ_comm}
+use Rattle.ta_base.proofs.Integers.{expand, single, single-at, single-elsewhere, single-le, sum_between}
+use Rattle.ta_base.proofs.Sums.{sum-add, sum-same, sum-single, sum-split, sum-sub, sum-upto, sum-zero}
 use Rattle.ta_dense.specs.Tableau.{TableauRow}
-use Rattle.ta_dense.specs.Valid.{dot, Holds}
+use Rattle.ta_dense.specs.Valid.{dot, EquationHolds}
 use Rattle.ta_linear.specs.Values.{terms_value}
 use Rattle.ta_linear.specs.Terms.{coefficient}
 use Rattle.ta_dense.specs.Slack.{slack_at, SlacksFollow}
@@ -13,48 +14,14 @@ use Rattle.ta_linear.specs.declared.row.Row.{Row}
 use Rattle.ta_linear.specs.Rows.{AllBelow}
 use Rattle.ta_dense.proofs.SlackDictionary.{terms_value-same, slacks_follow, extended, extended-unknown, extended-slack}
 
--- the sum of f from a on, over n numbers
-unfoldable pub sum_below : ℕ → ℕ → (ℕ → ℤ) → ℤ
-sum_below a zero f = pos 0
-sum_below a (suc n) f = f a +ℤ sum_below (suc a) n f
-
-sum-add : (a n : ℕ) (f g : ℕ → ℤ) → sum_below a n (λ w. f w +ℤ g w) ≡ sum_below a n f +ℤ sum_below a n g
-unfolding sum_below
-sum-add a zero f g = refl
-sum-add a (suc n) f g = omega (arith, ints, sum-add (suc a) n f g)
-
-sum-zero : (a n : ℕ) → sum_below a n (λ _. pos 0) ≡ pos 0
-unfolding sum_below
-sum-zero a zero = refl
-sum-zero a (suc n) = omega (arith, ints, sum-zero (suc a) n)
-
-sum-none : (a n u : ℕ) (y : ℤ) (f : ℕ → ℤ) → u < a → sum_below a n (λ w. single u y w *ℤ f w) ≡ pos 0
-unfolding sum_below
-sum-none a zero u y f h = refl
-sum-none a (suc n) u y f h = rw (single-elsewhere u a y (omega arith), sum-none (suc a) n u y f (omega arith)) (omega (arith, ints))
-
-sum-single : (a n u : ℕ) (y : ℤ) (f : ℕ → ℤ) → a ≤ u → u < a + n → sum_below a n (λ w. single u y w *ℤ f w) ≡ y *ℤ f u
-unfolding sum_below
-sum-single a zero u y f h k = absurd (omega arith)
-sum-single a (suc n) u y f h k =
-    elim (cases_eq u a) [
-      | inl here ↦ rw (single-at u a y here, sum-none (suc a) n u y f (omega arith), here) (omega (arith, ints))
-      | inr later ↦ rw (single-elsewhere u a y later, sum-single (suc a) n u y f (omega arith) (omega arith)) (omega (arith, ints))
-    ]
-
 -- the cells of a variable, added up: at most one, where the variables differ
 unfoldable pub cells_at : List ℤ → List ℕ → ℕ → ℤ
 cells_at [] us w = pos 0
 cells_at (c ∷ cs) [] w = pos 0
 cells_at (c ∷ cs) (u ∷ us) w = single u c w +ℤ cells_at cs us w
 
-sum-same : (a n : ℕ) (f g : ℕ → ℤ) → ((w : ℕ) → f w ≡ g w) → sum_below a n f ≡ sum_below a n g
-unfolding sum_below
-sum-same a zero f g same = refl
-sum-same a (suc n) f g same = rw (same a, sum-same (suc a) n f g same) refl
-
 -- a dot as a sum over all variables
-sum-cells : (n : ℕ) (cs : List ℤ) (us : List ℕ) (f : ℕ → ℤ) → ((j : ℕ) → j < length us → get_or us j 0 < n) → sum_below 0 n (λ w. cells_at cs us w *ℤ f w) ≡ dot cs us f
+sum-cells : (n : ℕ) (cs : List ℤ) (us : List ℕ) (f : ℕ → ℤ) → ((j : ℕ) → j < length us → get_or us j 0 < n) → sum_between 0 n (λ w. cells_at cs us w *ℤ f w) ≡ dot cs us f
 unfolding cells_at
 sum-cells n [] us f below = sum-same 0 n (λ w. pos 0 *ℤ f w) (λ _. pos 0) (λ w. omega (arith, ints)) ∙ sum-zero 0 n
 sum-cells n (c ∷ cs) [] f below = sum-same 0 n (λ w. pos 0 *ℤ f w) (λ _. pos 0) (λ w. omega (arith, ints)) ∙ sum-zero 0 n
@@ -67,38 +34,16 @@ sum-cells n (c ∷ cs) (u ∷ us) f below =
 abbrev pub weight : TableauRow → List ℕ → ℕ → ℤ
 weight r us w = single r.basic r.denominator w -ℤ cells_at r.cells us w
 
-sum-sub : (a n : ℕ) (f g : ℕ → ℤ) → sum_below a n (λ w. f w -ℤ g w) ≡ sum_below a n f -ℤ sum_below a n g
-unfolding sum_below
-sum-sub a zero f g = refl
-sum-sub a (suc n) f g = omega (arith, ints, sum-sub (suc a) n f g)
-
 weight_product : (r : TableauRow) (us : List ℕ) (value : ℕ → ℤ) (w : ℕ) → weight r us w *ℤ value w ≡ single r.basic r.denominator w *ℤ value w -ℤ cells_at r.cells us w *ℤ value w
 weight_product r us value w = simp expand (omega (arith, ints))
 
 -- the weights of all variables add up to the row's constant
-pub weights-sum : (n : ℕ) (r : TableauRow) (us : List ℕ) (scale : ℤ) (value : ℕ → ℤ) → r.basic < n → ((j : ℕ) → j < length us → get_or us j 0 < n) → Holds us r scale value →
-    sum_below 0 n (λ w. weight r us w *ℤ value w) ≡ scale *ℤ r.constant
+pub weights-sum : (n : ℕ) (r : TableauRow) (us : List ℕ) (scale : ℤ) (value : ℕ → ℤ) → r.basic < n → ((j : ℕ) → j < length us → get_or us j 0 < n) → EquationHolds us r scale value →
+    sum_between 0 n (λ w. weight r us w *ℤ value w) ≡ scale *ℤ r.constant
 weights-sum n r us scale value below inside holds =
     sum-same 0 n (λ w. weight r us w *ℤ value w) (λ w. single r.basic r.denominator w *ℤ value w -ℤ cells_at r.cells us w *ℤ value w) (weight_product r us value)
     ∙ sum-sub 0 n (λ w. single r.basic r.denominator w *ℤ value w) (λ w. cells_at r.cells us w *ℤ value w)
     ∙ (rw (sum-single 0 n r.basic r.denominator value (omega arith) (omega arith), sum-cells n r.cells us value inside) (omega (arith, ints, holds)))
-
-sum-split : (a n m : ℕ) (f : ℕ → ℤ) → sum_below a (n + m) f ≡ sum_below a n f +ℤ sum_below (a + n) m f
-unfolding sum_below
-sum-split a zero m f =
-    let e : 0 + m ≡ m = omega arith in
-    let g : a ≡ a + 0 = omega arith in
-    ap (λ (k : ℕ). sum_below a k f) e ∙ ap (λ (k : ℕ). sum_below k m f) g ∙ nothing (sum_below (a + 0) m f)
-  where
-    nothing : (z : ℤ) → z ≡ pos 0 +ℤ z
-    nothing z = omega (arith, ints)
-sum-split a (suc n) m f =
-    let e : suc n + m ≡ suc (n + m) = omega arith in
-    let g : suc a + n ≡ a + suc n = omega arith in
-    ap (λ (k : ℕ). sum_below a k f) e ∙ ap (λ (z : ℤ). f a +ℤ z) (sum-split (suc a) n m f ∙ ap (λ (k : ℕ). sum_below (suc a) n f +ℤ sum_below k m f) g) ∙ regroup (f a) (sum_below (suc a) n f) (sum_below (a + suc n) m f)
-  where
-    regroup : (x y z : ℤ) → x +ℤ (y +ℤ z) ≡ x +ℤ y +ℤ z
-    regroup x y z = omega (arith, ints)
 
 -- the sum over rows of the weight of its slack times a number of the row; the first row's slack is v
 unfoldable pub slack_weighted : (ℕ → ℤ) → ℕ → List Row → (Row → ℤ) → ℤ
@@ -111,21 +56,21 @@ Numbers [] scale value number = Unit {0}
 Numbers (r ∷ rs) scale value number = (slack_at r scale value ≡ number r) × Numbers rs scale value number
 
 slacks-weighted : (weights : ℕ → ℤ) (v : ℕ) (rs : List Row) (scale : ℤ) (value : ℕ → ℤ) (number : Row → ℤ) → SlacksFollow rs v scale value → Numbers rs scale value number →
-    sum_below v (length rs) (λ w. weights w *ℤ value w) ≡ slack_weighted weights v rs number
-unfolding sum_below slack_weighted
+    sum_between v (length rs) (λ w. weights w *ℤ value w) ≡ slack_weighted weights v rs number
+unfolding sum_between slack_weighted
 slacks-weighted weights v [] scale value number follow same = refl
 slacks-weighted weights v (r ∷ rs) scale value number follow same =
     rw (follow.0, same.0, slacks-weighted weights (suc v) rs scale value number follow.1 same.1) refl
 
 -- the weights of the slacks make up what the weights of the unknowns leave of the row's constant
 balance : (u : ℕ) (rs : List Row) (r : TableauRow) (us : List ℕ) (scale : ℤ) (value : ℕ → ℤ) (number : Row → ℤ) → r.basic < u + length rs → ((j : ℕ) → j < length us → get_or us j 0 < u + length rs) →
-    Holds us r scale value → SlacksFollow rs u scale value → Numbers rs scale value number →
-    sum_below 0 u (λ w. weight r us w *ℤ value w) +ℤ slack_weighted (weight r us) u rs number ≡ scale *ℤ r.constant
+    EquationHolds us r scale value → SlacksFollow rs u scale value → Numbers rs scale value number →
+    sum_between 0 u (λ w. weight r us w *ℤ value w) +ℤ slack_weighted (weight r us) u rs number ≡ scale *ℤ r.constant
 balance u rs r us scale value number below inside holds follow same =
     let e = sum-split 0 u (length rs) (λ w. weight r us w *ℤ value w) in
     let z : 0 + u ≡ u = omega arith in
-    let k = ap (λ (a : ℕ). sum_below a (length rs) (λ w. weight r us w *ℤ value w)) z ∙ slacks-weighted (weight r us) u rs scale value number follow same in
-    ap (λ (x : ℤ). sum_below 0 u (λ w. weight r us w *ℤ value w) +ℤ x) (sym k) ∙ sym e ∙ weights-sum (u + length rs) r us scale value below inside holds
+    let k = ap (λ (a : ℕ). sum_between a (length rs) (λ w. weight r us w *ℤ value w)) z ∙ slacks-weighted (weight r us) u rs scale value number follow same in
+    ap (λ (x : ℤ). sum_between 0 u (λ w. weight r us w *ℤ value w) +ℤ x) (sym k) ∙ sym e ∙ weights-sum (u + length rs) r us scale value below inside holds
 
 terms_value-zero : (ts : List (ℕ × ℤ)) → terms_value (λ _. pos 0) ts ≡ pos 0
 terms_value-zero [] = refl
@@ -145,15 +90,10 @@ numbers_extended n (r ∷ rs) scale value want number below same is = (
   numbers_extended n rs scale value want number below.1 same is,
 )
 
-sum-upto : (a n : ℕ) (f g : ℕ → ℤ) → ((w : ℕ) → w < a + n → f w ≡ g w) → sum_below a n f ≡ sum_below a n g
-unfolding sum_below
-sum-upto a zero f g same = refl
-sum-upto a (suc n) f g same = rw (same a (omega arith), sum-upto (suc a) n f g (λ w h. same w (omega arith))) refl
-
 -- the slack_weighted rows at a scale and unknowns of one's own
 at_choice : (u : ℕ) (rs : List Row) (r : TableauRow) (us : List ℕ) (scale : ℤ) (want : ℕ → ℤ) (number : Row → ℤ) → AllBelow u rs → r.basic < u + length rs → ((j : ℕ) → j < length us → get_or us j 0 < u + length rs) →
-    ((s : ℤ) (value : ℕ → ℤ) → SlacksFollow rs u s value → Holds us r s value) → ((q : Row) → slack_at q scale want ≡ number q) →
-    sum_below 0 u (λ w. weight r us w *ℤ want w) +ℤ slack_weighted (weight r us) u rs number ≡ scale *ℤ r.constant
+    ((s : ℤ) (value : ℕ → ℤ) → SlacksFollow rs u s value → EquationHolds us r s value) → ((q : Row) → slack_at q scale want ≡ number q) →
+    sum_between 0 u (λ w. weight r us w *ℤ want w) +ℤ slack_weighted (weight r us) u rs number ≡ scale *ℤ r.constant
 at_choice u rs r us scale want number known below inside holds is =
     let value = extended u rs scale want in
     let agree = extended-unknown u rs scale want in
@@ -163,7 +103,7 @@ at_choice u rs r us scale want number known below inside holds is =
 
 -- the slack_weighted constants add up to the row's constant
 pub leaf_constant : (u : ℕ) (rs : List Row) (r : TableauRow) (us : List ℕ) → AllBelow u rs → r.basic < u + length rs → ((j : ℕ) → j < length us → get_or us j 0 < u + length rs) →
-    ((s : ℤ) (value : ℕ → ℤ) → SlacksFollow rs u s value → Holds us r s value) → slack_weighted (weight r us) u rs (λ q. q.form.constant) ≡ r.constant
+    ((s : ℤ) (value : ℕ → ℤ) → SlacksFollow rs u s value → EquationHolds us r s value) → slack_weighted (weight r us) u rs (λ q. q.form.constant) ≡ r.constant
 leaf_constant u rs r us known below inside holds =
     let e = at_choice u rs r us (pos 1) (λ _. pos 0) (λ q. q.form.constant) known below inside holds (λ q. ap (λ (z : ℤ). z +ℤ pos 1 *ℤ q.form.constant) (terms_value-zero q.form.terms) ∙ one q.form.constant) in
     let z = sum-same 0 u (λ w. weight r us w *ℤ pos 0) (λ _. pos 0) (λ w. omega (arith, ints)) ∙ sum-zero 0 u in
@@ -174,20 +114,17 @@ leaf_constant u rs r us known below inside holds =
 
 -- the slack_weighted coefficients of an unknown add up to what its own weight takes away
 pub leaf_column : (u : ℕ) (rs : List Row) (r : TableauRow) (us : List ℕ) (k : ℕ) → k < u → AllBelow u rs → r.basic < u + length rs → ((j : ℕ) → j < length us → get_or us j 0 < u + length rs) →
-    ((s : ℤ) (value : ℕ → ℤ) → SlacksFollow rs u s value → Holds us r s value) → slack_weighted (weight r us) u rs (λ q. coefficient q.form.terms k) ≡ neg_ℤ (weight r us k)
+    ((s : ℤ) (value : ℕ → ℤ) → SlacksFollow rs u s value → EquationHolds us r s value) → slack_weighted (weight r us) u rs (λ q. coefficient q.form.terms k) ≡ neg_ℤ (weight r us k)
 leaf_column u rs r us k h known below inside holds =
     let e = at_choice u rs r us (pos 0) (single k (pos 1)) (λ q. coefficient q.form.terms k) known below inside holds (λ q. ap (λ (z : ℤ). z +ℤ pos 0 *ℤ q.form.constant) (terms_value-single q.form.terms k) ∙ nought (coefficient q.form.terms k) q.form.constant) in
-    let z = sum-same 0 u (λ w. weight r us w *ℤ single k (pos 1) w) (λ w. single k (pos 1) w *ℤ weight r us w) (λ w. mul_comm (weight r us w) (single k (pos 1) w)) ∙ sum-single 0 u k (pos 1) (weight r us) (omega arith) (omega arith) in
-    finish (weight r us k) (slack_weighted (weight r us) u rs (λ q. coefficient q.form.terms k)) (sum_below 0 u (λ w. weight r us w *ℤ single k (pos 1) w)) r.constant e z
+    let z = sum-same 0 u (λ w. weight r us w *ℤ single k (pos 1) w) (λ w. single k (pos 1) w *ℤ weight r us w) (λ w. *ℤ_comm (weight r us w) (single k (pos 1) w)) ∙ sum-single 0 u k (pos 1) (weight r us) (omega arith) (omega arith) in
+    finish (weight r us k) (slack_weighted (weight r us) u rs (λ q. coefficient q.form.terms k)) (sum_between 0 u (λ w. weight r us w *ℤ single k (pos 1) w)) r.constant e z
   where
     nought : (x c : ℤ) → x +ℤ pos 0 *ℤ c ≡ x
     nought x c = omega (arith, ints)
 
     finish : (w s t c : ℤ) → t +ℤ s ≡ pos 0 *ℤ c → t ≡ pos 1 *ℤ w → s ≡ neg_ℤ w
     finish w s t c e z = omega (arith, ints, e, z)
-
-single-le : (u w : ℕ) (y : ℤ) → y ≤ℤ pos 0 → single u y w ≤ℤ pos 0
-single-le u w y h = elim (cases_eq u w) [ inl same ↦ rw (single-at u w y same) h | inr other ↦ rw (single-elsewhere u w y other) (omega (arith, ints)) ]
 
 cells_at-le : (cs : List ℤ) (us : List ℕ) (w : ℕ) → length cs ≡ length us → ((j : ℕ) → j < length us → get_or cs j (pos 0) ≤ℤ pos 0) → cells_at cs us w ≤ℤ pos 0
 unfolding cells_at
@@ -207,7 +144,7 @@ weight-natural r us w positive long low =
 
 -- a refuted row's weights are a Leaf: no unknown's sum is positive, and the constants' sum is negative
 pub refuted_is_leaf : (u : ℕ) (rs : List Row) (r : TableauRow) (us : List ℕ) → AllBelow u rs → r.basic < u + length rs → ((j : ℕ) → j < length us → get_or us j 0 < u + length rs) →
-    ((s : ℤ) (value : ℕ → ℤ) → SlacksFollow rs u s value → Holds us r s value) → pos 0 <ℤ r.denominator → length r.cells ≡ length us →
+    ((s : ℤ) (value : ℕ → ℤ) → SlacksFollow rs u s value → EquationHolds us r s value) → pos 0 <ℤ r.denominator → length r.cells ≡ length us →
     r.constant <ℤ pos 0 → ((j : ℕ) → j < length us → get_or r.cells j (pos 0) ≤ℤ pos 0) →
     ((k : ℕ) → k < u → slack_weighted (weight r us) u rs (λ q. coefficient q.form.terms k) ≤ℤ pos 0) × (slack_weighted (weight r us) u rs (λ q. q.form.constant) <ℤ pos 0)
 refuted_is_leaf u rs r us known below inside holds positive long negative low = (

@@ -3,6 +3,8 @@ use Rattle.std.proofs.Common.{◌≡◌, ◌≢◌, inl, inr, ℕ, zero, suc, �
 use Rattle.std.proofs.lemmas.Bool.{cases_lt, cases_eq}
 use Rattle.std.proofs.lemmas.Int.{ints}
 use Rattle.std.proofs.Math.IntN.{*ℤ-zero}
+use Rattle.ta_base.proofs.Integers.{range_sum, single-at, single-elsewhere}
+use Rattle.ta_base.proofs.Sums.{range_sum-front, range_sum-same}
 use Rattle.ta_linear.specs.Terms.{coefficient, IsNormal}
 use Rattle.ta_linear.specs.Values.{terms_value}
 use Rattle.ta_linear.specs.Rows.{AllBelow}
@@ -10,8 +12,7 @@ use Rattle.ta_linear.specs.Leaf.{weighted, coefficient_in, constant_in, AreMulti
 use Rattle.ta_linear.specs.declared.row.Row.{Row}
 use Rattle.ta_linear.specs.declared.row.System.{System}
 use Rattle.ta_linear.proofs.TermLemmas.{coefficient-above}
-use Rattle.ta_linear.proofs.RangeSum.{range_sum, range_sum-same, range_sum-front, terms_value-sum}
-use Rattle.ta_dense.proofs.Single.{single-at, single-elsewhere}
+use Rattle.ta_linear.proofs.RangeSum.{terms_value-sum}
 use Rattle.ta_dense.specs.Tableau.{Tableau, row_of, basic_of}
 use Rattle.ta_dense.specs.Laws.{DictionaryOf}
 use Rattle.ta_simplex.specs.LeastIndex.{Stuck}

@@ -13,7 +13,7 @@ mod Moments
 mod Ends
 mod LeafLaws
 mod VertexLemmas
-mod SlotLemmas
+pub mod SlotLemmas
 mod ValueLemmas
 mod LeafLemmas
 mod Widening

@@ -1,6 +1,7 @@
 use Rattle.std.proofs.Common.{◌≡◌, ◌≢◌, ◌⊎◌, inl, inr, ℕ, zero, suc, ◌<◌, List, [], ◌∷◌, length, get_or, Bool, true, false, ◌||◌, eqb, arith, refl, sym, ap, ◌∙◌, ℤ, eq-eqb}
 use Rattle.std.proofs.lemmas.Bool.{cases_eq}
 use Rattle.std.proofs.lemmas.Bool.Decides.{eqb_tells}
+use Rattle.ta_base.proofs.Booleans.{both_ways}
 use Rattle.ta_dense.specs.Tableau.{TableauRow, Tableau, no_row, pivoted, basic_of, non_basic_of}
 use Rattle.ta_dense.specs.Valid.{IsDictionary}
 use Rattle.ta_simplex.proofs.Basic.{is_basic, is_basic_in}
@@ -32,11 +33,6 @@ is_basic_in-found (r ∷ rs) v =
   where
     test_false : (a b : ℕ) → a ≢ b → (eqb a b || false) ≡ false
     test_false a b ne = elim (eqb_tells a b) [ inl same ↦ absurd (ne same.1) | inr other ↦ rw other.0 refl ]
-
-both_ways : (a b : Bool) → (a ≡ true → b ≡ true) → (b ≡ true → a ≡ true) → a ≡ b
-both_ways true b f g = sym (f refl)
-both_ways false true f g = g refl
-both_ways false false f g = refl
 
 -- the tests of a dictionary
 tests : (t : Tableau) (i : ℕ) → i < length t.rows → is_basic t (basic_of t i) ≡ true

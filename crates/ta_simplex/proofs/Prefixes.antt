@@ -3,6 +3,8 @@ use Rattle.std.proofs.Common.{◌≡◌, inl, inr, ℕ, zero, suc, ◌+◌, ◌-
 use Rattle.std.specs.List.{range_with_len}
 use Rattle.std.proofs.lemmas.List.{map-append, length-map}
 use Rattle.std.proofs.lemmas.List.FromFn.{length-range_with_len}
+use Rattle.ta_base.proofs.Lists.{range_split}
+use Rattle.ta_dense.proofs.SlackDictionary.{length-slack_rows}
 use Rattle.ta_linear.specs.Terms.{coefficient, IsNormal}
 use Rattle.ta_linear.specs.Rows.{AllBelow}
 use Rattle.ta_linear.specs.declared.row.Row.{Row}
@@ -15,28 +17,20 @@ use Rattle.ta_dense.specs.Kept.{KeptPivot, kept_at, chosen_row, after_pivot, car
 use Rattle.ta_dense.specs.Extending.{widened, raised, extended, new_rows, FirstLeaving}
 use Rattle.ta_dense.proofs.RowFacts.{record_same}
 use Rattle.ta_dense.proofs.SlackRows.{slack_tableau-is}
-use Rattle.ta_dense.proofs.Keeps.{row_count, column_count}
-use Rattle.ta_dense.proofs.MergedRow.{merged_cases}
+use Rattle.ta_dense.proofs.Keeps.{row_count, column_count, merged_basic}
 use Rattle.ta_simplex.specs.LeastIndex.{Reached, OverflowsAt, IsCount}
-use Rattle.ta_simplex.specs.Follows.{after, Makes, Follows, Begins}
+use Rattle.ta_simplex.specs.Follows.{tableau_after, MakesPivot, Follows, BeginsSystem}
 use Rattle.ta_simplex.proofs.RunLemmas.{reached_dictionary}
 use Rattle.ta_simplex.proofs.Widening.{zeros}
 use Rattle.ta_simplex.proofs.Extended.{with_more, OfSize, AreNewRows, raised_at, pivoted_more, leaves_more, enters_more, makes_more, overflows_more}
 
 -- the run that makes these pivots
-pub reached_after : (start : Tableau) (ks : List KeptPivot) (count : ℕ) → ((j : ℕ) → j < count → Makes (after start ks j) (kept_at ks j)) → (j : ℕ) → j ≤ count → Reached start j (after start ks j)
+pub reached_after : (start : Tableau) (ks : List KeptPivot) (count : ℕ) → ((j : ℕ) → j < count → MakesPivot (tableau_after start ks j) (kept_at ks j)) → (j : ℕ) → j ≤ count → Reached start j (tableau_after start ks j)
 reached_after start ks count made zero h = refl
 reached_after start ks count made (suc j) h =
     let k = kept_at ks j in
     let m = made j (omega arith) in
-    (after start ks j, reached_after start ks count made j (omega arith), record { row = k.row; column = k.column; leaves = m.leaves; enters = m.enters; in_range = m.in_range; next = refl })
-
-range_split : (a n e : ℕ) → range_with_len a (n + e) ≡ range_with_len a n ++ range_with_len (a + n) e
-range_split a zero e = let h : zero + e ≡ e = omega arith in let k : a + zero ≡ a = omega arith in ap (range_with_len a) h ∙ ap (λ (x : ℕ). range_with_len x e) (sym k)
-range_split a (suc n) e =
-    let h : suc n + e ≡ suc (n + e) = omega arith in
-    let k : (a + 1) + n ≡ a + suc n = omega arith in
-    ap (range_with_len a) h ∙ ap (λ (xs : List ℕ). a ∷ xs) (range_split (a + 1) n e ∙ ap (λ (x : ℕ). range_with_len (a + 1) n ++ range_with_len x e) k)
+    (tableau_after start ks j, reached_after start ks count made j (omega arith), record { row = k.row; column = k.column; leaves = m.leaves; enters = m.enters; in_range = m.in_range; next = refl })
 
 raised_range : (n e a k : ℕ) → a + k ≤ n → map (raised n e) (range_with_len a k) ≡ range_with_len a k
 raised_range n e a zero h = refl
@@ -73,10 +67,6 @@ slack_rows-append n v [] qs = ap (λ (x : ℕ). slack_rows n x qs) (omega arith)
 slack_rows-append n v (r ∷ rs) qs =
     ap (λ (xs : List TableauRow). slack_row_of n v r ∷ xs) (slack_rows-append n (suc v) rs qs ∙ ap (λ (x : ℕ). slack_rows n (suc v) rs ++ slack_rows n x qs) (omega arith))
 
-pub count_slack_rows : (n v : ℕ) (rs : List Row) → length (slack_rows n v rs) ≡ length rs
-count_slack_rows n v [] = refl
-count_slack_rows n v (r ∷ rs) = let h = count_slack_rows n (suc v) rs in omega arith
-
 slack_basic : (n v : ℕ) (rs : List Row) (i : ℕ) → i < length rs → (get_or (slack_rows n v rs) i no_row).basic ≡ v + i
 slack_basic n v [] i h = absurd (omega arith)
 slack_basic n v (r ∷ rs) zero h = omega arith
@@ -90,7 +80,7 @@ abbrev pub added : System → System → ℕ
 added s l = l.unknowns - s.unknowns
 
 -- the longer system begins with the tableau of the shorter, and more
-pub start_more : (s l : System) → Begins s l → slack_tableau l ≡ with_more s.unknowns (added s l) (slack_tableau s) (added_rows s l)
+pub start_more : (s l : System) → BeginsSystem s l → slack_tableau l ≡ with_more s.unknowns (added s l) (slack_tableau s) (added_rows s l)
 unfolding slack_tableau
 start_more s l b =
     let n = s.unknowns in
@@ -108,7 +98,7 @@ start_more s l b =
 -- the size of what the rule reaches
 counts_slack : (s : System) → (length (slack_tableau s).non_basic ≡ s.unknowns) × (length (slack_tableau s).rows ≡ length s.rows)
 unfolding slack_tableau
-counts_slack s = (length-range_with_len 0 s.unknowns, count_slack_rows s.unknowns s.unknowns s.rows)
+counts_slack s = (length-range_with_len 0 s.unknowns, length-slack_rows s.unknowns s.unknowns s.rows)
 
 pub counts_reached : (s : System) (k : ℕ) (t : Tableau) → Reached (slack_tableau s) k t → (length t.non_basic ≡ s.unknowns) × (length t.rows ≡ length s.rows)
 counts_reached s zero t e =
@@ -131,10 +121,6 @@ size_reached s k t r =
       non_basic_below = d.basis.non_basic_below;
     }
 
--- the new rows keep their number and their slacks
-merged_basic : (column : ℕ) (chosen r : TableauRow) → (merged column chosen r).basic ≡ r.basic
-merged_basic column chosen r = elim (merged_cases column chosen r) [ inl stays ↦ ap (λ (x : TableauRow). x.basic) stays.1 | inr is ↦ ap (λ (x : TableauRow). x.basic) is ]
-
 basic_map : (column : ℕ) (chosen : TableauRow) (rows : List TableauRow) (i : ℕ) → (get_or (map (merged column chosen) rows) i no_row).basic ≡ (get_or rows i no_row).basic
 basic_map column chosen [] i = refl
 basic_map column chosen (r ∷ rows) zero = merged_basic column chosen r
@@ -152,18 +138,18 @@ new_carried : (s l : System) (ks : List KeptPivot) (j : ℕ) → AreNewRows (l.u
 new_carried s l ks j i h =
     let low = l.unknowns + length s.rows in
     let c = count_carried l.unknowns ks j (added_rows s l) in
-    let n = count_slack_rows l.unknowns low (drop (length s.rows) l.rows) in
+    let n = length-slack_rows l.unknowns low (drop (length s.rows) l.rows) in
     let b = basic_carried l.unknowns ks j (added_rows s l) i in
     let v = slack_basic l.unknowns low (drop (length s.rows) l.rows) i (omega arith) in
     omega arith
 
 -- after each of the pivots the longer system has the tableau of the shorter, and more
-pub after_more : (s l : System) → Begins s l → (ks : List KeptPivot) (count : ℕ) → ((j : ℕ) → j < count → Makes (after (slack_tableau s) ks j) (kept_at ks j)) → (j : ℕ) → j ≤ count →
-    after (slack_tableau l) ks j ≡ with_more s.unknowns (added s l) (after (slack_tableau s) ks j) (carried l.unknowns ks j (added_rows s l))
+pub after_more : (s l : System) → BeginsSystem s l → (ks : List KeptPivot) (count : ℕ) → ((j : ℕ) → j < count → MakesPivot (tableau_after (slack_tableau s) ks j) (kept_at ks j)) → (j : ℕ) → j ≤ count →
+    tableau_after (slack_tableau l) ks j ≡ with_more s.unknowns (added s l) (tableau_after (slack_tableau s) ks j) (carried l.unknowns ks j (added_rows s l))
 after_more s l b ks count made zero h = start_more s l b
 after_more s l b ks count made (suc j) h =
     let k = kept_at ks j in
-    let t = after (slack_tableau s) ks j in
+    let t = tableau_after (slack_tableau s) ks j in
     let rows = carried l.unknowns ks j (added_rows s l) in
     let n = s.unknowns in
     let e = added s l in
@@ -175,11 +161,11 @@ after_more s l b ks count made (suc j) h =
     ∙ ap (λ (c : ℕ). with_more n e (pivoted t k.row k.column) (after_pivot c k rows)) sum
 
 -- and where no new row leaves the range, the rule makes them for the longer system
-pub made_more : (s l : System) → Begins s l → (ks : List KeptPivot) (count : ℕ) → ((j : ℕ) → j < count → Makes (after (slack_tableau s) ks j) (kept_at ks j)) →
-    (upto : ℕ) → upto ≤ count → StayInRange l.unknowns ks upto (added_rows s l) → (j : ℕ) → j < upto → Makes (after (slack_tableau l) ks j) (kept_at ks j)
+pub made_more : (s l : System) → BeginsSystem s l → (ks : List KeptPivot) (count : ℕ) → ((j : ℕ) → j < count → MakesPivot (tableau_after (slack_tableau s) ks j) (kept_at ks j)) →
+    (upto : ℕ) → upto ≤ count → StayInRange l.unknowns ks upto (added_rows s l) → (j : ℕ) → j < upto → MakesPivot (tableau_after (slack_tableau l) ks j) (kept_at ks j)
 made_more s l b ks count made upto within stay j h =
     let k = kept_at ks j in
-    let t = after (slack_tableau s) ks j in
+    let t = tableau_after (slack_tableau s) ks j in
     let rows = carried l.unknowns ks j (added_rows s l) in
     let n = s.unknowns in
     let e = added s l in
@@ -187,7 +173,7 @@ made_more s l b ks count made upto within stay j h =
     let sum : n + e ≡ l.unknowns = omega arith in
     let size = size_reached s j t (reached_after (slack_tableau s) ks count made j (omega arith)) in
     let long = count_carried l.unknowns ks j (added_rows s l) in
-    subst (λ (x : Tableau). Makes x k) (sym (after_more s l b ks count made j (omega arith)))
+    subst (λ (x : Tableau). MakesPivot x k) (sym (after_more s l b ks count made j (omega arith)))
     (makes_more n (length s.rows) e t rows k size
     (subst (λ (c : ℕ). AreNewRows (c + length s.rows) rows) (sym sum) (new_carried s l ks j))
     (made j (omega arith))
@@ -204,7 +190,7 @@ extended_is s l ks t columns rows =
     ∙ ap (λ (added : List TableauRow). with_more s.unknowns (l.unknowns - s.unknowns) t (carried l.unknowns ks (length ks) added)) (new_rows_are s l t rows)
 
 -- a shorter system's pivots lead from the longer system's slacks to the extended tableau
-pub follows_extended : (s l : System) → Begins s l → (ks : List KeptPivot) (t : Tableau) → Follows (slack_tableau s) ks (length ks) t →
+pub follows_extended : (s l : System) → BeginsSystem s l → (ks : List KeptPivot) (t : Tableau) → Follows (slack_tableau s) ks (length ks) t →
     StayInRange l.unknowns ks (length ks) (new_rows t l) → Follows (slack_tableau l) ks (length ks) (extended t ks l)
 follows_extended s l b ks t f stay =
     let r = subst (λ (x : Tableau). Reached (slack_tableau s) (length ks) x) (sym f.last) (reached_after (slack_tableau s) ks (length ks) f.made (length ks) (omega arith)) in
@@ -220,7 +206,7 @@ follows_extended s l b ks t f stay =
     }
 
 -- where a new row leaves the range in one of them, it is there that solving the longer system ends
-pub overflow_extended : (s l : System) → Begins s l → (ks : List KeptPivot) (t : Tableau) → Follows (slack_tableau s) ks (length ks) t →
+pub overflow_extended : (s l : System) → BeginsSystem s l → (ks : List KeptPivot) (t : Tableau) → Follows (slack_tableau s) ks (length ks) t →
     (pivot row count : ℕ) → FirstLeaving t ks l pivot row → IsCount (suc pivot) count → OverflowsAt (slack_tableau l) count
 overflow_extended s l b ks t f pivot row count first counted =
     let r = subst (λ (x : Tableau). Reached (slack_tableau s) (length ks) x) (sym f.last) (reached_after (slack_tableau s) ks (length ks) f.made (length ks) (omega arith)) in
@@ -229,7 +215,7 @@ overflow_extended s l b ks t f pivot row count first counted =
     let new = new_rows_are s l t c.1 in
     let before = subst (λ (rows : List TableauRow). StayInRange l.unknowns ks pivot rows) new first.before in
     let k = kept_at ks pivot in
-    let u = after (slack_tableau s) ks pivot in
+    let u = tableau_after (slack_tableau s) ks pivot in
     let n = s.unknowns in
     let e = added s l in
     let less = b.unknowns in

@@ -5,7 +5,7 @@ use Rattle.ta_linear.specs.declared.row.System.{System}
 use Rattle.ta_dense.specs.Tableau.{Tableau, row_of, no_row, pivoted}
 use Rattle.ta_dense.specs.Merge.{MergesInRange, OthersMergeBelow, AllMergeInRange, FirstOverflow}
 use Rattle.ta_dense.specs.Slack.{slack_tableau, variables}
-use Rattle.ta_simplex.specs.LeastIndex.{Reached, Ended}
+use Rattle.ta_simplex.specs.LeastIndex.{Reached, RuleEnds}
 use Rattle.ta_simplex.specs.Answers.{RunEnds, RunOverflows}
 use Rattle.ta_simplex.proofs.Choose.{Chosen, choose}
 use Rattle.ta_simplex.proofs.Ends.{measure, measure_falls}
@@ -49,7 +49,7 @@ module _ (s : System) (no_end : ¬ RunEnds s) (no_overflow : ¬ RunOverflows s) 
       all_merge t c.row c.column
       (λ at overflow. no_overflow (min (suc k) (2 ^ 64 - 1), record { steps = k; counted = refl; tableau = t; reached = reached; row = c.row; column = c.column; leaves = c.leaves; enters = c.enters; at = at; overflow = overflow }))
       (λ merges. run_from n (suc k) (pivoted t c.row c.column) (omega arith) (t, reached, record { row = c.row; column = c.column; leaves = c.leaves; enters = c.enters; in_range = merges; next = refl })))
-      (λ (ended : Ended t). no_end (k, t, reached, ended))
+      (λ (ended : RuleEnds t). no_end (k, t, reached, ended))
       (choose t)
 
   pub run_ends : ⊥

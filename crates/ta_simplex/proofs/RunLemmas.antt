@@ -8,7 +8,7 @@ use Rattle.ta_dense.specs.Slack.{slack_tableau, variables, IsAssignment}
 use Rattle.ta_dense.specs.Laws.{DictionaryOf}
 use Rattle.ta_dense.proofs.SlackDictionary.{IsDictionary-slack}
 use Rattle.ta_dense.proofs.Keeps.{IsDictionary-pivoted}
-use Rattle.ta_simplex.specs.LeastIndex.{LeastStep, Reached, Ended}
+use Rattle.ta_simplex.specs.LeastIndex.{LeastStep, Reached, RuleEnds}
 use Rattle.ta_simplex.proofs.Choose.{same_row, same_column, not_ended}
 
 -- it is a dictionary of the system
@@ -42,14 +42,14 @@ step_at s (suc k) j t r h =
     ]
 
 -- no run goes on after its end
-pub no_step_after : (s : System) (j k : ℕ) (t t' : Tableau) → Reached (slack_tableau s) j t → Ended t → Reached (slack_tableau s) k t' → j < k → ⊥
+pub no_step_after : (s : System) (j k : ℕ) (t t' : Tableau) → Reached (slack_tableau s) j t → RuleEnds t → Reached (slack_tableau s) k t' → j < k → ⊥
 no_step_after s j k t t' r end r' h =
     let next = step_at s k j t' r' h in
     let same = reached_same s j next.0 t next.2 r in
     let step = next.3 in
-    not_ended (IsAssignment s) (variables s) next.0 step.row step.column (reached_dictionary s j next.0 next.2) step.leaves step.enters (subst Ended (sym same) end)
+    not_ended (IsAssignment s) (variables s) next.0 step.row step.column (reached_dictionary s j next.0 next.2) step.leaves step.enters (subst RuleEnds (sym same) end)
 
-pub ends_once : (s : System) (j k : ℕ) (t t' : Tableau) → Reached (slack_tableau s) j t → Ended t → Reached (slack_tableau s) k t' → Ended t' → j ≡ k
+pub ends_once : (s : System) (j k : ℕ) (t t' : Tableau) → Reached (slack_tableau s) j t → RuleEnds t → Reached (slack_tableau s) k t' → RuleEnds t' → j ≡ k
 ends_once s j k t t' r end r' end' =
     elim (cases_order j k) [
       | inl same ↦ same

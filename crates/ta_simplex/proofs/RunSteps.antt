@@ -1,6 +1,6 @@
 -- a run that keeps its pivots, step by step
 use Rattle.std.proofs.Common.{◌≡◌, ℕ, ◌^◌, ◌<◌, List, [], ◌∷◌, ◌++◌, length, map, arith, refl, sym, ap, ◌∙◌, subst}
-use Rattle.std.proofs.lemmas.List.{append_assoc, append-nil, map-append, length-map, length-append}
+use Rattle.std.proofs.lemmas.List.{append_assoc, map-append, length-map, length-append}
 use Rattle.ta_linear.specs.declared.row.System.{System}
 use Rattle.ta_dense.specs.Tableau.{Tableau, pivoted}
 use Rattle.ta_dense.specs.Entering.{Enters}
@@ -10,7 +10,7 @@ use Rattle.ta_dense.specs.Slack.{slack_tableau, variables, IsAssignment}
 use Rattle.ta_dense.specs.Laws.{DictionaryOf}
 use Rattle.ta_dense.specs.Kept.{KeptPivot, pivot_in}
 use Rattle.ta_simplex.specs.LeastIndex.{OverflowsAt}
-use Rattle.ta_simplex.specs.Follows.{Follows, GoesOn}
+use Rattle.ta_simplex.specs.Follows.{Follows, AddsPivots}
 use Rattle.ta_simplex.proofs.RunLemmas.{reached_dictionary}
 use Rattle.ta_simplex.proofs.Ends.{measure, measure_falls}
 use Rattle.ta_simplex.proofs.FollowLemmas.{follows_reached, follows_push}
@@ -60,11 +60,8 @@ step_overflows {K = K} pivot_of s old new k t row column at count f e leaves ent
       overflow = overflow;
     }
 
-pub step_goes_on : {K : Type 0} (pivot_of : K → KeptPivot) (first : List KeptPivot) (old new : List K) (k : K) → GoesOn first (map pivot_of old) → new ≡ old ++ k ∷ [] → GoesOn first (map pivot_of new)
+pub step_goes_on : {K : Type 0} (pivot_of : K → KeptPivot) (first : List KeptPivot) (old new : List K) (k : K) → AddsPivots first (map pivot_of old) → new ≡ old ++ k ∷ [] → AddsPivots first (map pivot_of new)
 step_goes_on pivot_of first old new k g e = record {
   more = g.more ++ pivot_of k ∷ [];
   is = one_more pivot_of old new k (pivot_of k) e refl ∙ ap (λ (ks : List KeptPivot). ks ++ pivot_of k ∷ []) g.is ∙ append_assoc first g.more (pivot_of k ∷ []);
 }
-
-pub goes_nowhere : (ks : List KeptPivot) → GoesOn ks ks
-goes_nowhere ks = record { more = []; is = sym (append-nil ks) }

@@ -1,29 +1,6 @@
-use Rattle.std.proofs.Common.{◌≡◌, ◌⊎◌, inl, inr, ℕ, zero, suc, ◌+◌, ◌<◌, ◌≤◌, Bool, true, false, arith, refl, sym, ap, ◌∙◌, subst}
+use Rattle.std.proofs.Common.{◌≡◌, ◌⊎◌, inl, inr, ℕ, zero, suc, ◌<◌, ◌≤◌, Bool, arith, sym, ap, ◌∙◌, subst}
 use Rattle.std.proofs.lemmas.Bool.{cases_lt, cases_eq}
-
-pub same_or_not : (a b : Bool) → (a ≡ b) ⊎ (a ≡ b → ⊥)
-same_or_not true true = inl refl
-same_or_not true false = inr (λ e. cc)
-same_or_not false true = inr (λ e. cc)
-same_or_not false false = inl refl
-
-pub true_or_false : (b : Bool) → (b ≡ true) ⊎ (b ≡ false)
-true_or_false true = inl refl
-true_or_false false = inr refl
-
--- a test that has one value at one moment and the other at a later one switches between them
-pub switches : (f : ℕ → Bool) (v w : Bool) (s t : ℕ) → (v ≡ w → ⊥) → ((i : ℕ) → (f i ≡ v) ⊎ (f i ≡ w)) → s ≤ t → f s ≡ v → f t ≡ w → (i : ℕ) × (s ≤ i) × (i < t) × (f i ≡ v) × (f (i + 1) ≡ w)
-switches f v w s zero apart either h p q = let e : s ≡ zero = omega arith in absurd (apart (sym p ∙ ap f e ∙ q))
-switches f v w s (suc t) apart either h p q =
-    elim (cases_lt s (suc t)) [
-      | inl below ↦ elim (either t) [
-        | inl here ↦ let e : t + 1 ≡ suc t = omega arith in (t, omega arith, omega arith, here, ap f e ∙ q)
-        | inr later ↦
-            let found = switches f v w s t apart either (omega arith) p later in
-            (found.0, found.1, omega arith, found.3, found.4)
-      ]
-      | inr above ↦ let e : s ≡ suc t = omega arith in absurd (apart (sym p ∙ ap f e ∙ q))
-    ]
+use Rattle.ta_base.proofs.Booleans.{same_or_not}
 
 -- between two moments the test moves away from its first value, or it stays
 abbrev pub Moves : (ℕ → Bool) → ℕ → ℕ → Type 0

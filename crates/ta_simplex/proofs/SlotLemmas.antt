@@ -4,6 +4,7 @@ use Rattle.std.proofs.lemmas.Bool.{cases_lt, cases_eq}
 use Rattle.std.proofs.lemmas.Bool.Decides.{nat_tests, eqb_tells}
 use Rattle.std.proofs.lemmas.Int.{ints}
 use Rattle.std.proofs.lemmas.List.{length-set}
+use Rattle.ta_base.proofs.Integers.{at_least_one, length-zeros, unsigned_abs-neg}
 use Rattle.ta_linear.specs.Numbers.{InRange}
 use Rattle.ta_linear.specs.Terms.{coefficient}
 use Rattle.ta_linear.specs.Leaf.{AreMultipliers}
@@ -11,7 +12,6 @@ use Rattle.ta_linear.proofs.TermLemmas.{IsNormal-push, IsNormal-higher, coeffici
 use Rattle.ta_dense.specs.Tableau.{Tableau, row_of, cell_of, basic_of, non_basic_of}
 use Rattle.ta_dense.specs.Entering.{NoneEnters}
 use Rattle.ta_dense.specs.Valid.{IsBasis}
-use Rattle.ta_dense.proofs.Divide.{unsigned_abs-neg}
 use Rattle.ta_simplex.specs.Inside.Slots.{slot, put, AreNatural, FillSlots, ListsSlots}
 
 -- what a place holds after a number is put
@@ -70,10 +70,6 @@ zeros : (n k : ℕ) → slot (replicate n (pos 0)) k ≡ pos 0
 zeros zero k = refl
 zeros (suc n) zero = refl
 zeros (suc n) (suc k) = zeros n k
-
-length-zeros : (n : ℕ) → length (replicate n (pos 0)) ≡ n
-length-zeros zero = refl
-length-zeros (suc n) = ap suc (length-zeros n)
 
 pub fill-first : (n u count : ℕ) (t : Tableau) (row : ℕ) (ms : List ℤ) → IsBasis n t → n ≡ u + count → row < length t.rows → ms ≡ replicate count (pos 0) → pos 0 ≤ℤ (row_of t row).denominator → InRange (row_of t row).denominator →
     Filled u count t row 0 (put u ms (basic_of t row) (row_of t row).denominator)
@@ -138,7 +134,7 @@ fill-last u count t row column ms h f = record {
   };
 }
 
-multipliers-wider : (low count wide : ℕ) (ts : List (ℕ × ℤ)) → count ≤ wide → AreMultipliers low count ts → AreMultipliers low wide ts
+pub multipliers-wider : (low count wide : ℕ) (ts : List (ℕ × ℤ)) → count ≤ wide → AreMultipliers low count ts → AreMultipliers low wide ts
 multipliers-wider low count wide [] h m = tt
 multipliers-wider low count wide (t ∷ ts) h m = (m.0, (let b = m.1 in omega arith), m.2, multipliers-wider (t.0 + 1) count wide ts h m.3)
 
@@ -148,10 +144,6 @@ multipliers-push low at (t ∷ ts) m h all one = (all.0, (let b = all.1 in omega
 
 pub list-first : (ms : List ℤ) → ListsSlots ms 0 []
 list-first ms = record { normal = omega arith; multipliers = tt; coefficients = λ k h. absurd (omega arith) }
-
-at_least_one : (m : ℤ) → pos 0 ≤ℤ m → m ≢ pos 0 → pos 1 ≤ℤ m
-at_least_one (pos zero) h ne = absurd (ne refl)
-at_least_one m h ne = grind (arith, ints)
 
 pub list-more : (ms : List ℤ) (at : ℕ) (ts : List (ℕ × ℤ)) → AreNatural ms → ListsSlots ms at ts → slot ms at ≢ pos 0 → ListsSlots ms (at + 1) (ts ++ (at, slot ms at) ∷ [])
 list-more ms at ts n l ne = record {

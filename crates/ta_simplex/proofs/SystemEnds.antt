@@ -1,8 +1,9 @@
 -- The end of a system whose run ends: multipliers of a row for which nothing can enter, or the values of a vertex.
-use Rattle.std.proofs.Common.{◌≡◌, ◌≢◌, ◌⊎◌, ℕ, zero, suc, ◌+◌, ◌<◌, ℤ, pos, negsuc, ◌<ℤ◌, List, [], ◌∷◌, ◌++◌, length, get_or, set, map, replicate, inl, inr, ⊎_elim, refl, sym, subst, ◌∙◌, arith}
+use Rattle.std.proofs.Common.{◌≡◌, ◌≢◌, ℕ, zero, suc, ◌+◌, ◌<◌, ℤ, pos, ◌<ℤ◌, List, [], ◌∷◌, ◌++◌, length, get_or, set, map, replicate, inl, inr, ⊎_elim, refl, sym, subst, ◌∙◌, arith}
 use Rattle.std.proofs.lemmas.Int.{ints}
 use Rattle.std.proofs.lemmas.List.{length-map, length-set}
 use Rattle.std.proofs.lemmas.List.FromFn.{length-range_with_len}
+use Rattle.ta_base.proofs.Integers.{zero_or_not}
 use Rattle.ta_linear.specs.Numbers.{InRange}
 use Rattle.ta_linear.specs.Rows.{AllBelow}
 use Rattle.ta_linear.specs.declared.row.Row.{Row}
@@ -13,7 +14,7 @@ use Rattle.ta_dense.specs.Slack.{slack_rows, slack_tableau, variables}
 use Rattle.ta_dense.specs.Laws.{DictionaryOf}
 use Rattle.ta_dense.proofs.DenseFacts.{IsProper-slack}
 use Rattle.ta_dense.proofs.ProperFacts.{proper_pivoted}
-use Rattle.ta_simplex.specs.LeastIndex.{Reached, LeastStep, Stuck, Ended}
+use Rattle.ta_simplex.specs.LeastIndex.{Reached, LeastStep, Stuck, RuleEnds}
 use Rattle.ta_simplex.specs.Refuted.{AreLeafMultipliers}
 use Rattle.ta_simplex.specs.Vertex.{AreZeros, GivesValues}
 use Rattle.ta_simplex.specs.Inside.Slots.{slot, AreNatural, FillSlots, ListsSlots}
@@ -27,12 +28,11 @@ use Rattle.ta_simplex.proofs.ValueLemmas.{ValuesSoFar, values-first, values-next
 use Rattle.ta_simplex.proofs.VertexLemmas.{values_meet_rows}
 
 -- ---- each number of a tableau that the rule reaches is in range
-
 record Proper (n : ℕ) (t : Tableau) : Type 0 where
   columns : length t.non_basic ≡ n
   rows : (i : ℕ) → i < length t.rows → IsProper n (get_or t.rows i no_row)
 
-slack_proper : (n v : ℕ) (rs : List Row) (i : ℕ) → AllBelow n rs → i < length (slack_rows n v rs) → IsProper n (get_or (slack_rows n v rs) i no_row)
+pub slack_proper : (n v : ℕ) (rs : List Row) (i : ℕ) → AllBelow n rs → i < length (slack_rows n v rs) → IsProper n (get_or (slack_rows n v rs) i no_row)
 slack_proper n v [] i below inside = absurd (omega arith)
 slack_proper n v (r ∷ rs) zero below inside = IsProper-slack n v r below.0
 slack_proper n v (r ∷ rs) (suc i) below inside = slack_proper n (suc v) rs i below.1 (omega arith)
@@ -53,13 +53,6 @@ step_proper n t u p step =
 reached_proper : (s : System) (k : ℕ) (t : Tableau) → Reached (slack_tableau s) k t → Proper s.unknowns t
 reached_proper s zero t e = subst (Proper s.unknowns) (sym e) (slacks_proper s)
 reached_proper s (suc k) t r = step_proper s.unknowns r.0 t (reached_proper s k r.0 r.1) r.2
-
--- ---- multipliers
-
-zero_or_not : (z : ℤ) → (z ≡ pos 0) ⊎ (z ≢ pos 0)
-zero_or_not (pos zero) = inl refl
-zero_or_not (pos (suc n)) = inr (λ e. absurd (omega (arith, ints)))
-zero_or_not (negsuc n) = inr (λ e. absurd (omega (arith, ints)))
 
 list_from : (ms : List ℤ) (left at : ℕ) (ts : List (ℕ × ℤ)) → AreNatural ms → at + left ≡ length ms → ListsSlots ms at ts → (us : List (ℕ × ℤ)) × ListsSlots ms (length ms) us
 list_from ms zero at ts natural whole l = (ts, subst (λ k. ListsSlots ms k ts) (let e : at ≡ length ms = omega arith in e) l)
@@ -109,8 +102,7 @@ module _ (s : System) (t : Tableau) (dictionary : DictionaryOf s t) (proper : Pr
   values_exist = let z = zeros s.unknowns in values_from (length t.rows) 0 z.0 (omega arith) (values-first t s.unknowns z.0 z.1)
 
 -- ---- ends
-
-pub end_exists : (s : System) (k : ℕ) (t : Tableau) → Reached (slack_tableau s) k t → Ended t → HasEnd s
+pub end_exists : (s : System) (k : ℕ) (t : Tableau) → Reached (slack_tableau s) k t → RuleEnds t → HasEnd s
 end_exists s k t reached (inl none) =
     let d = reached_dictionary s k t reached in
     let v = values_exist s t d (reached_proper s k t reached) in

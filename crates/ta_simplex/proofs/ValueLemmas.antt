@@ -1,35 +1,13 @@
 -- the values of a vertex, row by row
-use Rattle.std.proofs.Common.{◌≡◌, ◌≢◌, inl, inr, ℕ, zero, suc, ◌+◌, ◌<◌, ◌≤◌, List, [], ◌∷◌, ◌++◌, length, set, arith, refl, sym, ap, ◌∙◌, subst, ℤ, pos, Option, Some, slice_get}
+use Rattle.std.proofs.Common.{◌≡◌, ◌≢◌, inl, inr, ℕ, zero, ◌+◌, ◌<◌, ◌≤◌, List, [], ◌∷◌, ◌++◌, length, set, arith, sym, ap, ◌∙◌, subst, ℤ, pos, Option}
 use Rattle.std.specs.Prelude.{IsSomeAnd}
 use Rattle.std.proofs.lemmas.Bool.{cases_eq, cases_lt}
 use Rattle.std.proofs.lemmas.List.{length-set, length-append}
+use Rattle.ta_base.proofs.Lists.{get-push_before, get-push_last, get-set_other, get-set_same}
 use Rattle.ta_dense.specs.Tableau.{Tableau, row_of, basic_of, non_basic_of}
 use Rattle.ta_dense.specs.Valid.{IsBasis}
 use Rattle.ta_simplex.specs.Vertex.{ValueIs, AreZeros, GivesValues}
 use Rattle.ta_simplex.specs.declared.fraction.Fraction.{Fraction}
-
-get-set_same : {A : Type 0} (xs : List A) (i : ℕ) (x : A) → i < length xs → slice_get (set xs i x) i ≡ Some x
-get-set_same [] i x h = absurd (omega arith)
-get-set_same (y ∷ ys) zero x h = refl
-get-set_same (y ∷ ys) (suc i) x h = get-set_same ys i x (omega arith)
-
-get-set_other : {A : Type 0} (xs : List A) (i j : ℕ) (x : A) → j ≢ i → slice_get (set xs i x) j ≡ slice_get xs j
-get-set_other [] i j x ne = refl
-get-set_other (y ∷ ys) zero zero x ne = absurd (ne refl)
-get-set_other (y ∷ ys) zero (suc j) x ne = refl
-get-set_other (y ∷ ys) (suc i) zero x ne = refl
-get-set_other (y ∷ ys) (suc i) (suc j) x ne = get-set_other ys i j x (λ e. ne (ap suc e))
-
-get-push_last : {A : Type 0} (xs : List A) (i : ℕ) (x : A) → length xs ≡ i → slice_get (xs ++ x ∷ []) i ≡ Some x
-get-push_last [] zero x e = refl
-get-push_last [] (suc i) x e = absurd (omega arith)
-get-push_last (y ∷ ys) zero x e = absurd (omega arith)
-get-push_last (y ∷ ys) (suc i) x e = get-push_last ys i x (omega arith)
-
-get-push_before : {A : Type 0} (xs : List A) (i : ℕ) (x : A) → i < length xs → slice_get (xs ++ x ∷ []) i ≡ slice_get xs i
-get-push_before [] i x h = absurd (omega arith)
-get-push_before (y ∷ ys) zero x h = refl
-get-push_before (y ∷ ys) (suc i) x h = get-push_before ys i x (omega arith)
 
 -- the basic unknowns of the rows before one have their values, and every other unknown is 0
 pub record ValuesSoFar (t : Tableau) (unknowns row : ℕ) (values : List Fraction) : Type 0 where

@@ -1,11 +1,12 @@
 -- the values of a vertex meet every row
-use Rattle.std.proofs.Common.{◌≡◌, inl, inr, ℕ, zero, suc, ◌+◌, ◌*◌, ◌<◌, ◌≤◌, List, [], ◌∷◌, length, arith, sym, ap, ◌∙◌, subst, ℤ, pos, ◌*ℤ◌, ◌≤ℤ◌, Option, Some, None, slice_get}
+use Rattle.std.proofs.Common.{◌≡◌, inl, inr, ℕ, zero, suc, ◌+◌, ◌*◌, ◌<◌, ◌≤◌, List, [], ◌∷◌, length, arith, sym, ap, ◌∙◌, subst, ℤ, pos, ◌*ℤ◌, ◌≤ℤ◌, slice_get}
 use Rattle.std.specs.Prelude.{All, IsSomeAnd}
 use Rattle.std.proofs.lemmas.Int.{ints}
+use Rattle.std.proofs.Math.IntN.{*ℤ_comm}
+use Rattle.ta_base.proofs.Integers.{ge-zero_of_mul, mul-ge-zero}
+use Rattle.ta_base.proofs.Options.{is_some-map}
 use Rattle.ta_linear.specs.declared.row.Row.{Row}
 use Rattle.ta_linear.specs.declared.row.System.{System}
-use Rattle.ta_linear.proofs.Signs.{ge-zero_of_mul, mul-ge-zero}
-use Rattle.ta_linear.proofs.Integers.{mul_comm}
 use Rattle.ta_dense.specs.Tableau.{Tableau, row_of, basic_of, non_basic_of}
 use Rattle.ta_dense.specs.Slack.{IsAssignment, SlacksFollow, slack_at, variables}
 use Rattle.ta_dense.specs.Laws.{DictionaryOf}
@@ -54,10 +55,6 @@ slacks_hold [] v n scale value follow room natural k d h = absurd (omega arith)
 slacks_hold (r ∷ rs) v n scale value follow room natural zero d h = rw (← follow.0) (natural v (omega arith))
 slacks_hold (r ∷ rs) v n scale value follow room natural (suc k) d h = slacks_hold rs (suc v) n scale value follow.1 (omega arith) natural k d (omega arith)
 
-is_some-map : {A : Type 0} (o : Option A) (P Q : A → Type 0) → ((x : A) → P x → Q x) → IsSomeAnd o P → IsSomeAnd o Q
-is_some-map None P Q f p = p
-is_some-map (Some x) P Q f p = f x p
-
 pub values_meet_rows : (s : System) (t : Tableau) (values : List Fraction) → DictionaryOf s t → NoneLeaves t → GivesValues t s.unknowns values → MeetRows s values
 values_meet_rows s t values d ended gives =
     let c = corner s t d in
@@ -72,7 +69,7 @@ values_meet_rows s t values d ended gives =
             let h = gives.basic b.0 b.1 (omega arith) in
             subst (λ (u : ℕ). IsSomeAnd (slice_get values u) (λ f. c.value u *ℤ f.bottom ≡ pos c.scale *ℤ f.top)) b.2
             (is_some-map (slice_get values (basic_of t b.0)) (λ f. (f.top ≡ (row_of t b.0).constant) × (f.bottom ≡ (row_of t b.0).denominator)) (λ f. c.value (basic_of t b.0) *ℤ f.bottom ≡ pos c.scale *ℤ f.top)
-            (λ f is. ap (λ (z : ℤ). c.value (basic_of t b.0) *ℤ z) is.1 ∙ mul_comm (c.value (basic_of t b.0)) (row_of t b.0).denominator ∙ alone s t d c b.0 b.1 ∙ ap (λ (z : ℤ). pos c.scale *ℤ z) (sym is.0)) h)
+            (λ f is. ap (λ (z : ℤ). c.value (basic_of t b.0) *ℤ z) is.1 ∙ *ℤ_comm (c.value (basic_of t b.0)) (row_of t b.0).denominator ∙ alone s t d c b.0 b.1 ∙ ap (λ (z : ℤ). pos c.scale *ℤ z) (sym is.0)) h)
         | inr j ↦
             let e = j.2 in
             let h = gives.non_basic j.0 j.1 (omega arith) in

@@ -1,28 +1,21 @@
 -- where all values of a vertex are whole, they solve the system
-use Rattle.std.proofs.Common.{◌≡◌, ℕ, zero, suc, ◌+◌, ◌<◌, List, [], ◌∷◌, length, arith, ap, subst, ℤ, pos, ◌*ℤ◌, ◌<ℤ◌, ◌≤ℤ◌, Option, Some, None, slice_get}
+use Rattle.std.proofs.Common.{◌≡◌, ℕ, zero, suc, ◌+◌, ◌<◌, List, [], ◌∷◌, length, arith, ap, subst, ℤ, pos, ◌*ℤ◌, ◌≤ℤ◌, Option, Some, None, slice_get}
 use Rattle.std.specs.Prelude.{All, IsSomeAnd, slice_index}
 use Rattle.std.proofs.lemmas.Int.{ints}
+use Rattle.ta_base.proofs.Integers.{expand, ge-zero_of_mul, quotient_whole}
 use Rattle.ta_linear.specs.Terms.{IsNormal}
 use Rattle.ta_linear.specs.Rows.{AllBelow}
 use Rattle.ta_linear.specs.Values.{terms_value, value_of, RowHolds, Solves}
 use Rattle.ta_linear.specs.declared.row.Row.{Row}
 use Rattle.ta_linear.specs.declared.row.System.{System}
-use Rattle.ta_linear.proofs.Integers.{expand}
-use Rattle.ta_linear.proofs.Signs.{ge-zero_of_mul}
 use Rattle.ta_linear.proofs.TermLemmas.{IsNormal-le}
 use Rattle.ta_dense.specs.Slack.{slack_at}
-use Rattle.ta_dense.proofs.Divide.{cancel_positive}
 use Rattle.ta_simplex.specs.Vertex.{MeetRows}
 use Rattle.ta_simplex.specs.declared.fraction.Fraction.{Fraction}
 
-some_both : (o : Option Fraction) (P Q : Fraction → Type 0) (C : Type 0) → IsSomeAnd o P → IsSomeAnd o Q → ((f : Fraction) → P f → Q f → C) → C
+pub some_both : (o : Option Fraction) (P Q : Fraction → Type 0) (C : Type 0) → IsSomeAnd o P → IsSomeAnd o Q → ((f : Fraction) → P f → Q f → C) → C
 some_both None P Q C p q g = absurd p
 some_both (Some f) P Q C p q g = g f p q
-
--- top over bottom is v, and q times it is x: x is q times v
-whole : (x q v top bottom : ℤ) → pos 0 <ℤ bottom → x *ℤ bottom ≡ q *ℤ top → top ≡ v *ℤ bottom → x ≡ q *ℤ v
-whole x q v top bottom h e is =
-    cancel_positive bottom x (q *ℤ v) h (let k = ap (λ (z : ℤ). q *ℤ z) is in simp expand (omega (arith, ints, e, k)))
 
 terms_scaled : (low n : ℕ) (ts : List (ℕ × ℤ)) (x v : ℕ → ℤ) (q : ℤ) → IsNormal low n ts → ((u : ℕ) → u < n → x u ≡ q *ℤ v u) → terms_value x ts ≡ q *ℤ terms_value v ts
 terms_scaled low n [] x v q normal same = omega (arith, ints)
@@ -50,6 +43,6 @@ whole_vertex_solves s values numbers m count all =
       count = count;
       rows_hold = rows_scaled s.unknowns s.rows m.numbers v m.scale m.some s.within
           (λ x h. some_both (slice_get values x) (λ f. m.numbers x *ℤ f.bottom ≡ pos m.scale *ℤ f.top) (λ f. f.top ≡ pos (slice_index numbers x) *ℤ f.bottom) (m.numbers x ≡ pos m.scale *ℤ pos (slice_index numbers x)) (m.over_scale x h) (all x h)
-          (λ f e is. whole (m.numbers x) (pos m.scale) (pos (slice_index numbers x)) f.top f.bottom f.positive e is))
+          (λ f e is. quotient_whole (m.numbers x) (pos m.scale) (pos (slice_index numbers x)) f.top f.bottom f.positive e is))
           m.rows_hold;
     }

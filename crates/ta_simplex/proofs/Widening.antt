@@ -2,8 +2,8 @@
 use Rattle.std.proofs.Common.{◌≡◌, ℕ, zero, suc, ◌+◌, ◌-◌, ◌<◌, ◌≤◌, List, [], ◌∷◌, ◌++◌, length, map, set, get_or, arith, refl, ap, ◌∙◌, ℤ, pos, negsuc, ◌*ℤ◌, ◌-ℤ◌}
 use Rattle.std.specs.Prelude.{unsigned_abs, int_div, neg_ℤ, replicate}
 use Rattle.std.proofs.Math.Nat.{zero-div}
-use Rattle.std.proofs.lemmas.Int.{ints}
 use Rattle.std.proofs.lemmas.List.{map-append, length-map, set-append_left, get_or_append_left, get_or-append_right}
+use Rattle.ta_base.proofs.Integers.{times_zero}
 use Rattle.ta_linear.specs.Gcd.{gcd_of}
 use Rattle.ta_linear.proofs.GcdLemmas.{gcd_of-zero}
 use Rattle.ta_dense.specs.Tableau.{TableauRow, combine, cell_of, gcd_with, merged, merged_at, merged_by, reduced, divided, divisor_of, factor_divisor, turned}
@@ -13,9 +13,6 @@ use Rattle.ta_dense.proofs.PivotLaws.{length-combine}
 
 abbrev pub zeros : ℕ → List ℤ
 zeros e = replicate e (pos 0)
-
-times_zero : (p q : ℤ) → p *ℤ pos 0 -ℤ q *ℤ pos 0 ≡ pos 0
-times_zero p q = omega (arith, ints)
 
 map_zeros : (f : ℤ → ℤ) → f (pos 0) ≡ pos 0 → (e : ℕ) → map f (zeros e) ≡ zeros e
 map_zeros f h zero = refl

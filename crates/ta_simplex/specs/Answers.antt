@@ -3,13 +3,13 @@ use Rattle.std.specs.Prelude.{ℕ}
 use Rattle.ta_linear.specs.declared.row.System.{System}
 use Rattle.ta_dense.specs.Tableau.{Tableau}
 use Rattle.ta_dense.specs.Slack.{slack_tableau}
-use Rattle.ta_simplex.specs.LeastIndex.{Reached, Ended, OverflowsAt}
+use Rattle.ta_simplex.specs.LeastIndex.{Reached, RuleEnds, OverflowsAt}
 use Rattle.ta_simplex.specs.Ends.{IsEnd}
 use Rattle.ta_simplex.specs.declared.End.{End}
 
 -- from the slacks on, the rule leads to a tableau at which it ends
 abbrev pub RunEnds : System → Type 0
-RunEnds s = (steps : ℕ) × (t : Tableau) × Reached (slack_tableau s) steps t × Ended t
+RunEnds s = (steps : ℕ) × (t : Tableau) × Reached (slack_tableau s) steps t × RuleEnds t
 
 -- some pivot of the rule leaves the range
 abbrev pub RunOverflows : System → Type 0

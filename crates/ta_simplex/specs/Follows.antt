@@ -8,12 +8,12 @@ use Rattle.ta_dense.specs.Merge.{AllMergeInRange}
 use Rattle.ta_dense.specs.Kept.{KeptPivot, kept_at}
 
 -- the tableau after the first j of these pivots
-abbrev pub after : Tableau → List KeptPivot → ℕ → Tableau
-after start ks zero = start
-after start ks (suc j) = pivoted (after start ks j) (kept_at ks j).row (kept_at ks j).column
+abbrev pub tableau_after : Tableau → List KeptPivot → ℕ → Tableau
+tableau_after start ks zero = start
+tableau_after start ks (suc j) = pivoted (tableau_after start ks j) (kept_at ks j).row (kept_at ks j).column
 
 -- this is the pivot that the rule makes, and it stays in range; of its row, the cells of columns that came later are 0
-pub record Makes (t : Tableau) (k : KeptPivot) : Type 0 where
+pub record MakesPivot (t : Tableau) (k : KeptPivot) : Type 0 where
   pub leaves : Leaves t k.row
   pub enters : Enters t k.row k.column
   pub in_range : AllMergeInRange t k.row k.column
@@ -26,15 +26,15 @@ pub record Makes (t : Tableau) (k : KeptPivot) : Type 0 where
 -- the rule makes the first pivots of these, so many, one after another, and they lead to this tableau
 pub record Follows (start : Tableau) (ks : List KeptPivot) (count : ℕ) (t : Tableau) : Type 0 where
   pub within : count ≤ length ks
-  pub made : (j : ℕ) → j < count → Makes (after start ks j) (kept_at ks j)
-  pub last : t ≡ after start ks count
+  pub made : (j : ℕ) → j < count → MakesPivot (tableau_after start ks j) (kept_at ks j)
+  pub last : t ≡ tableau_after start ks count
 
 -- a system begins with another: there are no fewer unknowns, and its first rows are the other's
-pub record Begins (shorter longer : System) : Type 0 where
+pub record BeginsSystem (shorter longer : System) : Type 0 where
   pub unknowns : shorter.unknowns ≤ longer.unknowns
   pub rows : longer.rows ≡ shorter.rows ++ drop (length shorter.rows) longer.rows
 
 -- pivots that come behind others
-pub record GoesOn (old new : List KeptPivot) : Type 0 where
+pub record AddsPivots (old new : List KeptPivot) : Type 0 where
   pub more : List KeptPivot
   pub is : new ≡ old ++ more

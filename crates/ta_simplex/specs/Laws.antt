@@ -9,8 +9,8 @@ use Rattle.ta_dense.specs.Slack.{slack_tableau}
 use Rattle.ta_dense.specs.Kept.{KeptPivot, StayInRange}
 use Rattle.ta_dense.specs.Extending.{extended, new_rows, FirstLeaving}
 use Rattle.ta_simplex.specs.Ends.{IsEnd}
-use Rattle.ta_simplex.specs.Follows.{Begins, Follows}
-use Rattle.ta_simplex.specs.LeastIndex.{Reached, Ended, OverflowsAt}
+use Rattle.ta_simplex.specs.Follows.{BeginsSystem, Follows}
+use Rattle.ta_simplex.specs.LeastIndex.{Reached, RuleEnds, OverflowsAt}
 use Rattle.ta_simplex.specs.Refuted.{IsRefuted}
 use Rattle.ta_simplex.specs.Vertex.{MeetRows}
 use Rattle.ta_simplex.specs.declared.End.{End}
@@ -19,7 +19,7 @@ use Rattle.ta_simplex.specs.declared.fraction.Fraction.{Fraction}
 -- from the slacks on, the rule leads to one tableau for each number of steps, and it ends at one number of steps at most
 pub record RunsAreDetermined : Type 0 where
   pub same : (s : System) (k : ℕ) (t t' : Tableau) → Reached (slack_tableau s) k t → Reached (slack_tableau s) k t' → t ≡ t'
-  pub once : (s : System) (j k : ℕ) (t t' : Tableau) → Reached (slack_tableau s) j t → Ended t → Reached (slack_tableau s) k t' → Ended t' → j ≡ k
+  pub once : (s : System) (j k : ℕ) (t t' : Tableau) → Reached (slack_tableau s) j t → RuleEnds t → Reached (slack_tableau s) k t' → RuleEnds t' → j ≡ k
 
 -- the same constant, and the same coefficient of each unknown
 pub record SameRow (r q : Row) : Type 0 where
@@ -60,8 +60,8 @@ pub record PrefixesGoFirst : Type 0 where
   -- each run has its list of pivots
   pub listed : (s : System) (k : ℕ) (t : Tableau) → Reached (slack_tableau s) k t → (ks : List KeptPivot) × (length ks ≡ k) × Follows (slack_tableau s) ks k t
   -- the pivots with which the shorter's run begins are the longer's first, and lead to the extended tableau, where no new row leaves the range in them
-  pub first : (s l : System) (ks : List KeptPivot) (t : Tableau) → Begins s l → Follows (slack_tableau s) ks (length ks) t →
+  pub first : (s l : System) (ks : List KeptPivot) (t : Tableau) → BeginsSystem s l → Follows (slack_tableau s) ks (length ks) t →
       StayInRange l.unknowns ks (length ks) (new_rows t l) → Follows (slack_tableau l) ks (length ks) (extended t ks l) × Reached (slack_tableau l) (length ks) (extended t ks l)
   -- the longer's run ends at the first of them in which a new row does
-  pub leaves : (s l : System) (ks : List KeptPivot) (t : Tableau) → Begins s l → Follows (slack_tableau s) ks (length ks) t →
+  pub leaves : (s l : System) (ks : List KeptPivot) (t : Tableau) → BeginsSystem s l → Follows (slack_tableau s) ks (length ks) t →
       (pivot row : ℕ) → FirstLeaving t ks l pivot row → OverflowsAt (slack_tableau l) (min (suc pivot) (2 ^ 64 - 1))

@@ -42,5 +42,5 @@ pub record OverflowsAt (start : Tableau) (count : ℕ) : Type 0 where
   pub overflow : FirstOverflow tableau row column at
 
 -- the rule ends at a tableau: nothing leaves, or nothing can enter for what leaves
-abbrev pub Ended : Tableau → Type 0
-Ended t = NoneLeaves t ⊎ ((row : ℕ) × Stuck t row)
+abbrev pub RuleEnds : Tableau → Type 0
+RuleEnds t = NoneLeaves t ⊎ ((row : ℕ) × Stuck t row)

@@ -3,6 +3,6 @@ use Rattle.ta_dense.specs.Tableau.{Tableau}
 use Rattle.ta_simplex.specs.LeastIndex.{NoneLeaves, Stuck}
 
 -- no variable leaves, or a row's leaves and none can enter
-abbrev pub StopsAt : Tableau → Option ℕ → Type 0
-StopsAt t None = NoneLeaves t
-StopsAt t (Some row) = Stuck t row
+abbrev pub RuleStopsAt : Tableau → Option ℕ → Type 0
+RuleStopsAt t None = NoneLeaves t
+RuleStopsAt t (Some row) = Stuck t row

@@ -10,6 +10,7 @@ ghost use Rattle.ta_simplex.specs.Follows.{Follows};
 ghost use Rattle.ta_simplex.specs.Branch.{IsBranch, LastFits, SharesRows};
 
 use crate::End;
+use crate::effort::Effort;
 use crate::fault::SolveFault;
 use crate::solving::{Ended, resume};
 use std::alloc::{AllocError, Global};
@@ -36,6 +37,7 @@ pub struct Standing<D: Dictionary> {
 pub struct Branch<D: Dictionary> {
     pub(crate) systems: Vec<Standing<D>>,
     pub(crate) kept: Vec<D::Kept>,
+    pub(crate) effort: Effort,
 }
 
 impl<D: Dictionary> Branch<D> {
@@ -46,7 +48,15 @@ impl<D: Dictionary> Branch<D> {
         Branch {
             systems: Vec::new(alloc),
             kept: Vec::new(alloc),
+            effort: Effort::default(),
         }
+    }
+
+    /// What the solving of its systems took so far.
+    pub fn effort(&self) -> Effort
+        ensures { result ≡ self.now.effort }
+    {
+        self.effort
     }
 
     /// Solves a system, so many of whose first rows are those of the systems of the branch, as
@@ -61,8 +71,12 @@ impl<D: Dictionary> Branch<D> {
         ensures fault { IfErr result (IsSolveFault system.now) }
     {
         self.give_up_last(system, same);
+        let was_wide = self.is_wide();
         let first = self.first_dictionary(alloc, system)?;
+        let before = self.kept.len();
         let Ended { end, dictionary } = resume(alloc, system, first, &mut self.kept)?;
+        let pivots = self.kept.len().saturating_sub(before);
+        self.effort.add(pivots, dictionary.is_wide() && !was_wide);
         match end {
             End::Refuted(multipliers) => Ok(End::Refuted(multipliers)),
             End::Vertex(values) => {
@@ -94,6 +108,14 @@ impl<D: Dictionary> Branch<D> {
         }
     }
 
+    // Whether there is a last system and its numbers are wide.
+    fn is_wide(&self) -> bool {
+        match self.systems.as_slice().split_last() {
+            None => false,
+            Some((last, _)) => last.dictionary.is_wide(),
+        }
+    }
+
     // The dictionary of a system after the pivots of the last system.
     fn first_dictionary(&mut self, alloc: Global, system: &System) -> Result<D, SolveFault>
         requires room { variables system.now < 2 ^ 32 }
@@ -105,6 +127,7 @@ impl<D: Dictionary> Branch<D> {
     {
         match self.systems.as_slice().split_last() {
             None => {
+                self.effort.begin();
                 self.kept.truncate(0);
                 Ok(D::from_system(alloc, system)?)
             }
@@ -145,6 +168,7 @@ impl<D: Dictionary> Branch<D> {
     {
         while self.systems.len() > 0 && bytes_of(self.systems.as_slice()) > LIMIT {
             let _given_up = self.systems.remove(0);
+            self.effort.give_up();
         }
     }
 }

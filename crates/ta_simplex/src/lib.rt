@@ -1,7 +1,10 @@
 //! Solving systems over natural unknowns in rational numbers, by the least-index rule.
 #![tactic(auto)]
 
+use ta_base::List;
+
 mod branch;
+mod effort;
 mod fault;
 mod fraction;
 mod laws;
@@ -11,6 +14,7 @@ mod solving;
 mod vertex;
 
 pub use branch::{Branch, Standing};
+pub use effort::Effort;
 pub use fault::SolveFault;
 pub use fraction::Fraction;
 pub use laws::{
@@ -18,7 +22,6 @@ pub use laws::{
     runs_have_ends, whole_vertices_solve,
 };
 pub use solving::{Ended, resume, solve};
-use ta_linear::List;
 
 /// What a system came to.
 #[derive(Drop)]

@@ -10,8 +10,9 @@ ghost use Rattle.ta_simplex.specs.Inside.Slots.{put, AreNatural, FillSlots, List
 ghost use Rattle.ta_simplex.specs.Refuted.{AreLeafMultipliers};
 
 use std::alloc::{AllocError, Global};
+use ta_base::List;
 use ta_dense::Dictionary;
-use ta_linear::{List, System};
+use ta_linear::System;
 
 // The multipliers of the system's rows for a row for which nothing can enter.
 pub(crate) fn multipliers_of<D: Dictionary>(

@@ -4,8 +4,8 @@
 ghost use Rattle.std.specs.Prelude.{◌≡◌, ◌++◌, ◌<◌, ◌^◌, ℕ, List, IfOk, IfErr, length, map};
 ghost use Rattle.ta_dense.specs.Slack.{slack_tableau};
 ghost use Rattle.ta_dense.specs.Kept.{KeptPivot};
-ghost use Rattle.ta_simplex.specs.Follows.{Follows, GoesOn};
-ghost use Rattle.ta_simplex.specs.Stops.{StopsAt};
+ghost use Rattle.ta_simplex.specs.Follows.{Follows, AddsPivots};
+ghost use Rattle.ta_simplex.specs.Stops.{RuleStopsAt};
 ghost use Rattle.ta_simplex.specs.Ends.{IsSolveFault};
 
 use crate::fault::SolveFault;
@@ -30,8 +30,8 @@ pub(crate) fn run<D: Dictionary>(
 ) -> Result<Stopped<D>, SolveFault>
     requires { Follows (slack_tableau system.now) (map D.pivot_of kept.old.items) (length kept.old.items) (D.tableau first) }
     ensures ok { IfOk result (λ s. Follows (slack_tableau system.now) (map D.pivot_of kept.new.items) (length kept.new.items) (D.tableau s.dictionary)) }
-    ensures stops { IfOk result (λ s. StopsAt (D.tableau s.dictionary) s.row) }
-    ensures goes_on { IfOk result (λ s. GoesOn (map D.pivot_of kept.old.items) (map D.pivot_of kept.new.items)) }
+    ensures stops { IfOk result (λ s. RuleStopsAt (D.tableau s.dictionary) s.row) }
+    ensures goes_on { IfOk result (λ s. AddsPivots (map D.pivot_of kept.old.items) (map D.pivot_of kept.new.items)) }
     ensures fault { IfErr result (IsSolveFault system.now) }
 {
     let _system = system;

@@ -4,8 +4,8 @@
 ghost use Rattle.std.specs.Prelude.{◌≡◌, ◌<◌, ◌^◌, IfOk, IfErr, length, map};
 ghost use Rattle.ta_dense.specs.Slack.{slack_tableau, variables};
 ghost use Rattle.ta_simplex.specs.Ends.{IsEnd, IsSolveFault};
-ghost use Rattle.ta_simplex.specs.Follows.{Follows, GoesOn};
-ghost use Rattle.ta_simplex.specs.Stops.{StopsAt};
+ghost use Rattle.ta_simplex.specs.Follows.{Follows, AddsPivots};
+ghost use Rattle.ta_simplex.specs.Stops.{RuleStopsAt};
 
 use crate::End;
 use crate::fault::SolveFault;
@@ -50,7 +50,7 @@ pub fn resume<D: Dictionary>(
     requires follows { Follows (slack_tableau system.now) (map D.pivot_of kept.old.items) (length kept.old.items) (D.tableau first) }
     ensures ok { IfOk result (λ ended. IsEnd system.now ended.end) }
     ensures follows { IfOk result (λ ended. Follows (slack_tableau system.now) (map D.pivot_of kept.new.items) (length kept.new.items) (D.tableau ended.dictionary)) }
-    ensures goes_on { IfOk result (λ ended. GoesOn (map D.pivot_of kept.old.items) (map D.pivot_of kept.new.items)) }
+    ensures goes_on { IfOk result (λ ended. AddsPivots (map D.pivot_of kept.old.items) (map D.pivot_of kept.new.items)) }
     ensures fault { IfErr result (IsSolveFault system.now) }
 {
     let stopped = run(alloc, system, first, kept)?;
@@ -70,7 +70,7 @@ fn end_of<D: Dictionary>(
 ) -> Result<End, AllocError>
     requires room { variables system.now < 2 ^ 32 }
     requires follows { Follows (slack_tableau system.now) (map D.pivot_of kept.now) (length kept.now) (D.tableau stopped.now.dictionary) }
-    requires stops { StopsAt (D.tableau stopped.now.dictionary) stopped.now.row }
+    requires stops { RuleStopsAt (D.tableau stopped.now.dictionary) stopped.now.row }
     ensures { IfOk result (IsEnd system.now) }
 {
     let _kept = kept;

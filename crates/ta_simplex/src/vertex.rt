@@ -8,8 +8,9 @@ ghost use Rattle.ta_simplex.specs.Vertex.{GivesValues, AreZeros};
 
 use crate::fraction::Fraction;
 use std::alloc::{AllocError, Global};
+use ta_base::List;
 use ta_dense::Dictionary;
-use ta_linear::{List, System};
+use ta_linear::System;
 
 // The value of each unknown.
 pub(crate) fn vertex_of<D: Dictionary>(

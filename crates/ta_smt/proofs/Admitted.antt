@@ -1,10 +1,12 @@
 -- Values that are admitted, and why values aren't.
 use Rattle.std.proofs.Common.{◌≡◌, ◌≢◌, ℕ, zero, suc, ◌<◌, ◌≤◌, ◌^◌, ℤ, pos, Bool, true, false, List, [], ◌∷◌, length, map, reverse, slice_get, get_or, unsigned_abs, Some, arith, refl, sym, ap, subst, ◌∙◌, length-append}
-use Rattle.std.specs.List.{All}
+use Rattle.std.specs.List.{All, AllByRecursion}
 use Rattle.std.specs.Prelude.{slice_index}
 use Rattle.std.proofs.lemmas.Bool.{false≢true}
 use Rattle.std.proofs.lemmas.List.{length-map}
-use Rattle.std.proofs.lemmas.Option.{same_Some}
+use Rattle.ta_base.proofs.Each.{all_at}
+use Rattle.ta_base.proofs.Lists.{PassedTo, some_at}
+use Rattle.ta_words.proofs.Lists.{same_pattern}
 use Rattle.ta_linear.specs.Rows.{AllBelow}
 use Rattle.ta_linear.specs.Sums.{StaysInRange}
 use Rattle.ta_linear.specs.Values.{RowHolds, Solves, point_of}
@@ -12,58 +14,50 @@ use Rattle.ta_linear.specs.declared.row.Row.{Row}
 use Rattle.ta_linear.specs.declared.row.System.{System}
 use Rattle.ta_automaton.specs.declared.file.File.{File}
 use Rattle.ta_automaton.specs.declared.pattern.Pattern.{Pattern}
-use Rattle.ta_automaton.specs.Lists.{Each}
-use Rattle.ta_counter.specs.Checks.{RowFails, RowLeaves, RowPasses, RowsOver}
+use Rattle.ta_counter.specs.Checks.{RowFails, RowOutOfRange, RowPasses, RowsOver}
 use Rattle.ta_counter.specs.Values.{Value}
-use Rattle.ta_counter.proofs.Passing.{PassedTo}
-use Rattle.ta_counter.proofs.Rows.{all_at}
 use Rattle.ta_words.specs.declared.element.Element.{Element}
 use Rattle.ta_words.specs.Calls.{OfPattern}
-use Rattle.ta_words.specs.Words.{Legal, is_complete}
-use Rattle.ta_encode.specs.Code.{RowsOf, SystemOf}
+use Rattle.ta_words.specs.Words.{LegalWord, is_complete}
+use Rattle.ta_encode.specs.Code.{AreRowsOf, SystemOf}
 use Rattle.ta_encode.specs.PatternSearch.{pattern_search}
 use Rattle.ta_encode.specs.Search.{Pending}
 use Rattle.ta_encode.specs.System.{LinearRow, bound_row, system_rows, word_rows}
 use Rattle.ta_encode.proofs.CodeRows.{rows_count, solution_back, solution_of as solves_of, unbounded}
 use Rattle.ta_cursor.proofs.RowCounts.{few_rows}
-use Rattle.ta_replay.proofs.Lines.{some_at}
 use Rattle.ta_replay.specs.declared.run.Run.{Run}
 use Rattle.ta_replay.specs.Replays.{ReplayStays}
 use Rattle.ta_witness.specs.Witness.{IsSolution, WitnessOf}
 use Rattle.ta_witness.proofs.WitnessOnce.{one_witness}
 use Rattle.ta_smt.specs.declared.fault.AdmitFault.{AdmitFault}
 use Rattle.ta_smt.specs.declared.fault.AdmitFault.TheVariants as fault
-use Rattle.ta_smt.specs.Admit.{AdmitFaultOf, Admits, AdmitsAreExact, Asked, IsComplete, IsIncomplete, RowsStay, SystemAsked, asked, solution_of}
+use Rattle.ta_smt.specs.Admit.{AdmitFaultOf, Admits, AdmitsAreExact, AskedWord, IsCompleteWord, IsIncomplete, SystemStays, SystemAsked, asked, solution_of}
 use Rattle.ta_smt.specs.Values.{IsValuesText}
-use Rattle.ta_smt.specs.Inside.Checking.{BadRow, CheckFault, Checked, Passes, RowFault, RowStops, RunFault, Shown, WordFault}
+use Rattle.ta_smt.specs.Inside.Checking.{BadRow, CheckFault, IsChecked, PassesCheck, RowFault, RowStops, RunFault, IsRunOfValues, WordFault}
 use Rattle.ta_smt.specs.Inside.Reading.{LineFault}
 use Rattle.ta_smt.proofs.Forms.{rows_stay}
 use Rattle.ta_smt.proofs.Solutions.{holds_same, naturals_from, points}
 use Rattle.ta_smt.proofs.ValueTexts.{not_both, values_once}
 
 -- the word as it is pending, without bounds
-abbrev pub pending : Asked → Pending
+abbrev pub pending : AskedWord → Pending
 pending word = record { start = word.start; past = reverse word.elements; bounds = [] }
-
--- a number names one pattern
-pub one_pattern : (file : File) (n : ℕ) (p q : Pattern) → slice_get file.patterns n ≡ Some p → slice_get file.patterns n ≡ Some q → p ≡ q
-one_pattern file n p q is are = same_Some p q (sym is ∙ are)
 
 -- two systems of a word: they have the same unknowns, and rows for the same linear ones
 pub record Twins (s z : System) : Type 0 where
   pub unknowns : s.unknowns ≡ z.unknowns
   pub linear : List LinearRow
-  pub is : RowsOf linear s.rows
-  pub are : RowsOf linear z.rows
+  pub is : AreRowsOf linear s.rows
+  pub are : AreRowsOf linear z.rows
 
-pub twins : (file : File) (word : Asked) (s z : System) → SystemAsked file word s → SystemAsked file word z → Twins s z
+pub twins : (file : File) (word : AskedWord) (s z : System) → SystemAsked file word s → SystemAsked file word z → Twins s z
 twins file word s z is are =
-    let same = one_pattern file word.pattern are.pattern is.pattern are.named is.named in
+    let same = same_pattern file word.pattern are.pattern is.pattern are.named is.named in
     let of = subst (λ (p : Pattern). SystemOf file.automaton p word.start (reverse word.elements) [] z) same are.is in
     record { unknowns = is.is.unknowns ∙ sym of.unknowns; linear = system_rows file.automaton is.pattern word.start (reverse word.elements) []; is = is.is.rows; are = of.rows }
 
 -- the rows of every system of a word stay where those of one do
-pub stay_alike : (file : File) (word : Asked) (values : List ℤ) (s z : System) → SystemAsked file word s → SystemAsked file word z → RowsStay values s → RowsStay values z
+pub stay_alike : (file : File) (word : AskedWord) (values : List ℤ) (s z : System) → SystemAsked file word s → SystemAsked file word z → SystemStays values s → SystemStays values z
 stay_alike file word values s z is are stay = let t = twins file word s z is are in rows_stay t.linear s.rows z.rows t.is t.are (point_of values) stay
 
 -- rows that pass hold
@@ -73,7 +67,7 @@ pass_all P (r ∷ rs) each zero d b = each 0 r refl
 pass_all P (r ∷ rs) each (suc k) d b = pass_all P rs (λ j row e. each (suc j) row e) k d (omega arith)
 
 -- values that pass the check are a solution
-pub solves : (system : System) (values : List ℤ) → Each Value values → Checked system values → Solves system (map unsigned_abs values)
+pub solves : (system : System) (values : List ℤ) → AllByRecursion Value values → IsChecked system values → Solves system (map unsigned_abs values)
 solves system values natural checked =
     let are = naturals_from values natural in
     let same : (x : ℕ) → point_of values x ≡ pos (slice_index (map unsigned_abs values) x) = λ x. ap (λ zs. point_of zs x) are ∙ points (map unsigned_abs values) x in
@@ -82,10 +76,10 @@ solves system values natural checked =
       rows_hold = pass_all (RowHolds (λ x. pos (slice_index (map unsigned_abs values) x))) system.rows (λ j row at. holds_same (point_of values) (λ x. pos (slice_index (map unsigned_abs values) x)) same row (checked.pass j row at).holds);
     }
 
-pub solution_from : (file : File) (word : Asked) (values : List ℤ) (complete : IsComplete file word) → ((p : Pattern) → slice_get file.patterns word.pattern ≡ Some p → Legal file.automaton p word.start (reverse word.elements)) → Each Value values → Passes file word values → IsSolution file (solution_of word values)
+pub solution_from : (file : File) (word : AskedWord) (values : List ℤ) (complete : IsCompleteWord file word) → ((p : Pattern) → slice_get file.patterns word.pattern ≡ Some p → LegalWord file.automaton p word.start (reverse word.elements)) → AllByRecursion Value values → PassesCheck file word values → IsSolution file (solution_of word values)
 solution_from file word values complete legal natural passes =
     let p = complete.pattern in
-    let same = one_pattern file word.pattern passes.is.pattern p passes.is.named complete.named in
+    let same = same_pattern file word.pattern passes.is.pattern p passes.is.named complete.named in
     let of = subst (λ (q : Pattern). SystemOf file.automaton q word.start (reverse word.elements) [] passes.system) same passes.is.is in
     record {
       pattern = p;
@@ -100,7 +94,7 @@ solution_from file word values complete legal natural passes =
     }
 
 -- what is admitted
-pub admits : (file : File) (word : Asked) (bytes : List ℕ) (values : List ℤ) (run : Run) → IsValuesText values bytes → Passes file word values → IsSolution file (solution_of word values) → Shown file word values run → Admits file word bytes run
+pub admits : (file : File) (word : AskedWord) (bytes : List ℕ) (values : List ℤ) (run : Run) → IsValuesText values bytes → PassesCheck file word values → IsSolution file (solution_of word values) → IsRunOfValues file word values run → Admits file word bytes run
 admits file word bytes values run spelled passes solution shown = record {
   values = values;
   spelled = spelled;
@@ -114,12 +108,12 @@ admits file word bytes values run spelled passes solution shown = record {
 }
 
 -- why values aren't admitted, part by part
-pub line_fault : (file : File) (word : Asked) (bytes : List ℕ) (found : AdmitFault) → IsComplete file word → LineFault bytes found → AdmitFaultOf file word bytes found
+pub line_fault : (file : File) (word : AskedWord) (bytes : List ℕ) (found : AdmitFault) → IsCompleteWord file word → LineFault bytes found → AdmitFaultOf file word bytes found
 line_fault file word bytes (fault.Line n) complete bad = record { complete = complete; first = bad }
 line_fault file word bytes fault.Memory complete bad = tt
 line_fault file word bytes _ complete bad = absurd bad
 
-pub word_fault : (file : File) (word : Asked) (bytes : List ℕ) (values : List ℤ) (found : AdmitFault) → IsComplete file word → IsValuesText values bytes → WordFault file word values found → AdmitFaultOf file word bytes found
+pub word_fault : (file : File) (word : AskedWord) (bytes : List ℕ) (values : List ℤ) (found : AdmitFault) → IsCompleteWord file word → IsValuesText values bytes → WordFault file word values found → AdmitFaultOf file word bytes found
 word_fault file word bytes values fault.Memory complete spelled bad = tt
 word_fault file word bytes values (fault.Count n) complete spelled bad = record { of = record { system = bad.system; is = bad.is; complete = complete }; values = values; spelled = spelled; counted = bad.fault.0; other = bad.fault.1 }
 word_fault file word bytes values (fault.Row k) complete spelled bad = record { of = record { system = bad.system; is = bad.is; complete = complete }; values = values; spelled = spelled; counted = bad.fault.0; stops = bad.fault.1 }
@@ -128,15 +122,15 @@ word_fault file word bytes values fault.Incomplete complete spelled bad = absurd
 word_fault file word bytes values (fault.Line n) complete spelled bad = absurd bad.fault
 word_fault file word bytes values fault.Run complete spelled bad = absurd bad.fault
 
-pub run_fault : (file : File) (word : Asked) (bytes : List ℕ) (values : List ℤ) (found : AdmitFault) → IsComplete file word → IsValuesText values bytes → Passes file word values → IsSolution file (solution_of word values) → RunFault file word values found → AdmitFaultOf file word bytes found
+pub run_fault : (file : File) (word : AskedWord) (bytes : List ℕ) (values : List ℤ) (found : AdmitFault) → IsCompleteWord file word → IsValuesText values bytes → PassesCheck file word values → IsSolution file (solution_of word values) → RunFault file word values found → AdmitFaultOf file word bytes found
 run_fault file word bytes values fault.Run complete spelled passes solution bad = record { of = record { system = passes.system; is = passes.is; complete = complete }; values = values; spelled = spelled; pass = passes.checked.pass; solution = solution; leaves = bad }
 run_fault file word bytes values fault.Memory complete spelled passes solution bad = tt
 run_fault file word bytes values _ complete spelled passes solution bad = absurd bad
 
 -- a solution has as many values as there are unknowns, and each row of a system holds at them
-pub solution_counts : (file : File) (word : Asked) (values : List ℤ) (s : System) → SystemAsked file word s → IsSolution file (solution_of word values) → (length values ≡ s.unknowns) × All (RowHolds (point_of values)) s.rows
+pub solution_counts : (file : File) (word : AskedWord) (values : List ℤ) (s : System) → SystemAsked file word s → IsSolution file (solution_of word values) → (length values ≡ s.unknowns) × All (RowHolds (point_of values)) s.rows
 solution_counts file word values s is solution =
-    let same = one_pattern file word.pattern is.pattern solution.pattern is.named solution.named in
+    let same = same_pattern file word.pattern is.pattern solution.pattern is.named solution.named in
     let of = subst (λ (p : Pattern). SystemOf file.automaton p word.start (reverse word.elements) [] s) same is.is in
     let solved = solution_back (pattern_search file.automaton solution.pattern []) (pending word) s solution.values of (record { count = solution.solved.solves.count; rows_hold = solution.solved.solves.rows_hold }) in
     let alike : (x : ℕ) → pos (slice_index solution.values x) ≡ point_of values x = λ x. sym (ap (λ zs. point_of zs x) solution.are ∙ points solution.values x) in (
@@ -145,9 +139,9 @@ solution_counts file word values s is solution =
     )
 
 -- admitted values have no fault
-no_fault : (file : File) (word : Asked) (bytes : List ℕ) (run : Run) (found : AdmitFault) → Admits file word bytes run → found ≢ fault.Memory → AdmitFaultOf file word bytes found → ⊥
+no_fault : (file : File) (word : AskedWord) (bytes : List ℕ) (run : Run) (found : AdmitFault) → Admits file word bytes run → found ≢ fault.Memory → AdmitFaultOf file word bytes found → ⊥
 no_fault file word bytes run fault.Incomplete is none bad =
-    let same = one_pattern file word.pattern is.solution.pattern bad.pattern is.solution.named bad.named in
+    let same = same_pattern file word.pattern is.solution.pattern bad.pattern is.solution.named bad.named in
     false≢true (sym bad.incomplete ∙ subst (λ (p : Pattern). is_complete p (reverse word.elements) ≡ true) same is.solution.solved.complete)
 no_fault file word bytes run (fault.Line n) is none bad = not_both is.values bytes n is.spelled bad.first
 no_fault file word bytes run (fault.Count n) is none bad =
@@ -167,7 +161,7 @@ no_fault file word bytes run fault.Run is none bad =
     bad.leaves.leaves (subst (ReplayStays file) runs is.stays)
 no_fault file word bytes run fault.Memory is none bad = none refl
 
-one_run : (file : File) (word : Asked) (bytes : List ℕ) (run other : Run) → Admits file word bytes run → Admits file word bytes other → other ≡ run
+one_run : (file : File) (word : AskedWord) (bytes : List ℕ) (run other : Run) → Admits file word bytes run → Admits file word bytes other → other ≡ run
 one_run file word bytes run other is are =
     let same = values_once are.values is.values bytes are.spelled is.spelled in
     let theirs = subst (λ vs. WitnessOf file (solution_of word vs) other) same are.witness in
@@ -179,20 +173,15 @@ admits_are_exact file word bytes run is = ((λ found none bad. no_fault file wor
 -- the checks of rows, one by one
 pub row_stops : (point : ℕ → ℤ) (rows : List Row) (i : ℕ) (row : Row) (found : AdmitFault) → slice_get rows i ≡ Some row → PassedTo (λ j (r : Row). RowPasses point r) rows i → BadRow point row i found → RowFault point rows found
 row_stops point rows i row (fault.Row k) at before bad = subst (λ n. RowStops point (RowFails point) rows n) (sym bad.0) record { item = row; at = at; before = before; bad = bad.1 }
-row_stops point rows i row (fault.Overflow k) at before bad = subst (λ n. RowStops point (RowLeaves point) rows n) (sym bad.0) record { item = row; at = at; before = before; bad = bad.1 }
+row_stops point rows i row (fault.Overflow k) at before bad = subst (λ n. RowStops point (RowOutOfRange point) rows n) (sym bad.0) record { item = row; at = at; before = before; bad = bad.1 }
 row_stops point rows i row _ at before bad = absurd bad
 
 pub rows_over : (n : ℕ) (rows : List Row) → AllBelow n rows → RowsOver n rows
 rows_over n [] below = tt
 rows_over n (r ∷ rs) below = (below.0, rows_over n rs below.1)
 
-pub check_stops : (system : System) (values : List ℤ) (found : AdmitFault) → length values ≡ system.unknowns → RowFault (point_of values) system.rows found → CheckFault system values found
-check_stops system values (fault.Row k) counted bad = (counted, bad)
-check_stops system values (fault.Overflow k) counted bad = (counted, bad)
-check_stops system values _ counted bad = absurd bad
-
 -- the system of a word has few rows
-pub few_in_word : (file : File) (number start : ℕ) (elements : List Element) (s : System) → number < length file.patterns → OfPattern file number (λ p. Legal file.automaton p start (reverse elements)) → OfPattern file number (λ p. SystemOf file.automaton p start (reverse elements) [] s) → length s.rows ≤ 2 ^ 32
+pub few_in_word : (file : File) (number start : ℕ) (elements : List Element) (s : System) → number < length file.patterns → OfPattern file number (λ p. LegalWord file.automaton p start (reverse elements)) → OfPattern file number (λ p. SystemOf file.automaton p start (reverse elements) [] s) → length s.rows ≤ 2 ^ 32
 few_in_word file number start elements s exists legal is =
     let p = some_at file.patterns number exists in
     let a = file.automaton in
@@ -204,7 +193,7 @@ few_in_word file number start elements s exists legal is =
 pub system_asked : (file : File) (number start : ℕ) (elements : List Element) (s : System) → number < length file.patterns → OfPattern file number (λ p. SystemOf file.automaton p start (reverse elements) [] s) → SystemAsked file (asked number start elements) s
 system_asked file number start elements s exists is = let p = some_at file.patterns number exists in record { pattern = p.0; named = p.1; is = is p.0 p.1 }
 
-pub word_stops : (file : File) (word : Asked) (values : List ℤ) (s : System) (found : AdmitFault) → SystemAsked file word s → CheckFault s values found → WordFault file word values found
+pub word_stops : (file : File) (word : AskedWord) (values : List ℤ) (s : System) (found : AdmitFault) → SystemAsked file word s → CheckFault s values found → WordFault file word values found
 word_stops file word values s fault.Memory is bad = tt
 word_stops file word values s (fault.Count n) is bad = record { system = s; is = is; fault = bad }
 word_stops file word values s (fault.Row k) is bad = record { system = s; is = is; fault = bad }
@@ -214,8 +203,8 @@ word_stops file word values s (fault.Line n) is bad = absurd bad
 word_stops file word values s fault.Run is bad = absurd bad
 
 -- whether a word is complete
-pub complete_is : (file : File) (word : Asked) (r : Bool) → word.pattern < length file.patterns → OfPattern file word.pattern (λ p. r ≡ is_complete p (reverse word.elements)) → r ≡ true → IsComplete file word
+pub complete_is : (file : File) (word : AskedWord) (r : Bool) → word.pattern < length file.patterns → OfPattern file word.pattern (λ p. r ≡ is_complete p (reverse word.elements)) → r ≡ true → IsCompleteWord file word
 complete_is file word r exists told is = let p = some_at file.patterns word.pattern exists in record { pattern = p.0; named = p.1; complete = sym (told p.0 p.1) ∙ is }
 
-pub incomplete_is : (file : File) (word : Asked) (r : Bool) → word.pattern < length file.patterns → OfPattern file word.pattern (λ p. r ≡ is_complete p (reverse word.elements)) → r ≡ false → IsIncomplete file word
+pub incomplete_is : (file : File) (word : AskedWord) (r : Bool) → word.pattern < length file.patterns → OfPattern file word.pattern (λ p. r ≡ is_complete p (reverse word.elements)) → r ≡ false → IsIncomplete file word
 incomplete_is file word r exists told is = let p = some_at file.patterns word.pattern exists in record { pattern = p.0; named = p.1; incomplete = sym (told p.0 p.1) ∙ is }

@@ -1,12 +1,13 @@
 -- Numbers and elements of words, from their texts.
-use Rattle.std.proofs.Common.{◌≡◌, ◌≢◌, ◌≤◌, ◌<◌, ◌^◌, ◌&&◌, ◌||◌, ◌∙◌, ◌≤ℤ◌, ℕ, zero, suc, ℤ, pos, negsuc, List, [], ◌∷◌, ◌++◌, Bool, true, false, nat_eq, cond, Bor, map, append-nil, Option, None, Some, is_some, refl, sym, ap, subst, arith, rules, tests, decimal, codes}
+use Rattle.std.proofs.Common.{◌≡◌, ◌≢◌, ◌≤◌, ◌<◌, ◌^◌, ◌&&◌, ◌||◌, ◌∙◌, ◌≤ℤ◌, ℕ, zero, suc, ℤ, pos, List, [], ◌∷◌, ◌++◌, Bool, true, false, nat_eq, cond, Bor, map, append-nil, Option, None, Some, is_some, refl, sym, ap, subst, arith, rules, decimal, codes}
 use Rattle.std.specs.Prelude.{option_map, option_and_then, MatchOption}
 use Rattle.std.specs.List.{list_all, slice_split}
 use Rattle.std.specs.Option.{unwrap_or}
 use Rattle.std.specs.Str.{bytes_eq}
-use Rattle.std.proofs.lemmas.Fmt.{decimal_injective}
 use Rattle.std.specs.Fmt.{signed_decimal}
 use Rattle.std.proofs.lemmas.Int.{ints}
+use Rattle.ta_base.proofs.Booleans.{elements_or}
+use Rattle.ta_base.proofs.DecimalDigits.{found_here, none_here}
 use Rattle.ta_linear.specs.Numbers.{InRange}
 use Rattle.ta_counter.specs.Values.{Value}
 use Rattle.ta_replay.specs.Reading.{IsNumber}
@@ -22,14 +23,6 @@ same_bytes text other = (bytes_eq text other ≡ true → text ≡ other) × (te
 pub bytes_same : (text other : List ℕ) → same_bytes text other
 bytes_same text other = ((λ e. search rules), (λ e. search rules))
 
--- the number of a limit, or one below it
-found_here : (limit : ℕ) (text : List ℕ) (rest : Option ℕ) (b : Bool) → (b ≡ true → text ≡ decimal limit) → (n : ℕ) → n ≤ limit → limit < 2 ^ 64 → text ≡ decimal n → (n ≢ limit → rest ≡ Some n) → (n ≡ limit → b ≡ true) → cond b (Some limit) rest ≡ Some n
-found_here limit text rest true same n within low is below here = ap (λ k. Some k) (decimal_injective limit n low (omega arith) (sym (same refl) ∙ is))
-found_here limit text rest false same n within low is below here = below (λ e. absurd (false_true (here e)))
-  where
-    false_true : false ≡ true → ⊥
-    false_true e = cc
-
 pub number_found : (limit : ℕ) (text : List ℕ) (n : ℕ) → n ≤ limit → limit < 2 ^ 64 → text ≡ decimal n → number_up_to limit text ≡ Some n
 unfolding number_up_to
 number_found zero text n within low is =
@@ -38,10 +31,6 @@ number_found (suc limit) text n within low is =
     found_here (suc limit) text (number_up_to limit text) (bytes_eq text (decimal (suc limit))) (bytes_same text (decimal (suc limit))).0 n within low is
     (λ other. number_found limit text n (omega arith) (omega arith) is)
     (λ e. (bytes_same text (decimal (suc limit))).1 (is ∙ ap decimal e))
-
-none_here : (limit : ℕ) (text : List ℕ) (rest : Option ℕ) (b : Bool) → (b ≡ true → text ≡ decimal limit) → (text ≢ decimal limit) → rest ≡ None → cond b (Some limit) rest ≡ None
-none_here limit text rest true same other none = absurd (other (same refl))
-none_here limit text rest false same other none = none
 
 pub no_number : (limit : ℕ) (text : List ℕ) → ((n : ℕ) → n ≤ limit → text ≢ decimal n) → number_up_to limit text ≡ None
 unfolding number_up_to
@@ -88,10 +77,6 @@ elements_by false o = refl
 
 pub elements_some : (text : List ℕ) → is_some (elements_of text) ≡ (bytes_eq text (codes "-") || list_all (λ part. is_some (element_of part)) (slice_split (λ c. nat_eq c 44) text))
 elements_some text = elements_by (bytes_eq text (codes "-")) (each_element (slice_split (λ c. nat_eq c 44) text)) ∙ ap (λ b. bytes_eq text (codes "-") || b) (each_some (slice_split (λ c. nat_eq c 44) text))
-
-elements_or : (b c d : Bool) → b ≡ false → c ≡ (b || d) → d ≡ c
-elements_or true c d e f = absurd (cc)
-elements_or false c d e f = sym f
 
 pub elements_else : (text : List ℕ) → bytes_eq text (codes "-") ≡ false → list_all (λ part. is_some (element_of part)) (slice_split (λ c. nat_eq c 44) text) ≡ is_some (elements_of text)
 elements_else text other = elements_or (bytes_eq text (codes "-")) (is_some (elements_of text)) (list_all (λ part. is_some (element_of part)) (slice_split (λ c. nat_eq c 44) text)) other (elements_some text)

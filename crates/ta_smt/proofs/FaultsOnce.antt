@@ -1,24 +1,25 @@
 -- A word and its values have one fault.
-use Rattle.std.proofs.Common.{◌≡◌, inl, inr, ℕ, ◌<◌, ℤ, true, false, List, length, reverse, arith, refl, sym, ap, subst, ◌∙◌}
+use Rattle.std.proofs.Common.{◌≡◌, ℕ, ℤ, true, List, length, reverse, arith, refl, sym, ap, subst, ◌∙◌}
 use Rattle.std.specs.Prelude.{◌≢◌}
 use Rattle.std.proofs.lemmas.Bool.{false≢true}
+use Rattle.ta_words.proofs.Lists.{same_pattern}
 use Rattle.ta_linear.specs.Values.{point_of}
 use Rattle.ta_linear.specs.declared.row.Row.{Row}
 use Rattle.ta_automaton.specs.declared.file.File.{File}
 use Rattle.ta_automaton.specs.declared.pattern.Pattern.{Pattern}
-use Rattle.ta_counter.specs.Checks.{RowFails, RowLeaves, RowPasses, RowsPass}
+use Rattle.ta_counter.specs.Checks.{RowFails, RowOutOfRange, RowPasses, RowsPass}
 use Rattle.ta_replay.proofs.FirstBad.{BothBad, RowClash, fails_clash, leaves_clash, meets, no_stop_at, not_both_bad}
 use Rattle.ta_words.specs.Words.{is_complete}
 use Rattle.ta_smt.specs.declared.fault.AdmitFault.{AdmitFault}
 use Rattle.ta_smt.specs.declared.fault.AdmitFault.TheVariants as fault
 use Rattle.ta_smt.specs.declared.fault.WordFault.{WordFault}
 use Rattle.ta_smt.specs.declared.fault.WordFault.TheVariants as word_fault
-use Rattle.ta_smt.specs.Admit.{AdmitFaultOf, Asked, FirstBadRow, IsComplete, IsIncomplete, RunLeaves, WrongCount}
+use Rattle.ta_smt.specs.Admit.{AdmitFaultOf, AskedWord, FirstBadRow, IsCompleteWord, IsIncomplete, AdmittedRunOutOfRange, WrongCount}
 use Rattle.ta_smt.specs.Determined.{AdmitFaultsAreDetermined, WholeFaultsAreDetermined, WordFaultsAreDetermined}
 use Rattle.ta_smt.specs.Inside.Checking.{RowStops}
 use Rattle.ta_smt.specs.Named.{NoChild, NoWhole, Spelling, WholeFaultOf, WordFaultOf}
 use Rattle.ta_smt.specs.Spelling.{FirstStranger}
-use Rattle.ta_smt.proofs.Admitted.{one_pattern, solution_counts, twins}
+use Rattle.ta_smt.proofs.Admitted.{solution_counts, twins}
 use Rattle.ta_smt.proofs.Forms.{Alike, fails_alike, leaves_alike, rows_pass, rows_stop}
 use Rattle.ta_smt.proofs.Spelled.{stranger_once}
 use Rattle.ta_smt.proofs.ValueTexts.{bad_line_once, not_both, values_once}
@@ -32,18 +33,18 @@ record IsBadness (Bad : (ℕ → ℤ) → Row → Type 0) : Type 0 where
 failing : IsBadness RowFails
 failing = record { clash = fails_clash; alike = fails_alike }
 
-leaving : IsBadness RowLeaves
+leaving : IsBadness RowOutOfRange
 leaving = record { clash = leaves_clash; alike = leaves_alike }
 
 -- a row is bad in both ways
 BadTwice : ((ℕ → ℤ) → Row → Type 0) → ((ℕ → ℤ) → Row → Type 0) → Type 0
 BadTwice Bad Worse = (point : ℕ → ℤ) × BothBad (Bad point) (Worse point)
 
-module _ (file : File) (word : Asked) (bytes : List ℕ) where
+module _ (file : File) (word : AskedWord) (bytes : List ℕ) where
   -- a word is complete or not
-  not_complete : IsIncomplete file word → IsComplete file word → ⊥
+  not_complete : IsIncomplete file word → IsCompleteWord file word → ⊥
   not_complete a b =
-      let same = one_pattern file word.pattern b.pattern a.pattern b.named a.named in
+      let same = same_pattern file word.pattern b.pattern a.pattern b.named a.named in
       false≢true (sym a.incomplete ∙ subst (λ (p : Pattern). is_complete p (reverse word.elements) ≡ true) same b.complete)
 
   -- the values are as many as the unknowns, or not
@@ -53,13 +54,13 @@ module _ (file : File) (word : Asked) (bytes : List ℕ) where
       let t = twins file word b.of.system a.of.system b.of.is a.of.is in
       a.other (a.counted ∙ ap length same ∙ b.counted ∙ t.unknowns)
 
-  count_or_run : (n : ℕ) → WrongCount file word bytes n → RunLeaves file word bytes → ⊥
+  count_or_run : (n : ℕ) → WrongCount file word bytes n → AdmittedRunOutOfRange file word bytes → ⊥
   count_or_run n a b =
       let same = values_once a.values b.values bytes a.spelled b.spelled in
       a.other (a.counted ∙ ap length same ∙ (solution_counts file word b.values a.of.system a.of.is b.solution).0)
 
   -- all rows pass, or not
-  row_or_run : (k : ℕ) (Bad : (ℕ → ℤ) → Row → Type 0) → IsBadness Bad → FirstBadRow file word bytes Bad k → RunLeaves file word bytes → ⊥
+  row_or_run : (k : ℕ) (Bad : (ℕ → ℤ) → Row → Type 0) → IsBadness Bad → FirstBadRow file word bytes Bad k → AdmittedRunOutOfRange file word bytes → ⊥
   row_or_run k Bad is a b =
       let same = values_once b.values a.values bytes b.spelled a.spelled in
       let t = twins file word b.of.system a.of.system b.of.is a.of.is in
@@ -80,9 +81,9 @@ module _ (file : File) (word : Asked) (bytes : List ℕ) where
       (met.same, (point, (met.item, met.bad, met.worse)))
 
   -- no row both fails and leaves the range
-  fails_or_leaves : (j k : ℕ) → FirstBadRow file word bytes RowFails j → FirstBadRow file word bytes RowLeaves k → ⊥
+  fails_or_leaves : (j k : ℕ) → FirstBadRow file word bytes RowFails j → FirstBadRow file word bytes RowOutOfRange k → ⊥
   unfolding BadTwice
-  fails_or_leaves j k a b = let both = (one_row j k RowFails RowLeaves failing leaving a b).1 in not_both_bad both.0 both.1
+  fails_or_leaves j k a b = let both = (one_row j k RowFails RowOutOfRange failing leaving a b).1 in not_both_bad both.0 both.1
 
   one_fault : (e f : AdmitFault) → e ≢ fault.Memory → f ≢ fault.Memory → AdmitFaultOf file word bytes e → AdmitFaultOf file word bytes f → e ≡ f
   one_fault fault.Incomplete fault.Incomplete some other a b = refl
@@ -101,7 +102,7 @@ module _ (file : File) (word : Asked) (bytes : List ℕ) where
   one_fault (fault.Count n) (fault.Line m) some other a b = absurd (not_both a.values bytes m a.spelled b.first)
   one_fault (fault.Count m) (fault.Count n) some other a b = ap fault.Count (a.counted ∙ ap length (values_once a.values b.values bytes a.spelled b.spelled) ∙ sym b.counted)
   one_fault (fault.Count n) (fault.Row k) some other a b = absurd (count_or_row n k RowFails a b)
-  one_fault (fault.Count n) (fault.Overflow k) some other a b = absurd (count_or_row n k RowLeaves a b)
+  one_fault (fault.Count n) (fault.Overflow k) some other a b = absurd (count_or_row n k RowOutOfRange a b)
   one_fault (fault.Count n) fault.Run some other a b = absurd (count_or_run n a b)
   one_fault (fault.Row k) fault.Incomplete some other a b = absurd (not_complete b a.of.complete)
   one_fault (fault.Row k) (fault.Line m) some other a b = absurd (not_both a.values bytes m a.spelled b.first)
@@ -111,15 +112,15 @@ module _ (file : File) (word : Asked) (bytes : List ℕ) where
   one_fault (fault.Row k) fault.Run some other a b = absurd (row_or_run k RowFails failing a b)
   one_fault (fault.Overflow k) fault.Incomplete some other a b = absurd (not_complete b a.of.complete)
   one_fault (fault.Overflow k) (fault.Line m) some other a b = absurd (not_both a.values bytes m a.spelled b.first)
-  one_fault (fault.Overflow k) (fault.Count n) some other a b = absurd (count_or_row n k RowLeaves b a)
+  one_fault (fault.Overflow k) (fault.Count n) some other a b = absurd (count_or_row n k RowOutOfRange b a)
   one_fault (fault.Overflow j) (fault.Row k) some other a b = absurd (fails_or_leaves k j b a)
-  one_fault (fault.Overflow j) (fault.Overflow k) some other a b = ap fault.Overflow (one_row j k RowLeaves RowLeaves leaving leaving a b).0
-  one_fault (fault.Overflow k) fault.Run some other a b = absurd (row_or_run k RowLeaves leaving a b)
+  one_fault (fault.Overflow j) (fault.Overflow k) some other a b = ap fault.Overflow (one_row j k RowOutOfRange RowOutOfRange leaving leaving a b).0
+  one_fault (fault.Overflow k) fault.Run some other a b = absurd (row_or_run k RowOutOfRange leaving a b)
   one_fault fault.Run fault.Incomplete some other a b = absurd (not_complete b a.of.complete)
   one_fault fault.Run (fault.Line m) some other a b = absurd (not_both a.values bytes m a.spelled b.first)
   one_fault fault.Run (fault.Count n) some other a b = absurd (count_or_run n b a)
   one_fault fault.Run (fault.Row k) some other a b = absurd (row_or_run k RowFails failing b a)
-  one_fault fault.Run (fault.Overflow k) some other a b = absurd (row_or_run k RowLeaves leaving b a)
+  one_fault fault.Run (fault.Overflow k) some other a b = absurd (row_or_run k RowOutOfRange leaving b a)
   one_fault fault.Run fault.Run some other a b = refl
   one_fault fault.Memory f some other a b = absurd (some refl)
   one_fault fault.Incomplete fault.Memory some other a b = absurd (other refl)

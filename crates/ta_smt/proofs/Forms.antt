@@ -4,13 +4,14 @@ use Rattle.std.proofs.lemmas.Bool.{cases_lt}
 use Rattle.std.proofs.lemmas.Bool.Decides.{nat_tests}
 use Rattle.std.proofs.lemmas.Int.{ints}
 use Rattle.std.proofs.lemmas.Option.{same_Some}
+use Rattle.ta_base.proofs.Integers.{rests_same}
 use Rattle.ta_linear.specs.Sums.{StaysInRange}
 use Rattle.ta_linear.specs.Terms.{coefficient, IsNormal}
 use Rattle.ta_linear.specs.Values.{RowHolds, terms_value}
 use Rattle.ta_linear.specs.declared.row.Row.{Row}
 use Rattle.ta_linear.proofs.TermLemmas.{coefficient-below}
-use Rattle.ta_counter.specs.Checks.{RowFails, RowLeaves, RowPasses, RowsPass}
-use Rattle.ta_encode.specs.Code.{RowOf, RowsOf}
+use Rattle.ta_counter.specs.Checks.{RowFails, RowOutOfRange, RowPasses, RowsPass}
+use Rattle.ta_encode.specs.Code.{IsRowOf, AreRowsOf}
 use Rattle.ta_encode.specs.System.{LinearRow}
 use Rattle.ta_smt.specs.Inside.Checking.{RowStops}
 
@@ -20,10 +21,6 @@ first_coefficient t ts high normal = let later = coefficient-below (t.0 + 1) hig
 -- nothing stands before a variable below the first
 none_before : (t : ℕ × ℤ) (ts : List (ℕ × ℤ)) (low high x : ℕ) → IsNormal low high (t ∷ ts) → x < t.0 → coefficient (t ∷ ts) x ≡ pos 0
 none_before t ts low high x normal below = coefficient-below t.0 high (t ∷ ts) x (omega arith, normal.1, normal.2) below
-
--- what is left of two equal sums whose first parts are equal
-rests_same : (a b x y : ℤ) → a ≡ b → (a +ℤ x) ≡ (b +ℤ y) → x ≡ y
-rests_same a b x y e f = omega (arith, ints)
 
 abbrev pair : ℕ → ℤ → ℕ × ℤ
 pair n z = (n, z)
@@ -56,7 +53,7 @@ pub record Alike (r q : Row) : Type 0 where
   pub terms : r.form.terms ≡ q.form.terms
 
 -- rows of the code that are one row do
-alike : (l : LinearRow) (r q : Row) → RowOf l r → RowOf l q → Alike r q
+alike : (l : LinearRow) (r q : Row) → IsRowOf l r → IsRowOf l q → Alike r q
 alike l r q is are = record {
   constant = is.constant ∙ sym are.constant;
   terms = terms_once 0 (2 ^ 32) r.form.terms q.form.terms r.form.normal q.form.normal (λ x. is.coefficients x ∙ sym (are.coefficients x));
@@ -78,7 +75,7 @@ passes_alike point r q same passes = record { stays = moved (StaysInRange point)
 pub fails_alike : (point : ℕ → ℤ) (r q : Row) → Alike r q → RowFails point r → RowFails point q
 fails_alike point r q same bad = record { stays = moved (StaysInRange point) r q same bad.stays; fails = λ holds. bad.fails (holds_alike point q r (alike_back r q same) holds) }
 
-pub leaves_alike : (point : ℕ → ℤ) (r q : Row) → Alike r q → RowLeaves point r → RowLeaves point q
+pub leaves_alike : (point : ℕ → ℤ) (r q : Row) → Alike r q → RowOutOfRange point r → RowOutOfRange point q
 leaves_alike point r q same leaves = λ stays. leaves (moved (StaysInRange point) q r (alike_back r q same) stays)
 
 -- the row at a place of a list, which is alike to one at this place of another
@@ -87,7 +84,7 @@ record Partner (rs : List Row) (j : ℕ) (q : Row) : Type 0 where
   at : slice_get rs j ≡ Some row
   same : Alike row q
 
-partner : (ls : List LinearRow) (rs qs : List Row) → RowsOf ls rs → RowsOf ls qs → (j : ℕ) (q : Row) → slice_get qs j ≡ Some q → Partner rs j q
+partner : (ls : List LinearRow) (rs qs : List Row) → AreRowsOf ls rs → AreRowsOf ls qs → (j : ℕ) (q : Row) → slice_get qs j ≡ Some q → Partner rs j q
 partner [] [] [] is are j q at = absurd (cc)
 partner [] [] (p ∷ ps) is are j q at = absurd are
 partner [] (r ∷ rs) qs is are j q at = absurd is
@@ -96,7 +93,7 @@ partner (l ∷ ls) (r ∷ rs) [] is are j q at = absurd are
 partner (l ∷ ls) (r ∷ rs) (p ∷ ps) is are zero q at = record { row = r; at = refl; same = subst (Alike r) (same_Some p q at) (alike l r p is.0 are.0) }
 partner (l ∷ ls) (r ∷ rs) (p ∷ ps) is are (suc j) q at = let more = partner ls rs ps is.1 are.1 j q at in record { row = more.row; at = more.at; same = more.same }
 
-module _ (ls : List LinearRow) (rs qs : List Row) (is : RowsOf ls rs) (are : RowsOf ls qs) (point : ℕ → ℤ) where
+module _ (ls : List LinearRow) (rs qs : List Row) (is : AreRowsOf ls rs) (are : AreRowsOf ls qs) (point : ℕ → ℤ) where
   -- the rows of a word in one system stay in range, and pass, where those in another do
   pub rows_stay : ((j : ℕ) (r : Row) → slice_get rs j ≡ Some r → StaysInRange point r.form.constant r.form.terms) → (j : ℕ) (q : Row) → slice_get qs j ≡ Some q → StaysInRange point q.form.constant q.form.terms
   rows_stay stay j q at = let p = partner ls rs qs is are j q at in moved (StaysInRange point) p.row q p.same (stay j p.row p.at)

@@ -1,59 +1,47 @@
 -- Elements that make a word, one by one.
-use Rattle.std.proofs.Common.{◌≡◌, ◌<◌, ◌≤◌, ℕ, zero, suc, ◌+◌, Bool, true, false, cond, List, [], ◌∷◌, ◌++◌, length, reverse, take, slice_get, get_or, Some, arith, inl, inr, refl, sym, ap, subst, ◌∙◌}
+use Rattle.std.proofs.Common.{◌≡◌, ◌<◌, ◌≤◌, ℕ, zero, suc, ◌+◌, Bool, false, List, [], ◌∷◌, length, reverse, take, slice_get, get_or, Some, arith, inl, inr, refl, sym, ap, subst, ◌∙◌}
 use Rattle.std.specs.Prelude.{◌↔◌, IsTrue}
 use Rattle.std.proofs.lemmas.Bool.{cases_order, false≢true}
 use Rattle.std.proofs.lemmas.List.{length-reverse, take-take}
 use Rattle.std.proofs.lemmas.Option.{slice_get-get_or}
+use Rattle.ta_base.proofs.Lists.{front_get, some_at, take_next}
 use Rattle.ta_automaton.specs.declared.automaton.Automaton.{Automaton}
 use Rattle.ta_automaton.specs.declared.file.File.{File}
 use Rattle.ta_automaton.specs.declared.pattern.Pattern.{Pattern}
-use Rattle.ta_automaton.specs.Masks.{In}
+use Rattle.ta_base.specs.Masks.{In}
 use Rattle.ta_words.specs.declared.element.Element.{Element}
 use Rattle.ta_words.specs.Calls.{OfPattern}
-use Rattle.ta_words.specs.Words.{Legal, children}
+use Rattle.ta_words.specs.Words.{LegalWord, children}
 use Rattle.ta_words.proofs.Counts.{legal_length}
 use Rattle.ta_words.proofs.Lists.{events_named}
 use Rattle.ta_encode.proofs.InOrder.{past_push, prefix_is_legal}
-use Rattle.ta_replay.proofs.Lines.{front_get, some_at, take_all, take_next}
 use Rattle.ta_smt.specs.Spelling.{FirstStranger}
 
 -- a legal word so far
 pub record Spells (file : File) (number start : ℕ) (elements : List Element) (i : ℕ) (word : List Element) : Type 0 where
   pub so_far : word ≡ take i elements
-  pub legal : OfPattern file number (λ p. Legal file.automaton p start (reverse word))
-
-pub spells_none : (file : File) (number start : ℕ) (elements : List Element) → Spells file number start elements 0 []
-spells_none file number start elements = record { so_far = refl; legal = λ p named. tt }
-
-pub spells_more : (file : File) (number start : ℕ) (elements : List Element) (i : ℕ) (word new : List Element) (element : Element) → Spells file number start elements i word → slice_get elements i ≡ Some element → new ≡ word ++ element ∷ [] → OfPattern file number (λ p. In element (children file.automaton p [] start (reverse word))) → Spells file number start elements (i + 1) new
-spells_more file number start elements i word new element spells at pushed child = record {
-  so_far = pushed ∙ ap (λ w. w ++ element ∷ []) spells.so_far ∙ sym (take_next elements i element at);
-  legal = λ p named. subst (Legal file.automaton p start) (sym (ap reverse pushed ∙ past_push word element)) (child p named, spells.legal p named);
-}
-
-pub spells_all : (file : File) (number start : ℕ) (elements word : List Element) (i : ℕ) → i ≡ length elements → Spells file number start elements i word → word ≡ elements
-spells_all file number start elements word i end spells = spells.so_far ∙ ap (λ n. take n elements) end ∙ take_all elements
+  pub legal : OfPattern file number (λ p. LegalWord file.automaton p start (reverse word))
 
 pub stranger : (file : File) (number start : ℕ) (elements word : List Element) (i : ℕ) (element : Element) → Spells file number start elements i word → slice_get elements i ≡ Some element → OfPattern file number (λ p. In element (children file.automaton p [] start (reverse word)) → ⊥) → OfPattern file number (λ p. FirstStranger file.automaton p start elements i)
 stranger file number start elements word i element spells at none p named = record {
-  legal = subst (λ w. Legal file.automaton p start (reverse w)) spells.so_far (spells.legal p named);
+  legal = subst (λ w. LegalWord file.automaton p start (reverse w)) spells.so_far (spells.legal p named);
   element = element;
   at = at;
   stranger = λ child. none p named (subst (λ w. In element (children file.automaton p [] start (reverse w))) (sym spells.so_far) child);
 }
 
 -- a legal word has no stranger
-pub no_stranger : (a : Automaton) (p : Pattern) (start : ℕ) (elements : List Element) (k : ℕ) → Legal a p start (reverse elements) → FirstStranger a p start elements k → ⊥
+pub no_stranger : (a : Automaton) (p : Pattern) (start : ℕ) (elements : List Element) (k : ℕ) → LegalWord a p start (reverse elements) → FirstStranger a p start elements k → ⊥
 no_stranger a p start elements k legal first =
     let more = prefix_is_legal a p start elements legal (k + 1) in
     let split : reverse (take (k + 1) elements) ≡ first.element ∷ reverse (take k elements) = ap reverse (take_next elements k first.element first.at) ∙ past_push (take k elements) first.element in
-    first.stranger (subst (Legal a p start) split more).0
+    first.stranger (subst (LegalWord a p start) split more).0
 
 -- the first one is at one place
 no_earlier : (a : Automaton) (p : Pattern) (start : ℕ) (elements : List Element) (j k : ℕ) → FirstStranger a p start elements j → FirstStranger a p start elements k → j < k → ⊥
 no_earlier a p start elements j k first later less =
     no_stranger a p start (take k elements) j later.legal (record {
-      legal = subst (λ es. Legal a p start (reverse es)) (sym (take-take j k elements (omega arith))) first.legal;
+      legal = subst (λ es. LegalWord a p start (reverse es)) (sym (take-take j k elements (omega arith))) first.legal;
       element = first.element;
       at = front_get elements k j first.element less first.at;
       stranger = subst (λ es. ¬ In first.element (children a p [] start (reverse es))) (sym (take-take j k elements (omega arith))) first.stranger;
@@ -66,7 +54,7 @@ stranger_once a p start elements j k first other = elim (cases_order j k) [
 ]
 
 -- a legal word is short
-pub short_word : (file : File) (number start : ℕ) (word : List Element) → number < length file.patterns → OfPattern file number (λ p. Legal file.automaton p start (reverse word)) → length word ≤ 30
+pub short_word : (file : File) (number start : ℕ) (word : List Element) → number < length file.patterns → OfPattern file number (λ p. LegalWord file.automaton p start (reverse word)) → length word ≤ 30
 short_word file number start word exists legal =
     let p = some_at file.patterns number exists in
     let few = legal_length file.automaton p.0 start (reverse word) (events_named file number p.0 p.1).limit (legal p.0 p.1) in
@@ -80,11 +68,6 @@ spelled_length file number start elements i word within spells = ap length spell
     taken xs zero within = refl
     taken [] (suc i) within = absurd (omega arith)
     taken (x ∷ xs) (suc i) within = ap suc (taken xs i (omega arith))
-
--- an element that is pushed, and one that isn't
-pub spells_found : (file : File) (number start : ℕ) (elements : List Element) (i : ℕ) (word new : List Element) (d : Element) (r : Bool) → Spells file number start elements i word → i < length elements → OfPattern file number (λ p. IsTrue r ↔ In (get_or elements i d) (children file.automaton p [] start (reverse word))) → r ≡ true → new ≡ cond r (word ++ get_or elements i d ∷ []) word → Spells file number start elements (i + 1) new
-spells_found file number start elements i word new d r spells within told is pushed =
-    spells_more file number start elements i word new (get_or elements i d) spells (slice_get-get_or elements i d within) (pushed ∙ ap (λ b. cond b (word ++ get_or elements i d ∷ []) word) is) (λ p named. (told p named).0 is)
 
 pub stranger_found : (file : File) (number start : ℕ) (elements word : List Element) (i : ℕ) (d : Element) (r : Bool) → Spells file number start elements i word → i < length elements → OfPattern file number (λ p. IsTrue r ↔ In (get_or elements i d) (children file.automaton p [] start (reverse word))) → r ≡ false → OfPattern file number (λ p. FirstStranger file.automaton p start elements i)
 stranger_found file number start elements word i d r spells within told is =

@@ -1,27 +1,22 @@
 -- The text of a script determines it.
-use Rattle.std.proofs.Common.{ℕ, zero, suc, ◌+◌, ◌<◌, ◌^◌, ◌≡◌, List, [], ◌∷◌, ◌++◌, map, codes, decimal, refl, sym, ap, ◌∙◌, append_assoc, arith, lit<}
+use Rattle.std.proofs.Common.{ℕ, zero, suc, ◌+◌, ◌<◌, ◌^◌, ◌≡◌, List, [], ◌∷◌, ◌++◌, map, codes, decimal, refl, sym, ap, ◌∙◌, append_assoc, arith}
 use Rattle.std.proofs.lemmas.Bool.{false≢true}
 use Rattle.std.proofs.lemmas.List.{append_cancel_left}
-use Rattle.ta_automaton.specs.Lists.{Each}
-use Rattle.ta_automaton.specs.Masks.{numbers_from}
-use Rattle.ta_cert.specs.Numbers.{BeginsNoDigit}
-use Rattle.ta_cert.specs.Inside.Numbers.{is_padded}
-use Rattle.ta_cert.proofs.Decimals.{decimal_digits, decimal_plain, digits_unique, number_unique}
+use Rattle.std.specs.List.{AllByRecursion}
+use Rattle.ta_base.specs.Decimals.{BeginsNoDigit, is_padded}
+use Rattle.ta_base.specs.Masks.{numbers_from}
+use Rattle.ta_base.proofs.Digits.{decimal_plain}
+use Rattle.ta_base.proofs.DecimalDigits.{decimal_digits, digits_unique, numeral_same}
+use Rattle.ta_base.proofs.Lists.{heads}
+use Rattle.ta_base.proofs.Naturals.{small_is_wide}
 use Rattle.ta_replay.specs.RunText.{lines_text}
 use Rattle.ta_smt.specs.Script.{AtLeast, Script, ScriptFits, Summand, SummandFits, Numeral, Unknown, Product, Term, TermFits, Lone, Sum, assert_line, declare_line, script_text, summand_text, summands_text, term_text, unknown_text}
-
-wide : (n : ℕ) → n < 2 ^ 127 → n < 10 ^ 64
-wide n below = let large : 2 ^ 127 < 10 ^ 64 = lit< tt in omega arith
-
--- a numeral and what stands behind it
-numeral_same : (m n : ℕ) (x y : List ℕ) → m < 2 ^ 127 → n < 2 ^ 127 → BeginsNoDigit x → BeginsNoDigit y → decimal m ++ x ≡ decimal n ++ y → (m ≡ n) × (x ≡ y)
-numeral_same m n x y low high ends stops e = number_unique m n x y (wide m low) (wide n high) ends stops e
 
 -- a numeral begins by a digit
 no_numeral : (m : ℕ) (x y : List ℕ) → m < 2 ^ 127 → BeginsNoDigit x → BeginsNoDigit y → decimal m ++ x ≡ y → ⊥
 no_numeral m x y low ends stops e =
-    let none = (digits_unique (decimal m) [] x y (decimal_digits m (wide m low)) tt ends stops e).0 in
-    false≢true (sym (decimal_plain m (wide m low)) ∙ ap is_padded none)
+    let none = (digits_unique (decimal m) [] x y (decimal_digits m (small_is_wide m low)) tt ends stops e).0 in
+    false≢true (sym (decimal_plain m (small_is_wide m low)) ∙ ap is_padded none)
 
 -- `N uK)` and what stands behind it
 product_behind : ℕ → ℕ → List ℕ → List ℕ
@@ -42,10 +37,6 @@ products_same f g k l x y low high small little e =
     let second = numeral_same k l (41 ∷ x) (41 ∷ y) small little refl refl tail in
     let last = second.1 in
     (first.0, second.0, cc)
-
--- first bytes that differ
-heads : (a b : ℕ) (x y : List ℕ) → a ∷ x ≡ b ∷ y → a ≡ b
-heads a b x y e = cc
 
 -- a summand and what stands behind it
 pub summand_same : (s t : Summand) (x y : List ℕ) → SummandFits s → SummandFits t → BeginsNoDigit x → BeginsNoDigit y → summand_text s ++ x ≡ summand_text t ++ y → (s ≡ t) × (x ≡ y)
@@ -81,7 +72,7 @@ more_summands : (s : Summand) (ss : List Summand) (x : List ℕ) → summands_te
 more_summands s ss x = ap (λ r. 32 ∷ r) (append_assoc (summand_text s) (summands_text ss) x)
 
 -- summands up to a closing parenthesis
-summands_same : (ss ts : List Summand) (x y : List ℕ) → Each SummandFits ss → Each SummandFits ts → summands_text ss ++ (41 ∷ x) ≡ summands_text ts ++ (41 ∷ y) → (ss ≡ ts) × (x ≡ y)
+summands_same : (ss ts : List Summand) (x y : List ℕ) → AllByRecursion SummandFits ss → AllByRecursion SummandFits ts → summands_text ss ++ (41 ∷ x) ≡ summands_text ts ++ (41 ∷ y) → (ss ≡ ts) × (x ≡ y)
 summands_same [] [] x y fits fit e = let tail : x ≡ y = cc in (refl, tail)
 summands_same [] (t ∷ ts) x y fits fit e =
     let differ = heads 41 32 x (summand_text t ++ (summands_text ts ++ (41 ∷ y))) (e ∙ more_summands t ts (41 ∷ y)) in
@@ -151,7 +142,7 @@ claim_same c d x y fits fit e =
 ending : List AtLeast → List (List ℕ)
 ending cs = map assert_line cs ++ codes "(check-sat)" ∷ []
 
-claims_same : (cs ds : List AtLeast) → Each (λ (c : AtLeast). TermFits c.left × TermFits c.right) cs → Each (λ (c : AtLeast). TermFits c.left × TermFits c.right) ds → lines_text (ending cs) ≡ lines_text (ending ds) → cs ≡ ds
+claims_same : (cs ds : List AtLeast) → AllByRecursion (λ (c : AtLeast). TermFits c.left × TermFits c.right) cs → AllByRecursion (λ (c : AtLeast). TermFits c.left × TermFits c.right) ds → lines_text (ending cs) ≡ lines_text (ending ds) → cs ≡ ds
 unfolding ending
 claims_same [] [] fits fit e = refl
 claims_same [] (d ∷ ds) fits fit e =

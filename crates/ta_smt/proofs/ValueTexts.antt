@@ -1,21 +1,16 @@
 -- The text of values determines them, and has then no bad line.
-use Rattle.std.proofs.Common.{ℕ, suc, ℤ, ◌+◌, ◌≡◌, ◌⊎◌, inl, inr, List, [], ◌∷◌, ◌++◌, length, map, refl, sym, ap, ◌∙◌, append_assoc, append-nil, arith}
+use Rattle.std.proofs.Common.{ℕ, suc, ℤ, ◌+◌, ◌≡◌, ◌⊎◌, inl, inr, List, [], ◌∷◌, ◌++◌, length, map, refl, sym, ap, ◌∙◌, append_assoc, arith}
 use Rattle.std.specs.Fmt.{signed_decimal}
 use Rattle.std.proofs.lemmas.List.{map-append}
-use Rattle.ta_automaton.specs.Lists.{Each}
+use Rattle.std.specs.List.{AllByRecursion}
+use Rattle.ta_base.proofs.Each.{each_push}
+use Rattle.ta_base.proofs.Lists.{first_byte, not_empty, not_parted}
 use Rattle.ta_counter.specs.Values.{Value}
 use Rattle.ta_replay.specs.RunText.{lines_text}
-use Rattle.ta_replay.proofs.Bytes.{first_byte, not_parted}
 use Rattle.ta_replay.proofs.Decimals.{number_avoids, number_same}
-use Rattle.ta_replay.proofs.ListSteps.{each_push, lines_text-append}
+use Rattle.ta_replay.proofs.ListSteps.{lines_text-append}
 use Rattle.ta_smt.specs.Values.{FirstBadLine, IsNoNumber, IsUnfinished, IsValuesText, values_text}
-use Rattle.ta_smt.specs.Inside.Reading.{LineFault, NextValue, ValueFault}
-use Rattle.ta_smt.specs.declared.fault.AdmitFault.{AdmitFault}
-use Rattle.ta_smt.specs.declared.fault.AdmitFault.TheVariants as fault
-
-not_empty : (xs ys : List ℕ) → xs ++ (10 ∷ ys) ≡ [] → ⊥
-not_empty [] ys e = cc
-not_empty (x ∷ xs) ys e = cc
+use Rattle.ta_smt.specs.Inside.Reading.{NextValue}
 
 -- the first value and the text behind it
 firsts_same : (v w : ℤ) (x y : List ℕ) → Value v → Value w → signed_decimal v ++ (10 ∷ x) ≡ signed_decimal w ++ (10 ∷ y) → (v ≡ w) × (x ≡ y)
@@ -24,7 +19,7 @@ firsts_same v w x y is are e =
     (number_same v w is are parts.0, parts.1)
 
 -- values are determined by their text
-texts_same : (vs ws : List ℤ) → Each Value vs → Each Value ws → values_text vs ≡ values_text ws → vs ≡ ws
+texts_same : (vs ws : List ℤ) → AllByRecursion Value vs → AllByRecursion Value ws → values_text vs ≡ values_text ws → vs ≡ ws
 texts_same [] [] is are e = refl
 texts_same [] (w ∷ ws) is are e = absurd (not_empty (signed_decimal w) (values_text ws) (sym e))
 texts_same (v ∷ vs) [] is are e = absurd (not_empty (signed_decimal v) (values_text vs) e)
@@ -45,7 +40,7 @@ no_value v rest tail is (inr bad) e =
     bad.other v record { number = is; text = parts.0 }
 
 -- behind values that are a text's first ones come values
-no_bad_line : (ws vs : List ℤ) (rest : List ℕ) → Each Value ws → Each Value vs → IsUnfinished rest ⊎ IsNoNumber rest → values_text ws ++ rest ≡ values_text vs → ⊥
+no_bad_line : (ws vs : List ℤ) (rest : List ℕ) → AllByRecursion Value ws → AllByRecursion Value vs → IsUnfinished rest ⊎ IsNoNumber rest → values_text ws ++ rest ≡ values_text vs → ⊥
 no_bad_line [] [] rest are is (inl unfinished) e = unfinished.some e
 no_bad_line [] [] rest are is (inr bad) e = not_empty bad.line bad.behind (sym bad.next ∙ e)
 no_bad_line [] (v ∷ vs) rest are is bad e = no_value v rest (values_text vs) is.0 bad e
@@ -55,7 +50,7 @@ no_bad_line (w ∷ ws) (v ∷ vs) rest are is bad e =
     no_bad_line ws vs rest are.1 is.1 bad parts.1
 
 -- a text has one first bad line
-bad_lines : (vs ws : List ℤ) (x y : List ℕ) → Each Value vs → Each Value ws → IsUnfinished x ⊎ IsNoNumber x → IsUnfinished y ⊎ IsNoNumber y → values_text vs ++ x ≡ values_text ws ++ y → length vs ≡ length ws
+bad_lines : (vs ws : List ℤ) (x y : List ℕ) → AllByRecursion Value vs → AllByRecursion Value ws → IsUnfinished x ⊎ IsNoNumber x → IsUnfinished y ⊎ IsNoNumber y → values_text vs ++ x ≡ values_text ws ++ y → length vs ≡ length ws
 bad_lines [] [] x y is are bad worse e = refl
 bad_lines [] (w ∷ ws) x y is are bad worse e = absurd (no_value w x (values_text ws ++ y) are.0 bad (e ∙ append_assoc (signed_decimal w) (10 ∷ values_text ws) y))
 bad_lines (v ∷ vs) [] x y is are bad worse e = absurd (no_value v y (values_text vs ++ x) is.0 worse (sym e ∙ append_assoc (signed_decimal v) (10 ∷ values_text vs) x))
@@ -71,11 +66,8 @@ not_both vs bytes n is bad = no_bad_line bad.values vs bad.rest bad.numbers is.n
 
 -- what the reader has read, and what is left
 pub record Read (bytes : List ℕ) (values : List ℤ) (rest : List ℕ) : Type 0 where
-  pub numbers : Each Value values
+  pub numbers : AllByRecursion Value values
   pub text : bytes ≡ values_text values ++ rest
-
-pub read_none : (bytes : List ℕ) → Read bytes [] bytes
-read_none bytes = record { numbers = tt; text = refl }
 
 pub read_more : (bytes rest behind : List ℕ) (values : List ℤ) (v : ℤ) → Read bytes values rest → NextValue rest v behind → Read bytes (values ++ v ∷ []) behind
 read_more bytes rest behind values v read next = record {
@@ -86,11 +78,3 @@ read_more bytes rest behind values v read next = record {
       ∙ ap (λ xs. xs ++ behind) (sym (lines_text-append (map signed_decimal values) (signed_decimal v ∷ [])))
       ∙ ap (λ ls. lines_text ls ++ behind) (sym (map-append signed_decimal values (v ∷ [])));
 }
-
-pub read_all : (bytes rest : List ℕ) (values : List ℤ) → Read bytes values rest → rest ≡ [] → IsValuesText values bytes
-read_all bytes rest values read none = record { numbers = read.numbers; text = read.text ∙ ap (λ xs. values_text values ++ xs) none ∙ append-nil (values_text values) }
-
-pub read_stops : (bytes rest : List ℕ) (values : List ℤ) (before : ℕ) (found : AdmitFault) → before ≡ length values → Read bytes values rest → ValueFault rest before found → LineFault bytes found
-read_stops bytes rest values before (fault.Line n) counted read bad = record { values = values; rest = rest; numbers = read.numbers; text = read.text; bad = bad.1; place = bad.0 ∙ ap (λ m. m + 1) counted }
-read_stops bytes rest values before fault.Memory counted read bad = tt
-read_stops bytes rest values before _ counted read bad = absurd bad

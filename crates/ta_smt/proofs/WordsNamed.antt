@@ -1,33 +1,30 @@
 -- Words of a file by the name of their pattern, and the text of their systems.
-use Rattle.std.proofs.Common.{◌≡◌, ◌≢◌, ◌+◌, ◌<◌, ◌≤◌, ◌^◌, ℕ, zero, suc, ℤ, pos, Bool, true, false, nat_lt, List, [], ◌∷◌, length, map, reverse, slice_get, Some, arith, below_more, refl, sym, ap, subst, ◌∙◌}
-use Rattle.std.specs.Prelude.{◌↔◌}
+use Rattle.std.proofs.Common.{◌≡◌, ◌≢◌, ◌+◌, ◌<◌, ◌≤◌, ◌^◌, ℕ, zero, suc, ℤ, Bool, true, false, List, [], ◌∷◌, length, map, reverse, slice_get, Some, arith, below_more, refl, sym, ap, subst, ◌∙◌}
 use Rattle.std.proofs.lemmas.Bool.{false≢true}
-use Rattle.std.proofs.lemmas.Bool.Decides.{nat_tests}
 use Rattle.std.proofs.lemmas.Option.{same_Some}
+use Rattle.std.specs.List.{AllByRecursion}
 use Rattle.ta_linear.specs.declared.row.System.{System}
 use Rattle.ta_automaton.specs.declared.file.File.{File}
 use Rattle.ta_automaton.specs.declared.pattern.Pattern.{Pattern}
-use Rattle.ta_automaton.specs.Lists.{Distinct, Each}
+use Rattle.ta_base.specs.Lists.{Distinct}
 use Rattle.ta_automaton.specs.Patterns.{pattern_name}
 use Rattle.ta_words.specs.declared.element.Element.{Element}
 use Rattle.ta_words.specs.Calls.{OfPattern}
-use Rattle.ta_words.specs.Words.{Legal, is_complete}
-use Rattle.ta_encode.specs.Code.{SystemOf}
+use Rattle.ta_words.specs.Words.{LegalWord, is_complete}
 use Rattle.ta_encode.specs.PatternSearch.{pattern_search}
 use Rattle.ta_encode.specs.System.{SolvesWord}
 use Rattle.ta_encode.proofs.CodeRows.{solution_back, solution_of, unbounded}
 use Rattle.ta_smt.specs.declared.fault.WordFault.{WordFault}
 use Rattle.ta_smt.specs.declared.fault.WordFault.TheVariants as fault
-use Rattle.ta_smt.specs.Admit.{Asked, SystemAsked, asked}
-use Rattle.ta_smt.specs.Denotes.{Denotes}
+use Rattle.ta_smt.specs.Admit.{AskedWord, SystemAsked, asked}
 use Rattle.ta_smt.specs.Export.{DenotesSolutions, IsNaturalSolution, system_text}
-use Rattle.ta_smt.specs.Named.{IsLegalWord, IsNamed, IsWholeWordOf, IsWordOf, IsWordText, NoWhole, SolvesAsked, Spelling, WholeFaultOf, WholeWordsAreExact, WordFaultOf, WordsAreExact}
+use Rattle.ta_smt.specs.Named.{IsLegalWord, IsNamed, IsWholeWordOf, IsWordOf, IsWordText, NoWhole, SolvesAsked, Spelling, WholeWordsAreExact, WordFaultOf, WordsAreExact}
 use Rattle.ta_smt.specs.Spelling.{FirstStranger}
 use Rattle.ta_smt.proofs.Admitted.{pending}
 use Rattle.ta_smt.proofs.Spelled.{no_stranger}
 
 -- no pattern of a list has the name of another
-apart : (ps : List Pattern) (i : ℕ) (p : Pattern) (name : List ℕ) → Each (λ other. name ≡ other → ⊥) (map pattern_name ps) → slice_get ps i ≡ Some p → name ≡ p.name → ⊥
+apart : (ps : List Pattern) (i : ℕ) (p : Pattern) (name : List ℕ) → AllByRecursion (λ other. name ≡ other → ⊥) (map pattern_name ps) → slice_get ps i ≡ Some p → name ≡ p.name → ⊥
 apart [] i p name each at same = absurd (cc)
 apart (q ∷ ps) zero p name each at same = each.0 (same ∙ sym (ap pattern_name (same_Some q p at)))
 apart (q ∷ ps) (suc i) p name each at same = apart ps i p name each.1 at same
@@ -49,14 +46,14 @@ one_named file name i j p q is are = same_Some p q (sym is.at ∙ ap (slice_get 
 same_asked : (p q s t : ℕ) (xs ys : List Element) → p ≡ q → s ≡ t → xs ≡ ys → asked p s xs ≡ asked q t ys
 same_asked p q s t xs ys e f g = rw (e, f, g) refl
 
-word_once : (file : File) (spelled : Spelling) (word other : Asked) → IsWordOf file spelled word → IsWordOf file spelled other → other ≡ word
+word_once : (file : File) (spelled : Spelling) (word other : AskedWord) → IsWordOf file spelled word → IsWordOf file spelled other → other ≡ word
 word_once file spelled word other is are =
     same_asked other.pattern word.pattern other.start word.start other.elements word.elements
     (one_number file spelled.name other.pattern word.pattern are.pattern is.pattern are.named is.named)
     (are.start ∙ sym is.start)
     (are.elements ∙ sym is.elements)
 
-pub no_word_fault : (file : File) (spelled : Spelling) (word : Asked) (found : WordFault) → IsWordOf file spelled word → WordFaultOf file spelled found → ⊥
+pub no_word_fault : (file : File) (spelled : Spelling) (word : AskedWord) (found : WordFault) → IsWordOf file spelled word → WordFaultOf file spelled found → ⊥
 no_word_fault file spelled word fault.Pattern is bad = bad word.pattern is.pattern is.named
 no_word_fault file spelled word fault.Start is bad = let within = is.begins in let beyond = bad.beyond in omega arith
 no_word_fault file spelled word (fault.Element k) is bad =
@@ -82,18 +79,18 @@ no_start file name start elements number named beyond = record { number = number
 pub no_child : (file : File) (name : List ℕ) (start : ℕ) (elements : List Element) (number k : ℕ) → (pattern : Pattern) × IsNamed file.patterns name number pattern → start < 2 ^ length file.automaton.fall → ((p : Pattern) → slice_get file.patterns number ≡ Some p → FirstStranger file.automaton p start elements k) → WordFaultOf file (record { name = name; start = start; elements = elements }) (fault.Element k)
 no_child file name start elements number k named begins stranger = record { number = number; pattern = named.0; named = named.1; begins = begins; stranger = stranger named.0 named.1.at }
 
-pub word_found : (file : File) (name : List ℕ) (start : ℕ) (elements word : List Element) (number : ℕ) → (pattern : Pattern) × IsNamed file.patterns name number pattern → start < 2 ^ length file.automaton.fall → word ≡ elements → ((p : Pattern) → slice_get file.patterns number ≡ Some p → Legal file.automaton p start (reverse word)) → IsWordOf file (record { name = name; start = start; elements = elements }) (asked number start word)
+pub word_found : (file : File) (name : List ℕ) (start : ℕ) (elements word : List Element) (number : ℕ) → (pattern : Pattern) × IsNamed file.patterns name number pattern → start < 2 ^ length file.automaton.fall → word ≡ elements → ((p : Pattern) → slice_get file.patterns number ≡ Some p → LegalWord file.automaton p start (reverse word)) → IsWordOf file (record { name = name; start = start; elements = elements }) (asked number start word)
 word_found file name start elements word number named begins same legal = record {
   pattern = named.0;
   named = named.1;
   start = refl;
   begins = begins;
   elements = same;
-  legal = subst (λ es. Legal file.automaton named.0 start (reverse es)) same (legal named.0 named.1.at);
+  legal = subst (λ es. LegalWord file.automaton named.0 start (reverse es)) same (legal named.0 named.1.at);
 }
 
 -- the natural solutions of a system of a word are those of the word
-solves_asked : (file : File) (word : Asked) (system : System) (values : List ℤ) → SystemAsked file word system → IsNaturalSolution system values → SolvesAsked file word values
+solves_asked : (file : File) (word : AskedWord) (system : System) (values : List ℤ) → SystemAsked file word system → IsNaturalSolution system values → SolvesAsked file word values
 solves_asked file word system values is solution = record {
   pattern = is.pattern;
   named = is.named;
@@ -102,7 +99,7 @@ solves_asked file word system values is solution = record {
   solves = unbounded file.automaton is.pattern [] (pending word) solution.naturals (solution_of (pattern_search file.automaton is.pattern []) (pending word) system solution.naturals is.is solution.solve);
 }
 
-solves_system : (file : File) (word : Asked) (system : System) (values : List ℤ) → SystemAsked file word system → SolvesAsked file word values → IsNaturalSolution system values
+solves_system : (file : File) (word : AskedWord) (system : System) (values : List ℤ) → SystemAsked file word system → SolvesAsked file word values → IsNaturalSolution system values
 solves_system file word system values is solution =
     let same = same_Some solution.pattern is.pattern (sym solution.named ∙ is.named) in
     let solves = subst (λ (p : Pattern). SolvesWord file.automaton p word.start (reverse word.elements) [] solution.naturals) same solution.solves in
@@ -112,7 +109,7 @@ solves_system file word system values is solution =
       solve = solution_back (pattern_search file.automaton is.pattern []) (pending word) system solution.naturals is.is (record { count = solves.count; rows_hold = solves.rows_hold });
     }
 
-pub word_text_is : (file : File) (word : Asked) (system : System) (text : List ℕ) → SystemAsked file word system → text ≡ system_text system → DenotesSolutions system text → IsWordText file word text
+pub word_text_is : (file : File) (word : AskedWord) (system : System) (text : List ℕ) → SystemAsked file word system → text ≡ system_text system → DenotesSolutions system text → IsWordText file word text
 word_text_is file word system text is written denotes = record {
   system = system;
   is = is;
@@ -121,7 +118,7 @@ word_text_is file word system text is written denotes = record {
 }
 
 -- a word that a file has is legal
-pub legal_word : (file : File) (spelled : Spelling) (word : Asked) → IsWordOf file spelled word → IsLegalWord file word
+pub legal_word : (file : File) (spelled : Spelling) (word : AskedWord) → IsWordOf file spelled word → IsLegalWord file word
 legal_word file spelled word is = record {
   pattern = is.pattern;
   named = is.named.at;
@@ -133,11 +130,11 @@ get_within [] i p at = absurd (cc)
 get_within (q ∷ ps) zero p at = omega arith
 get_within (q ∷ ps) (suc i) p at = let more = get_within ps i p at in omega arith
 
-pub legal_exists : (file : File) (word : Asked) → IsLegalWord file word → word.pattern < length file.patterns
+pub legal_exists : (file : File) (word : AskedWord) → IsLegalWord file word → word.pattern < length file.patterns
 legal_exists file word is = get_within file.patterns word.pattern is.pattern is.named
 
-pub legal_of : (file : File) (word : Asked) → IsLegalWord file word → OfPattern file word.pattern (λ p. Legal file.automaton p word.start (reverse word.elements))
-legal_of file word is p at = subst (λ (q : Pattern). Legal file.automaton q word.start (reverse word.elements)) (same_Some is.pattern p (sym is.named ∙ at)) is.legal
+pub legal_of : (file : File) (word : AskedWord) → IsLegalWord file word → OfPattern file word.pattern (λ p. LegalWord file.automaton p word.start (reverse word.elements))
+legal_of file word is p at = subst (λ (q : Pattern). LegalWord file.automaton q word.start (reverse word.elements)) (same_Some is.pattern p (sym is.named ∙ at)) is.legal
 
 -- no pattern so far has the name
 abbrev pub NoneSoFar : List Pattern → List ℕ → ℕ → Type 0
@@ -149,16 +146,9 @@ none_more ps name i item at other before = below_more _ _ before (λ p is e. oth
 pub none_at_all : (ps : List Pattern) (name : List ℕ) (i : ℕ) → length ps ≤ i → NoneSoFar ps name i → (number : ℕ) (pattern : Pattern) → ¬ IsNamed ps name number pattern
 none_at_all ps name i all before number pattern is = let within = get_within ps number pattern is.at in before number (omega arith) pattern is.at is.named
 
--- a test of two numbers
-pub below_by : (a b : ℕ) (r : Bool) → r ≡ nat_lt a b → r ≡ true → a < b
-below_by a b r is e = grind (arith, nat_tests)
-
-pub beyond_by : (a b : ℕ) (r : Bool) → r ≡ nat_lt a b → r ≡ false → b ≤ a
-beyond_by a b r is e = grind (arith, nat_tests)
-
 -- a word that is complete, and one that isn't
-pub whole_found : (file : File) (spelled : Spelling) (word : Asked) (r : Bool) → IsWordOf file spelled word → OfPattern file word.pattern (λ p. r ≡ is_complete p (reverse word.elements)) → r ≡ true → IsWholeWordOf file spelled word
+pub whole_found : (file : File) (spelled : Spelling) (word : AskedWord) (r : Bool) → IsWordOf file spelled word → OfPattern file word.pattern (λ p. r ≡ is_complete p (reverse word.elements)) → r ≡ true → IsWholeWordOf file spelled word
 whole_found file spelled word r is told e = record { is = is; complete = ap (λ es. is_complete is.pattern (reverse es)) (sym is.elements) ∙ sym (told is.pattern is.named.at) ∙ e }
 
-pub no_whole : (file : File) (spelled : Spelling) (word : Asked) (r : Bool) → IsWordOf file spelled word → OfPattern file word.pattern (λ p. r ≡ is_complete p (reverse word.elements)) → r ≡ false → NoWhole file spelled
+pub no_whole : (file : File) (spelled : Spelling) (word : AskedWord) (r : Bool) → IsWordOf file spelled word → OfPattern file word.pattern (λ p. r ≡ is_complete p (reverse word.elements)) → r ≡ false → NoWhole file spelled
 no_whole file spelled word r is told e = record { word = word; is = is; incomplete = ap (λ es. is_complete is.pattern (reverse es)) (sym is.elements) ∙ sym (told is.pattern is.named.at) ∙ e }

@@ -3,25 +3,17 @@ use Rattle.std.proofs.Common.{ℕ, ℤ, zero, suc, pos, ◌+◌, ◌-◌, ◌<�
 use Rattle.std.specs.List.{flat_map}
 use Rattle.std.proofs.lemmas.Fmt.{decimal_digit}
 use Rattle.std.proofs.lemmas.List.{at_drop_all, at_drop_more, map-append}
+use Rattle.ta_base.proofs.Lists.{append_nothing, piece_written}
 use Rattle.ta_linear.specs.declared.form.Form.{Form}
 use Rattle.ta_linear.specs.declared.row.Row.{Row}
 use Rattle.ta_linear.specs.declared.row.System.{System}
-use Rattle.ta_automaton.specs.Masks.{numbers_from}
+use Rattle.ta_base.specs.Masks.{numbers_from}
 use Rattle.ta_replay.specs.RunText.{lines_text}
 use Rattle.ta_replay.proofs.ListSteps.{lines_text-append}
 use Rattle.ta_smt.specs.declared.side.Side.{Side}
 use Rattle.ta_smt.specs.Script.{Summand, Numeral, Unknown, Product, assert_line, declare_line, summand_text, summands_text, term_text}
-use Rattle.ta_smt.specs.Export.{constant, multiple, natural_claim, on_side, part, row_claim, sum_of, summands, system_text}
+use Rattle.ta_smt.specs.Export.{constant, multiple, natural_claim, on_side, part, row_claim, summed_term, summands, system_text}
 use Rattle.ta_smt.specs.Inside.Leads.{led_text}
-
--- a piece more is written of what is left
-pub piece_written : (old new bytes left rest all : List ℕ) → new ≡ old ++ bytes → left ≡ bytes ++ rest → old ++ left ≡ all → new ++ rest ≡ all
-piece_written old new bytes left rest all written next so_far =
-    ap (λ xs. xs ++ rest) written ∙ append_assoc old bytes rest ∙ ap (λ xs. old ++ xs) (sym next) ∙ so_far
-
--- nothing is left
-pub all_written : (old left all : List ℕ) → left ≡ [] → old ++ left ≡ all → old ≡ all
-all_written old left all none so_far = sym (append-nil old) ∙ ap (λ xs. old ++ xs) (sym none) ∙ so_far
 
 -- the lines of the numbers that are left
 pub next_line : (f : ℕ → List ℕ) (k n : ℕ) → k < n → lines_text (map f (numbers_from k (n - k))) ≡ f k ++ (10 ∷ lines_text (map f (numbers_from (k + 1) (n - (k + 1)))))
@@ -37,7 +29,7 @@ line_written f k n old new bytes all below is written so_far =
     piece_written old new bytes (lines_text (map f (numbers_from k (n - k)))) rest all written (next_line f k n below ∙ sym (ap (λ xs. xs ++ rest) is ∙ append_assoc (f k) (10 ∷ []) rest)) so_far
 
 pub lines_written : (f : ℕ → List ℕ) (k n : ℕ) (old all : List ℕ) → n ≤ k → old ++ lines_text (map f (numbers_from k (n - k))) ≡ all → old ≡ all
-lines_written f k n old all above so_far = all_written old (lines_text (map f (numbers_from k (n - k)))) all (no_lines f k n above) so_far
+lines_written f k n old all above so_far = append_nothing old (lines_text (map f (numbers_from k (n - k)))) all (no_lines f k n above) so_far
 
 pub declared : (k : ℕ) → codes "(declare-fun u" ++ (decimal k ++ codes " () Int)\n") ≡ declare_line k ++ (10 ∷ [])
 declared k = ap (λ xs. codes "(declare-fun u" ++ xs) (sym (append_assoc (decimal k) (codes " () Int)") (10 ∷ [])))
@@ -69,16 +61,16 @@ spaced [] = refl
 spaced (s ∷ ss) = ap (λ xs. 32 ∷ (summand_text s ++ xs)) (spaced ss)
 
 -- the term of summands, by how many there are
-pub none_text : (ss : List Summand) → length ss ≡ 0 → codes "0" ≡ term_text (sum_of ss)
+pub none_text : (ss : List Summand) → length ss ≡ 0 → codes "0" ≡ term_text (summed_term ss)
 none_text [] e = zero_text
 none_text (s ∷ ss) e = absurd (omega arith)
 
-pub one_text : (ss : List Summand) → length ss ≡ 1 → led_text [] ss ≡ term_text (sum_of ss)
+pub one_text : (ss : List Summand) → length ss ≡ 1 → led_text [] ss ≡ term_text (summed_term ss)
 one_text [] e = absurd (omega arith)
 one_text (s ∷ []) e = append-nil (summand_text s)
 one_text (s ∷ t ∷ ss) e = absurd (omega arith)
 
-pub more_text : (ss : List Summand) → 2 ≤ length ss → codes "(+" ++ (led_text (codes " ") ss ++ codes ")") ≡ term_text (sum_of ss)
+pub more_text : (ss : List Summand) → 2 ≤ length ss → codes "(+" ++ (led_text (codes " ") ss ++ codes ")") ≡ term_text (summed_term ss)
 more_text [] e = absurd (omega arith)
 more_text (s ∷ []) e = absurd (omega arith)
 more_text (s ∷ t ∷ ss) e = ap (λ xs. codes "(+" ++ (xs ++ codes ")")) (spaced (s ∷ t ∷ ss))
@@ -95,7 +87,7 @@ row_written rows i row old new all within is written so_far =
     piece_written old new (line ++ (10 ∷ [])) (rows_text (drop i rows)) rest all written (next ∙ sym (append_assoc line (10 ∷ []) rest)) so_far
 
 pub rows_written : (rows : List Row) (i : ℕ) (old all : List ℕ) → length rows ≤ i → old ++ rows_text (drop i rows) ≡ all → old ≡ all
-rows_written rows i old all above so_far = all_written old (rows_text (drop i rows)) all (at_drop_all rows_text rows i above) so_far
+rows_written rows i old all above so_far = append_nothing old (rows_text (drop i rows)) all (at_drop_all rows_text rows i above) so_far
 
 -- a term more is written
 abbrev pub terms_text : Side → List ℕ → List (ℕ × ℤ) → List ℕ
@@ -109,7 +101,7 @@ term_written side lead ts i factor old new all within is written so_far =
     piece_written old new (led_text lead (on_side side t)) (terms_text side lead (drop i ts)) rest all (written ∙ ap (λ f. old ++ led_text lead (multiple f t.0)) is) next so_far
 
 pub terms_written : (side : Side) (lead : List ℕ) (ts : List (ℕ × ℤ)) (i : ℕ) (old all : List ℕ) → length ts ≤ i → old ++ terms_text side lead (drop i ts) ≡ all → old ≡ all
-terms_written side lead ts i old all above so_far = all_written old (terms_text side lead (drop i ts)) all (at_drop_all (terms_text side lead) ts i above) so_far
+terms_written side lead ts i old all above so_far = append_nothing old (terms_text side lead (drop i ts)) all (at_drop_all (terms_text side lead) ts i above) so_far
 
 -- all summands of a side are written
 pub side_written : (side : Side) (lead : List ℕ) (form : Form) (value : ℕ) (old middle new : List ℕ) → value ≡ part side form.constant → middle ≡ old ++ terms_text side lead form.terms → new ≡ middle ++ led_text lead (constant value) → new ≡ old ++ led_text lead (summands side form)

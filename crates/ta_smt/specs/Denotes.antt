@@ -1,7 +1,7 @@
 -- What the text of a script says of values of its unknowns (SMT-LIB 2.6, theory of whole numbers)
 use Rattle.std.specs.Prelude.{ℕ, ℤ, pos, ◌≡◌, ◌+ℤ◌, ◌*ℤ◌, ◌≤ℤ◌, List, [], ◌∷◌, length}
+use Rattle.std.specs.List.{AllByRecursion}
 use Rattle.ta_linear.specs.Values.{point_of}
-use Rattle.ta_automaton.specs.Lists.{Each}
 use Rattle.ta_smt.specs.Script.{AtLeast, Script, ScriptFits, Summand, Numeral, Unknown, Product, Term, Lone, Sum, script_text}
 
 -- a numeral is its number, an unknown its value, `*` is the product
@@ -20,8 +20,8 @@ term_value point (Lone summand) = summand_value point summand
 term_value point (Sum summands) = summands_value point summands
 
 -- `>=` is the order
-abbrev pub Holds : (ℕ → ℤ) → AtLeast → Type 0
-Holds point claim = term_value point claim.right ≤ℤ term_value point claim.left
+abbrev pub AtLeastHolds : (ℕ → ℤ) → AtLeast → Type 0
+AtLeastHolds point claim = term_value point claim.right ≤ℤ term_value point claim.left
 
 -- the text is that of a script that declares as many unknowns as there are values, and whose assertions hold of these
 pub record Denotes (text : List ℕ) (values : List ℤ) : Type 0 where
@@ -29,7 +29,7 @@ pub record Denotes (text : List ℕ) (values : List ℤ) : Type 0 where
   pub fits : ScriptFits script
   pub spelled : text ≡ script_text script
   pub count : length values ≡ script.unknowns
-  pub hold : Each (Holds (point_of values)) script.asserted
+  pub hold : AllByRecursion (AtLeastHolds (point_of values)) script.asserted
 
 -- a text is that of at most one script
 abbrev pub ScriptsAreDetermined : Type 0

@@ -4,12 +4,12 @@ use Rattle.ta_automaton.specs.declared.file.File.{File}
 use Rattle.ta_smt.specs.declared.fault.AdmitFault.{AdmitFault}
 use Rattle.ta_smt.specs.declared.fault.AdmitFault.TheVariants.{Memory}
 use Rattle.ta_smt.specs.declared.fault.WordFault.{WordFault}
-use Rattle.ta_smt.specs.Admit.{AdmitFaultOf, Asked}
+use Rattle.ta_smt.specs.Admit.{AdmitFaultOf, AskedWord}
 use Rattle.ta_smt.specs.Named.{Spelling, WholeFaultOf, WordFaultOf}
 
 -- bytes have at most one fault as the values of a word, want of memory aside
 abbrev pub AdmitFaultsAreDetermined : Type 0
-AdmitFaultsAreDetermined = (file : File) (word : Asked) (bytes : List ℕ) (e f : AdmitFault) → e ≢ Memory → f ≢ Memory → AdmitFaultOf file word bytes e → AdmitFaultOf file word bytes f → e ≡ f
+AdmitFaultsAreDetermined = (file : File) (word : AskedWord) (bytes : List ℕ) (e f : AdmitFault) → e ≢ Memory → f ≢ Memory → AdmitFaultOf file word bytes e → AdmitFaultOf file word bytes f → e ≡ f
 
 -- there is at most one reason why a file hasn't a word
 abbrev pub WordFaultsAreDetermined : Type 0

@@ -4,7 +4,7 @@ use Rattle.ta_linear.specs.declared.form.Form.{Form}
 use Rattle.ta_linear.specs.declared.row.Row.{Row}
 use Rattle.ta_linear.specs.declared.row.System.{System}
 use Rattle.ta_linear.specs.Values.{Solves}
-use Rattle.ta_automaton.specs.Masks.{numbers_from}
+use Rattle.ta_base.specs.Masks.{numbers_from}
 use Rattle.ta_smt.specs.declared.side.Side.{Side}
 use Rattle.ta_smt.specs.declared.side.Side.TheVariants.{Left, Right}
 use Rattle.ta_smt.specs.Denotes.{Denotes}
@@ -34,14 +34,14 @@ abbrev pub summands : Side → Form → List Summand
 summands side form = flat_map (on_side side) form.terms ++ constant (part side form.constant)
 
 -- no summand is `0`, one stands alone
-abbrev pub sum_of : List Summand → Term
-sum_of [] = Lone (Numeral 0)
-sum_of (s ∷ []) = Lone s
-sum_of (s ∷ t ∷ ss) = Sum (s ∷ t ∷ ss)
+abbrev pub summed_term : List Summand → Term
+summed_term [] = Lone (Numeral 0)
+summed_term (s ∷ []) = Lone s
+summed_term (s ∷ t ∷ ss) = Sum (s ∷ t ∷ ss)
 
 -- the row's form is at least 0
 abbrev pub row_claim : Row → AtLeast
-row_claim row = record { left = sum_of (summands Left row.form); right = sum_of (summands Right row.form) }
+row_claim row = record { left = summed_term (summands Left row.form); right = summed_term (summands Right row.form) }
 
 -- an unknown is at least 0
 abbrev pub natural_claim : ℕ → AtLeast

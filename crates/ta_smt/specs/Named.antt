@@ -4,11 +4,11 @@ use Rattle.ta_linear.specs.declared.row.System.{System}
 use Rattle.ta_automaton.specs.declared.file.File.{File}
 use Rattle.ta_automaton.specs.declared.pattern.Pattern.{Pattern}
 use Rattle.ta_words.specs.declared.element.Element.{Element}
-use Rattle.ta_words.specs.Words.{Legal, is_complete}
+use Rattle.ta_words.specs.Words.{LegalWord, is_complete}
 use Rattle.ta_encode.specs.System.{SolvesWord}
 use Rattle.ta_smt.specs.declared.fault.WordFault.{WordFault}
 use Rattle.ta_smt.specs.declared.fault.WordFault.TheVariants as fault
-use Rattle.ta_smt.specs.Admit.{Asked, SystemAsked}
+use Rattle.ta_smt.specs.Admit.{AskedWord, SystemAsked}
 use Rattle.ta_smt.specs.Denotes.{Denotes}
 use Rattle.ta_smt.specs.Export.{system_text}
 use Rattle.ta_smt.specs.Spelling.{FirstStranger}
@@ -28,31 +28,31 @@ pub record IsNamed (patterns : List Pattern) (name : List ℕ) (number : ℕ) (p
   pub named : pattern.name ≡ name
 
 -- the start set names guards of the file alone
-abbrev pub Begins : File → ℕ → Type 0
-Begins file start = start < 2 ^ length file.automaton.fall
+abbrev pub IsStartSet : File → ℕ → Type 0
+IsStartSet file start = start < 2 ^ length file.automaton.fall
 
 -- the file has the word: a pattern with the name, fall guards for the start set, and each element is a child of those before it
-pub record IsWordOf (file : File) (spelled : Spelling) (word : Asked) : Type 0 where
+pub record IsWordOf (file : File) (spelled : Spelling) (word : AskedWord) : Type 0 where
   pub pattern : Pattern
   pub named : IsNamed file.patterns spelled.name word.pattern pattern
   pub start : word.start ≡ spelled.start
-  pub begins : Begins file spelled.start
+  pub begins : IsStartSet file spelled.start
   pub elements : word.elements ≡ spelled.elements
-  pub legal : Legal file.automaton pattern spelled.start (reverse spelled.elements)
+  pub legal : LegalWord file.automaton pattern spelled.start (reverse spelled.elements)
 
 -- the word is one of a pattern of the file, and legal
-pub record IsLegalWord (file : File) (word : Asked) : Type 0 where
+pub record IsLegalWord (file : File) (word : AskedWord) : Type 0 where
   pub pattern : Pattern
   pub named : slice_get file.patterns word.pattern ≡ Some pattern
-  pub legal : Legal file.automaton pattern word.start (reverse word.elements)
+  pub legal : LegalWord file.automaton pattern word.start (reverse word.elements)
 
 -- the file has the word, which has each event of the pattern
-pub record IsWholeWordOf (file : File) (spelled : Spelling) (word : Asked) : Type 0 where
+pub record IsWholeWordOf (file : File) (spelled : Spelling) (word : AskedWord) : Type 0 where
   pub is : IsWordOf file spelled word
   pub complete : is_complete is.pattern (reverse spelled.elements) ≡ true
 
 -- the file has the pattern of the name, but not the start set
-pub record NoStart (file : File) (spelled : Spelling) : Type 0 where
+pub record HasNoStartSet (file : File) (spelled : Spelling) : Type 0 where
   pub number : ℕ
   pub pattern : Pattern
   pub named : IsNamed file.patterns spelled.name number pattern
@@ -63,19 +63,19 @@ pub record NoChild (file : File) (spelled : Spelling) (k : ℕ) : Type 0 where
   pub number : ℕ
   pub pattern : Pattern
   pub named : IsNamed file.patterns spelled.name number pattern
-  pub begins : Begins file spelled.start
+  pub begins : IsStartSet file spelled.start
   pub stranger : FirstStranger file.automaton pattern spelled.start spelled.elements k
 
 -- the file has the word, but it has not each event of the pattern
 pub record NoWhole (file : File) (spelled : Spelling) : Type 0 where
-  pub word : Asked
+  pub word : AskedWord
   pub is : IsWordOf file spelled word
   pub incomplete : is_complete is.pattern (reverse spelled.elements) ≡ false
 
 -- why the file hasn't the word, in this order
 abbrev pub WordFaultOf : File → Spelling → WordFault → Type 0
 WordFaultOf file spelled fault.Pattern = (number : ℕ) (pattern : Pattern) → ¬ IsNamed file.patterns spelled.name number pattern
-WordFaultOf file spelled fault.Start = NoStart file spelled
+WordFaultOf file spelled fault.Start = HasNoStartSet file spelled
 WordFaultOf file spelled (fault.Element k) = NoChild file spelled k
 WordFaultOf file spelled fault.Incomplete = ⊥
 
@@ -85,7 +85,7 @@ WholeFaultOf file spelled fault.Incomplete = NoWhole file spelled
 WholeFaultOf file spelled found = WordFaultOf file spelled found
 
 -- whole numbers that are natural and solve the system of a word, without bounds
-pub record SolvesAsked (file : File) (word : Asked) (values : List ℤ) : Type 0 where
+pub record SolvesAsked (file : File) (word : AskedWord) (values : List ℤ) : Type 0 where
   pub pattern : Pattern
   pub named : slice_get file.patterns word.pattern ≡ Some pattern
   pub naturals : List ℕ
@@ -93,7 +93,7 @@ pub record SolvesAsked (file : File) (word : Asked) (values : List ℤ) : Type 0
   pub solves : SolvesWord file.automaton pattern word.start (reverse word.elements) [] naturals
 
 -- the text is that of the word's system, and denotes just its natural solutions, whatever whole numbers are asked about
-pub record IsWordText (file : File) (word : Asked) (text : List ℕ) : Type 0 where
+pub record IsWordText (file : File) (word : AskedWord) (text : List ℕ) : Type 0 where
   pub system : System
   pub is : SystemAsked file word system
   pub written : text ≡ system_text system
@@ -102,10 +102,10 @@ pub record IsWordText (file : File) (word : Asked) (text : List ℕ) : Type 0 wh
 -- a file has at most one word that is spelled so, and then no fault of it
 abbrev pub WordsAreExact : Type 0
 WordsAreExact =
-    (file : File) (spelled : Spelling) (word : Asked) → IsWordOf file spelled word
+    (file : File) (spelled : Spelling) (word : AskedWord) → IsWordOf file spelled word
     → ((found : WordFault) → ¬ WordFaultOf file spelled found)
-    × ((other : Asked) → IsWordOf file spelled other → other ≡ word)
+    × ((other : AskedWord) → IsWordOf file spelled other → other ≡ word)
 
 -- and a complete one has no fault of complete words
 abbrev pub WholeWordsAreExact : Type 0
-WholeWordsAreExact = (file : File) (spelled : Spelling) (word : Asked) → IsWholeWordOf file spelled word → (found : WordFault) → ¬ WholeFaultOf file spelled found
+WholeWordsAreExact = (file : File) (spelled : Spelling) (word : AskedWord) → IsWholeWordOf file spelled word → (found : WordFault) → ¬ WholeFaultOf file spelled found

@@ -1,8 +1,8 @@
 -- Scripts of SMT-LIB 2.6 in the logic QF_LIA, as far as systems of rows need them, and their texts (SMT-LIB 2.6; the layout is
 -- this project's profile)
 use Rattle.std.specs.Prelude.{ℕ, ◌<◌, ◌^◌, List, [], ◌∷◌, ◌++◌, codes, decimal, map}
-use Rattle.ta_automaton.specs.Lists.{Each}
-use Rattle.ta_automaton.specs.Masks.{numbers_from}
+use Rattle.std.specs.List.{AllByRecursion}
+use Rattle.ta_base.specs.Masks.{numbers_from}
 use Rattle.ta_replay.specs.RunText.{lines_text}
 
 -- a numeral, an unknown by its number, or a numeral times an unknown
@@ -70,7 +70,7 @@ SummandFits (Product factor number) = (factor < 2 ^ 127) × (number < 2 ^ 127)
 
 abbrev pub TermFits : Term → Type 0
 TermFits (Lone summand) = SummandFits summand
-TermFits (Sum summands) = Each SummandFits summands
+TermFits (Sum summands) = AllByRecursion SummandFits summands
 
 abbrev pub ScriptFits : Script → Type 0
-ScriptFits script = Each (λ (claim : AtLeast). TermFits claim.left × TermFits claim.right) script.asserted
+ScriptFits script = AllByRecursion (λ (claim : AtLeast). TermFits claim.left × TermFits claim.right) script.asserted

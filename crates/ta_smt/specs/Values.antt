@@ -1,11 +1,11 @@
 -- The text of values, and its first bad line (this project's profile)
 use Rattle.std.specs.Prelude.{ℕ, ℤ, ◌+◌, ◌≡◌, ◌≢◌, ◌⊎◌, List, [], ◌∷◌, ◌++◌, length, map}
 use Rattle.std.specs.Fmt.{signed_decimal}
-use Rattle.ta_automaton.specs.Lists.{Each}
+use Rattle.std.specs.List.{AllByRecursion}
 use Rattle.ta_counter.specs.Values.{Value}
 use Rattle.ta_replay.specs.Reading.{IsNumber}
 use Rattle.ta_replay.specs.RunText.{lines_text}
-use Rattle.ta_replay.specs.TextFaults.{Avoids}
+use Rattle.ta_base.specs.Bytes.{Avoids}
 
 -- a line for each value, with its line feed
 abbrev pub values_text : List ℤ → List ℕ
@@ -13,7 +13,7 @@ values_text values = lines_text (map signed_decimal values)
 
 -- the bytes are the text of values, each a natural number below 2^127
 pub record IsValuesText (values : List ℤ) (bytes : List ℕ) : Type 0 where
-  pub numbers : Each Value values
+  pub numbers : AllByRecursion Value values
   pub text : bytes ≡ values_text values
 
 -- the first line isn't finished
@@ -33,7 +33,7 @@ pub record IsNoNumber (rest : List ℕ) : Type 0 where
 pub record FirstBadLine (bytes : List ℕ) (number : ℕ) : Type 0 where
   pub values : List ℤ
   pub rest : List ℕ
-  pub numbers : Each Value values
+  pub numbers : AllByRecursion Value values
   pub text : bytes ≡ values_text values ++ rest
   pub bad : IsUnfinished rest ⊎ IsNoNumber rest
   pub place : number ≡ length values + 1

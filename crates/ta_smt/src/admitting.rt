@@ -6,18 +6,19 @@ ghost use Rattle.ta_linear.specs.Terms.{IsNormal};
 ghost use Rattle.ta_linear.specs.Values.{point_of};
 ghost use Rattle.ta_counter.specs.Checks.{RowPasses, RowsOver, RowsPass};
 ghost use Rattle.ta_words.specs.Calls.{OfPattern};
-ghost use Rattle.ta_words.specs.Words.{Legal};
+ghost use Rattle.ta_words.specs.Words.{LegalWord};
 ghost use Rattle.ta_witness.specs.Witness.{IsSolution};
 ghost use Rattle.ta_smt.specs.Admit.{AdmitFaultOf, Admits, asked, solution_of};
-ghost use Rattle.ta_smt.specs.Inside.Checking.{BadRow, Checked, CheckFault, Passes, RowFault, RunFault, Shown, WordFault};
+ghost use Rattle.ta_smt.specs.Inside.Checking.{BadRow, IsChecked, CheckFault, PassesCheck, RowFault, RunFault, IsRunOfValues, WordFault};
 
 use crate::fault::AdmitFault;
 use crate::spelling::word_of;
 use crate::values::read_values;
 use std::alloc::Global;
 use ta_automaton::File;
+use ta_base::List;
 use ta_encode::{Solution, encode};
-use ta_linear::{List, Row, System};
+use ta_linear::{Row, System};
 use ta_replay::Run;
 use ta_scope::ScopedFile;
 use ta_witness::{WitnessFault, witness};
@@ -34,7 +35,7 @@ pub fn admit(
     bytes: &[u8],
 ) -> Result<Run, AdmitFault>
     requires exists { pattern < length scoped.now.file.patterns }
-    requires legal { OfPattern scoped.now.file pattern (λ p. Legal scoped.now.file.automaton p start_mask (reverse word.now)) }
+    requires legal { OfPattern scoped.now.file pattern (λ p. LegalWord scoped.now.file.automaton p start_mask (reverse word.now)) }
     ensures run { IfOk result (λ run. Admits scoped.now.file (asked pattern start_mask word.now) bytes.now run) }
     ensures fault { IfErr result (AdmitFaultOf scoped.now.file (asked pattern start_mask word.now) bytes.now) }
 {
@@ -64,8 +65,8 @@ fn check_word(
     values: &[i128],
 ) -> Result<(), AdmitFault>
     requires exists { pattern < length file.now.patterns }
-    requires legal { OfPattern file.now pattern (λ p. Legal file.now.automaton p start_mask (reverse word.now)) }
-    ensures passes { OnOk result (Passes file.now (asked pattern start_mask word.now) values.now) }
+    requires legal { OfPattern file.now pattern (λ p. LegalWord file.now.automaton p start_mask (reverse word.now)) }
+    ensures passes { OnOk result (PassesCheck file.now (asked pattern start_mask word.now) values.now) }
     ensures fault { IfErr result (WordFault file.now (asked pattern start_mask word.now) values.now) }
 {
     let encoded = encode(alloc, file, pattern, start_mask, word, &[])?;
@@ -76,7 +77,7 @@ fn check_word(
 /// Whether values are as many as a system's unknowns, and each row holds at them.
 fn check_values(system: &System, values: &[i128]) -> Result<(), AdmitFault>
     requires { length system.now.rows ≤ 2 ^ 32 }
-    ensures passes { OnOk result (Checked system.now values.now) }
+    ensures passes { OnOk result (IsChecked system.now values.now) }
     ensures fault { IfErr result (CheckFault system.now values.now) }
 {
     if values.len() != system.unknowns as usize {
@@ -123,7 +124,7 @@ fn run_of(
 ) -> Result<Run, AdmitFault>
     requires exists { pattern < length scoped.now.file.patterns }
     requires solves { IsSolution scoped.now.file (solution_of (asked pattern start_mask word.now) values.items) }
-    ensures run { IfOk result (λ run. Shown scoped.now.file (asked pattern start_mask word.now) values.items run) }
+    ensures run { IfOk result (λ run. IsRunOfValues scoped.now.file (asked pattern start_mask word.now) values.items run) }
     ensures fault { IfErr result (RunFault scoped.now.file (asked pattern start_mask word.now) values.items) }
 {
     let Ok(word) = word_of(&scoped.file, pattern, start_mask, word.elements()) else {

@@ -2,15 +2,15 @@
 #![tactic(auto)]
 
 ghost use Rattle.std.specs.Prelude.{◌≡◌, ◌==◌, ◌≤◌, ◌++◌, ◌∷◌, [], flat_map, if◌then◌else◌, length, map, string_bytes, IfOk, OnOk};
-ghost use Rattle.ta_automaton.specs.Masks.{numbers_from};
+ghost use Rattle.ta_base.specs.Masks.{numbers_from};
 ghost use Rattle.ta_replay.specs.RunText.{lines_text};
-ghost use Rattle.ta_smt.specs.Export.{DenotesSolutions, constant, multiple, natural_claim, on_side, part, row_claim, sum_of, summands, system_text};
+ghost use Rattle.ta_smt.specs.Export.{DenotesSolutions, constant, multiple, natural_claim, on_side, part, row_claim, summed_term, summands, system_text};
 ghost use Rattle.ta_smt.specs.Script.{assert_line, declare_line, term_text};
 ghost use Rattle.ta_smt.specs.Inside.Leads.{led_text};
 
 use crate::side::Side;
 use std::alloc::{AllocError, Global};
-use ta_automaton::Text;
+use ta_base::Text;
 use ta_linear::{Form, Row, System};
 
 /// The text of a system as a script of SMT-LIB 2.6 in the logic QF_LIA: whole unknowns `uK`, each at
@@ -72,7 +72,7 @@ fn push_row(text: &mut String, row: &Row) -> Result<(), AllocError>
 
 /// Adds what stands on a side of a row.
 fn push_side(text: &mut String, side: Side, form: &Form) -> Result<(), AllocError>
-    ensures { OnOk result (string_bytes text.new ≡ string_bytes text.old ++ term_text (sum_of (summands side form.now))) }
+    ensures { OnOk result (string_bytes text.new ≡ string_bytes text.old ++ term_text (summed_term (summands side form.now))) }
 {
     match count_summands(side, form) {
         0 => {
@@ -90,7 +90,7 @@ fn push_side(text: &mut String, side: Side, form: &Form) -> Result<(), AllocErro
 /// Adds the sum of two summands or more.
 fn push_sum(text: &mut String, side: Side, form: &Form) -> Result<(), AllocError>
     requires { 2 ≤ length (summands side form.now) }
-    ensures { OnOk result (string_bytes text.new ≡ string_bytes text.old ++ term_text (sum_of (summands side form.now))) }
+    ensures { OnOk result (string_bytes text.new ≡ string_bytes text.old ++ term_text (summed_term (summands side form.now))) }
 {
     text.push_str("(+")?;
     push_summands(text, side, form, " ")?;

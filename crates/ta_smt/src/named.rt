@@ -9,7 +9,8 @@ use crate::export::smt_text;
 use crate::fault::WordFault;
 use crate::spelling::word_of;
 use std::alloc::{AllocError, Global};
-use ta_automaton::{File, Pattern, Text};
+use ta_automaton::{File, Pattern};
+use ta_base::Text;
 use ta_encode::encode;
 use ta_words::{Element, Word, is_complete};
 

@@ -5,11 +5,12 @@ ghost use Rattle.std.specs.Prelude.{◌≡◌, ◌==◌, ◌≤◌, ◌≤ℤ◌
 ghost use Rattle.std.specs.List.{list_all, list_any, slice_split};
 ghost use Rattle.std.specs.Str.{bytes_eq};
 ghost use Rattle.ta_counter.specs.Values.{Value};
-ghost use Rattle.ta_syntax.specs.Kinds.{is_letter, is_word};
+ghost use Rattle.ta_base.specs.Bytes.{is_letter, is_word};
 ghost use Rattle.ta_smt.specs.Inside.Elements.{those_elements};
 ghost use Rattle.ta_smt.specs.WordText.{begins_by_letter, element_by, element_of, elements_in, elements_of, is_name, keywords, number_up_to};
 
 use std::alloc::{AllocError, Global};
+use ta_base::bytes::{are_word_bytes, is_letter};
 use ta_replay::read_number;
 use ta_words::Element;
 
@@ -18,7 +19,7 @@ use ta_words::Element;
 pub fn is_name(text: &str) -> bool
     ensures { result ≡ is_name text.now }
 {
-    begins_by_letter(text.as_bytes()) && are_word(text.as_bytes()) && !is_keyword(text)
+    begins_by_letter(text.as_bytes()) && are_word_bytes(text.as_bytes()) && !is_keyword(text)
 }
 
 /// Whether a letter or `_` stands first.
@@ -29,27 +30,6 @@ fn begins_by_letter(bytes: &[u8]) -> bool
         Some((first, _)) => is_letter(*first),
         None => false,
     }
-}
-
-/// Whether each byte may stand in a name.
-fn are_word(bytes: &[u8]) -> bool
-    ensures { result ≡ list_all is_word bytes.now }
-{
-    bytes.iter().all(|byte| is_word(*byte))
-}
-
-/// Whether a byte is a letter or `_`.
-fn is_letter(byte: u8) -> bool
-    ensures { result ≡ is_letter byte }
-{
-    byte.is_ascii_alphabetic() || byte == b'_'
-}
-
-/// Whether a byte may stand in a name.
-fn is_word(byte: u8) -> bool
-    ensures { result ≡ is_word byte }
-{
-    is_letter(byte) || byte.is_ascii_digit()
 }
 
 /// Whether a text is one of the words of the grammar that are no names.

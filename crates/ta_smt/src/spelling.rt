@@ -3,7 +3,7 @@
 
 ghost use Rattle.std.specs.Prelude.{◌≡◌, ◌<◌, length, reverse, IfOk, IfErr};
 ghost use Rattle.ta_words.specs.Calls.{OfPattern};
-ghost use Rattle.ta_words.specs.Words.{Legal};
+ghost use Rattle.ta_words.specs.Words.{LegalWord};
 ghost use Rattle.ta_smt.specs.Spelling.{FirstStranger};
 
 use ta_automaton::File;
@@ -15,7 +15,7 @@ use ta_words::{Element, Word};
 pub fn word_of(file: &File, pattern: u32, start_mask: u8, elements: &[Element]) -> Result<Word, u32>
     requires { pattern < length file.now.patterns }
     ensures word { IfOk result (λ word. word ≡ elements.now) }
-    ensures legal { IfOk result (λ word. OfPattern file.now pattern (λ p. Legal file.now.automaton p start_mask (reverse word))) }
+    ensures legal { IfOk result (λ word. OfPattern file.now pattern (λ p. LegalWord file.now.automaton p start_mask (reverse word))) }
     ensures stranger { IfErr result (λ k. OfPattern file.now pattern (λ p. FirstStranger file.now.automaton p start_mask elements.now k)) }
 {
     let mut word = Word::new();

@@ -7,7 +7,8 @@ ghost use Rattle.ta_smt.specs.Inside.Reading.{LineFault, NextValue, ValueFault};
 
 use crate::fault::AdmitFault;
 use std::alloc::Global;
-use ta_replay::{read_number, split_at_byte};
+use ta_base::bytes::split_at_byte;
+use ta_replay::read_number;
 
 /// The values of a text, one a line.
 pub(crate) fn read_values(alloc: Global, bytes: &[u8]) -> Result<Vec<i128>, AdmitFault>

@@ -4,9 +4,9 @@ use Rattle.std.proofs.lemmas.List.{append-nil}
 use Rattle.ta_syntax.specs.Grammar.{each}
 use Rattle.ta_syntax.specs.Stated.{Offsets}
 use Rattle.ta_syntax.specs.Limits.{Counts, after_mark, IsDeep, IsBlockPast}
-use Rattle.ta_syntax.specs.Parts.{Part, both, many}
+use Rattle.ta_syntax.specs.Parts.{GrammarPart, both, many}
 use Rattle.ta_syntax.specs.Faults.{offset_of}
-use Rattle.ta_syntax.specs.Reading.{Reads, HasRoom, BeginsWith, IsOther}
+use Rattle.ta_syntax.specs.Reading.{ReadsPart, HasRoom, BeginsWithKind, IsOther}
 use Rattle.ta_syntax.specs.ListReading.{IsReady}
 use Rattle.ta_syntax.specs.BlockReading.{IsEntered, KeptBlock, TookBlock, BlockStops}
 use Rattle.ta_syntax.specs.Inside.BlockReading.{AvoidsMark, block_count, IsBlock, KeptOthers, with_mark, TookBlocks, BlocksStop}
@@ -64,13 +64,13 @@ each-push : {A B : Type 0} (item : A → List B) (xs : List A) (x : A) → each 
 each-push item [] x = sym (append-nil (item x))
 each-push item (y ∷ xs) x = append_assoc (item y) (each item xs) (item x) ∙ ap (λ z. item y ++ z) (each-push item xs x)
 
-pub record BlocksSoFar {A : Type 0} (m : Mark) (p : Part) (body : A → List Kind) (stated : A → List Offsets) (limit : ℕ) (items : List A) (tokens rest : List Token) : Type 0 where
+pub record BlocksSoFar {A : Type 0} (m : Mark) (p : GrammarPart) (body : A → List Kind) (stated : A → List Offsets) (limit : ℕ) (items : List A) (tokens rest : List Token) : Type 0 where
   pub few : length items ≤ limit
   pub shorter : length rest ≤ length tokens
-  pub reads : (K : Part) (c : Counts) → AvoidsMark m K → IsReady c → block_count m c ≡ 0
-      → (d : Counts) × KeptOthers m c d × (block_count m d ≡ length items) × Reads (both (many m p) K) c tokens rest (both (many m p) K) d (each (with_mark (kind.Fixed m) body) items) (each (with_mark [] stated) items)
+  pub reads : (K : GrammarPart) (c : Counts) → AvoidsMark m K → IsReady c → block_count m c ≡ 0
+      → (d : Counts) × KeptOthers m c d × (block_count m d ≡ length items) × ReadsPart (both (many m p) K) c tokens rest (both (many m p) K) d (each (with_mark (kind.Fixed m) body) items) (each (with_mark [] stated) items)
 
-module _ {A : Type 0} (m : Mark) (p : Part) (body : A → List Kind) (stated : A → List Offsets) (limit : ℕ) (tokens : List Token) (block : IsBlock m limit) where
+module _ {A : Type 0} (m : Mark) (p : GrammarPart) (body : A → List Kind) (stated : A → List Offsets) (limit : ℕ) (tokens : List Token) (block : IsBlock m limit) where
   pub blocks_begin : BlocksSoFar m p body stated limit [] tokens tokens
   blocks_begin = record {
     few = omega arith;
@@ -78,11 +78,11 @@ module _ {A : Type 0} (m : Mark) (p : Part) (body : A → List Kind) (stated : A
     reads = λ K c avoids r none. (c, record { closed = r.closed; room = r.room; rules = λ other. refl; patterns = λ other. refl }, none, stay);
   }
 
-  step_into : (items : List A) (rest inner : List Token) (K : Part) (c : Counts) (d : Counts) → length items < limit → KeptOthers m c d → block_count m d ≡ length items → AvoidsMark m K → BeginsWith rest (kind.Fixed m) inner
-      → Reads (both (many m p) K) d rest inner (both p (both (many m p) K)) (after_mark d m) (kind.Fixed m ∷ []) ([] ∷ [])
+  step_into : (items : List A) (rest inner : List Token) (K : GrammarPart) (c : Counts) (d : Counts) → length items < limit → KeptOthers m c d → block_count m d ≡ length items → AvoidsMark m K → BeginsWithKind rest (kind.Fixed m) inner
+      → ReadsPart (both (many m p) K) d rest inner (both p (both (many m p) K)) (after_mark d m) (kind.Fixed m ∷ []) ([] ∷ [])
   step_into items rest inner K c d more k count avoids b = then (many_taken m p K b avoids) (take_mark_fits m b (block_fits m limit d block k.room (omega arith)))
 
-  pub blocks_past : (end at : ℕ) (items : List A) (rest inner : List Token) → length items ≡ limit → BlocksSoFar m p body stated limit items tokens rest → BeginsWith rest (kind.Fixed m) inner → at ≡ offset_of end rest → BlocksStop m p end tokens (fault.TooMany at)
+  pub blocks_past : (end at : ℕ) (items : List A) (rest inner : List Token) → length items ≡ limit → BlocksSoFar m p body stated limit items tokens rest → BeginsWithKind rest (kind.Fixed m) inner → at ≡ offset_of end rest → BlocksStop m p end tokens (fault.TooMany at)
   blocks_past end at items rest inner full so_far b at_is = λ K c avoids r none.
       let s = so_far.reads K c avoids r none in
       stops end s.3 (fault.TooMany at) (record {
@@ -99,12 +99,12 @@ module _ {A : Type 0} (m : Mark) (p : Part) (body : A → List Kind) (stated : A
         past = inr (subst (IsBlockPast s.0) (sym b.is) (is_past m limit s.0 block (s.2 ∙ full)));
       })
 
-  pub blocks_stop : (end : ℕ) (items : List A) (rest inner : List Token) (e : FileFault) → length items < limit → BlocksSoFar m p body stated limit items tokens rest → BeginsWith rest (kind.Fixed m) inner → BlockStops m p end inner e → BlocksStop m p end tokens e
+  pub blocks_stop : (end : ℕ) (items : List A) (rest inner : List Token) (e : FileFault) → length items < limit → BlocksSoFar m p body stated limit items tokens rest → BeginsWithKind rest (kind.Fixed m) inner → BlockStops m p end inner e → BlocksStop m p end tokens e
   blocks_stop end items rest inner e more so_far b h = λ K c avoids r none.
       let s = so_far.reads K c avoids r none in
       stops end (then s.3 (step_into items rest inner K c s.0 more s.1 s.2 avoids b)) e (h (both (many m p) K) (after_mark s.0 m) (entered m limit c s.0 block s.1))
 
-  pub blocks_go_on : (items : List A) (x : A) (rest inner after : List Token) → length items < limit → BlocksSoFar m p body stated limit items tokens rest → BeginsWith rest (kind.Fixed m) inner → TookBlock m p (body x) (stated x) inner after → BlocksSoFar m p body stated limit (items ++ x ∷ []) tokens after
+  pub blocks_go_on : (items : List A) (x : A) (rest inner after : List Token) → length items < limit → BlocksSoFar m p body stated limit items tokens rest → BeginsWithKind rest (kind.Fixed m) inner → TookBlock m p (body x) (stated x) inner after → BlocksSoFar m p body stated limit (items ++ x ∷ []) tokens after
   blocks_go_on items x rest inner after more so_far b took = record {
     few = omega (arith, length-append items (x ∷ []));
     shorter = omega (arith, so_far.shorter, ap length b.split, took.shorter);

@@ -1,10 +1,10 @@
 -- A sum whose tokens are given is that of a value of the program.
-use Rattle.std.proofs.Common.{◌≡◌, ℕ, suc, ◌+◌, ◌-◌, ◌<◌, ◌≤◌, ◌^◌, List, [], ◌∷◌, ◌++◌, length, Some, None, refl, sym, ap, ap₂, subst, ◌∙◌, arith, length-append}
+use Rattle.std.proofs.Common.{◌≡◌, suc, ◌+◌, ◌<◌, ◌≤◌, ◌^◌, List, [], ◌∷◌, ◌++◌, length, Some, None, refl, sym, ap, ap₂, subst, ◌∙◌, arith}
 use Rattle.std.specs.Global.{Vec}
 use denote.RawPtr.{null_ptr}
 use Rattle.ta_syntax.specs.Grammar.{Terms, Term, Factor, done, term, number, times, alone, blank, named, nested, sign_kind, sum_kinds, more_kinds, term_kinds, factor_kinds, IsSum, AreTerms, IsTerm, IsFactor}
 use Rattle.ta_syntax.specs.PlainSums.{plain_sum, plain_term, plain_factor, plain_terms}
-use Rattle.ta_syntax.specs.Stated.{Offsets, IsPlaced, at_first, more_of, sum_of, unplaced_sign, sum_stated, sum_term_stated, sum_factor_stated}
+use Rattle.ta_syntax.specs.Stated.{Offsets, IsPlaced, at_first, more_of, signed_sum, unplaced_sign, sum_stated, sum_term_stated, sum_factor_stated}
 use Rattle.ta_syntax.specs.Faults.{kinds, offset_of}
 use Rattle.ta_syntax.specs.declared.tokens.Kind.{Kind}
 use Rattle.ta_syntax.specs.declared.tokens.Kind.TheVariants as kind
@@ -17,7 +17,7 @@ use Rattle.ta_syntax.specs.declared.names.Spelled.{Spelled}
 use Rattle.ta_syntax.specs.declared.sums.TreeSum.{TreeSum}
 use Rattle.ta_syntax.specs.declared.sums.TreeTerm.{TreeTerm}
 use Rattle.ta_syntax.specs.declared.sums.TreeFactor.{TreeFactor, Named, Nested}
-use Rattle.ta_syntax.specs.declared.sums.TreeFactor.TheOpen.{TreeFactor-F, TreeSum-F, TreeTerm-F}
+use Rattle.ta_syntax.specs.declared.sums.TreeFactor.TheOpen.{TreeSum-F}
 use Rattle.ta_syntax.specs.declared.sums.TreeFactor.TheViews.{roll-TreeSum, roll-TreeTerm}
 use Rattle.ta_syntax.proofs.SumSteps.{plain_sum_roll, plain_number, plain_times, plain_alone, plain_named, plain_nested, stated_number, stated_times, stated_alone, stated_named, stated_nested, stated_sum_roll, pairs}
 
@@ -26,7 +26,6 @@ abbrev vec_of : {A : Type 0} (xs : List A) → length xs < 2 ^ 63 → Vec A
 vec_of xs small = record { ptr = null_ptr; len = length xs; cap = length xs; alloc = record { memory = record { seal = tt } }; items = xs; ok = (refl, omega arith); small = small }
 
 -- ---- tokens in two parts
-
 abbrev pub tail : List Token → List Token
 tail [] = []
 tail (t ∷ ts) = ts
@@ -122,7 +121,6 @@ placed_both (k ∷ a) b (t ∷ ts) [] y e p q = absurd p
 placed_both (k ∷ a) b (t ∷ ts) (o ∷ x) y e p q = (p.0, placed_both a b ts x y (let more : kinds ts ≡ a ++ b = cc in more) p.1 q)
 
 -- ---- sums
-
 record BuiltTerms (ts : Terms) (front : List Token) : Type 0 where
   items : List (Sign × TreeTerm)
   plain : plain_terms items ≡ ts
@@ -183,7 +181,7 @@ module _ (t : Term) (ts : Terms) (is : IsTerm t) (front : List Token) (e : kinds
   few_items : suc (length more.items) ≤ length front
   few_items = few_terms t ts is front more.items e more.few
 
-  built_sum : (s : Sign) (whole : List Token) → Small front → IsPlaced (sum_of unplaced_sign (pairs sum_term_stated ((s, first.value) ∷ more.items))) whole → BuiltSum (term s t ts) whole
+  built_sum : (s : Sign) (whole : List Token) → Small front → IsPlaced (signed_sum unplaced_sign (pairs sum_term_stated ((s, first.value) ∷ more.items))) whole → BuiltSum (term s t ts) whole
   built_sum s whole small placed =
       let items = vec_of ((s, first.value) ∷ more.items) (omega (arith, few_items)) in
       let sum : TreeSum-F TreeFactor TreeSum TreeTerm = record { terms = items } in

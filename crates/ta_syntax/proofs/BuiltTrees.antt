@@ -1,15 +1,15 @@
 -- A text of the grammar within the limits has a tree of the program.
-use Rattle.std.proofs.Common.{◌≡◌, ℕ, suc, ◌+◌, ◌<◌, ◌≤◌, ◌^◌, Bool, true, false, List, [], ◌∷◌, ◌++◌, length, map, refl, sym, ap, ap₂, subst, ◌∙◌, arith, length-append}
+use Rattle.std.proofs.Common.{◌≡◌, ℕ, ◌+◌, ◌≤◌, Bool, true, false, List, [], ◌∷◌, ◌++◌, length, map, refl, sym, ap, ap₂, subst, ◌∙◌, arith, length-append}
 use Rattle.std.specs.List.{AllByRecursion}
-use Rattle.std.proofs.lemmas.List.{length-map}
+use Rattle.ta_base.proofs.Lists.{length_of_map}
 use Rattle.ta_syntax.specs.Kinds.{IsNameText, kind_bytes}
-use Rattle.ta_syntax.specs.Grammar.{PlainComparison, PlainLocation, PlainUpdate, PlainRule, PlainEvent, PlainPattern, PlainTree, sum_kinds, relation_kind, listed, further, led, ended, each, name_kinds, initial_kinds, location_kinds, comparison_kinds, update_kinds, rule_kinds, event_kinds, pattern_kinds, file_kinds, IsSum, IsSome, IsComparison, IsUpdate, IsRule, IsEvent, IsPattern, IsTree}
+use Rattle.ta_syntax.specs.Grammar.{PlainComparison, PlainRule, PlainEvent, PlainPattern, PlainTree, sum_kinds, relation_kind, listed, further, led, ended, each, name_kinds, initial_kinds, location_kinds, comparison_kinds, update_kinds, rule_kinds, event_kinds, pattern_kinds, file_kinds, IsSum, IsSome, IsComparison, IsUpdate, IsRule, IsEvent, IsPattern, IsTree}
 use Rattle.ta_syntax.specs.PlainSums.{plain_sum, sum_depth}
 use Rattle.ta_syntax.specs.PlainTrees.{plain_name, plain_comparison, plain_location, plain_update, plain_rule, plain_event, plain_pattern, plain_tree}
 use Rattle.ta_syntax.specs.Stated.{Offsets, IsPlaced, at_first, unplaced, sum_stated, name_stated, initial_stated, location_stated, comparison_stated, update_stated, rule_stated, event_stated, pattern_stated, tree_stated}
 use Rattle.ta_syntax.specs.Limits.{IsShallow, IsRuleWithin, IsEventWithin, IsPatternWithin, IsTreeWithin}
 use Rattle.ta_syntax.specs.Faults.{kinds, offset_of}
-use Rattle.ta_syntax.specs.Tokens.{ScansTo, AreTokens, IsLastGap}
+use Rattle.ta_syntax.specs.Tokens.{ScansTo, IsLastGap}
 use Rattle.ta_syntax.specs.TreeOf.{IsTextOf, IsTreeOf}
 use Rattle.ta_syntax.specs.declared.tokens.Kind.{Kind}
 use Rattle.ta_syntax.specs.declared.tokens.Kind.TheVariants as kind
@@ -26,7 +26,7 @@ use Rattle.ta_syntax.specs.declared.tree.TreeRule.{TreeRule}
 use Rattle.ta_syntax.specs.declared.tree.TreeEvent.{TreeEvent}
 use Rattle.ta_syntax.specs.declared.tree.TreePattern.{TreePattern}
 use Rattle.ta_syntax.specs.declared.tree.Tree.{Tree}
-use Rattle.ta_syntax.proofs.BuiltSums.{tail, before, behind, Small, small_tail, small_before, small_behind, kinds_tail, kinds_before, kinds_behind, placed_mark, placed_name, placed_last, placed_none, placed_first, placed_both, BuiltSum, sum_built}
+use Rattle.ta_syntax.proofs.BuiltSums.{tail, before, behind, Small, small_tail, small_before, small_behind, kinds_tail, kinds_before, kinds_behind, placed_mark, placed_name, placed_last, placed_none, placed_first, placed_both, sum_built}
 use Rattle.ta_syntax.proofs.Scans.{kind_some}
 use Rattle.ta_syntax.proofs.TreeLimits.{behind_rules, behind_processes, behind_locations, behind_shared, behind_parameters}
 
@@ -43,7 +43,6 @@ abbrev Builds : {A P : Type 0} → (A → P) → (A → List Offsets) → (P →
 Builds {P = P} plain stated spell Good = (p : P) → Good p → (front : List Token) → kinds front ≡ spell p → Small front → Built plain stated p front
 
 -- ---- lists
-
 module _ {A P : Type 0} (plain : A → P) (stated : A → List Offsets) (spell : P → List Kind) (Good : P → Type 0) (item : Builds plain stated spell Good) where
   further_built : Builds (map plain) (further unplaced stated) (further kind.Fixed spell) (AllByRecursion Good)
   further_built [] all front e small = record { value = []; same = refl; placed = placed_none front e }
@@ -115,7 +114,6 @@ module _ {A P : Type 0} (plain : A → P) (stated : A → List Offsets) (spell :
       }
 
 -- ---- items
-
 abbrev spelled_at : (n : List ℕ) → IsNameText n → List Token → Spelled
 spelled_at n is ts = record { name = n; at = offset_of 0 ts; legal = is }
 
@@ -179,11 +177,7 @@ all_good : (cs : List PlainComparison) → AllByRecursion IsComparison cs → Al
 all_good [] p q = tt
 all_good (c ∷ cs) p q = (record { legal = p.0; shallow = q.0 }, all_good cs p.1 q.1)
 
-same_length : {A P : Type 0} (plain : A → P) (xs : List A) (ps : List P) → map plain xs ≡ ps → length xs ≡ length ps
-same_length plain xs ps e = sym (length-map xs plain) ∙ ap length e
-
 -- ---- rules, events and patterns
-
 record GoodRule (r : PlainRule) : Type 0 where
   legal : IsRule r
   within : IsRuleWithin r
@@ -253,8 +247,8 @@ rules_built r good front e small =
         to = spelled_at r.to good.legal.to f5;
         guards = b.guards;
         updates = b.updates;
-        few_guards = subst (λ n. n ≤ 16) (sym (same_length plain_comparison b.guards r.guards b.same_guards)) good.within.guards;
-        few_updates = subst (λ n. n ≤ 16) (sym (same_length plain_update b.updates r.updates b.same_updates)) good.within.updates;
+        few_guards = subst (λ n. n ≤ 16) (sym (length_of_map plain_comparison b.guards r.guards b.same_guards)) good.within.guards;
+        few_updates = subst (λ n. n ≤ 16) (sym (length_of_map plain_update b.updates r.updates b.same_updates)) good.within.updates;
       };
       same = ap₂ (λ gs us. let p : PlainRule = record { name = r.name; from = r.from; to = r.to; guards = gs; updates = us } in p) b.same_guards b.same_updates;
       placed = placed_mark (fixed mark.Rule) k1 front s1 e (placed_name (kind.Name r.name) k2 f1 s2 e1 (placed_mark (fixed mark.Colon) k3 f2 s3 e2 (placed_name (kind.Name r.from) k4 f3 s4 e3 (placed_mark (fixed mark.Arrow) k5 f4 s5 e4 (placed_name (kind.Name r.to) body f5 s6 e5 b.placed)))));
@@ -264,7 +258,7 @@ record GoodEvent (e : PlainEvent) : Type 0 where
   legal : IsEvent e
   within : IsEventWithin e
 
-some_length : {A : Type 0} (xs : List A) → IsSome xs → 1 ≤ length xs
+pub some_length : {A : Type 0} (xs : List A) → IsSome xs → 1 ≤ length xs
 some_length [] some = absurd some
 some_length (x ∷ xs) some = omega arith
 
@@ -293,9 +287,9 @@ events_built v good front e small =
         name = spelled_at v.name good.legal.name f1;
         after = a.value;
         condition = c.value;
-        few_after = subst (λ n. n ≤ 8) (sym (same_length plain_name a.value v.after a.same)) good.within.after;
-        some = subst (λ n. 1 ≤ n) (sym (same_length plain_comparison c.value v.condition c.same)) (some_length v.condition good.legal.some);
-        few = subst (λ n. n ≤ 16) (sym (same_length plain_comparison c.value v.condition c.same)) good.within.condition;
+        few_after = subst (λ n. n ≤ 8) (sym (length_of_map plain_name a.value v.after a.same)) good.within.after;
+        some = subst (λ n. 1 ≤ n) (sym (length_of_map plain_comparison c.value v.condition c.same)) (some_length v.condition good.legal.some);
+        few = subst (λ n. n ≤ 16) (sym (length_of_map plain_comparison c.value v.condition c.same)) good.within.condition;
       };
       same = ap₂ (λ ns cs. let p : PlainEvent = record { name = v.name; after = ns; condition = cs } in p) a.same c.same;
       placed = placed_mark (fixed mark.Event) k1 front s1 e (placed_name (kind.Name v.name) k2 f1 s2 e1 (placed_both names (fixed mark.Colon ∷ condition) f2 s3 ([] ∷ s4) e2 a.placed (placed_mark (fixed mark.Colon) condition back s4 e3 c.placed)));
@@ -371,16 +365,15 @@ patterns_built p good front e small =
         start = b.start;
         empty = b.empty;
         events = b.events;
-        few_start = subst (λ n. n ≤ 16) (sym (same_length plain_comparison b.start p.start b.same_start)) good.within.start;
-        few_empty = subst (λ n. n ≤ 32) (sym (same_length plain_name b.empty p.empty b.same_empty)) good.within.empty;
-        few_events = subst (λ n. n ≤ 8) (sym (same_length plain_event b.events p.events b.same_events)) good.within.events;
+        few_start = subst (λ n. n ≤ 16) (sym (length_of_map plain_comparison b.start p.start b.same_start)) good.within.start;
+        few_empty = subst (λ n. n ≤ 32) (sym (length_of_map plain_name b.empty p.empty b.same_empty)) good.within.empty;
+        few_events = subst (λ n. n ≤ 8) (sym (length_of_map plain_event b.events p.events b.same_events)) good.within.events;
       };
       same = λ i. let q : PlainPattern = record { name = p.name; start = b.same_start i; empty = b.same_empty i; events = b.same_events i } in q;
       placed = placed_mark (fixed mark.Pattern) k1 front s1 e (placed_name (kind.Name p.name) k2 f1 s2 e1 (placed_mark (fixed mark.OpenBrace) body f2 s3 e2 b.placed));
     }
 
 -- ---- files
-
 record GoodTree (t : PlainTree) : Type 0 where
   legal : IsTree t
   within : IsTreeWithin t
@@ -579,15 +572,15 @@ module _ (t : PlainTree) (good : GoodTree t) where
         resilience = c.resilience;
         rules = c.rules;
         patterns = c.patterns;
-        few_parameters = subst (λ n. n ≤ 16) (sym (same_length plain_name b.parameters t.parameters b.same_parameters)) good.within.parameters;
-        few_shared = subst (λ n. n ≤ 16) (sym (same_length plain_name b.shared t.shared b.same_shared)) good.within.shared;
-        some_locations = subst (λ n. 1 ≤ n) (sym (same_length plain_location l.locations t.locations l.same_locations)) (some_length t.locations good.legal.some);
-        few_locations = subst (λ n. n ≤ 32) (sym (same_length plain_location l.locations t.locations l.same_locations)) good.within.locations;
+        few_parameters = subst (λ n. n ≤ 16) (sym (length_of_map plain_name b.parameters t.parameters b.same_parameters)) good.within.parameters;
+        few_shared = subst (λ n. n ≤ 16) (sym (length_of_map plain_name b.shared t.shared b.same_shared)) good.within.shared;
+        some_locations = subst (λ n. 1 ≤ n) (sym (length_of_map plain_location l.locations t.locations l.same_locations)) (some_length t.locations good.legal.some);
+        few_locations = subst (λ n. n ≤ 32) (sym (length_of_map plain_location l.locations t.locations l.same_locations)) good.within.locations;
         is_processes = subst IsSum (sym p.same_processes) good.legal.processes;
         shallow_processes = subst (λ x. sum_depth x ≤ 32) (sym p.same_processes) good.within.processes;
-        few_resilience = subst (λ n. n ≤ 16) (sym (same_length plain_comparison c.resilience t.resilience c.same_resilience)) good.within.resilience;
-        few_rules = subst (λ n. n ≤ 128) (sym (same_length plain_rule c.rules t.rules c.same_rules)) good.within.rules;
-        few_patterns = subst (λ n. n ≤ 16) (sym (same_length plain_pattern c.patterns t.patterns c.same_patterns)) good.within.patterns;
+        few_resilience = subst (λ n. n ≤ 16) (sym (length_of_map plain_comparison c.resilience t.resilience c.same_resilience)) good.within.resilience;
+        few_rules = subst (λ n. n ≤ 128) (sym (length_of_map plain_rule c.rules t.rules c.same_rules)) good.within.rules;
+        few_patterns = subst (λ n. n ≤ 16) (sym (length_of_map plain_pattern c.patterns t.patterns c.same_patterns)) good.within.patterns;
       } in
       record {
         tree = tree;

@@ -1,19 +1,20 @@
 -- Reading the parts of a file.
-use Rattle.std.proofs.Common.{◌≡◌, ℕ, List, [], ◌∷◌, ◌++◌, lit<, map, refl, sym, ap, subst, ◌∙◌, append_assoc, arith}
+use Rattle.std.proofs.Common.{◌≡◌, ℕ, List, [], ◌∷◌, ◌++◌, lit<, map, refl, sym, ap, subst, ◌∙◌, arith}
 use Rattle.std.proofs.lemmas.List.{append-nil}
+use Rattle.ta_base.proofs.Lists.{left_nested, regroup}
 use Rattle.ta_syntax.specs.Grammar.{listed, further, led, ended, each, sum_kinds, file_kinds, rule_kinds, event_kinds, pattern_kinds, name_kinds, location_kinds, comparison_kinds, update_kinds}
 use Rattle.ta_syntax.specs.PlainSums.{plain_sum}
 use Rattle.ta_syntax.specs.PlainTrees.{plain_name, plain_location, plain_comparison, plain_update, plain_rule, plain_event, plain_pattern}
 use Rattle.ta_syntax.specs.Stated.{Offsets, unplaced, at_first, sum_stated, name_stated, location_stated, comparison_stated, rule_stated, pattern_stated, IsPlaced}
 use Rattle.ta_syntax.specs.Limits.{Counts, at_start, begin_list}
-use Rattle.ta_syntax.specs.Parts.{Part, Text, nothing, a_mark, a_name, a_sum, both, many}
+use Rattle.ta_syntax.specs.Parts.{GrammarPart, Text, nothing, a_mark, a_name, a_sum, both, many}
 use Rattle.ta_syntax.specs.Inside.Parts.{list_part, comparison_part, location_part, rule_part, pattern_part, file_part}
-use Rattle.ta_syntax.specs.Faults.{kinds, SameStart, Stopped, IsWrong, offset_of}
-use Rattle.ta_syntax.specs.Reading.{Reads, Avoids, BeginsWith, IsUnexpected}
+use Rattle.ta_syntax.specs.Faults.{kinds, SameStart, IsStopped, IsWrong, offset_of}
+use Rattle.ta_syntax.specs.Reading.{ReadsPart, NeverBegins, BeginsWithKind, IsUnexpected}
 use Rattle.ta_syntax.specs.Inside.Reading.{MayOpen, is_operator, TookSum, SumStops}
 use Rattle.ta_syntax.specs.ListReading.{IsReady}
 use Rattle.ta_syntax.specs.Inside.ListReading.{IsFresh}
-use Rattle.ta_syntax.specs.Inside.BlockReading.{AvoidsMark, Kept, ReadsKept, TookNameThen, NameThenStops, TookEnd, EndStops, declared_part, TookDeclared, DeclaredStops, KeptOthers, with_mark, TookBlocks, BlocksStop}
+use Rattle.ta_syntax.specs.Inside.BlockReading.{AvoidsMark, IsBetweenParts, ReadsKept, TookNameThen, NameThenStops, TookEnd, EndStops, declared_part, TookDeclared, DeclaredStops, KeptOthers, with_mark, TookBlocks, BlocksStop}
 use Rattle.ta_syntax.specs.Inside.RuleBodies.{spell_name, spell_comparison, spell_update, spell_location, rule_body, rule_body_stated, event_body, pattern_body, pattern_body_stated}
 use Rattle.ta_syntax.specs.Inside.FileReading.{locations_part, TookLocations, LocationsStop, processes_part, TookProcesses, ProcessesStop}
 use Rattle.ta_syntax.specs.declared.tokens.Kind.{Kind}
@@ -35,7 +36,6 @@ use Rattle.ta_syntax.proofs.ListSteps.{mark_avoids, many_avoids_mark}
 use Rattle.ta_syntax.proofs.ClauseSteps.{kept_ready, same_counts, then_kept, name_then}
 
 -- ---- locations
-
 abbrev listing : Counts → Counts
 listing c = begin_list 32 c
 
@@ -45,8 +45,8 @@ fresh_locations c r = record { closed = r.closed; none = refl; limited = refl }
 pub locations_unmarked : (end : ℕ) (tokens : List Token) (e : FileFault) → IsUnexpected end tokens mark.Locations e → LocationsStop end tokens e
 locations_unmarked end tokens e h = λ K c r. mark_stops (both (list_part location_part) (both (a_mark mark.Semicolon) K)) c end tokens mark.Locations e h
 
-module _ (end at : ℕ) (tokens rest : List Token) (b : BeginsWith tokens (kind.Fixed mark.Locations) rest) (at_is : at ≡ offset_of end tokens) where
-  locations_begun : (K : Part) (c : Counts) → IsReady c → Reads (locations_part K) c tokens rest (both (list_part location_part) (both (a_mark mark.Semicolon) K)) (listing c) (kind.Fixed mark.Locations ∷ []) ((at ∷ []) ∷ [])
+module _ (end at : ℕ) (tokens rest : List Token) (b : BeginsWithKind tokens (kind.Fixed mark.Locations) rest) (at_is : at ≡ offset_of end tokens) where
+  locations_begun : (K : GrammarPart) (c : Counts) → IsReady c → ReadsPart (locations_part K) c tokens rest (both (list_part location_part) (both (a_mark mark.Semicolon) K)) (listing c) (kind.Fixed mark.Locations ∷ []) ((at ∷ []) ∷ [])
   locations_begun K c r = take_mark_at mark.Locations end at b r.room tt at_is
 
   pub locations_stop : (e : FileFault) → EndStops location_part 32 end rest e → LocationsStop end tokens e
@@ -58,20 +58,19 @@ module _ (end at : ℕ) (tokens rest : List Token) (b : BeginsWith tokens (kind.
     few = took.few;
     reads = λ K c r.
         let t = took.reads K (listing c) (fresh_locations c r) in
-        let k : Kept (listing c) t.counts = t.kept in
+        let k : IsBetweenParts (listing c) t.counts = t.kept in
         record { counts = t.counts; kept = record { closed = k.closed; room = k.room; rules = k.rules; patterns = k.patterns; events = k.events }; reads = then (locations_begun K c r) t.reads };
   }
 
 -- ---- processes
-
 pub processes_unmarked : (end : ℕ) (tokens : List Token) (e : FileFault) → IsUnexpected end tokens mark.Processes e → ProcessesStop end tokens e
 processes_unmarked end tokens e h = λ K c r. mark_stops (both a_sum (both (a_mark mark.Semicolon) K)) c end tokens mark.Processes e h
 
-module _ (end : ℕ) (tokens r1 : List Token) (b : BeginsWith tokens (kind.Fixed mark.Processes) r1) where
-  processes_begun : (K : Part) (c : Counts) → IsReady c → Reads (processes_part K) c tokens r1 (both a_sum (both (a_mark mark.Semicolon) K)) c (kind.Fixed mark.Processes ∷ []) ([] ∷ [])
+module _ (end : ℕ) (tokens r1 : List Token) (b : BeginsWithKind tokens (kind.Fixed mark.Processes) r1) where
+  processes_begun : (K : GrammarPart) (c : Counts) → IsReady c → ReadsPart (processes_part K) c tokens r1 (both a_sum (both (a_mark mark.Semicolon) K)) c (kind.Fixed mark.Processes ∷ []) ([] ∷ [])
   processes_begun K c r = take_mark mark.Processes b r.room tt
 
-  semicolon_avoids : (K : Part) → Avoids is_operator (both (a_mark mark.Semicolon) K)
+  semicolon_avoids : (K : GrammarPart) → NeverBegins is_operator (both (a_mark mark.Semicolon) K)
   semicolon_avoids K = mark_avoids is_operator mark.Semicolon K refl
 
   may_open : (c : Counts) → IsReady c → MayOpen 32 c
@@ -81,13 +80,13 @@ module _ (end : ℕ) (tokens r1 : List Token) (b : BeginsWith tokens (kind.Fixed
   processes_sum_stops e h = λ K c r. stops end (processes_begun K c r) e (h (both (a_mark mark.Semicolon) K) c (semicolon_avoids K) (may_open c r))
 
   module _ (r2 : List Token) (s : TreeSum) (took : TookSum 32 s r1 r2) where
-    summed : (K : Part) (c : Counts) → IsReady c → Reads (both a_sum (both (a_mark mark.Semicolon) K)) c r1 r2 (both (a_mark mark.Semicolon) K) c (sum_kinds (plain_sum s)) (sum_stated s)
+    summed : (K : GrammarPart) (c : Counts) → IsReady c → ReadsPart (both a_sum (both (a_mark mark.Semicolon) K)) c r1 r2 (both (a_mark mark.Semicolon) K) c (sum_kinds (plain_sum s)) (sum_stated s)
     summed K c r = took.reads (both (a_mark mark.Semicolon) K) c (semicolon_avoids K) (may_open c r)
 
     pub processes_end_stops : (e : FileFault) → IsUnexpected end r2 mark.Semicolon e → ProcessesStop end tokens e
     processes_end_stops e h = λ K c r. stops end (then (processes_begun K c r) (summed K c r)) e (mark_stops K c end r2 mark.Semicolon e h)
 
-    pub took_processes : (at : ℕ) (rest : List Token) → at ≡ offset_of end r1 → BeginsWith r2 (kind.Fixed mark.Semicolon) rest → TookProcesses at s tokens rest
+    pub took_processes : (at : ℕ) (rest : List Token) → at ≡ offset_of end r1 → BeginsWithKind r2 (kind.Fixed mark.Semicolon) rest → TookProcesses at s tokens rest
     took_processes at rest at_is b3 = record {
       is = took.is;
       shallow = took.shallow;
@@ -95,7 +94,6 @@ module _ (end : ℕ) (tokens r1 : List Token) (b : BeginsWith tokens (kind.Fixed
     }
 
 -- ---- the tokens of lists without offsets
-
 further_map : {A B C : Type 0} (fixed : Mark → C) (f : B → List C) (g : A → B) (xs : List A) → further fixed (λ x. f (g x)) xs ≡ further fixed f (map g xs)
 further_map fixed f g [] = refl
 further_map fixed f g (x ∷ xs) = ap (λ z. fixed mark.Comma ∷ (f (g x) ++ z)) (further_map fixed f g xs)
@@ -133,42 +131,32 @@ pattern_spelled p =
     ∙ ap (λ (z : List Kind). kind.Fixed mark.Pattern ∷ kind.Name p.name.name ∷ kind.Fixed mark.OpenBrace ∷ (ended kind.Fixed mark.Start comparison_kinds (map plain_comparison p.start) ++ (z ++ (each (with_mark (kind.Fixed mark.Event) event_body) p.events ++ kind.Fixed mark.CloseBrace ∷ [])))) (ended_map kind.Fixed mark.Empty name_kinds plain_name p.empty)
     ∙ ap (λ (z : List Kind). kind.Fixed mark.Pattern ∷ kind.Name p.name.name ∷ kind.Fixed mark.OpenBrace ∷ (ended kind.Fixed mark.Start comparison_kinds (map plain_comparison p.start) ++ (ended kind.Fixed mark.Empty name_kinds (map plain_name p.empty) ++ (z ++ kind.Fixed mark.CloseBrace ∷ [])))) (each_map (with_mark (kind.Fixed mark.Event) event_body) event_kinds plain_event event_spelled p.events)
 
--- the pieces of a file, each with its semicolon
-pub regroup : {B : Type 0} (a b c d e s t u v w : B) (la lb lc ld le r : List B) → (a ∷ (la ++ s ∷ [])) ++ ((b ∷ (lb ++ t ∷ [])) ++ ((c ∷ (lc ++ u ∷ [])) ++ ((d ∷ (ld ++ v ∷ [])) ++ ((e ∷ (le ++ w ∷ [])) ++ r)))) ≡ a ∷ (la ++ s ∷ b ∷ (lb ++ t ∷ c ∷ (lc ++ u ∷ d ∷ (ld ++ v ∷ e ∷ (le ++ w ∷ r)))))
-regroup a b c d e s t u v w la lb lc ld le r =
-    ap (λ z. a ∷ z) (append_assoc la (s ∷ []) ((b ∷ (lb ++ t ∷ [])) ++ ((c ∷ (lc ++ u ∷ [])) ++ ((d ∷ (ld ++ v ∷ [])) ++ ((e ∷ (le ++ w ∷ [])) ++ r)))))
-    ∙ ap (λ z. a ∷ (la ++ s ∷ b ∷ z)) (append_assoc lb (t ∷ []) ((c ∷ (lc ++ u ∷ [])) ++ ((d ∷ (ld ++ v ∷ [])) ++ ((e ∷ (le ++ w ∷ [])) ++ r))))
-    ∙ ap (λ z. a ∷ (la ++ s ∷ b ∷ (lb ++ t ∷ c ∷ z))) (append_assoc lc (u ∷ []) ((d ∷ (ld ++ v ∷ [])) ++ ((e ∷ (le ++ w ∷ [])) ++ r)))
-    ∙ ap (λ z. a ∷ (la ++ s ∷ b ∷ (lb ++ t ∷ c ∷ (lc ++ u ∷ d ∷ z)))) (append_assoc ld (v ∷ []) ((e ∷ (le ++ w ∷ [])) ++ r))
-    ∙ ap (λ z. a ∷ (la ++ s ∷ b ∷ (lb ++ t ∷ c ∷ (lc ++ u ∷ d ∷ (ld ++ v ∷ e ∷ z))))) (append_assoc le (w ∷ []) r)
-
 -- ---- a file
-
-abbrev patterns_rest : Part
+abbrev patterns_rest : GrammarPart
 patterns_rest = both (many mark.Pattern pattern_part) nothing
 
-abbrev rules_rest : Part
+abbrev rules_rest : GrammarPart
 rules_rest = both (many mark.Rule rule_part) patterns_rest
 
-abbrev resilience_rest : Part
+abbrev resilience_rest : GrammarPart
 resilience_rest = declared_part mark.Resilience comparison_part rules_rest
 
-abbrev processes_rest : Part
+abbrev processes_rest : GrammarPart
 processes_rest = processes_part resilience_rest
 
-abbrev locations_rest : Part
+abbrev locations_rest : GrammarPart
 locations_rest = locations_part processes_rest
 
-abbrev shared_rest : Part
+abbrev shared_rest : GrammarPart
 shared_rest = declared_part mark.Shared a_name locations_rest
 
-abbrev parameters_rest : Part
+abbrev parameters_rest : GrammarPart
 parameters_rest = declared_part mark.Parameters a_name shared_rest
 
-abbrev named_rest : Part
+abbrev named_rest : GrammarPart
 named_rest = both a_name (both (a_mark mark.Semicolon) parameters_rest)
 
-abbrev pub whole_file : Part
+abbrev pub whole_file : GrammarPart
 whole_file = both file_part nothing
 
 no_pattern : AvoidsMark mark.Pattern nothing
@@ -182,15 +170,15 @@ start_ready = record { closed = refl; room = lit< tt }
 
 -- a fault of the whole file
 abbrev pub WholeStops : ℕ → List Token → FileFault → Type 0
-WholeStops end tokens e = Stopped (Text whole_file) at_start end tokens e
+WholeStops end tokens e = IsStopped (Text whole_file) at_start end tokens e
 
-abbrev So : List Token → List Token → Part → List Kind → List Offsets → Type 0
+abbrev So : List Token → List Token → GrammarPart → List Kind → List Offsets → Type 0
 So tokens rest M text x = ReadsKept whole_file at_start tokens rest M text x
 
-so_ready : {tokens rest : List Token} {M : Part} {text : List Kind} {x : List Offsets} (a : So tokens rest M text x) → IsReady a.counts
+so_ready : {tokens rest : List Token} {M : GrammarPart} {text : List Kind} {x : List Offsets} (a : So tokens rest M text x) → IsReady a.counts
 so_ready a = kept_ready at_start a.counts a.kept
 
-so_stops : {tokens rest : List Token} {M : Part} {text : List Kind} {x : List Offsets} (end : ℕ) (a : So tokens rest M text x) (e : FileFault) → Stopped (Text M) a.counts end rest e → WholeStops end tokens e
+so_stops : {tokens rest : List Token} {M : GrammarPart} {text : List Kind} {x : List Offsets} (end : ℕ) (a : So tokens rest M text x) (e : FileFault) → IsStopped (Text M) a.counts end rest e → WholeStops end tokens e
 so_stops end a e h = stops end a.reads e h
 
 pub file_unmarked : (end : ℕ) (tokens : List Token) (e : FileFault) → IsUnexpected end tokens mark.Automaton e → WholeStops end tokens e
@@ -203,10 +191,7 @@ clause m f xs = kind.Fixed m ∷ (listed kind.Fixed f xs ++ kind.Fixed mark.Semi
 abbrev clause_stated : {A : Type 0} → Offsets → (A → List Offsets) → List A → List Offsets
 clause_stated first f xs = first ∷ (listed unplaced f xs ++ [] ∷ [])
 
-left_nested : {B : Type 0} (h a b c d e r q : List B) → ((((((h ++ a) ++ b) ++ c) ++ d) ++ e) ++ r) ++ q ≡ h ++ (a ++ (b ++ (c ++ (d ++ (e ++ (r ++ q))))))
-left_nested h a b c d e r q = simp append_assoc
-
-whole_read : (tokens rest : List Token) (d : Counts) (text : List Kind) (x : List Offsets) → Reads whole_file at_start tokens rest nothing d text x → rest ≡ [] → (kinds tokens ≡ text) × IsPlaced x tokens
+whole_read : (tokens rest : List Token) (d : Counts) (text : List Kind) (x : List Offsets) → ReadsPart whole_file at_start tokens rest nothing d text x → rest ≡ [] → (kinds tokens ≡ text) × IsPlaced x tokens
 whole_read tokens rest d text x a none =
     let front : tokens ≡ a.front = a.split ∙ ap (λ (z : List Token). a.front ++ z) none ∙ append-nil a.front in
     (ap kinds front ∙ a.spelled, subst (IsPlaced x) (sym front) a.placed)
@@ -224,7 +209,7 @@ plain_lists parameters shared locations processes resilience rules patterns = sa
     same : (p p' s s' l l' n c c' r r' q q' : List Kind) → p ≡ p' → s ≡ s' → l ≡ l' → c ≡ c' → r ≡ r' → q ≡ q' → tail_kinds p s l n c r q ≡ tail_kinds p' s' l' n c' r' q'
     same p p' s s' l l' n c c' r r' q q' e1 e2 e3 e4 e5 e6 = cc
 
-module _ (end : ℕ) (tokens r1 : List Token) (b1 : BeginsWith tokens (kind.Fixed mark.Automaton) r1) where
+module _ (end : ℕ) (tokens r1 : List Token) (b1 : BeginsWithKind tokens (kind.Fixed mark.Automaton) r1) where
   begun : So tokens r1 named_rest (kind.Fixed mark.Automaton ∷ []) ([] ∷ [])
   begun = same_counts start_ready (then (opened file_part nothing) (take_mark mark.Automaton b1 start_ready.room tt))
 
@@ -292,10 +277,10 @@ module _ (end : ℕ) (tokens r1 : List Token) (b1 : BeginsWith tokens (kind.Fixe
               file_rules_stop e h = so_stops end so7 e (h patterns_rest so7.counts no_rule (so_ready so7) so7.kept.rules)
 
               module _ (r8 : List Token) (rules : List TreeRule) (b8 : TookBlocks mark.Rule rule_part rule_body rule_body_stated 128 rules r7 r8) where
-                step8 : (d : Counts) × KeptOthers mark.Rule so7.counts d × Reads rules_rest so7.counts r7 r8 patterns_rest d (each (with_mark (kind.Fixed mark.Rule) rule_body) rules) (each (with_mark [] rule_body_stated) rules)
+                step8 : (d : Counts) × KeptOthers mark.Rule so7.counts d × ReadsPart rules_rest so7.counts r7 r8 patterns_rest d (each (with_mark (kind.Fixed mark.Rule) rule_body) rules) (each (with_mark [] rule_body_stated) rules)
                 step8 = b8.reads patterns_rest so7.counts no_rule (so_ready so7) so7.kept.rules
 
-                so8 : Reads whole_file at_start tokens r8 patterns_rest step8.0 ((head6 ++ clause mark.Resilience spell_comparison resilience) ++ each (with_mark (kind.Fixed mark.Rule) rule_body) rules) ((head6_x ++ clause_stated [] comparison_stated resilience) ++ each (with_mark [] rule_body_stated) rules)
+                so8 : ReadsPart whole_file at_start tokens r8 patterns_rest step8.0 ((head6 ++ clause mark.Resilience spell_comparison resilience) ++ each (with_mark (kind.Fixed mark.Rule) rule_body) rules) ((head6_x ++ clause_stated [] comparison_stated resilience) ++ each (with_mark [] rule_body_stated) rules)
                 so8 = then so7.reads step8.2
 
                 ready8 : IsReady step8.0
@@ -308,7 +293,7 @@ module _ (end : ℕ) (tokens r1 : List Token) (b1 : BeginsWith tokens (kind.Fixe
                 file_patterns_stop e h = stops end so8 e (h nothing step8.0 no_pattern ready8 patterns8)
 
                 module _ (r9 : List Token) (patterns : List TreePattern) (b9 : TookBlocks mark.Pattern pattern_part pattern_body pattern_body_stated 16 patterns r8 r9) where
-                  step9 : (d : Counts) × KeptOthers mark.Pattern step8.0 d × Reads patterns_rest step8.0 r8 r9 nothing d (each (with_mark (kind.Fixed mark.Pattern) pattern_body) patterns) (each (with_mark [] pattern_body_stated) patterns)
+                  step9 : (d : Counts) × KeptOthers mark.Pattern step8.0 d × ReadsPart patterns_rest step8.0 r8 r9 nothing d (each (with_mark (kind.Fixed mark.Pattern) pattern_body) patterns) (each (with_mark [] pattern_body_stated) patterns)
                   step9 = b9.reads nothing step8.0 no_pattern ready8 patterns8
 
                   pub file_trailing : (at : ℕ) → (r9 ≡ [] → ⊥) → at ≡ offset_of end r9 → WholeStops end tokens (fault.Syntax at)

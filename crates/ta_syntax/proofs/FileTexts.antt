@@ -3,7 +3,7 @@ use Rattle.std.proofs.Common.{◌≡◌, Bool, true, false, List, [], ◌∷◌,
 use Rattle.std.specs.List.{AllByRecursion}
 use Rattle.ta_syntax.specs.Kinds.{IsNameText}
 use Rattle.ta_syntax.specs.Grammar.{sum_kinds, relation_kind, PlainComparison, PlainLocation, PlainUpdate, PlainRule, PlainEvent, PlainPattern, PlainTree, listed, further, led, ended, each, name_kinds, initial_kinds, location_kinds, comparison_kinds, update_kinds, rule_kinds, event_kinds, pattern_kinds, file_kinds, IsSome, IsComparison, IsUpdate, IsRule, IsEvent, IsPattern, IsTree, FileText}
-use Rattle.ta_syntax.specs.Parts.{Part, Text, nothing, a_mark, a_name, a_sum, both, maybe, many, upto, blocks}
+use Rattle.ta_syntax.specs.Parts.{GrammarPart, Text, nothing, a_mark, a_name, a_sum, both, maybe, many, upto, blocks}
 use Rattle.ta_syntax.specs.Inside.Parts.{list_part, location_part, update_part, comparison_part, rule_part, event_part, pattern_part, blocks_part, file_part}
 use Rattle.ta_syntax.specs.Inside.BlockReading.{with_mark}
 use Rattle.ta_syntax.specs.declared.tokens.Kind.{Kind}
@@ -20,13 +20,13 @@ piece : (ks a b x c : List Kind) → ks ≡ a ++ b → a ≡ x → b ≡ c → k
 piece ks a b x c e f g = e ∙ ap (λ (z : List Kind). z ++ b) f ∙ ap (λ (z : List Kind). x ++ z) g
 
 -- A kind of trees, whose texts are those of the part.
-pub record IsPartOf {A : Type 0} (Is : A → Type 0) (kinds_of : A → List Kind) (p : Part) : Type 0 where
+pub record IsPartOf {A : Type 0} (Is : A → Type 0) (kinds_of : A → List Kind) (p : GrammarPart) : Type 0 where
   pub to : (x : A) → Is x → Text p (kinds_of x)
   pub from : (ks : List Kind) → Text p ks → (x : A) × Is x × (ks ≡ kinds_of x)
 
 -- ---- lists
 
-module _ {A : Type 0} (Is : A → Type 0) (f : A → List Kind) (p : Part) (same : IsPartOf Is f p) where
+module _ {A : Type 0} (Is : A → Type 0) (f : A → List Kind) (p : GrammarPart) (same : IsPartOf Is f p) where
   record Listed (ks : List Kind) (kinds_of : List A → List Kind) : Type 0 where
     items : List A
     are : AllByRecursion Is items
@@ -241,11 +241,11 @@ patterns_are = record { to = is_to; from = is_from }
 -- ---- files
 
 -- a mark before a text of the rest
-mark_first : (m : Mark) (p : Part) (ks : List Kind) → Text p ks → Text (both (a_mark m) p) (kind.Fixed m ∷ ks)
+mark_first : (m : Mark) (p : GrammarPart) (ks : List Kind) → Text p ks → Text (both (a_mark m) p) (kind.Fixed m ∷ ks)
 mark_first m p ks t = (kind.Fixed m ∷ [], ks, refl, t, refl)
 
 -- a list that a semicolon ends before a text of the rest
-upto_first : (p q : Part) (l ks : List Kind) → Text (upto mark.Semicolon p) (l ++ kind.Fixed mark.Semicolon ∷ []) → Text q ks → Text (both (upto mark.Semicolon p) q) (l ++ kind.Fixed mark.Semicolon ∷ ks)
+upto_first : (p q : GrammarPart) (l ks : List Kind) → Text (upto mark.Semicolon p) (l ++ kind.Fixed mark.Semicolon ∷ []) → Text q ks → Text (both (upto mark.Semicolon p) q) (l ++ kind.Fixed mark.Semicolon ∷ ks)
 upto_first p q l ks t u = (l ++ kind.Fixed mark.Semicolon ∷ [], ks, t, u, sym (append_assoc l (kind.Fixed mark.Semicolon ∷ []) ks))
 
 upto_after : (ks a b l c : List Kind) → ks ≡ a ++ b → a ≡ l ++ kind.Fixed mark.Semicolon ∷ [] → b ≡ c → ks ≡ l ++ kind.Fixed mark.Semicolon ∷ c
@@ -269,19 +269,19 @@ shared_kinds t = kind.Fixed mark.Shared ∷ (listed kind.Fixed name_kinds t.shar
 abbrev parameters_kinds : PlainTree → List Kind
 parameters_kinds t = kind.Fixed mark.Parameters ∷ (listed kind.Fixed name_kinds t.parameters ++ kind.Fixed mark.Semicolon ∷ shared_kinds t)
 
-abbrev resilience_rest : Part
+abbrev resilience_rest : GrammarPart
 resilience_rest = both (a_mark mark.Resilience) (both (upto mark.Semicolon (list_part comparison_part)) blocks_part)
 
-abbrev processes_rest : Part
+abbrev processes_rest : GrammarPart
 processes_rest = both (a_mark mark.Processes) (both a_sum (both (a_mark mark.Semicolon) resilience_rest))
 
-abbrev locations_rest : Part
+abbrev locations_rest : GrammarPart
 locations_rest = both (a_mark mark.Locations) (both (list_part location_part) (both (a_mark mark.Semicolon) processes_rest))
 
-abbrev shared_rest : Part
+abbrev shared_rest : GrammarPart
 shared_rest = both (a_mark mark.Shared) (both (upto mark.Semicolon (list_part a_name)) locations_rest)
 
-abbrev parameters_rest : Part
+abbrev parameters_rest : GrammarPart
 parameters_rest = both (a_mark mark.Parameters) (both (upto mark.Semicolon (list_part a_name)) shared_rest)
 
 pub file_to : (ks : List Kind) → FileText ks → Text file_part ks

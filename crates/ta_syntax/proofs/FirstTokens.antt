@@ -1,29 +1,28 @@
 -- Tokens are a text of a grammar and go past no limit, or they leave the grammar or its limits at a first token.
-use Rattle.std.proofs.Common.{◌≡◌, ◌≢◌, ℕ, false, List, [], ◌∷◌, ◌++◌, length, refl, sym, ap, subst, ◌∙◌, append_assoc, inl, inr, ⊎_elim, arith}
+use Rattle.std.proofs.Common.{◌≡◌, ℕ, false, List, [], ◌∷◌, ◌++◌, length, refl, sym, ap, subst, ◌∙◌, append_assoc, ⊎_elim, arith}
 use Rattle.std.proofs.lemmas.List.{append-nil}
-use Rattle.ta_syntax.specs.Kinds.{IsNameText, is_letter, mark_bytes}
+use Rattle.ta_syntax.specs.Kinds.{IsNameText, mark_bytes}
+use Rattle.ta_base.specs.Bytes.{is_letter}
 use Rattle.ta_syntax.specs.Grammar.{PlainTree, IsTree, FileText, file_kinds, done, term, number}
-use Rattle.ta_syntax.specs.Limits.{Counts, at_start, run, Within, IsDeep, IsMany}
-use Rattle.ta_syntax.specs.Faults.{kinds, SameStart, Begins, IsWrong, IsPast, Stopped}
-use Rattle.ta_syntax.specs.AnswerLaws.{Either, Stops}
+use Rattle.ta_syntax.specs.Limits.{Counts, at_start, run, StaysWithin, IsDeep, IsMany}
+use Rattle.ta_syntax.specs.Faults.{kinds, Begins, IsPast}
+use Rattle.ta_syntax.specs.AnswerLaws.{Either, StopsReading}
 use Rattle.ta_syntax.specs.declared.tokens.Kind.{Kind}
-use Rattle.ta_syntax.specs.declared.tokens.Mark.{Mark}
 use Rattle.ta_syntax.specs.declared.tokens.Mark.TheVariants as mark
 use Rattle.ta_syntax.specs.declared.sums.Sign.TheVariants as sign
 use Rattle.ta_syntax.specs.declared.placed.Token.{Token}
-use Rattle.ta_syntax.specs.declared.fault.FileFault.{FileFault}
 use Rattle.ta_syntax.specs.declared.fault.FileFault.TheVariants as fault
 use Rattle.ta_syntax.proofs.Steps.{kinds-append, within-append}
 use Rattle.ta_syntax.proofs.UniqueTokens.{keyword_of, StartsSign, IsWordMark, IsSignMark, mark_is}
 
 module _ (L : List Kind → Type 0) (c : Counts) (end : ℕ) where
   abbrev IsWhole : List Token → Type 0
-  IsWhole ts = L (kinds ts) × Within c (kinds ts)
+  IsWhole ts = L (kinds ts) × StaysWithin c (kinds ts)
 
-  whole_of : (front : List Token) → L (kinds front) → Within c (kinds front) → IsWhole (front ++ [])
+  whole_of : (front : List Token) → L (kinds front) → StaysWithin c (kinds front) → IsWhole (front ++ [])
   whole_of front text within = subst IsWhole (sym (append-nil front)) (text, within)
 
-  ends_wrong : (front : List Token) → Begins L (kinds front) → Within c (kinds front) → ¬ IsWhole (front ++ []) → Stops L c end (front ++ [])
+  ends_wrong : (front : List Token) → Begins L (kinds front) → StaysWithin c (kinds front) → ¬ IsWhole (front ++ []) → StopsReading L c end (front ++ [])
   ends_wrong front begins within no_text = (
     fault.Syntax end,
     (λ e. cc),
@@ -38,7 +37,7 @@ module _ (L : List Kind → Type 0) (c : Counts) (end : ℕ) where
     },
   )
 
-  is_wrong : (front bad : List Token) (t : Token) → Begins L (kinds front) → Within c (kinds front) → ¬ Begins L (kinds front ++ t.kind ∷ []) → Stops L c end (front ++ t ∷ bad)
+  is_wrong : (front bad : List Token) (t : Token) → Begins L (kinds front) → StaysWithin c (kinds front) → ¬ Begins L (kinds front ++ t.kind ∷ []) → StopsReading L c end (front ++ t ∷ bad)
   is_wrong front bad t begins within none = (
     fault.Syntax t.at,
     (λ e. cc),
@@ -53,11 +52,11 @@ module _ (L : List Kind → Type 0) (c : Counts) (end : ℕ) where
     },
   )
 
-  is_past : (over : Counts → Kind → Type 0) (front bad : List Token) (t : Token) → Within c (kinds front) → Begins L (kinds front ++ t.kind ∷ []) → over (run c (kinds front)) t.kind → IsPast over L c (front ++ t ∷ bad) t.at
+  is_past : (over : Counts → Kind → Type 0) (front bad : List Token) (t : Token) → StaysWithin c (kinds front) → Begins L (kinds front ++ t.kind ∷ []) → over (run c (kinds front)) t.kind → IsPast over L c (front ++ t ∷ bad) t.at
   is_past over front bad t within begins past = record { front = front; first = t; bad = bad; split = refl; place = refl; begins = begins; within = within; past = past }
 
   -- after front, which begins a text and goes past no limit
-  stops_or_ends : (front bad : List Token) → Begins L (kinds front) → Within c (kinds front) → Either (IsWhole (front ++ bad)) (Stops L c end (front ++ bad))
+  stops_or_ends : (front bad : List Token) → Begins L (kinds front) → StaysWithin c (kinds front) → Either (IsWhole (front ++ bad)) (StopsReading L c end (front ++ bad))
   stops_or_ends front [] begins within no_text no_stop = no_stop (ends_wrong front begins within no_text)
   stops_or_ends front (t ∷ bad) begins within no_text no_stop =
       no_stop (is_wrong front bad t begins within (λ more.
@@ -65,11 +64,10 @@ module _ (L : List Kind → Type 0) (c : Counts) (end : ℕ) where
       let not_many : ¬ IsMany (run c (kinds front)) t.kind = λ past. no_stop (fault.TooMany t.at, (λ e. cc), is_past IsMany front bad t within more past) in
       let same : (front ++ t ∷ []) ++ bad ≡ front ++ t ∷ bad = append_assoc front (t ∷ []) bad in
       let ahead : kinds (front ++ t ∷ []) ≡ kinds front ++ t.kind ∷ [] = kinds-append front (t ∷ []) in
-      stops_or_ends (front ++ t ∷ []) bad (subst (Begins L) (sym ahead) more) (subst (Within c) (sym ahead) (within-append c (kinds front) (t.kind ∷ []) within (not_deep, not_many, tt)))
-      (λ text. no_text (subst IsWhole same text)) (λ stop. no_stop (subst (Stops L c end) same stop))))
+      stops_or_ends (front ++ t ∷ []) bad (subst (Begins L) (sym ahead) more) (subst (StaysWithin c) (sym ahead) (within-append c (kinds front) (t.kind ∷ []) within (not_deep, not_many, tt)))
+      (λ text. no_text (subst IsWhole same text)) (λ stop. no_stop (subst (StopsReading L c end) same stop))))
 
 -- ---- there is an automaton file
-
 signs_begin_none : (n : List ℕ) → n ≡ 97 ∷ [] → StartsSign n → ⊥
 signs_begin_none n e s = let h = subst StartsSign e s in let f : is_letter 97 ≡ false = h.0 in cc
 
@@ -92,5 +90,5 @@ shortest = record { name = 97 ∷ []; parameters = []; shared = []; locations = 
 shortest_is : IsTree shortest
 shortest_is = record { name = letter; parameters = tt; shared = tt; some = tt; locations = (letter, tt); processes = ((refl, tt), tt); resilience = tt; rules = tt; patterns = tt }
 
-pub tokens_have_answers : (end : ℕ) (ts : List Token) → Either (FileText (kinds ts) × Within at_start (kinds ts)) (Stops FileText at_start end ts)
+pub tokens_have_answers : (end : ℕ) (ts : List Token) → Either (FileText (kinds ts) × StaysWithin at_start (kinds ts)) (StopsReading FileText at_start end ts)
 tokens_have_answers end ts = stops_or_ends FileText at_start end [] ts (file_kinds shortest, (shortest, shortest_is, refl)) tt

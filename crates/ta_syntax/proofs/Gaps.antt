@@ -2,33 +2,12 @@
 use Rattle.std.proofs.Common.{◌≡◌, ℕ, Bool, true, false, List, [], ◌∷◌, ◌++◌, length, inl, inr, ⊎_elim, refl, sym, ap, ◌∙◌, append_assoc, arith, ◌<◌, length-append}
 use Rattle.std.specs.List.{AllByRecursion}
 use Rattle.std.proofs.lemmas.List.{append-nil}
+use Rattle.ta_base.specs.Bytes.{Avoids}
 use Rattle.ta_syntax.specs.Tokens.{IsSpace, IsGap, IsLastGap}
 use Rattle.ta_syntax.specs.Inside.Tokens.{SkipsComment, SkipsPiece, SkipsGap}
 
-pub record CommentSoFar (bytes rest : List ℕ) : Type 0 where
-  pub text : List ℕ
-  pub free : AllByRecursion (λ b. b ≡ 10 → ⊥) text
-  pub split : bytes ≡ text ++ rest
-
-all-push : (P : ℕ → Type 0) (xs : List ℕ) (x : ℕ) → AllByRecursion P xs → P x → AllByRecursion P (xs ++ x ∷ [])
-all-push P [] x h p = (p, tt)
-all-push P (y ∷ xs) x h p = (h.0, all-push P xs x h.1 p)
-
-pub comment_begins : (bytes : List ℕ) → CommentSoFar bytes bytes
-comment_begins bytes = record { text = []; free = tt; split = refl }
-
-pub comment_goes_on : (bytes rest after : List ℕ) (b : ℕ) → CommentSoFar bytes rest → rest ≡ b ∷ after → (b ≡ 10 → ⊥) → CommentSoFar bytes after
-comment_goes_on bytes rest after b so_far e other = record {
-  text = so_far.text ++ b ∷ [];
-  free = all-push (λ b. b ≡ 10 → ⊥) so_far.text b so_far.free other;
-  split = so_far.split ∙ ap (λ (x : List ℕ). so_far.text ++ x) e ∙ sym (append_assoc so_far.text (b ∷ []) after);
-}
-
-pub comment_ends : (bytes rest after : List ℕ) (b : ℕ) → CommentSoFar bytes rest → rest ≡ b ∷ after → b ≡ 10 → SkipsComment bytes after
-comment_ends bytes rest after b so_far e is = (so_far.text, so_far.free, inl (so_far.split ∙ ap (λ (x : List ℕ). so_far.text ++ x) (e ∙ ap (λ (n : ℕ). n ∷ after) is)))
-
-pub comment_is_last : (bytes rest : List ℕ) → CommentSoFar bytes rest → rest ≡ [] → SkipsComment bytes rest
-comment_is_last bytes rest so_far e = (so_far.text, so_far.free, inr (so_far.split ∙ ap (λ (x : List ℕ). so_far.text ++ x) e ∙ append-nil so_far.text, e))
+pub comment_is_last : (bytes rest : List ℕ) → Avoids 10 bytes → rest ≡ [] → SkipsComment bytes rest
+comment_is_last bytes rest free e = (bytes, free, inr (refl, e))
 
 space-append : (last c : Bool) (a b : List ℕ) → IsSpace false c a → IsSpace last false b → IsSpace last c (a ++ b)
 space-append last true [] b h k = absurd cc

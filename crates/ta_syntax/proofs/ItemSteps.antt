@@ -7,10 +7,10 @@ use Rattle.ta_syntax.specs.PlainSums.{plain_sum}
 use Rattle.ta_syntax.specs.PlainTrees.{plain_location, plain_update}
 use Rattle.ta_syntax.specs.Stated.{at_first, sum_stated, name_stated, location_stated, update_stated}
 use Rattle.ta_syntax.specs.Limits.{Counts}
-use Rattle.ta_syntax.specs.Parts.{Part, Text, nothing, a_mark, a_name, a_number, a_relation, a_sum, both, maybe, many}
+use Rattle.ta_syntax.specs.Parts.{GrammarPart, Text, nothing, a_mark, a_name, a_number, a_relation, a_sum, both, maybe, many}
 use Rattle.ta_syntax.specs.Inside.Parts.{list_part, location_part, update_part, comparison_part}
 use Rattle.ta_syntax.specs.Faults.{kinds, SameStart, IsWrong, offset_of}
-use Rattle.ta_syntax.specs.Reading.{Reads, begins_by, Avoids, BeginsWith, IsOther, IsUnexpected, NoNumber}
+use Rattle.ta_syntax.specs.Reading.{ReadsPart, begins_by, NeverBegins, BeginsWithKind, IsOther, IsUnexpected, NoNumber}
 use Rattle.ta_syntax.specs.Inside.Reading.{MayOpen, IsUnnamed, NoRelation, is_name, is_sum_start, is_operator, TookSum, SumStops}
 use Rattle.ta_syntax.specs.ListReading.{extends_item, IsReady, TookItem, ItemStops, IsStart}
 use Rattle.ta_syntax.specs.Inside.BlockReading.{AvoidsMark}
@@ -34,12 +34,11 @@ use Rattle.ta_syntax.proofs.SumSteps.{begins_same, term_first, StartsTerm}
 use Rattle.ta_syntax.proofs.ListSteps.{item_avoids_operator}
 
 -- ---- by which tokens a part begins
-
-pub record BeginsBy (q : Kind → Bool) (p : Part) : Type 0 where
+pub record BeginsBy (q : Kind → Bool) (p : GrammarPart) : Type 0 where
   pub text : (k : Kind) → IsKind k → q k ≡ true → (a : List Kind) × Text p (k ∷ a)
   pub first : (a : List Kind) → Text p a → (k : Kind) × (more : List Kind) × (a ≡ k ∷ more) × (q k ≡ true)
 
-pub start_by : (q : Kind → Bool) (p : Part) (tokens : List Token) (b : Bool) → BeginsBy q p → b ≡ begins_by q (kinds tokens) → IsStart p tokens b
+pub start_by : (q : Kind → Bool) (p : GrammarPart) (tokens : List Token) (b : Bool) → BeginsBy q p → b ≡ begins_by q (kinds tokens) → IsStart p tokens b
 start_by q p [] true by e = absurd cc
 start_by q p (t ∷ ts) true by e = (t, ts, refl, by.text t.kind t.legal (sym e))
 start_by q p tokens false by e = λ w a b same text split.
@@ -50,7 +49,7 @@ start_by q p tokens false by e = λ w a b same text split.
     absurd cc
 
 -- what begins by a part begins as the part does
-both_begins : (q : Kind → Bool) (p r : Part) → BeginsBy q p → BeginsBy q (both p r)
+both_begins : (q : Kind → Bool) (p r : GrammarPart) → BeginsBy q p → BeginsBy q (both p r)
 both_begins q p r by = record {
   text = λ k legal e. let t = by.text k legal e in let more = some_text r in (t.0 ++ more.0, (k ∷ t.0, more.0, t.1, more.1, refl));
   first = λ a t. let f = by.first t.0 t.2 in (f.0, f.1 ++ t.1, t.4 ∙ ap (λ (z : List Kind). z ++ t.1) f.2, f.3);
@@ -95,7 +94,7 @@ pub comparison_begins : BeginsBy is_sum_start comparison_part
 comparison_begins = both_begins is_sum_start a_sum (both a_relation a_sum) sum_begins_by
 
 -- no text of the part is empty or begins by a mark that begins none
-pub begins_other : (q : Kind → Bool) (p : Part) (m : Mark) → BeginsBy q p → q (kind.Fixed m) ≡ false → (a b w : List Kind) → Text p a → a ++ b ≡ kind.Fixed m ∷ w → ⊥
+pub begins_other : (q : Kind → Bool) (p : GrammarPart) (m : Mark) → BeginsBy q p → q (kind.Fixed m) ≡ false → (a b w : List Kind) → Text p a → a ++ b ≡ kind.Fixed m ∷ w → ⊥
 begins_other q p m by free a b w t e =
     let f = by.first a t in
     let whole : f.0 ∷ (f.1 ++ b) ≡ kind.Fixed m ∷ w = sym (ap (λ (z : List Kind). z ++ b) f.2) ∙ e in
@@ -103,36 +102,34 @@ begins_other q p m by free a b w t e =
     let does : q (kind.Fixed m) ≡ true = ap q (sym same) ∙ f.3 in
     absurd cc
 
-pub list_begins_by : (q : Kind → Bool) (p : Part) → BeginsBy q p → BeginsBy q (list_part p)
+pub list_begins_by : (q : Kind → Bool) (p : GrammarPart) → BeginsBy q p → BeginsBy q (list_part p)
 list_begins_by q p by = both_begins q p (many mark.Comma p) by
 
 -- ---- names
-
-pub took_name : (end : ℕ) (tokens rest : List Token) (n : Spelled) → BeginsWith tokens (kind.Name n.name) rest → n.at ≡ offset_of end tokens → TookItem a_name (name_kinds n.name) (name_stated n) tokens rest
+pub took_name : (end : ℕ) (tokens rest : List Token) (n : Spelled) → BeginsWithKind tokens (kind.Name n.name) rest → n.at ≡ offset_of end tokens → TookItem a_name (name_kinds n.name) (name_stated n) tokens rest
 took_name end tokens rest n b at_is = record { shorter = omega (arith, ap length b.split); reads = λ K c avoids ready. take_name n.name end n.at b ready.room n.legal at_is }
 
 pub no_name : (end : ℕ) (tokens : List Token) (e : FileFault) → IsUnnamed end tokens e → ItemStops a_name end tokens e
 no_name end tokens e h = λ K c avoids ready. name_stops K c end tokens e h
 
 -- ---- locations
-
-initial_avoids : (K : Part) → Avoids extends_item K → AvoidsMark mark.Initial K
+initial_avoids : (K : GrammarPart) → NeverBegins extends_item K → AvoidsMark mark.Initial K
 initial_avoids K avoids w h = let e : true ≡ false = avoids (kind.Fixed mark.Initial ∷ w) h in absurd cc
 
-step_location : (end : ℕ) (tokens rest : List Token) (n : Spelled) (K : Part) (c : Counts) → BeginsWith tokens (kind.Name n.name) rest → n.at ≡ offset_of end tokens → IsReady c → Reads (both location_part K) c tokens rest (both (maybe mark.Initial nothing) K) c (name_kinds n.name) (name_stated n)
+step_location : (end : ℕ) (tokens rest : List Token) (n : Spelled) (K : GrammarPart) (c : Counts) → BeginsWithKind tokens (kind.Name n.name) rest → n.at ≡ offset_of end tokens → IsReady c → ReadsPart (both location_part K) c tokens rest (both (maybe mark.Initial nothing) K) c (name_kinds n.name) (name_stated n)
 step_location end tokens rest n K c b at_is ready = then (opened location_part K) (take_name n.name end n.at b ready.room n.legal at_is)
 
 pub location_unnamed : (end : ℕ) (tokens : List Token) (e : FileFault) → IsUnnamed end tokens e → ItemStops location_part end tokens e
 location_unnamed end tokens e h = λ K c avoids ready. stops end (opened location_part K) e (name_stops (both (maybe mark.Initial nothing) K) c end tokens e h)
 
-pub took_initial : (end : ℕ) (tokens rest after : List Token) (n : Spelled) → BeginsWith tokens (kind.Name n.name) rest → n.at ≡ offset_of end tokens → BeginsWith rest (kind.Fixed mark.Initial) after → (l : TreeLocation) → l.name ≡ n → l.initial ≡ true
+pub took_initial : (end : ℕ) (tokens rest after : List Token) (n : Spelled) → BeginsWithKind tokens (kind.Name n.name) rest → n.at ≡ offset_of end tokens → BeginsWithKind rest (kind.Fixed mark.Initial) after → (l : TreeLocation) → l.name ≡ n → l.initial ≡ true
     → TookItem location_part (location_kinds (plain_location l)) (location_stated l) tokens after
 took_initial end tokens rest after n b at_is i l name_is initial_is = record {
   shorter = omega (arith, ap length b.split, ap length i.split);
   reads = λ K c avoids ready. rw (name_is, initial_is) (then (step_location end tokens rest n K c b at_is ready) (then (maybe_taken mark.Initial nothing K i (initial_avoids K avoids)) (then (take_mark mark.Initial i ready.room tt) (opened nothing K))));
 }
 
-pub took_location : (end : ℕ) (tokens rest : List Token) (n : Spelled) → BeginsWith tokens (kind.Name n.name) rest → n.at ≡ offset_of end tokens → IsOther rest mark.Initial → (l : TreeLocation) → l.name ≡ n → l.initial ≡ false
+pub took_location : (end : ℕ) (tokens rest : List Token) (n : Spelled) → BeginsWithKind tokens (kind.Name n.name) rest → n.at ≡ offset_of end tokens → IsOther rest mark.Initial → (l : TreeLocation) → l.name ≡ n → l.initial ≡ false
     → TookItem location_part (location_kinds (plain_location l)) (location_stated l) tokens rest
 took_location end tokens rest n b at_is other l name_is initial_is = record {
   shorter = omega (arith, ap length b.split);
@@ -140,23 +137,22 @@ took_location end tokens rest n b at_is other l name_is initial_is = record {
 }
 
 -- ---- updates
-
-step_update : (end : ℕ) (tokens rest after : List Token) (n : Spelled) (K : Part) (c : Counts) → BeginsWith tokens (kind.Name n.name) rest → n.at ≡ offset_of end tokens → BeginsWith rest (kind.Fixed mark.PlusEquals) after → IsReady c
-    → Reads (both update_part K) c tokens after (both a_number K) c (kind.Name n.name ∷ kind.Fixed mark.PlusEquals ∷ []) ((n.at ∷ []) ∷ [] ∷ [])
+step_update : (end : ℕ) (tokens rest after : List Token) (n : Spelled) (K : GrammarPart) (c : Counts) → BeginsWithKind tokens (kind.Name n.name) rest → n.at ≡ offset_of end tokens → BeginsWithKind rest (kind.Fixed mark.PlusEquals) after → IsReady c
+    → ReadsPart (both update_part K) c tokens after (both a_number K) c (kind.Name n.name ∷ kind.Fixed mark.PlusEquals ∷ []) ((n.at ∷ []) ∷ [] ∷ [])
 step_update end tokens rest after n K c b at_is m ready = then (then (opened update_part K) (take_name n.name end n.at b ready.room n.legal at_is)) (take_mark mark.PlusEquals m ready.room tt)
 
 pub update_unnamed : (end : ℕ) (tokens : List Token) (e : FileFault) → IsUnnamed end tokens e → ItemStops update_part end tokens e
 update_unnamed end tokens e h = λ K c avoids ready. stops end (opened update_part K) e (name_stops (both (a_mark mark.PlusEquals) (both a_number K)) c end tokens e h)
 
-pub update_unmarked : (end : ℕ) (tokens rest : List Token) (n : Spelled) (e : FileFault) → BeginsWith tokens (kind.Name n.name) rest → n.at ≡ offset_of end tokens → IsUnexpected end rest mark.PlusEquals e → ItemStops update_part end tokens e
+pub update_unmarked : (end : ℕ) (tokens rest : List Token) (n : Spelled) (e : FileFault) → BeginsWithKind tokens (kind.Name n.name) rest → n.at ≡ offset_of end tokens → IsUnexpected end rest mark.PlusEquals e → ItemStops update_part end tokens e
 update_unmarked end tokens rest n e b at_is h = λ K c avoids ready.
     stops end (then (opened update_part K) (take_name n.name end n.at b ready.room n.legal at_is)) e (mark_stops (both a_number K) c end rest mark.PlusEquals e h)
 
-pub update_unnumbered : (end at : ℕ) (tokens rest after : List Token) (n : Spelled) → BeginsWith tokens (kind.Name n.name) rest → n.at ≡ offset_of end tokens → BeginsWith rest (kind.Fixed mark.PlusEquals) after → NoNumber (kinds after) → at ≡ offset_of end after → ItemStops update_part end tokens (fault.Syntax at)
+pub update_unnumbered : (end at : ℕ) (tokens rest after : List Token) (n : Spelled) → BeginsWithKind tokens (kind.Name n.name) rest → n.at ≡ offset_of end tokens → BeginsWithKind rest (kind.Fixed mark.PlusEquals) after → NoNumber (kinds after) → at ≡ offset_of end after → ItemStops update_part end tokens (fault.Syntax at)
 update_unnumbered end at tokens rest after n b at_is m none is = λ K c avoids ready.
     stops end (step_update end tokens rest after n K c b at_is m ready) (fault.Syntax at) (subst (λ (z : ℕ). IsWrong (Text (both a_number K)) c end after z) (sym is) (number_stops K c end after none))
 
-pub took_update : (end : ℕ) (tokens rest after after_number : List Token) (n : Spelled) (d : Digits) → BeginsWith tokens (kind.Name n.name) rest → n.at ≡ offset_of end tokens → BeginsWith rest (kind.Fixed mark.PlusEquals) after → BeginsWith after (kind.Number d.text) after_number → d.at ≡ offset_of end after → (u : TreeUpdate) → u.name ≡ n → u.amount ≡ d
+pub took_update : (end : ℕ) (tokens rest after after_number : List Token) (n : Spelled) (d : Digits) → BeginsWithKind tokens (kind.Name n.name) rest → n.at ≡ offset_of end tokens → BeginsWithKind rest (kind.Fixed mark.PlusEquals) after → BeginsWithKind after (kind.Number d.text) after_number → d.at ≡ offset_of end after → (u : TreeUpdate) → u.name ≡ n → u.amount ≡ d
     → TookItem update_part (update_kinds (plain_update u)) (update_stated u) tokens after_number
 took_update end tokens rest after after_number n d b at_is m a d_is u name_is amount_is = record {
   shorter = omega (arith, ap length b.split, ap length m.split, ap length a.split);
@@ -164,18 +160,17 @@ took_update end tokens rest after after_number n d b at_is m a d_is u name_is am
 }
 
 -- ---- comparisons
-
-relation_avoids : (K : Part) → Avoids is_operator (both a_relation K)
+relation_avoids : (K : GrammarPart) → NeverBegins is_operator (both a_relation K)
 relation_avoids K w h = subst (λ (z : List Kind). begins_by is_operator z ≡ false) (sym (h.4 ∙ ap (λ (z : List Kind). z ++ h.1) h.2.1)) (no_operator h.2.0)
   where
     no_operator : (r : Relation) → is_operator (relation_kind r) ≡ false
     no_operator relation.Less = refl
     no_operator _ = refl
 
-may_open : (c : Counts) → IsReady c → MayOpen 32 c
+pub may_open : (c : Counts) → IsReady c → MayOpen 32 c
 may_open c ready = record { left_open = let e : c.open_now ≡ 0 = ready.closed in omega arith; room = ready.room }
 
-step_left : (tokens rest : List Token) (s : TreeSum) (K : Part) (c : Counts) → TookSum 32 s tokens rest → IsReady c → Reads (both comparison_part K) c tokens rest (both a_relation (both a_sum K)) c (sum_kinds (plain_sum s)) (sum_stated s)
+step_left : (tokens rest : List Token) (s : TreeSum) (K : GrammarPart) (c : Counts) → TookSum 32 s tokens rest → IsReady c → ReadsPart (both comparison_part K) c tokens rest (both a_relation (both a_sum K)) c (sum_kinds (plain_sum s)) (sum_stated s)
 step_left tokens rest s K c took ready = then (opened comparison_part K) (took.reads (both a_relation (both a_sum K)) c (relation_avoids (both a_sum K)) (may_open c ready))
 
 pub left_stops : (end : ℕ) (tokens : List Token) (e : FileFault) → SumStops 32 end tokens e → ItemStops comparison_part end tokens e
@@ -186,11 +181,11 @@ relation_stops end at tokens rest s took none is = λ K c avoids ready.
     stops end (step_left tokens rest s K c took ready) (fault.Syntax at) (subst (λ (z : ℕ). IsWrong (Text (both a_relation (both a_sum K))) c end rest z) (sym is) (wrong_here (both a_relation (both a_sum K)) c end rest (λ w same t.
     none t.2.0 t.1 (subst (SameStart (kinds rest)) (t.4 ∙ ap (λ (z : List Kind). z ++ t.1) t.2.1) same))))
 
-pub right_stops : (end : ℕ) (tokens rest after : List Token) (s : TreeSum) (r : Relation) (e : FileFault) → TookSum 32 s tokens rest → BeginsWith rest (relation_kind r) after → SumStops 32 end after e → ItemStops comparison_part end tokens e
+pub right_stops : (end : ℕ) (tokens rest after : List Token) (s : TreeSum) (r : Relation) (e : FileFault) → TookSum 32 s tokens rest → BeginsWithKind rest (relation_kind r) after → SumStops 32 end after e → ItemStops comparison_part end tokens e
 right_stops end tokens rest after s r e took b h = λ K c avoids ready.
     stops end (then (step_left tokens rest s K c took ready) (take_relation r b ready.room)) e (h K c (item_avoids_operator K avoids) (may_open c ready))
 
-pub took_comparison : (end at : ℕ) (tokens rest after after_right : List Token) (left right : TreeSum) (r : Relation) → TookSum 32 left tokens rest → BeginsWith rest (relation_kind r) after → TookSum 32 right after after_right → at ≡ offset_of end tokens
+pub took_comparison : (end at : ℕ) (tokens rest after after_right : List Token) (left right : TreeSum) (r : Relation) → TookSum 32 left tokens rest → BeginsWithKind rest (relation_kind r) after → TookSum 32 right after after_right → at ≡ offset_of end tokens
     → TookItem comparison_part (sum_kinds (plain_sum left) ++ relation_kind r ∷ sum_kinds (plain_sum right)) (at_first at (sum_stated left ++ [] ∷ sum_stated right)) tokens after_right
 took_comparison end at tokens rest after after_right left right r took b second at_is = record {
   shorter = omega (arith, took.shorter, ap length b.split, second.shorter);

@@ -1,6 +1,7 @@
 -- What the type of a tree keeps, in the words of the grammar and of the limits.
-use Rattle.std.proofs.Common.{◌≡◌, ℕ, suc, ◌≤◌, List, [], ◌∷◌, length, map, refl, ap, arith}
-use Rattle.std.specs.List.{AllByRecursion}
+use Rattle.std.proofs.Common.{ℕ, ◌≤◌, List, [], ◌∷◌, length, map, arith}
+use Rattle.ta_base.proofs.Each.{all_map}
+use Rattle.ta_base.proofs.Lists.{short_map}
 use Rattle.ta_syntax.specs.Kinds.{IsNameText}
 use Rattle.ta_syntax.specs.Grammar.{IsSome, IsComparison, IsUpdate, IsRule, IsEvent, IsPattern, IsTree}
 use Rattle.ta_syntax.specs.PlainTrees.{plain_name, plain_comparison, plain_location, plain_update, plain_rule, plain_event, plain_pattern, plain_tree}
@@ -8,7 +9,7 @@ use Rattle.ta_syntax.specs.Limits.{at_start, IsShallow, IsRuleWithin, IsEventWit
 use Rattle.ta_syntax.specs.Tokens.{AreTokens}
 use Rattle.ta_syntax.specs.Inside.Tokens.{ScanStops}
 use Rattle.ta_syntax.specs.Grammar.{FileText}
-use Rattle.ta_syntax.specs.Faults.{Stopped, FirstFault}
+use Rattle.ta_syntax.specs.Faults.{IsStopped, FirstGrammarFault}
 use Rattle.ta_syntax.specs.Inside.FileReading.{IsSpelled}
 use Rattle.ta_syntax.specs.TreeOf.{IsTreeOf}
 use Rattle.ta_syntax.specs.declared.names.Spelled.{Spelled}
@@ -21,17 +22,6 @@ use Rattle.ta_syntax.specs.declared.tree.Tree.{Tree}
 use Rattle.ta_syntax.specs.declared.placed.Token.{Token}
 use Rattle.ta_syntax.specs.declared.fault.FileFault.{FileFault}
 use Rattle.ta_syntax.specs.declared.fault.FileFault.TheVariants as fault
-
-all_map : {A B : Type 0} (P : B → Type 0) (g : A → B) → ((x : A) → P (g x)) → (xs : List A) → AllByRecursion P (map g xs)
-all_map P g each [] = tt
-all_map P g each (x ∷ xs) = (each x, all_map P g each xs)
-
-short_map : {A B : Type 0} (g : A → B) (xs : List A) (n : ℕ) → length xs ≤ n → length (map g xs) ≤ n
-short_map g xs n h = omega (arith, same xs)
-  where
-    same : (ys : List _) → length (map g ys) ≡ length ys
-    same [] = refl
-    same (y ∷ ys) = ap suc (same ys)
 
 some_map : {A B : Type 0} (g : A → B) (xs : List A) → 1 ≤ length xs → IsSome (map g xs)
 some_map g [] h = absurd (omega arith)
@@ -95,16 +85,15 @@ tree_within t = record {
 }
 
 -- ---- reading bytes
-
 pub tree_read : (bytes : List ℕ) (tokens : List Token) (t : Tree) → AreTokens bytes tokens → IsSpelled t tokens → IsTreeOf bytes t
 tree_read bytes tokens t are s = record { tokens = tokens; are = are; spelled = s.spelled; placed = s.placed; legal = tree_legal t; within = tree_within t }
 
-pub scan_fault : (bytes : List ℕ) (e : FileFault) → ScanStops bytes e → FirstFault bytes e
+pub scan_fault : (bytes : List ℕ) (e : FileFault) → ScanStops bytes e → FirstGrammarFault bytes e
 scan_fault bytes fault.Memory h = tt
 scan_fault bytes (fault.Byte at) h = h
 scan_fault bytes _ h = absurd h
 
-pub file_fault : (bytes : List ℕ) (tokens : List Token) (e : FileFault) → AreTokens bytes tokens → Stopped FileText at_start (length bytes) tokens e → FirstFault bytes e
+pub file_fault : (bytes : List ℕ) (tokens : List Token) (e : FileFault) → AreTokens bytes tokens → IsStopped FileText at_start (length bytes) tokens e → FirstGrammarFault bytes e
 file_fault bytes tokens fault.Memory are h = tt
 file_fault bytes tokens (fault.Syntax at) are h = record { tokens = tokens; are = are; stopped = h }
 file_fault bytes tokens (fault.TooDeep at) are h = record { tokens = tokens; are = are; stopped = h }

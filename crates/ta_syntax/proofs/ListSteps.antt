@@ -4,10 +4,10 @@ use Rattle.std.proofs.lemmas.List.{append-nil}
 use Rattle.ta_syntax.specs.Grammar.{listed, further}
 use Rattle.ta_syntax.specs.Stated.{Offsets, unplaced}
 use Rattle.ta_syntax.specs.Limits.{Counts}
-use Rattle.ta_syntax.specs.Parts.{Part, Text, a_mark, both, maybe, many, blocks}
+use Rattle.ta_syntax.specs.Parts.{GrammarPart, Text, a_mark, both, maybe, many, blocks}
 use Rattle.ta_syntax.specs.Inside.Parts.{list_part}
 use Rattle.ta_syntax.specs.Faults.{IsWrong, offset_of}
-use Rattle.ta_syntax.specs.Reading.{Reads, begins_by, Avoids, BeginsWith, IsOther}
+use Rattle.ta_syntax.specs.Reading.{ReadsPart, begins_by, NeverBegins, BeginsWithKind, IsOther}
 use Rattle.ta_syntax.specs.Inside.Reading.{is_operator}
 use Rattle.ta_syntax.specs.ListReading.{extends_item, IsReady, TookItem, ItemStops, IsStart}
 use Rattle.ta_syntax.specs.Inside.ListReading.{extends_list, PastStops, IsFresh, with_commas, TookList, ListStops}
@@ -23,7 +23,7 @@ use Rattle.ta_syntax.proofs.Steps.{then, expand, respell, recount, stops, take_m
 
 -- ---- what may follow
 
-avoids_less : (p q : Kind → Bool) (K : Part) → ((k : Kind) → q k ≡ false → p k ≡ false) → Avoids q K → Avoids p K
+avoids_less : (p q : Kind → Bool) (K : GrammarPart) → ((k : Kind) → q k ≡ false → p k ≡ false) → NeverBegins q K → NeverBegins p K
 avoids_less p q K f avoids w h = inside w (avoids w h)
   where
     inside : (w : List Kind) → begins_by q w ≡ false → begins_by p w ≡ false
@@ -45,43 +45,43 @@ operator_item (kind.Fixed mark.Star) e = e
 operator_item (kind.Fixed mark.Initial) e = refl
 operator_item _ e = refl
 
-pub item_avoids_operator : (K : Part) → Avoids extends_item K → Avoids is_operator K
+pub item_avoids_operator : (K : GrammarPart) → NeverBegins extends_item K → NeverBegins is_operator K
 item_avoids_operator K avoids = avoids_less is_operator extends_item K operator_item avoids
 
-pub list_avoids_item : (K : Part) → Avoids extends_list K → Avoids extends_item K
+pub list_avoids_item : (K : GrammarPart) → NeverBegins extends_list K → NeverBegins extends_item K
 list_avoids_item K avoids = avoids_less extends_item extends_list K item_list avoids
 
 -- where a mark has to come
-pub mark_avoids : (p : Kind → Bool) (m : Mark) (K : Part) → p (kind.Fixed m) ≡ false → Avoids p (both (a_mark m) K)
+pub mark_avoids : (p : Kind → Bool) (m : Mark) (K : GrammarPart) → p (kind.Fixed m) ≡ false → NeverBegins p (both (a_mark m) K)
 mark_avoids p m K e w h = subst (λ (z : List Kind). begins_by p z ≡ false) (sym (h.4 ∙ ap (λ (z : List Kind). z ++ h.1) h.2)) e
 
-pub many_avoids : (p : Kind → Bool) (m : Mark) (q K : Part) → p (kind.Fixed m) ≡ false → Avoids p K → Avoids p (both (many m q) K)
+pub many_avoids : (p : Kind → Bool) (m : Mark) (q K : GrammarPart) → p (kind.Fixed m) ≡ false → NeverBegins p K → NeverBegins p (both (many m q) K)
 many_avoids p m q K e avoids w (a, b, ([], all, same), t, f) = subst (λ (z : List Kind). begins_by p z ≡ false) (sym (f ∙ ap (λ (z : List Kind). z ++ b) same)) (avoids b t)
 many_avoids p m q K e avoids w (a, b, (x ∷ xs, all, same), t, f) = subst (λ (z : List Kind). begins_by p z ≡ false) (sym (f ∙ ap (λ (z : List Kind). z ++ b) same)) e
 
-pub maybe_avoids : (p : Kind → Bool) (m : Mark) (q K : Part) → p (kind.Fixed m) ≡ false → Avoids p K → Avoids p (both (maybe m q) K)
+pub maybe_avoids : (p : Kind → Bool) (m : Mark) (q K : GrammarPart) → p (kind.Fixed m) ≡ false → NeverBegins p K → NeverBegins p (both (maybe m q) K)
 maybe_avoids p m q K e avoids w (a, b, inl same, t, f) = subst (λ (z : List Kind). begins_by p z ≡ false) (sym (f ∙ ap (λ (z : List Kind). z ++ b) same)) (avoids b t)
 maybe_avoids p m q K e avoids w (a, b, inr x, t, f) = subst (λ (z : List Kind). begins_by p z ≡ false) (sym (f ∙ ap (λ (z : List Kind). z ++ b) x.2)) e
 
-pub mark_avoids_mark : (m n : Mark) (K : Part) → (kind.Fixed n ≡ kind.Fixed m → ⊥) → AvoidsMark m (both (a_mark n) K)
+pub mark_avoids_mark : (m n : Mark) (K : GrammarPart) → (kind.Fixed n ≡ kind.Fixed m → ⊥) → AvoidsMark m (both (a_mark n) K)
 mark_avoids_mark m n K other w h =
     let e : kind.Fixed m ∷ w ≡ kind.Fixed n ∷ h.1 = h.4 ∙ ap (λ (z : List Kind). z ++ h.1) h.2 in
     other cc
 
-pub maybe_avoids_mark : (m n : Mark) (q K : Part) → (kind.Fixed n ≡ kind.Fixed m → ⊥) → AvoidsMark m K → AvoidsMark m (both (maybe n q) K)
+pub maybe_avoids_mark : (m n : Mark) (q K : GrammarPart) → (kind.Fixed n ≡ kind.Fixed m → ⊥) → AvoidsMark m K → AvoidsMark m (both (maybe n q) K)
 maybe_avoids_mark m n q K other avoids w (a, b, inl same, t, f) = avoids w (subst (Text K) (sym (f ∙ ap (λ (z : List Kind). z ++ b) same)) t)
 maybe_avoids_mark m n q K other avoids w (a, b, inr x, t, f) = let e : kind.Fixed m ∷ w ≡ kind.Fixed n ∷ (x.0 ++ b) = f ∙ ap (λ (z : List Kind). z ++ b) x.2 in other cc
 
-pub many_avoids_mark : (m n : Mark) (q K : Part) → (kind.Fixed n ≡ kind.Fixed m → ⊥) → AvoidsMark m K → AvoidsMark m (both (many n q) K)
+pub many_avoids_mark : (m n : Mark) (q K : GrammarPart) → (kind.Fixed n ≡ kind.Fixed m → ⊥) → AvoidsMark m K → AvoidsMark m (both (many n q) K)
 many_avoids_mark m n q K other avoids w (a, b, ([], all, same), t, f) = avoids w (subst (Text K) (sym (f ∙ ap (λ (z : List Kind). z ++ b) same)) t)
 many_avoids_mark m n q K other avoids w (a, b, (x ∷ xs, all, same), t, f) = let e : kind.Fixed m ∷ w ≡ kind.Fixed n ∷ ((x ++ blocks n xs) ++ b) = f ∙ ap (λ (z : List Kind). z ++ b) same in other cc
 
-comma_avoids : (K : Part) → Avoids extends_list K → AvoidsMark mark.Comma K
+comma_avoids : (K : GrammarPart) → NeverBegins extends_list K → AvoidsMark mark.Comma K
 comma_avoids K avoids w h = let e : true ≡ false = avoids (kind.Fixed mark.Comma ∷ w) h in absurd cc
 
 -- ---- past the limit
 
-pub past_many : (p : Part) (end at : ℕ) (tokens : List Token) → IsStart p tokens true → at ≡ offset_of end tokens → PastStops p end tokens (fault.TooMany at)
+pub past_many : (p : GrammarPart) (end at : ℕ) (tokens : List Token) → IsStart p tokens true → at ≡ offset_of end tokens → PastStops p end tokens (fault.TooMany at)
 past_many p end at tokens s at_is = λ K c full. record {
   front = [];
   first = s.0;
@@ -93,7 +93,7 @@ past_many p end at tokens s at_is = λ K c full. record {
   past = inl full;
 }
 
-pub past_wrong : (p : Part) (end at : ℕ) (tokens : List Token) → IsStart p tokens false → at ≡ offset_of end tokens → PastStops p end tokens (fault.Syntax at)
+pub past_wrong : (p : GrammarPart) (end at : ℕ) (tokens : List Token) → IsStart p tokens false → at ≡ offset_of end tokens → PastStops p end tokens (fault.Syntax at)
 past_wrong p end at tokens s at_is = λ K c full.
     subst (λ (n : ℕ). IsWrong (Text (both p K)) c end tokens n) (sym at_is) (wrong_here (both p K) c end tokens (λ w same t. s w t.0 t.1 same t.2 t.4))
 
@@ -119,12 +119,12 @@ listed-push fixed item [] x = sym (append-nil (item x))
 listed-push fixed item (y ∷ xs) x = append_assoc (item y) (fixed mark.Comma ∷ separated fixed item xs) (item x) ∙ ap (λ z. item y ++ z) (sym (further-push fixed item xs x))
 
 -- what the loop keeps
-pub record ListSoFar {A : Type 0} (p : Part) (spelled : A → List Kind) (stated : A → List Offsets) (limit : ℕ) (items : List A) (tokens rest : List Token) : Type 0 where
+pub record ListSoFar {A : Type 0} (p : GrammarPart) (spelled : A → List Kind) (stated : A → List Offsets) (limit : ℕ) (items : List A) (tokens rest : List Token) : Type 0 where
   pub few : length items ≤ limit
   pub shorter : length rest ≤ length tokens
-  pub reads : (K : Part) (c : Counts) → Avoids extends_list K → IsFresh limit c → Reads (both (list_part p) K) c tokens rest (both p (both (many mark.Comma p) K)) (with_commas (length items) c) (separated kind.Fixed spelled items) (separated unplaced stated items)
+  pub reads : (K : GrammarPart) (c : Counts) → NeverBegins extends_list K → IsFresh limit c → ReadsPart (both (list_part p) K) c tokens rest (both p (both (many mark.Comma p) K)) (with_commas (length items) c) (separated kind.Fixed spelled items) (separated unplaced stated items)
 
-module _ {A : Type 0} (p : Part) (spelled : A → List Kind) (stated : A → List Offsets) (limit : ℕ) (tokens : List Token) where
+module _ {A : Type 0} (p : GrammarPart) (spelled : A → List Kind) (stated : A → List Offsets) (limit : ℕ) (tokens : List Token) where
   pub list_begins : ListSoFar p spelled stated limit [] tokens tokens
   list_begins = record {
     few = omega arith;
@@ -145,14 +145,14 @@ module _ {A : Type 0} (p : Part) (spelled : A → List Kind) (stated : A → Lis
       let is_full : c.limit ≤ length items = omega (arith, fresh.limited) in
       stops end (so_far.reads K c avoids fresh) e (h (both (many mark.Comma p) K) (with_commas (length items) c) is_full)
 
-  inner_avoids : (K : Part) → Avoids extends_list K → Avoids extends_item (both (many mark.Comma p) K)
+  inner_avoids : (K : GrammarPart) → NeverBegins extends_list K → NeverBegins extends_item (both (many mark.Comma p) K)
   inner_avoids K avoids = many_avoids extends_item mark.Comma p K refl (list_avoids_item K avoids)
 
   pub list_stops : (end : ℕ) (items : List A) (rest : List Token) (e : FileFault) → length items < limit → ListSoFar p spelled stated limit items tokens rest → ItemStops p end rest e → ListStops p limit end tokens e
   list_stops end items rest e more so_far h = λ K c avoids fresh.
       stops end (so_far.reads K c avoids fresh) e (h (both (many mark.Comma p) K) (with_commas (length items) c) (inner_avoids K avoids) (ready (length items) c more fresh))
 
-  pub list_goes_on : (items : List A) (x : A) (rest after after_comma : List Token) → length items < limit → ListSoFar p spelled stated limit items tokens rest → TookItem p (spelled x) (stated x) rest after → BeginsWith after (kind.Fixed mark.Comma) after_comma → ListSoFar p spelled stated limit (items ++ x ∷ []) tokens after_comma
+  pub list_goes_on : (items : List A) (x : A) (rest after after_comma : List Token) → length items < limit → ListSoFar p spelled stated limit items tokens rest → TookItem p (spelled x) (stated x) rest after → BeginsWithKind after (kind.Fixed mark.Comma) after_comma → ListSoFar p spelled stated limit (items ++ x ∷ []) tokens after_comma
   list_goes_on items x rest after after_comma more so_far took b = record {
     few = omega (arith, length-append items (x ∷ []));
     shorter = omega (arith, so_far.shorter, took.shorter, ap length b.split);

@@ -1,9 +1,9 @@
 -- A text of the grammar within the limits has no fault.
 use Rattle.std.proofs.Common.{◌≡◌, ℕ, List, [], ◌∷◌, ◌++◌, length, refl, sym, ap, subst, ◌∙◌}
 use Rattle.ta_syntax.specs.Grammar.{PlainTree, FileText, file_kinds}
-use Rattle.ta_syntax.specs.Limits.{Counts, at_start, run, after, Within, IsDeep, IsMany, IsTreeWithin}
+use Rattle.ta_syntax.specs.Limits.{Counts, at_start, run, counted_after, StaysWithin, IsDeep, IsMany, IsTreeWithin}
 use Rattle.ta_syntax.specs.Tokens.{AreTokens}
-use Rattle.ta_syntax.specs.Faults.{kinds, SameStart, IsWrong, IsPast, FirstFault}
+use Rattle.ta_syntax.specs.Faults.{kinds, SameStart, IsWrong, IsPast, FirstGrammarFault}
 use Rattle.ta_syntax.specs.PlainTrees.{plain_tree}
 use Rattle.ta_syntax.specs.TreeOf.{IsTextOf, IsTreeOf}
 use Rattle.ta_syntax.specs.declared.tokens.Kind.{Kind}
@@ -20,9 +20,9 @@ same_start : (ks : List Kind) → SameStart ks ks
 same_start [] = refl
 same_start (k ∷ ks) = (ks, refl)
 
-within_at : (c : Counts) (a : List Kind) (k : Kind) (b : List Kind) → Within c (a ++ k ∷ b) → (IsDeep (run c a) k → ⊥) × (IsMany (run c a) k → ⊥)
+within_at : (c : Counts) (a : List Kind) (k : Kind) (b : List Kind) → StaysWithin c (a ++ k ∷ b) → (IsDeep (run c a) k → ⊥) × (IsMany (run c a) k → ⊥)
 within_at c [] k b w = (w.0, w.1)
-within_at c (x ∷ a) k b w = within_at (after c x) a k b w.2
+within_at c (x ∷ a) k b w = within_at (counted_after c x) a k b w.2
 
 spelled_as : (bytes : List ℕ) (t : PlainTree) (ts : List Token) → IsTextOf bytes t → AreTokens bytes ts → kinds ts ≡ file_kinds t
 spelled_as bytes t ts text are = ap kinds (tokens_unique bytes ts text.tokens are text.are) ∙ text.spelled
@@ -30,12 +30,12 @@ spelled_as bytes t ts text are = ap kinds (tokens_unique bytes ts text.tokens ar
 not_wrong : (bytes : List ℕ) (t : PlainTree) (ts : List Token) (end at : ℕ) → IsTextOf bytes t → AreTokens bytes ts → IsWrong FileText at_start end ts at → ⊥
 not_wrong bytes t ts end at text are w = w.refused (kinds w.bad) (same_start (kinds w.bad)) (t, text.legal, sym (spelled_as bytes t ts text are) ∙ ap kinds w.split ∙ kinds-append w.front w.bad)
 
-not_past : (over : Counts → Kind → Type 0) (bytes : List ℕ) (t : PlainTree) (ts : List Token) (at : ℕ) → ((c : Counts) (a : List Kind) (k : Kind) (b : List Kind) → Within c (a ++ k ∷ b) → over (run c a) k → ⊥) → IsTextOf bytes t → IsTreeWithin t → AreTokens bytes ts → IsPast over FileText at_start ts at → ⊥
+not_past : (over : Counts → Kind → Type 0) (bytes : List ℕ) (t : PlainTree) (ts : List Token) (at : ℕ) → ((c : Counts) (a : List Kind) (k : Kind) (b : List Kind) → StaysWithin c (a ++ k ∷ b) → over (run c a) k → ⊥) → IsTextOf bytes t → IsTreeWithin t → AreTokens bytes ts → IsPast over FileText at_start ts at → ⊥
 not_past over bytes t ts at never text within are w =
     let whole : file_kinds t ≡ kinds w.front ++ w.first.kind ∷ kinds w.bad = sym (spelled_as bytes t ts text are) ∙ ap kinds w.split ∙ kinds-append w.front (w.first ∷ w.bad) in
-    never at_start (kinds w.front) w.first.kind (kinds w.bad) (subst (Within at_start) whole (tree_scan t text.legal within)) w.past
+    never at_start (kinds w.front) w.first.kind (kinds w.bad) (subst (StaysWithin at_start) whole (tree_scan t text.legal within)) w.past
 
-pub no_fault : (bytes : List ℕ) (t : PlainTree) (e : FileFault) → IsTextOf bytes t → IsTreeWithin t → FirstFault bytes e → e ≡ fault.Memory
+pub no_fault : (bytes : List ℕ) (t : PlainTree) (e : FileFault) → IsTextOf bytes t → IsTreeWithin t → FirstGrammarFault bytes e → e ≡ fault.Memory
 no_fault bytes t fault.Memory text within f = refl
 no_fault bytes t (fault.Byte at) text within f = absurd (refused_no_tokens bytes at text.tokens f text.are)
 no_fault bytes t (fault.Syntax at) text within f = absurd (not_wrong bytes t f.tokens (length bytes) at text f.are f.stopped)

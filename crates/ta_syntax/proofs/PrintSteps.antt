@@ -1,7 +1,6 @@
 -- What is printed piece by piece.
-use Rattle.std.proofs.Common.{◌≡◌, ℕ, zero, suc, List, [], ◌∷◌, ◌++◌, length, map, Result, Ok, Err, refl, sym, ap, subst, ◌∙◌, append_assoc, arith, ◌<◌}
+use Rattle.std.proofs.Common.{◌≡◌, ℕ, zero, suc, List, [], ◌∷◌, ◌++◌, length, map, refl, sym, ap, subst, ◌∙◌, append_assoc, arith, ◌<◌}
 use Rattle.std.proofs.lemmas.List.{append-nil}
-use Rattle.std.specs.Prelude.{IfOk}
 use Rattle.ta_syntax.specs.Kinds.{kind_bytes}
 use Rattle.ta_syntax.specs.Grammar.{PlainTree, name_kinds, location_kinds, Terms, Term, Factor, further, listed, led, ended, each, term_kinds, sum_kinds, more_kinds}
 use Rattle.ta_syntax.specs.PlainSums.{plain_sum, plain_term, plain_terms, factor_layer, sum_layer, term_layer}
@@ -22,9 +21,6 @@ use Rattle.ta_syntax.proofs.SumSteps.{plain_items}
 pub printed-append : (ks ls : List Kind) → printed (ks ++ ls) ≡ printed ks ++ printed ls
 printed-append [] ls = refl
 printed-append (k ∷ ks) ls = ap (λ (x : List ℕ). kind_bytes k ++ separator k ∷ x) (printed-append ks ls) ∙ sym (append_assoc (kind_bytes k) (separator k ∷ printed ks) (printed ls))
-
-pub prints_none : (a : List ℕ) → Prints a a []
-prints_none a = sym (append-nil a)
 
 -- one piece behind another
 pub prints_then : (a b c : List ℕ) (ks ls : List Kind) → Prints a b ks → Prints b c ls → Prints a c (ks ++ ls)
@@ -58,7 +54,6 @@ signed_all ((sign.Plus, t) ∷ ts) = ap (λ (x : List Kind). term_kinds (plain_t
 signed_all ((sign.Minus, t) ∷ ts) = ap (λ (x : List Kind). sign_before zero sign.Minus ++ (term_kinds (plain_term t) ++ x)) (signed_more zero ts)
 
 -- Lists of parts whose items are seen without offsets.
-
 further-map : {A B : Type 0} (f : A → B) (item : B → List Kind) (fixed : Mark → Kind) (xs : List A) → further fixed (λ x. item (f x)) xs ≡ further fixed item (map f xs)
 further-map f item fixed [] = refl
 further-map f item fixed (x ∷ xs) = ap (λ (ks : List Kind). fixed mark.Comma ∷ (item (f x) ++ ks)) (further-map f item fixed xs)
@@ -96,10 +91,6 @@ pub declared_of : {A B : Type 0} (a b : List ℕ) (m : Mark) (f : A → B) (item
 declared_of {A = A} a b m f item xs ys e p =
     p ∙ ap (λ (zs : List A). a ++ printed (kind.Fixed m ∷ (listed kind.Fixed (λ x. item (f x)) zs ++ kind.Fixed mark.Semicolon ∷ []))) e
     ∙ ap (λ (ks : List Kind). a ++ printed (kind.Fixed m ∷ (ks ++ kind.Fixed mark.Semicolon ∷ []))) (listed-map f item kind.Fixed ys)
-
-pub if_ok_then : {T E A B : Type 0} (r : Result T E) → (A → B) → IfOk r (λ x. A) → IfOk r (λ x. B)
-if_ok_then (Ok x) f p = f p
-if_ok_then (Err e) f p = tt
 
 pub plain_sum_out : (s : TreeSum) → plain_sum s ≡ plain_terms (out-TreeSum s).terms.items
 plain_sum_out s = fold_out-TreeSum Factor Terms Term factor_layer sum_layer term_layer s ∙ plain_items (out-TreeSum s).terms.items

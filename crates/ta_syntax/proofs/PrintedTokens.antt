@@ -1,9 +1,8 @@
 -- The tokens of what is printed.
-use Rattle.std.proofs.Common.{◌≡◌, ℕ, Bool, true, false, List, [], ◌∷◌, ◌++◌, length, ◌+◌, inl, inr, refl, sym, ap, subst, ◌∙◌}
-use Rattle.std.specs.Prelude.{IsTrue}
+use Rattle.std.proofs.Common.{◌≡◌, ℕ, Bool, true, false, List, [], ◌∷◌, ◌++◌, length, ◌+◌, inl, refl, ap}
 use Rattle.std.specs.List.{AllByRecursion}
-use Rattle.ta_syntax.specs.Kinds.{is_white, kind_bytes, mark_bytes, IsKind, IsNameText, IsDigits}
-use Rattle.ta_syntax.specs.Tokens.{lengthens, IsLongest, IsSpace, IsGap, IsLastGap, ScansTo, AreTokens}
+use Rattle.ta_syntax.specs.Kinds.{is_white, kind_bytes, IsKind, IsNameText}
+use Rattle.ta_syntax.specs.Tokens.{lengthens, IsSpace, IsLastGap, ScansTo, AreTokens}
 use Rattle.ta_syntax.specs.Faults.{kinds}
 use Rattle.ta_syntax.specs.Printed.{separator, printed}
 use Rattle.ta_syntax.specs.Grammar.{Terms, Term, Factor, done, term, number, times, alone, blank, named, nested, sign_kind, relation_kind, sum_kinds, more_kinds, term_kinds, factor_kinds, IsSum, AreTerms, IsTerm, IsFactor, further, listed, led, ended, each, PlainComparison, PlainLocation, PlainUpdate, PlainRule, PlainEvent, PlainPattern, PlainTree, name_kinds, initial_kinds, location_kinds, comparison_kinds, update_kinds, rule_kinds, event_kinds, pattern_kinds, file_kinds, IsComparison, IsUpdate, IsRule, IsEvent, IsPattern, IsTree}
@@ -18,7 +17,6 @@ use Rattle.ta_syntax.specs.declared.sums.Sign.TheVariants as sign
 use Rattle.ta_syntax.specs.declared.placed.Token.{Token}
 
 -- ---- what stands behind a token
-
 behind_mark : (m : Mark) → lengthens (kind.Fixed m) (separator (kind.Fixed m)) ≡ false
 behind_mark mark.Semicolon = refl
 behind_mark _ = refl
@@ -40,7 +38,6 @@ behind_white (kind.Number d) = refl
 behind_white (kind.Fixed m) = white_mark m
 
 -- ---- the tokens
-
 abbrev made : (k : Kind) → ℕ → IsKind k → Token
 made k at l = record { kind = k; at = at; legal = l }
 
@@ -71,7 +68,6 @@ pub tokens_printed : (ks : List Kind) → AllByRecursion IsKind ks → (ts : Lis
 tokens_printed ks legal = printed_from [] 0 ks tt legal
 
 -- ---- the kinds of a tree of the grammar are legal
-
 abbrev Legal : List Kind → Type 0
 Legal ks = AllByRecursion IsKind ks
 

@@ -35,9 +35,6 @@ gap_of : (rest start : List ℕ) (gap : List ℕ) → (IsGap gap ⊎ (IsLastGap 
 gap_of rest start gap (inl g) some = g
 gap_of rest start gap (inr g) some = absurd (omega (arith, ap length g.1))
 
-pub start_within : (bytes rest start : List ℕ) (ts : List Token) → ScanSoFar bytes rest ts → SkipsGap rest start → length start ≤ length bytes
-start_within bytes rest start ts so_far g = omega (arith, so_far.within, ap length g.1, length-append g.0 start)
-
 pub after_shorter : (rest start after : List ℕ) (k : Kind) → SkipsGap rest start → TokenFrom start k after → 0 < length (kind_bytes k) → length after < length rest
 after_shorter rest start after k g t some = omega (arith, ap length g.1, length-append g.0 start, ap length t.split, length-append (kind_bytes k) after)
 

@@ -5,10 +5,10 @@ use Rattle.std.specs.List.{AllByRecursion}
 use Rattle.ta_syntax.specs.Kinds.{IsNameText, IsDigits, mark_bytes}
 use Rattle.ta_syntax.specs.Grammar.{done, term, number, named, relation_kind}
 use Rattle.ta_syntax.specs.Stated.{Offsets, IsPlaced, at_first}
-use Rattle.ta_syntax.specs.Limits.{Counts, run, after, after_mark, Within, IsDeep, IsMany, IsBlockPast}
-use Rattle.ta_syntax.specs.Parts.{Part, Text, nothing, a_mark, a_name, a_number, a_relation, a_sum, more_terms, a_term, a_factor, both, maybe, many, upto, blocks}
-use Rattle.ta_syntax.specs.Faults.{kinds, SameStart, IsWrong, IsPast, Stopped, offset_of}
-use Rattle.ta_syntax.specs.Reading.{Reads, begins_by, HasRoom, BeginsWith, IsOther, NoNumber, IsUnexpected}
+use Rattle.ta_syntax.specs.Limits.{Counts, run, counted_after, after_mark, StaysWithin, IsDeep, IsMany, IsBlockPast}
+use Rattle.ta_syntax.specs.Parts.{GrammarPart, Text, nothing, a_mark, a_name, a_number, a_relation, a_sum, more_terms, a_term, a_factor, both, maybe, many, upto, blocks}
+use Rattle.ta_syntax.specs.Faults.{kinds, SameStart, IsWrong, IsPast, IsStopped, offset_of}
+use Rattle.ta_syntax.specs.Reading.{ReadsPart, begins_by, HasRoom, BeginsWithKind, IsOther, NoNumber, IsUnexpected}
 use Rattle.ta_syntax.specs.Inside.Reading.{is_sign, NoName, IsUnnamed}
 use Rattle.ta_syntax.specs.Inside.BlockReading.{AvoidsMark, StartsOther}
 use Rattle.ta_syntax.specs.declared.tokens.Kind.{Kind}
@@ -36,11 +36,11 @@ placed-append (o ∷ x) y (t ∷ a) b p q = (p.0, placed-append x y a b p.1 q)
 
 pub run-append : (c : Counts) (a b : List Kind) → run c (a ++ b) ≡ run (run c a) b
 run-append c [] b = refl
-run-append c (k ∷ a) b = run-append (after c k) a b
+run-append c (k ∷ a) b = run-append (counted_after c k) a b
 
-pub within-append : (c : Counts) (a b : List Kind) → Within c a → Within (run c a) b → Within c (a ++ b)
+pub within-append : (c : Counts) (a b : List Kind) → StaysWithin c a → StaysWithin (run c a) b → StaysWithin c (a ++ b)
 within-append c [] b p q = q
-within-append c (k ∷ a) b p q = (p.0, p.1, within-append (after c k) a b p.2 q)
+within-append c (k ∷ a) b p q = (p.0, p.1, within-append (counted_after c k) a b p.2 q)
 
 pub same_start-append : (a b other : List Kind) → SameStart b other → SameStart (a ++ b) (a ++ other)
 same_start-append [] b other h = h
@@ -48,7 +48,7 @@ same_start-append (k ∷ a) b other h = (a ++ other, refl)
 
 -- ---- steps go together
 
-pub then : {L M N : Part} {c d e : Counts} {tokens mid rest : List Token} {text more : List Kind} {x y : List Offsets} → Reads L c tokens mid M d text x → Reads M d mid rest N e more y → Reads L c tokens rest N e (text ++ more) (x ++ y)
+pub then : {L M N : GrammarPart} {c d e : Counts} {tokens mid rest : List Token} {text more : List Kind} {x y : List Offsets} → ReadsPart L c tokens mid M d text x → ReadsPart M d mid rest N e more y → ReadsPart L c tokens rest N e (text ++ more) (x ++ y)
 then {L = L} {c = c} {mid = mid} {rest = rest} {text = text} {more = more} {x = x} {y = y} a b = record {
   front = a.front ++ b.front;
   split = a.split ∙ ap (λ (z : List Token). a.front ++ z) b.split ∙ sym (append_assoc a.front b.front rest);
@@ -59,22 +59,22 @@ then {L = L} {c = c} {mid = mid} {rest = rest} {text = text} {more = more} {x = 
       let ahead : kinds mid ≡ more ++ kinds rest = ap kinds b.split ∙ kinds-append b.front rest ∙ ap (λ (z : List Kind). z ++ kinds rest) b.spelled in
       b.down w s (a.down (more ++ w) (subst (λ (z : List Kind). SameStart z (more ++ w)) (sym ahead) (same_start-append more (kinds rest) w s)) (subst (Text L) (append_assoc text more w) h));
   counted = run-append c text more ∙ ap (λ (z : Counts). run z more) a.counted ∙ b.counted;
-  within = within-append c text more a.within (subst (λ (z : Counts). Within z more) (sym a.counted) b.within);
+  within = within-append c text more a.within (subst (λ (z : Counts). StaysWithin z more) (sym a.counted) b.within);
 }
 
 -- nothing is taken, and what has to come is said in another way
-pub expand : {L M : Part} {c : Counts} {tokens : List Token} → ((w : List Kind) → Text M w → Text L w) → ((w : List Kind) → SameStart (kinds tokens) w → Text L w → Text M w) → Reads L c tokens tokens M c [] []
+pub expand : {L M : GrammarPart} {c : Counts} {tokens : List Token} → ((w : List Kind) → Text M w → Text L w) → ((w : List Kind) → SameStart (kinds tokens) w → Text L w → Text M w) → ReadsPart L c tokens tokens M c [] []
 expand up down = record { front = []; split = refl; spelled = refl; placed = tt; up = up; down = down; counted = refl; within = tt }
 
-pub stay : {L : Part} {c : Counts} {tokens : List Token} → Reads L c tokens tokens L c [] []
+pub stay : {L : GrammarPart} {c : Counts} {tokens : List Token} → ReadsPart L c tokens tokens L c [] []
 stay = expand (λ w h. h) (λ w s h. h)
 
-pub respell : {L M : Part} {c d : Counts} {tokens rest : List Token} {text text' : List Kind} {x x' : List Offsets} → Reads L c tokens rest M d text x → text ≡ text' → x ≡ x' → Reads L c tokens rest M d text' x'
+pub respell : {L M : GrammarPart} {c d : Counts} {tokens rest : List Token} {text text' : List Kind} {x x' : List Offsets} → ReadsPart L c tokens rest M d text x → text ≡ text' → x ≡ x' → ReadsPart L c tokens rest M d text' x'
 respell {L = L} {M = M} {c = c} {d = d} {tokens = tokens} {rest = rest} {text = text} {x' = x'} a e f =
-    subst (λ (z : List Kind). Reads L c tokens rest M d z x') e (subst (λ (z : List Offsets). Reads L c tokens rest M d text z) f a)
+    subst (λ (z : List Kind). ReadsPart L c tokens rest M d z x') e (subst (λ (z : List Offsets). ReadsPart L c tokens rest M d text z) f a)
 
-pub recount : {L M : Part} {c d d' : Counts} {tokens rest : List Token} {text : List Kind} {x : List Offsets} → Reads L c tokens rest M d text x → d ≡ d' → Reads L c tokens rest M d' text x
-recount {L = L} {M = M} {c = c} {tokens = tokens} {rest = rest} {text = text} {x = x} a e = subst (λ (z : Counts). Reads L c tokens rest M z text x) e a
+pub recount : {L M : GrammarPart} {c d d' : Counts} {tokens rest : List Token} {text : List Kind} {x : List Offsets} → ReadsPart L c tokens rest M d text x → d ≡ d' → ReadsPart L c tokens rest M d' text x
+recount {L = L} {M = M} {c = c} {tokens = tokens} {rest = rest} {text = text} {x = x} a e = subst (λ (z : Counts). ReadsPart L c tokens rest M z text x) e a
 
 placed_first : (end at : ℕ) (x : List Offsets) (front rest : List Token) → at ≡ offset_of end (front ++ rest) → IsPlaced x front → IsPlaced (at_first at x) front
 placed_first end at [] front rest e p = p
@@ -82,10 +82,10 @@ placed_first end at (o ∷ x) [] rest e p = absurd p
 placed_first end at (o ∷ x) (t ∷ front) rest e p = ((e, p.0), p.1)
 
 -- one more offset is stated for the first token
-pub also_at : {L M : Part} {c d : Counts} {tokens rest : List Token} {text : List Kind} {x : List Offsets} (end at : ℕ) → at ≡ offset_of end tokens → Reads L c tokens rest M d text x → Reads L c tokens rest M d text (at_first at x)
+pub also_at : {L M : GrammarPart} {c d : Counts} {tokens rest : List Token} {text : List Kind} {x : List Offsets} (end at : ℕ) → at ≡ offset_of end tokens → ReadsPart L c tokens rest M d text x → ReadsPart L c tokens rest M d text (at_first at x)
 also_at {rest = rest} {x = x} end at e a = record { front = a.front; split = a.split; spelled = a.spelled; placed = placed_first end at x a.front rest (e ∙ ap (λ (z : List Token). offset_of end z) a.split) a.placed; up = a.up; down = a.down; counted = a.counted; within = a.within }
 
-module _ {L M : Part} {c d : Counts} {tokens mid : List Token} {text : List Kind} {x : List Offsets} (end : ℕ) (a : Reads L c tokens mid M d text x) where
+module _ {L M : GrammarPart} {c d : Counts} {tokens mid : List Token} {text : List Kind} {x : List Offsets} (end : ℕ) (a : ReadsPart L c tokens mid M d text x) where
   stops_wrong : (at : ℕ) → IsWrong (Text M) d end mid at → IsWrong (Text L) c end tokens at
   stops_wrong at w =
       let whole : kinds (a.front ++ w.front) ≡ text ++ kinds w.front = kinds-append a.front w.front ∙ ap (λ (z : List Kind). z ++ kinds w.front) a.spelled in
@@ -98,7 +98,7 @@ module _ {L M : Part} {c d : Counts} {tokens mid : List Token} {text : List Kind
         place = w.place;
         begins = (w.begins.0, subst (Text L) (sym (regroup w.begins.0)) (a.up (kinds w.front ++ w.begins.0) w.begins.1));
         refused = λ other same h. w.refused other same (a.down (kinds w.front ++ other) (subst (λ (z : List Kind). SameStart z (kinds w.front ++ other)) (sym ahead) (same_start-append (kinds w.front) (kinds w.bad) other same)) (subst (Text L) (regroup other) h));
-        within = subst (Within c) (sym whole) (within-append c text (kinds w.front) a.within (subst (λ (z : Counts). Within z (kinds w.front)) (sym a.counted) w.within));
+        within = subst (StaysWithin c) (sym whole) (within-append c text (kinds w.front) a.within (subst (λ (z : Counts). StaysWithin z (kinds w.front)) (sym a.counted) w.within));
       }
 
   stops_past : (over : Counts → Kind → Type 0) (at : ℕ) → IsPast over (Text M) d mid at → IsPast over (Text L) c tokens at
@@ -112,12 +112,12 @@ module _ {L M : Part} {c d : Counts} {tokens mid : List Token} {text : List Kind
         split = a.split ∙ ap (λ (z : List Token). a.front ++ z) w.split ∙ sym (append_assoc a.front w.front (w.first ∷ w.bad));
         place = w.place;
         begins = (w.begins.0, subst (Text L) (sym regroup) (a.up ((kinds w.front ++ w.first.kind ∷ []) ++ w.begins.0) w.begins.1));
-        within = subst (Within c) (sym whole) (within-append c text (kinds w.front) a.within (subst (λ (z : Counts). Within z (kinds w.front)) (sym a.counted) w.within));
+        within = subst (StaysWithin c) (sym whole) (within-append c text (kinds w.front) a.within (subst (λ (z : Counts). StaysWithin z (kinds w.front)) (sym a.counted) w.within));
         past = subst (λ (z : Counts). over z w.first.kind) (sym (ap (run c) whole ∙ run-append c text (kinds w.front) ∙ ap (λ (z : Counts). run z (kinds w.front)) a.counted)) w.past;
       }
 
   -- a reader's fault is the fault of the reader around it
-  pub stops : (e : FileFault) → Stopped (Text M) d end mid e → Stopped (Text L) c end tokens e
+  pub stops : (e : FileFault) → IsStopped (Text M) d end mid e → IsStopped (Text L) c end tokens e
   stops fault.Memory s = tt
   stops (fault.Syntax at) s = stops_wrong at s
   stops (fault.TooDeep at) s = stops_past IsDeep at s
@@ -137,7 +137,7 @@ not_x _ e = let h = ap first_byte e in omega arith
 pub legal_x : IsNameText (codes "x")
 legal_x = record { first = refl; each = (refl, tt); free = not_x }
 
-pub some_text : (p : Part) → (w : List Kind) × Text p w
+pub some_text : (p : GrammarPart) → (w : List Kind) × Text p w
 some_text nothing = ([], refl)
 some_text (a_mark m) = (kind.Fixed m ∷ [], refl)
 some_text a_name = (kind.Name (codes "x") ∷ [], (codes "x", legal_x, refl))
@@ -158,8 +158,8 @@ abbrev pub Fits : Counts → Kind → Type 0
 Fits c k = (IsDeep c k → ⊥) × (IsMany c k → ⊥)
 
 -- where a part is one token
-take : {K : Part} {c : Counts} {tokens rest : List Token} (p : Part) (k : Kind) (x : Offsets) (b : BeginsWith tokens k rest) → Text p (k ∷ []) → ((a : List Kind) → Text p a → (other : Kind) × (a ≡ other ∷ [])) → Fits c k → AllByRecursion (λ a. a ≡ b.first.at) x
-    → Reads (both p K) c tokens rest K (after c k) (k ∷ []) (x ∷ [])
+take : {K : GrammarPart} {c : Counts} {tokens rest : List Token} (p : GrammarPart) (k : Kind) (x : Offsets) (b : BeginsWithKind tokens k rest) → Text p (k ∷ []) → ((a : List Kind) → Text p a → (other : Kind) × (a ≡ other ∷ [])) → Fits c k → AllByRecursion (λ a. a ≡ b.first.at) x
+    → ReadsPart (both p K) c tokens rest K (counted_after c k) (k ∷ []) (x ∷ [])
 take {K = K} p k x b is only fits placed = record {
   front = b.first ∷ [];
   split = b.split;
@@ -202,23 +202,23 @@ plain_not_past c _ p h = h
 pub room_fits : (c : Counts) (m : Mark) → HasRoom c → IsPlainMark m → Fits c (kind.Fixed m)
 room_fits c m room p = (plain_not_deep c m p, ⊎_elim (λ (h : c.limit ≤ c.commas). omega arith) (plain_not_past c m p))
 
-pub take_mark_fits : {K : Part} {c : Counts} {tokens rest : List Token} (m : Mark) → BeginsWith tokens (kind.Fixed m) rest → Fits c (kind.Fixed m) → Reads (both (a_mark m) K) c tokens rest K (after_mark c m) (kind.Fixed m ∷ []) ([] ∷ [])
+pub take_mark_fits : {K : GrammarPart} {c : Counts} {tokens rest : List Token} (m : Mark) → BeginsWithKind tokens (kind.Fixed m) rest → Fits c (kind.Fixed m) → ReadsPart (both (a_mark m) K) c tokens rest K (after_mark c m) (kind.Fixed m ∷ []) ([] ∷ [])
 take_mark_fits m b fits = take (a_mark m) (kind.Fixed m) [] b refl (λ a t. (kind.Fixed m, t)) fits tt
 
-pub take_mark : {K : Part} {c : Counts} {tokens rest : List Token} (m : Mark) → BeginsWith tokens (kind.Fixed m) rest → HasRoom c → IsPlainMark m → Reads (both (a_mark m) K) c tokens rest K (after_mark c m) (kind.Fixed m ∷ []) ([] ∷ [])
+pub take_mark : {K : GrammarPart} {c : Counts} {tokens rest : List Token} (m : Mark) → BeginsWithKind tokens (kind.Fixed m) rest → HasRoom c → IsPlainMark m → ReadsPart (both (a_mark m) K) c tokens rest K (after_mark c m) (kind.Fixed m ∷ []) ([] ∷ [])
 take_mark {c = c} m b room p = take_mark_fits m b (room_fits c m room p)
 
 -- a keyword at a stated offset
-pub take_mark_at : {K : Part} {c : Counts} {tokens rest : List Token} (m : Mark) (end at : ℕ) → BeginsWith tokens (kind.Fixed m) rest → HasRoom c → IsPlainMark m → at ≡ offset_of end tokens → Reads (both (a_mark m) K) c tokens rest K (after_mark c m) (kind.Fixed m ∷ []) ((at ∷ []) ∷ [])
+pub take_mark_at : {K : GrammarPart} {c : Counts} {tokens rest : List Token} (m : Mark) (end at : ℕ) → BeginsWithKind tokens (kind.Fixed m) rest → HasRoom c → IsPlainMark m → at ≡ offset_of end tokens → ReadsPart (both (a_mark m) K) c tokens rest K (after_mark c m) (kind.Fixed m ∷ []) ((at ∷ []) ∷ [])
 take_mark_at {c = c} m end at b room p e = take (a_mark m) (kind.Fixed m) (at ∷ []) b refl (λ a t. (kind.Fixed m, t)) (room_fits c m room p) (e ∙ ap (λ (z : List Token). offset_of end z) b.split, tt)
 
-pub take_name : {K : Part} {c : Counts} {tokens rest : List Token} (n : List ℕ) (end at : ℕ) → BeginsWith tokens (kind.Name n) rest → HasRoom c → IsNameText n → at ≡ offset_of end tokens → Reads (both a_name K) c tokens rest K c (kind.Name n ∷ []) ((at ∷ []) ∷ [])
+pub take_name : {K : GrammarPart} {c : Counts} {tokens rest : List Token} (n : List ℕ) (end at : ℕ) → BeginsWithKind tokens (kind.Name n) rest → HasRoom c → IsNameText n → at ≡ offset_of end tokens → ReadsPart (both a_name K) c tokens rest K c (kind.Name n ∷ []) ((at ∷ []) ∷ [])
 take_name {c = c} n end at b room legal e = take a_name (kind.Name n) (at ∷ []) b (n, legal, refl) (λ a t. (kind.Name t.0, t.2)) (room_fits_name c n room) (e ∙ ap (λ (z : List Token). offset_of end z) b.split, tt)
 
-pub take_number : {K : Part} {c : Counts} {tokens rest : List Token} (d : List ℕ) (end at : ℕ) → BeginsWith tokens (kind.Number d) rest → HasRoom c → IsDigits d → at ≡ offset_of end tokens → Reads (both a_number K) c tokens rest K c (kind.Number d ∷ []) ((at ∷ []) ∷ [])
+pub take_number : {K : GrammarPart} {c : Counts} {tokens rest : List Token} (d : List ℕ) (end at : ℕ) → BeginsWithKind tokens (kind.Number d) rest → HasRoom c → IsDigits d → at ≡ offset_of end tokens → ReadsPart (both a_number K) c tokens rest K c (kind.Number d ∷ []) ((at ∷ []) ∷ [])
 take_number {c = c} d end at b room legal e = take a_number (kind.Number d) (at ∷ []) b (d, legal, refl) (λ a t. (kind.Number t.0, t.2)) (room_fits_number c d room) (e ∙ ap (λ (z : List Token). offset_of end z) b.split, tt)
 
-pub after_relation : (c : Counts) (r : Relation) → after c (relation_kind r) ≡ c
+pub after_relation : (c : Counts) (r : Relation) → counted_after c (relation_kind r) ≡ c
 after_relation c relation.Less = refl
 after_relation c _ = refl
 
@@ -229,13 +229,13 @@ relation_fits c relation.Equal room = room_fits c mark.Equal room tt
 relation_fits c relation.AtLeast room = room_fits c mark.AtLeast room tt
 relation_fits c relation.More room = room_fits c mark.More room tt
 
-pub take_relation : {K : Part} {c : Counts} {tokens rest : List Token} (r : Relation) → BeginsWith tokens (relation_kind r) rest → HasRoom c → Reads (both a_relation K) c tokens rest K c (relation_kind r ∷ []) ([] ∷ [])
+pub take_relation : {K : GrammarPart} {c : Counts} {tokens rest : List Token} (r : Relation) → BeginsWithKind tokens (relation_kind r) rest → HasRoom c → ReadsPart (both a_relation K) c tokens rest K c (relation_kind r ∷ []) ([] ∷ [])
 take_relation {c = c} r b room = recount (take a_relation (relation_kind r) [] b (r, refl) (λ a t. (relation_kind t.0, t.1)) (relation_fits c r room) tt) (after_relation c r)
 
 -- ---- where no token of the right kind stands first
 
 -- no text begins by the first token
-pub wrong_here : (L : Part) (c : Counts) (end : ℕ) (tokens : List Token) → ((w : List Kind) → SameStart (kinds tokens) w → Text L w → ⊥) → IsWrong (Text L) c end tokens (offset_of end tokens)
+pub wrong_here : (L : GrammarPart) (c : Counts) (end : ℕ) (tokens : List Token) → ((w : List Kind) → SameStart (kinds tokens) w → Text L w → ⊥) → IsWrong (Text L) c end tokens (offset_of end tokens)
 wrong_here L c end tokens refused = record { front = []; bad = tokens; split = refl; place = refl; begins = some_text L; refused = refused; within = tt }
 
 pub other_mark : (m : Mark) (tokens : List Token) (w : List Kind) → IsOther tokens m → SameStart (kinds tokens) (kind.Fixed m ∷ w) → ⊥
@@ -254,14 +254,14 @@ other_number n (kind.Number m ∷ ks) w none same = none
 other_number n (kind.Name m ∷ ks) w none same = let e = same.1 in cc
 other_number n (kind.Fixed m ∷ ks) w none same = let e = same.1 in cc
 
-pub mark_stops : (K : Part) (c : Counts) (end : ℕ) (tokens : List Token) (m : Mark) (e : FileFault) → IsUnexpected end tokens m e → Stopped (Text (both (a_mark m) K)) c end tokens e
+pub mark_stops : (K : GrammarPart) (c : Counts) (end : ℕ) (tokens : List Token) (m : Mark) (e : FileFault) → IsUnexpected end tokens m e → IsStopped (Text (both (a_mark m) K)) c end tokens e
 mark_stops K c end tokens m (fault.Syntax at) h =
     subst (λ (n : ℕ). IsWrong (Text (both (a_mark m) K)) c end tokens n) (sym h.1) (wrong_here (both (a_mark m) K) c end tokens (λ w same t.
     let e : w ≡ kind.Fixed m ∷ t.1 = t.4 ∙ ap (λ (z : List Kind). z ++ t.1) t.2 in
     other_mark m tokens t.1 h.0 (subst (SameStart (kinds tokens)) e same)))
 mark_stops K c end tokens m _ h = absurd h
 
-pub name_stops : (K : Part) (c : Counts) (end : ℕ) (tokens : List Token) (e : FileFault) → IsUnnamed end tokens e → Stopped (Text (both a_name K)) c end tokens e
+pub name_stops : (K : GrammarPart) (c : Counts) (end : ℕ) (tokens : List Token) (e : FileFault) → IsUnnamed end tokens e → IsStopped (Text (both a_name K)) c end tokens e
 name_stops K c end tokens fault.Memory h = tt
 name_stops K c end tokens (fault.Syntax at) h =
     subst (λ (n : ℕ). IsWrong (Text (both a_name K)) c end tokens n) (sym h.1) (wrong_here (both a_name K) c end tokens (λ w same t.
@@ -269,7 +269,7 @@ name_stops K c end tokens (fault.Syntax at) h =
     other_name t.2.0 (kinds tokens) t.1 h.0 (subst (SameStart (kinds tokens)) e same)))
 name_stops K c end tokens _ h = absurd h
 
-pub number_stops : (K : Part) (c : Counts) (end : ℕ) (tokens : List Token) → NoNumber (kinds tokens) → IsWrong (Text (both a_number K)) c end tokens (offset_of end tokens)
+pub number_stops : (K : GrammarPart) (c : Counts) (end : ℕ) (tokens : List Token) → NoNumber (kinds tokens) → IsWrong (Text (both a_number K)) c end tokens (offset_of end tokens)
 number_stops K c end tokens none =
     wrong_here (both a_number K) c end tokens (λ w same t.
     let e : w ≡ kind.Number t.2.0 ∷ t.1 = t.4 ∙ ap (λ (z : List Kind). z ++ t.1) t.2.2 in
@@ -278,46 +278,46 @@ number_stops K c end tokens none =
 -- ---- one part after another
 
 -- the parts of which the first is made, each before what comes after it
-abbrev pub flatten : Part → Part → Part
+abbrev pub flatten : GrammarPart → GrammarPart → GrammarPart
 flatten nothing K = K
 flatten (both p q) K = both p (flatten q K)
 flatten p K = both p K
 
-both_map : (p K K' : Part) → ((w : List Kind) → Text K w → Text K' w) → (w : List Kind) → Text (both p K) w → Text (both p K') w
+both_map : (p K K' : GrammarPart) → ((w : List Kind) → Text K w → Text K' w) → (w : List Kind) → Text (both p K) w → Text (both p K') w
 both_map p K K' f w h = (h.0, h.1, h.2, f h.1 h.3, h.4)
 
-both_assoc : (p q K : Part) (w : List Kind) → Text (both p (both q K)) w → Text (both (both p q) K) w
+both_assoc : (p q K : GrammarPart) (w : List Kind) → Text (both p (both q K)) w → Text (both (both p q) K) w
 both_assoc p q K w h = (h.0 ++ h.3.0, h.3.1, (h.0, h.3.0, h.2, h.3.2, refl), h.3.3, h.4 ∙ ap (λ (z : List Kind). h.0 ++ z) h.3.4 ∙ sym (append_assoc h.0 h.3.0 h.3.1))
 
-both_split : (p q K : Part) (w : List Kind) → Text (both (both p q) K) w → Text (both p (both q K)) w
+both_split : (p q K : GrammarPart) (w : List Kind) → Text (both (both p q) K) w → Text (both p (both q K)) w
 both_split p q K w h = (h.2.0, h.2.1 ++ h.1, h.2.2, (h.2.1, h.1, h.2.3, h.3, refl), h.4 ∙ ap (λ (z : List Kind). z ++ h.1) h.2.4 ∙ append_assoc h.2.0 h.2.1 h.1)
 
-pub flatten_up : (p K : Part) (w : List Kind) → Text (flatten p K) w → Text (both p K) w
+pub flatten_up : (p K : GrammarPart) (w : List Kind) → Text (flatten p K) w → Text (both p K) w
 flatten_up nothing K w h = ([], w, refl, h, refl)
 flatten_up (both p q) K w h = both_assoc p q K w (both_map p (flatten q K) (both q K) (flatten_up q K) w h)
 flatten_up (a_mark m) K w h = h
 flatten_up _ K w h = h
 
-pub flatten_down : (p K : Part) (w : List Kind) → Text (both p K) w → Text (flatten p K) w
+pub flatten_down : (p K : GrammarPart) (w : List Kind) → Text (both p K) w → Text (flatten p K) w
 flatten_down nothing K w h = let e : h.1 ≡ w = sym (h.4 ∙ ap (λ (z : List Kind). z ++ h.1) h.2) in subst (Text K) e h.3
 flatten_down (both p q) K w h = both_map p (both q K) (flatten q K) (flatten_down q K) w (both_split p q K w h)
 flatten_down (a_mark m) K w h = h
 flatten_down _ K w h = h
 
-pub opened : {c : Counts} {tokens : List Token} (p K : Part) → Reads (both p K) c tokens tokens (flatten p K) c [] []
+pub opened : {c : Counts} {tokens : List Token} (p K : GrammarPart) → ReadsPart (both p K) c tokens tokens (flatten p K) c [] []
 opened p K = expand (flatten_up p K) (λ w s h. flatten_down p K w h)
 
-pub split_both : {c : Counts} {tokens : List Token} (p q K : Part) → Reads (both (both p q) K) c tokens tokens (both p (both q K)) c [] []
+pub split_both : {c : Counts} {tokens : List Token} (p q K : GrammarPart) → ReadsPart (both (both p q) K) c tokens tokens (both p (both q K)) c [] []
 split_both p q K = expand (both_assoc p q K) (λ w s h. both_split p q K w h)
 
 -- ---- parts that may be absent
 
-starts : (m : Mark) (tokens rest : List Token) (w : List Kind) → BeginsWith tokens (kind.Fixed m) rest → SameStart (kinds tokens) w → (more : List Kind) × (w ≡ kind.Fixed m ∷ more)
+starts : (m : Mark) (tokens rest : List Token) (w : List Kind) → BeginsWithKind tokens (kind.Fixed m) rest → SameStart (kinds tokens) w → (more : List Kind) × (w ≡ kind.Fixed m ∷ more)
 starts m tokens rest w b same =
     let s = subst (λ (z : List Token). SameStart (kinds z) w) b.split same in
     (s.0, s.1 ∙ ap (λ (k : Kind). k ∷ s.0) b.is)
 
-pub maybe_taken : {c : Counts} {tokens rest : List Token} (m : Mark) (p K : Part) → BeginsWith tokens (kind.Fixed m) rest → AvoidsMark m K → Reads (both (maybe m p) K) c tokens tokens (both (a_mark m) (both p K)) c [] []
+pub maybe_taken : {c : Counts} {tokens rest : List Token} (m : Mark) (p K : GrammarPart) → BeginsWithKind tokens (kind.Fixed m) rest → AvoidsMark m K → ReadsPart (both (maybe m p) K) c tokens tokens (both (a_mark m) (both p K)) c [] []
 maybe_taken {tokens = tokens} {rest = rest} m p K b avoids =
     expand
     (λ w h. (h.0 ++ h.3.0, h.3.1, inr (h.3.0, h.3.2, ap (λ (z : List Kind). z ++ h.3.0) h.2), h.3.3, h.4 ∙ ap (λ (z : List Kind). h.0 ++ z) h.3.4 ∙ sym (append_assoc h.0 h.3.0 h.3.1)))
@@ -327,14 +327,14 @@ maybe_taken {tokens = tokens} {rest = rest} m p K b avoids =
     inside w s (a, b, inl e, t, f) = absurd (avoids s.0 (subst (Text K) (sym (f ∙ ap (λ (z : List Kind). z ++ b) e) ∙ s.1) t))
     inside w s (a, b, inr x, t, f) = (kind.Fixed m ∷ [], x.0 ++ b, refl, (x.0, b, x.1, t, refl), f ∙ ap (λ (z : List Kind). z ++ b) x.2)
 
-pub maybe_skipped : {c : Counts} {tokens : List Token} (m : Mark) (p K : Part) → IsOther tokens m → Reads (both (maybe m p) K) c tokens tokens K c [] []
+pub maybe_skipped : {c : Counts} {tokens : List Token} (m : Mark) (p K : GrammarPart) → IsOther tokens m → ReadsPart (both (maybe m p) K) c tokens tokens K c [] []
 maybe_skipped {tokens = tokens} m p K other = expand (λ w h. ([], w, inl refl, h, refl)) (λ w s h. inside w s h)
   where
     inside : (w : List Kind) → SameStart (kinds tokens) w → Text (both (maybe m p) K) w → Text K w
     inside w s (a, b, inl e, t, f) = subst (Text K) (sym (f ∙ ap (λ (z : List Kind). z ++ b) e)) t
     inside w s (a, b, inr x, t, f) = absurd (other_mark m tokens (x.0 ++ b) other (subst (SameStart (kinds tokens)) (f ∙ ap (λ (z : List Kind). z ++ b) x.2) s))
 
-pub many_taken : {c : Counts} {tokens rest : List Token} (m : Mark) (p K : Part) → BeginsWith tokens (kind.Fixed m) rest → AvoidsMark m K → Reads (both (many m p) K) c tokens tokens (both (a_mark m) (both p (both (many m p) K))) c [] []
+pub many_taken : {c : Counts} {tokens rest : List Token} (m : Mark) (p K : GrammarPart) → BeginsWithKind tokens (kind.Fixed m) rest → AvoidsMark m K → ReadsPart (both (many m p) K) c tokens tokens (both (a_mark m) (both p (both (many m p) K))) c [] []
 many_taken {tokens = tokens} {rest = rest} m p K b avoids =
     expand
     (λ w h. (h.0 ++ (h.3.0 ++ h.3.3.0), h.3.3.1, (h.3.0 ∷ h.3.3.2.0, (h.3.2, h.3.3.2.1), ap (λ (z : List Kind). z ++ (h.3.0 ++ h.3.3.0)) h.2 ∙ ap (λ (z : List Kind). kind.Fixed m ∷ (h.3.0 ++ z)) h.3.3.2.2), h.3.3.3, h.4 ∙ ap (λ (z : List Kind). h.0 ++ z) (h.3.4 ∙ ap (λ (z : List Kind). h.3.0 ++ z) h.3.3.4) ∙ simp append_assoc))
@@ -344,21 +344,21 @@ many_taken {tokens = tokens} {rest = rest} m p K b avoids =
     inside w s (a, b, ([], all, e), t, f) = absurd (avoids s.0 (subst (Text K) (sym (f ∙ ap (λ (z : List Kind). z ++ b) e) ∙ s.1) t))
     inside w s (a, b, (x ∷ xs, all, e), t, f) = (kind.Fixed m ∷ [], x ++ (blocks m xs ++ b), refl, (x, blocks m xs ++ b, all.0, (blocks m xs, b, (xs, all.1, refl), t, refl), refl), f ∙ ap (λ (z : List Kind). z ++ b) e ∙ ap (λ (z : List Kind). kind.Fixed m ∷ z) (append_assoc x (blocks m xs) b))
 
-pub many_ended : {c : Counts} {tokens : List Token} (m : Mark) (p K : Part) → IsOther tokens m → Reads (both (many m p) K) c tokens tokens K c [] []
+pub many_ended : {c : Counts} {tokens : List Token} (m : Mark) (p K : GrammarPart) → IsOther tokens m → ReadsPart (both (many m p) K) c tokens tokens K c [] []
 many_ended {tokens = tokens} m p K other = expand (λ w h. ([], w, ([], tt, refl), h, refl)) (λ w s h. inside w s h)
   where
     inside : (w : List Kind) → SameStart (kinds tokens) w → Text (both (many m p) K) w → Text K w
     inside w s (a, b, ([], all, e), t, f) = subst (Text K) (sym (f ∙ ap (λ (z : List Kind). z ++ b) e)) t
     inside w s (a, b, (x ∷ xs, all, e), t, f) = absurd (other_mark m tokens ((x ++ blocks m xs) ++ b) other (subst (SameStart (kinds tokens)) (f ∙ ap (λ (z : List Kind). z ++ b) e) s))
 
-pub upto_ended : {c : Counts} {tokens rest : List Token} (m : Mark) (p K : Part) → BeginsWith tokens (kind.Fixed m) rest → StartsOther m p → Reads (both (upto m p) K) c tokens tokens (both (a_mark m) K) c [] []
+pub upto_ended : {c : Counts} {tokens rest : List Token} (m : Mark) (p K : GrammarPart) → BeginsWithKind tokens (kind.Fixed m) rest → StartsOther m p → ReadsPart (both (upto m p) K) c tokens tokens (both (a_mark m) K) c [] []
 upto_ended {tokens = tokens} {rest = rest} m p K b avoids = expand (λ w h. (h.0, h.1, inl h.2, h.3, h.4)) (λ w s h. inside w (starts m tokens rest w b s) h)
   where
     inside : (w : List Kind) → ((more : List Kind) × (w ≡ kind.Fixed m ∷ more)) → Text (both (upto m p) K) w → Text (both (a_mark m) K) w
     inside w s (a, b, inl e, t, f) = (a, b, e, t, f)
     inside w s (a, b, inr x, t, f) = absurd (avoids x.0 (kind.Fixed m ∷ b) s.0 x.1 (sym (append_assoc x.0 (kind.Fixed m ∷ []) b) ∙ sym (f ∙ ap (λ (z : List Kind). z ++ b) x.2) ∙ s.1))
 
-pub upto_taken : {c : Counts} {tokens : List Token} (m : Mark) (p K : Part) → IsOther tokens m → Reads (both (upto m p) K) c tokens tokens (both p (both (a_mark m) K)) c [] []
+pub upto_taken : {c : Counts} {tokens : List Token} (m : Mark) (p K : GrammarPart) → IsOther tokens m → ReadsPart (both (upto m p) K) c tokens tokens (both p (both (a_mark m) K)) c [] []
 upto_taken {tokens = tokens} m p K other =
     expand
     (λ w h. (h.0 ++ h.3.0, h.3.1, inr (h.0, h.2, ap (λ (z : List Kind). h.0 ++ z) h.3.2), h.3.3, h.4 ∙ ap (λ (z : List Kind). h.0 ++ z) h.3.4 ∙ sym (append_assoc h.0 h.3.0 h.3.1)))

@@ -4,11 +4,11 @@ use Rattle.std.proofs.lemmas.List.{append-nil}
 use Rattle.ta_syntax.specs.Kinds.{IsDigits}
 use Rattle.ta_syntax.specs.Grammar.{Terms, Term, Factor, done, term, number, times, alone, blank, named, nested, sign_kind, sum_kinds, more_kinds, term_kinds, factor_kinds, IsSum, AreTerms, IsTerm, IsFactor}
 use Rattle.ta_syntax.specs.PlainSums.{plain_sum, plain_term, plain_factor, plain_terms, terms_of, factor_layer, sum_layer, term_layer, sum_depth, term_depth}
-use Rattle.ta_syntax.specs.Stated.{Offsets, at_first, more_of, leading, sum_of, unplaced_sign, factor_stated, term_layer_stated, sum_layer_stated, sum_stated, sum_term_stated, sum_factor_stated}
+use Rattle.ta_syntax.specs.Stated.{Offsets, at_first, more_of, leading, signed_sum, unplaced_sign, factor_stated, term_layer_stated, sum_layer_stated, sum_stated, sum_term_stated, sum_factor_stated}
 use Rattle.ta_syntax.specs.Limits.{Counts}
-use Rattle.ta_syntax.specs.Parts.{Part, Text, a_mark, a_name, a_number, a_sum, more_terms, a_term, a_factor, both, maybe}
+use Rattle.ta_syntax.specs.Parts.{GrammarPart, Text, a_mark, a_name, a_number, a_sum, more_terms, a_term, a_factor, both, maybe}
 use Rattle.ta_syntax.specs.Faults.{kinds, SameStart}
-use Rattle.ta_syntax.specs.Reading.{Reads, begins_by, Avoids, BeginsWith, IsOther, NoNumber}
+use Rattle.ta_syntax.specs.Reading.{ReadsPart, begins_by, NeverBegins, BeginsWithKind, IsOther, NoNumber}
 use Rattle.ta_syntax.specs.Inside.Reading.{is_star, is_sign, is_operator}
 use Rattle.ta_syntax.specs.declared.tokens.Kind.{Kind}
 use Rattle.ta_syntax.specs.declared.tokens.Kind.TheVariants as kind
@@ -22,14 +22,13 @@ use Rattle.ta_syntax.specs.declared.names.Spelled.{Spelled}
 use Rattle.ta_syntax.specs.declared.sums.TreeSum.{TreeSum}
 use Rattle.ta_syntax.specs.declared.sums.TreeTerm.{TreeTerm}
 use Rattle.ta_syntax.specs.declared.sums.TreeFactor.{TreeFactor, Named, Nested}
-use Rattle.ta_syntax.specs.declared.sums.TreeFactor.TheOpen.{TreeFactor-F, TreeSum-F, TreeTerm-F}
+use Rattle.ta_syntax.specs.declared.sums.TreeFactor.TheOpen.{TreeSum-F}
 use Rattle.ta_syntax.specs.declared.sums.TreeFactor.TheOpen as open_factor
 use Rattle.ta_syntax.specs.declared.sums.TreeFactor.TheViews.{rolls-Named, rolls-Nested, roll-TreeSum, roll-TreeTerm}
 use Rattle.ta_syntax.specs.declared.sums.TreeFactor.TheFolds.{fold-roll-TreeSum, fold-roll-TreeTerm, fold-roll-TreeFactor}
 use Rattle.ta_syntax.proofs.Steps.{expand, other_mark, other_number}
 
 -- ---- trees and their plain form
-
 pub plain_items : (xs : List (Sign × TreeTerm)) → terms_of (map (λ x. (x.0, plain_term x.1)) xs) ≡ plain_terms xs
 plain_items [] = refl
 plain_items (x ∷ xs) = ap (λ (ts : Terms). term x.0 (plain_term x.1) ts) (plain_items xs)
@@ -53,7 +52,6 @@ pub plain_nested : (s : TreeSum) → plain_factor (Nested s) ≡ nested (plain_s
 plain_nested s = ap plain_factor (sym (rolls-Nested s)) ∙ fold-roll-TreeFactor Factor Terms Term factor_layer sum_layer term_layer (open_factor.Nested s)
 
 -- ---- and what they state
-
 abbrev Places : Type 0
 Places = List Offsets
 
@@ -81,8 +79,8 @@ map_pairs : (xs : List (Sign × TreeTerm)) → map (λ x. (x.0, sum_term_stated 
 map_pairs [] = refl
 map_pairs (x ∷ xs) = ap (λ (ys : List (Sign × Places)). (x.0, sum_term_stated x.1) ∷ ys) (map_pairs xs)
 
-pub stated_sum_roll : (x : TreeSum-F TreeFactor TreeSum TreeTerm) → sum_stated (roll-TreeSum x) ≡ sum_of unplaced_sign (pairs sum_term_stated x.terms.items)
-stated_sum_roll x = fold-roll-TreeSum Places Places Places factor_stated sum_layer_stated term_layer_stated x ∙ ap (sum_of unplaced_sign) (map_pairs x.terms.items)
+pub stated_sum_roll : (x : TreeSum-F TreeFactor TreeSum TreeTerm) → sum_stated (roll-TreeSum x) ≡ signed_sum unplaced_sign (pairs sum_term_stated x.terms.items)
+stated_sum_roll x = fold-roll-TreeSum Places Places Places factor_stated sum_layer_stated term_layer_stated x ∙ ap (signed_sum unplaced_sign) (map_pairs x.terms.items)
 
 abbrev pub spell_term : TreeTerm → List Kind
 spell_term t = term_kinds (plain_term t)
@@ -91,7 +89,7 @@ more_kinds_of : (xs : List (Sign × TreeTerm)) → more_kinds (plain_terms xs) �
 more_kinds_of [] = refl
 more_kinds_of (x ∷ xs) = ap (λ (y : List Kind). sign_kind x.0 ∷ (spell_term x.1 ++ y)) (more_kinds_of xs)
 
-pub sum_kinds_of : (xs : List (Sign × TreeTerm)) → sum_kinds (plain_terms xs) ≡ sum_of sign_kind (pairs spell_term xs)
+pub sum_kinds_of : (xs : List (Sign × TreeTerm)) → sum_kinds (plain_terms xs) ≡ signed_sum sign_kind (pairs spell_term xs)
 sum_kinds_of [] = refl
 sum_kinds_of ((sign.Plus, t) ∷ xs) = ap (λ (y : List Kind). spell_term t ++ y) (more_kinds_of xs)
 sum_kinds_of ((sign.Minus, t) ∷ xs) = ap (λ (y : List Kind). kind.Fixed mark.Minus ∷ (spell_term t ++ y)) (more_kinds_of xs)
@@ -101,17 +99,17 @@ sum_kinds_of ((sign.Minus, t) ∷ xs) = ap (λ (y : List Kind). kind.Fixed mark.
 -- before a further term: the terms so far, and its sign
 abbrev pub before_of : {B : Type 0} → (Sign → B) → List (Sign × List B) → Sign → List B
 before_of signed [] s = leading signed s
-before_of signed (x ∷ xs) s = sum_of signed (x ∷ xs) ++ signed s ∷ []
+before_of signed (x ∷ xs) s = signed_sum signed (x ∷ xs) ++ signed s ∷ []
 
 more_of-push : {B : Type 0} (signed : Sign → B) (xs : List (Sign × List B)) (s : Sign) (t : List B) → more_of signed (xs ++ (s, t) ∷ []) ≡ more_of signed xs ++ signed s ∷ t
 more_of-push signed [] s t = ap (λ y. signed s ∷ y) (append-nil t)
 more_of-push signed (x ∷ xs) s t = ap (λ y. signed x.0 ∷ (x.1 ++ y)) (more_of-push signed xs s t) ∙ ap (λ y. signed x.0 ∷ y) (sym (append_assoc x.1 (more_of signed xs) (signed s ∷ t)))
 
-pub sum_of-push : {B : Type 0} (signed : Sign → B) (xs : List (Sign × List B)) (s : Sign) (t : List B) → sum_of signed (xs ++ (s, t) ∷ []) ≡ before_of signed xs s ++ t
+pub sum_of-push : {B : Type 0} (signed : Sign → B) (xs : List (Sign × List B)) (s : Sign) (t : List B) → signed_sum signed (xs ++ (s, t) ∷ []) ≡ before_of signed xs s ++ t
 sum_of-push signed [] s t = ap (λ y. leading signed s ++ y) (append-nil t)
 sum_of-push signed (x ∷ xs) s t = ap (λ y. leading signed x.0 ++ (x.1 ++ y)) (more_of-push signed xs s t) ∙ simp append_assoc
 
-pub before_of-push : {B : Type 0} (signed : Sign → B) (xs : List (Sign × List B)) (x : Sign × List B) (s : Sign) → before_of signed (xs ++ x ∷ []) s ≡ sum_of signed (xs ++ x ∷ []) ++ signed s ∷ []
+pub before_of-push : {B : Type 0} (signed : Sign → B) (xs : List (Sign × List B)) (x : Sign × List B) (s : Sign) → before_of signed (xs ++ x ∷ []) s ≡ signed_sum signed (xs ++ x ∷ []) ++ signed s ∷ []
 before_of-push signed [] x s = refl
 before_of-push signed (y ∷ xs) x s = refl
 
@@ -132,7 +130,6 @@ depth-push [] x left a b = omega arith
 depth-push (y ∷ xs) x left a b = let h : sum_depth (plain_terms (xs ++ x ∷ [])) ≤ left = depth-push xs x left (omega arith) b in omega arith
 
 -- ---- first tokens
-
 abbrev pub StartsTerm : Kind → Type 0
 StartsTerm (kind.Number n) = Unit {0}
 StartsTerm (kind.Name n) = Unit {0}
@@ -166,14 +163,13 @@ pub begins_same : (p : Kind → Bool) (ahead other : List Kind) → SameStart ah
 begins_same p [] other same h = subst (λ (x : List Kind). begins_by p x ≡ false) (sym same) refl
 begins_same p (k ∷ ahead) other same h = subst (λ (x : List Kind). begins_by p x ≡ false) (sym same.1) h
 
-starts_with : (k : Kind) (tokens rest : List Token) (w : List Kind) → BeginsWith tokens k rest → SameStart (kinds tokens) w → (more : List Kind) × (w ≡ k ∷ more)
+starts_with : (k : Kind) (tokens rest : List Token) (w : List Kind) → BeginsWithKind tokens k rest → SameStart (kinds tokens) w → (more : List Kind) × (w ≡ k ∷ more)
 starts_with k tokens rest w b same =
     let s = subst (λ (z : List Token). SameStart (kinds z) w) b.split same in
     (s.0, s.1 ∙ ap (λ (j : Kind). j ∷ s.0) b.is)
 
 -- ---- a term and those after it
-
-pub record Rest (K : Part) (w : List Kind) : Type 0 where
+pub record Rest (K : GrammarPart) (w : List Kind) : Type 0 where
   pub first : Term
   pub others : Terms
   pub tail : List Kind
@@ -182,10 +178,10 @@ pub record Rest (K : Part) (w : List Kind) : Type 0 where
   pub text : Text K tail
   pub same : w ≡ (term_kinds first ++ more_kinds others) ++ tail
 
-abbrev pub terms_part : Part → Part
+abbrev pub terms_part : GrammarPart → GrammarPart
 terms_part K = both a_term (both more_terms K)
 
-rest_from : (K : Part) (w : List Kind) → Text (terms_part K) w → Rest K w
+rest_from : (K : GrammarPart) (w : List Kind) → Text (terms_part K) w → Rest K w
 rest_from K w h = record {
   first = h.2.0;
   others = h.3.2.0;
@@ -196,10 +192,10 @@ rest_from K w h = record {
   same = h.4 ∙ ap (λ (z : List Kind). z ++ h.1) h.2.2 ∙ ap (λ (z : List Kind). term_kinds h.2.0 ++ z) (h.3.4 ∙ ap (λ (z : List Kind). z ++ h.3.1) h.3.2.2) ∙ sym (append_assoc (term_kinds h.2.0) (more_kinds h.3.2.0) h.3.1);
 }
 
-rest_to : (K : Part) (w : List Kind) → Rest K w → Text (terms_part K) w
+rest_to : (K : GrammarPart) (w : List Kind) → Rest K w → Text (terms_part K) w
 rest_to K w r = (term_kinds r.first, more_kinds r.others ++ r.tail, (r.first, r.is, refl), (more_kinds r.others, r.tail, (r.others, r.are, refl), r.text, refl), r.same ∙ append_assoc (term_kinds r.first) (more_kinds r.others) r.tail)
 
-pub sum_minus : {c : Counts} {tokens rest : List Token} (K : Part) → BeginsWith tokens (kind.Fixed mark.Minus) rest → Reads (both a_sum K) c tokens tokens (both (a_mark mark.Minus) (terms_part K)) c [] []
+pub sum_minus : {c : Counts} {tokens rest : List Token} (K : GrammarPart) → BeginsWithKind tokens (kind.Fixed mark.Minus) rest → ReadsPart (both a_sum K) c tokens tokens (both (a_mark mark.Minus) (terms_part K)) c [] []
 sum_minus {tokens = tokens} {rest = rest} K b =
     expand
     (λ w h. let r = rest_from K h.1 h.3 in (sum_kinds (term sign.Minus r.first r.others), r.tail, (term sign.Minus r.first r.others, (r.is, r.are), refl), r.text, h.4 ∙ ap (λ (z : List Kind). z ++ h.1) h.2 ∙ ap (λ (z : List Kind). kind.Fixed mark.Minus ∷ z) r.same))
@@ -211,7 +207,7 @@ sum_minus {tokens = tokens} {rest = rest} K b =
         absurd (term_not mark.Minus t (more_kinds ts ++ x) more (λ h. h) is.0 (sym (append_assoc (term_kinds t) (more_kinds ts) x) ∙ sym (f ∙ ap (λ (z : List Kind). z ++ x) e) ∙ s))
     inside (term sign.Minus t ts) w more a x s is e k f = (kind.Fixed mark.Minus ∷ [], (term_kinds t ++ more_kinds ts) ++ x, refl, rest_to K ((term_kinds t ++ more_kinds ts) ++ x) (record { first = t; others = ts; tail = x; is = is.0; are = is.1; text = k; same = refl }), f ∙ ap (λ (z : List Kind). z ++ x) e)
 
-pub sum_plus : {c : Counts} {tokens : List Token} (K : Part) → IsOther tokens mark.Minus → Reads (both a_sum K) c tokens tokens (terms_part K) c [] []
+pub sum_plus : {c : Counts} {tokens : List Token} (K : GrammarPart) → IsOther tokens mark.Minus → ReadsPart (both a_sum K) c tokens tokens (terms_part K) c [] []
 sum_plus {tokens = tokens} K other =
     expand
     (λ w h. let r = rest_from K w h in (sum_kinds (term sign.Plus r.first r.others), r.tail, (term sign.Plus r.first r.others, (r.is, r.are), refl), r.text, r.same))
@@ -238,17 +234,11 @@ is_operator_kind : (s : Sign) → is_operator (sign_kind s) ≡ true
 is_operator_kind sign.Plus = refl
 is_operator_kind sign.Minus = refl
 
-sign_same : (s s' : Sign) → sign_kind s ≡ sign_kind s' → s ≡ s'
-sign_same sign.Plus sign.Plus e = refl
-sign_same sign.Plus sign.Minus e = absurd cc
-sign_same sign.Minus sign.Plus e = absurd cc
-sign_same sign.Minus sign.Minus e = refl
-
 abbrev head_of : Kind → List Kind → Kind
 head_of k [] = k
 head_of k (j ∷ js) = j
 
-pub more_sign : {c : Counts} {tokens rest : List Token} (K : Part) (s : Sign) → BeginsWith tokens (sign_kind s) rest → Avoids is_operator K → Reads (both more_terms K) c tokens tokens (both (a_mark (sign_mark s)) (terms_part K)) c [] []
+pub more_sign : {c : Counts} {tokens rest : List Token} (K : GrammarPart) (s : Sign) → BeginsWithKind tokens (sign_kind s) rest → NeverBegins is_operator K → ReadsPart (both more_terms K) c tokens tokens (both (a_mark (sign_mark s)) (terms_part K)) c [] []
 more_sign {tokens = tokens} {rest = rest} K s b avoids =
     expand
     (λ w h. let r = rest_from K h.1 h.3 in (more_kinds (term s r.first r.others), r.tail, (term s r.first r.others, (r.is, r.are), refl), r.text, h.4 ∙ ap (λ (z : List Kind). z ++ h.1) h.2 ∙ ap (λ (z : List Kind). kind.Fixed (sign_mark s) ∷ z) r.same ∙ ap (λ (z : Kind). z ∷ ((term_kinds r.first ++ more_kinds r.others) ++ r.tail)) (sym (sign_is s))))
@@ -265,7 +255,7 @@ more_sign {tokens = tokens} {rest = rest} K s b avoids =
         let same : sign_kind s' ≡ kind.Fixed (sign_mark s) = ap (λ (z : List Kind). head_of (sign_kind s) z) whole ∙ sign_is s in
         (kind.Fixed (sign_mark s) ∷ [], (term_kinds t ++ more_kinds ts) ++ x, refl, rest_to K ((term_kinds t ++ more_kinds ts) ++ x) (record { first = t; others = ts; tail = x; is = are.0; are = are.1; text = k; same = refl }), f ∙ ap (λ (z : List Kind). z ++ x) e ∙ ap (λ (z : Kind). z ∷ ((term_kinds t ++ more_kinds ts) ++ x)) same)
 
-pub more_end : {c : Counts} {tokens : List Token} (K : Part) → begins_by is_sign (kinds tokens) ≡ false → Reads (both more_terms K) c tokens tokens K c [] []
+pub more_end : {c : Counts} {tokens : List Token} (K : GrammarPart) → begins_by is_sign (kinds tokens) ≡ false → ReadsPart (both more_terms K) c tokens tokens K c [] []
 more_end {tokens = tokens} K free = expand (λ w h. ([], w, (done, tt, refl), h, refl)) (λ w s h. inside h.2.0 w h.0 h.1 s h.2.2 h.3 h.4)
   where
     inside : (ts : Terms) (w a x : List Kind) → SameStart (kinds tokens) w → a ≡ more_kinds ts → Text K x → w ≡ a ++ x → Text K w
@@ -275,7 +265,7 @@ more_end {tokens = tokens} K free = expand (λ w h. ([], w, (done, tt, refl), h,
         let yes_ : is_sign (sign_kind s') ≡ true = is_sign_kind s' in
         absurd cc
 
-pub term_number : {c : Counts} {tokens rest : List Token} (K : Part) (d : List ℕ) → BeginsWith tokens (kind.Number d) rest → Reads (both a_term K) c tokens tokens (both a_number (both (maybe mark.Star a_factor) K)) c [] []
+pub term_number : {c : Counts} {tokens rest : List Token} (K : GrammarPart) (d : List ℕ) → BeginsWithKind tokens (kind.Number d) rest → ReadsPart (both a_term K) c tokens tokens (both a_number (both (maybe mark.Star a_factor) K)) c [] []
 term_number {tokens = tokens} {rest = rest} K d b =
     expand
     (λ w h. joined h.2.0 w h.0 h.1 h.3.0 h.3.1 h.2.1 h.2.2 h.3.2 h.3.3 h.3.4 h.4)
@@ -292,7 +282,7 @@ term_number {tokens = tokens} {rest = rest} K d b =
     inside (alone (nested ts)) w more a x o is e k f = let h : kind.Fixed mark.Open ∷ ((sum_kinds ts ++ kind.Fixed mark.Close ∷ []) ++ x) ≡ kind.Number d ∷ more = sym (f ∙ ap (λ (v : List Kind). v ++ x) e) ∙ o in absurd cc
     inside blank w more a x o is e k f = absurd is
 
-pub term_factor : {c : Counts} {tokens : List Token} (K : Part) → NoNumber (kinds tokens) → Reads (both a_term K) c tokens tokens (both a_factor K) c [] []
+pub term_factor : {c : Counts} {tokens : List Token} (K : GrammarPart) → NoNumber (kinds tokens) → ReadsPart (both a_term K) c tokens tokens (both a_factor K) c [] []
 term_factor {tokens = tokens} K free =
     expand
     (λ w h. (h.0, h.1, (alone h.2.0, h.2.1, h.2.2), h.3, h.4))
@@ -304,7 +294,7 @@ term_factor {tokens = tokens} K free =
     inside (alone g) w a x s is e k f = (a, x, (g, is, e), k, f)
     inside blank w a x s is e k f = absurd is
 
-pub factor_name : {c : Counts} {tokens : List Token} (K : Part) → IsOther tokens mark.Open → Reads (both a_factor K) c tokens tokens (both a_name K) c [] []
+pub factor_name : {c : Counts} {tokens : List Token} (K : GrammarPart) → IsOther tokens mark.Open → ReadsPart (both a_factor K) c tokens tokens (both a_name K) c [] []
 factor_name {tokens = tokens} K other =
     expand
     (λ w h. (h.0, h.1, (named h.2.0, h.2.1, h.2.2), h.3, h.4))
@@ -314,7 +304,7 @@ factor_name {tokens = tokens} K other =
     inside (named n) w a x s is e k f = (a, x, (n, is, e), k, f)
     inside (nested ts) w a x s is e k f = absurd (other_mark mark.Open tokens ((sum_kinds ts ++ kind.Fixed mark.Close ∷ []) ++ x) other (subst (SameStart (kinds tokens)) (f ∙ ap (λ (v : List Kind). v ++ x) e) s))
 
-pub factor_nested : {c : Counts} {tokens rest : List Token} (K : Part) → BeginsWith tokens (kind.Fixed mark.Open) rest → Reads (both a_factor K) c tokens tokens (both (a_mark mark.Open) (both a_sum (both (a_mark mark.Close) K))) c [] []
+pub factor_nested : {c : Counts} {tokens rest : List Token} (K : GrammarPart) → BeginsWithKind tokens (kind.Fixed mark.Open) rest → ReadsPart (both a_factor K) c tokens tokens (both (a_mark mark.Open) (both a_sum (both (a_mark mark.Close) K))) c [] []
 factor_nested {tokens = tokens} {rest = rest} K b =
     expand
     (λ w h. (factor_kinds (nested h.3.2.0), h.3.3.1, (nested h.3.2.0, h.3.2.1, refl), h.3.3.3, h.4 ∙ ap (λ (z : List Kind). z ++ h.1) h.2 ∙ ap (λ (z : List Kind). kind.Fixed mark.Open ∷ z) (h.3.4 ∙ ap (λ (z : List Kind). z ++ h.3.1) h.3.2.2 ∙ ap (λ (z : List Kind). sum_kinds h.3.2.0 ++ z) (h.3.3.4 ∙ ap (λ (z : List Kind). z ++ h.3.3.1) h.3.3.2) ∙ sym (append_assoc (sum_kinds h.3.2.0) (kind.Fixed mark.Close ∷ []) h.3.3.1))))
@@ -325,8 +315,7 @@ factor_nested {tokens = tokens} {rest = rest} K b =
     inside (nested ts) w more a x o is e k f = (kind.Fixed mark.Open ∷ [], sum_kinds ts ++ kind.Fixed mark.Close ∷ x, refl, (sum_kinds ts, kind.Fixed mark.Close ∷ x, (ts, is, refl), (kind.Fixed mark.Close ∷ [], x, refl, k, refl), refl), f ∙ ap (λ (v : List Kind). v ++ x) e ∙ ap (λ (v : List Kind). kind.Fixed mark.Open ∷ v) (append_assoc (sum_kinds ts) (kind.Fixed mark.Close ∷ []) x))
 
 -- ---- what may follow
-
-pub close_avoids : (K : Part) → Avoids is_operator (both (a_mark mark.Close) K)
+pub close_avoids : (K : GrammarPart) → NeverBegins is_operator (both (a_mark mark.Close) K)
 close_avoids K w h = subst (λ (z : List Kind). begins_by is_operator z ≡ false) (sym (h.4 ∙ ap (λ (z : List Kind). z ++ h.1) h.2)) refl
 
 star_operator : (w : List Kind) → begins_by is_operator w ≡ false → begins_by is_star w ≡ false
@@ -336,7 +325,7 @@ star_operator (kind.Number n ∷ w) h = refl
 star_operator (kind.Fixed mark.Star ∷ w) h = h
 star_operator (kind.Fixed _ ∷ w) h = refl
 
-pub terms_avoid : (K : Part) → Avoids is_operator K → Avoids is_star (both more_terms K)
+pub terms_avoid : (K : GrammarPart) → NeverBegins is_operator K → NeverBegins is_star (both more_terms K)
 terms_avoid K avoids w h = inside h.2.0 h.2.2
   where
     inside : (ts : Terms) → h.0 ≡ more_kinds ts → begins_by is_star w ≡ false

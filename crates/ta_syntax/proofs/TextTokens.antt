@@ -1,11 +1,13 @@
 -- Each text has tokens, or a first refused byte.
-use Rattle.std.proofs.Common.{◌≡◌, ◌≢◌, ◌⊎◌, ℕ, zero, suc, ◌+◌, ◌-◌, ◌<◌, ◌≤◌, Bool, true, false, eqb, List, [], ◌∷◌, ◌++◌, length, take, drop, inl, inr, ⊎_elim, refl, sym, ap, subst, ◌∙◌, arith, eqb-true, take-append-drop}
-use Rattle.std.specs.Prelude.{IsTrue, ◌&&◌, ◌==◌}
+use Rattle.std.proofs.Common.{◌≡◌, ◌⊎◌, ℕ, zero, suc, ◌-◌, ◌<◌, Bool, true, false, List, [], ◌∷◌, ◌++◌, length, take, drop, inl, inr, ⊎_elim, refl, sym, ap, subst, ◌∙◌, arith, eqb-true, take-append-drop}
+use Rattle.std.specs.Prelude.{◌&&◌, ◌==◌}
 use Rattle.std.specs.Char.{is_ascii_digit}
 use Rattle.std.specs.List.{prefix_len}
-use Rattle.std.proofs.lemmas.Bool.{eqb-false}
+use Rattle.std.proofs.lemmas.Bool.{cases_Bool, cases_eq}
 use Rattle.std.proofs.lemmas.Bool.Decides.{nat_tests}
-use Rattle.ta_syntax.specs.Kinds.{is_white, is_letter, is_word, is_lone, mark_bytes, kind_bytes, BeginsByLetter, IsKind}
+use Rattle.ta_base.proofs.Lists.{begins_word}
+use Rattle.ta_syntax.specs.Kinds.{is_white, is_lone, mark_bytes}
+use Rattle.ta_base.specs.Bytes.{is_letter, is_word, BeginsByLetter}
 use Rattle.ta_syntax.specs.Tokens.{lengthens, IsLongest, IsSpace, AreTokens, begins_mark, IsRefused}
 use Rattle.ta_syntax.specs.Inside.Tokens.{MarkAt, BeginsNoGap, TokenFrom, NoToken, SkipsGap}
 use Rattle.ta_syntax.specs.declared.tokens.Kind.{Kind}
@@ -14,18 +16,9 @@ use Rattle.ta_syntax.specs.declared.tokens.Mark.{Mark}
 use Rattle.ta_syntax.specs.declared.tokens.Mark.TheVariants as mark
 use Rattle.ta_syntax.specs.declared.placed.Token.{Token}
 use Rattle.ta_syntax.specs.declared.fault.FileFault.TheVariants as fault
-use Rattle.ta_syntax.proofs.Words.{Fails, fails_after, letter_word, begins_word, name_from, number_from}
+use Rattle.ta_syntax.proofs.Words.{Fails, fails_after, name_from, number_from}
 use Rattle.ta_syntax.proofs.UniqueTokens.{same_bytes, keyword_of, StartsSign, IsWordMark, IsSignMark, mark_is}
 use Rattle.ta_syntax.proofs.Scans.{ScanSoFar, scan_begins, scan_goes_on, scan_ends, scan_stops, after_shorter, kind_some}
-
--- ---- decisions
-
-is_or_not : (b : Bool) → (b ≡ true) ⊎ (b ≡ false)
-is_or_not true = inl refl
-is_or_not false = inr refl
-
-same_or_other : (m n : ℕ) → (m ≡ n) ⊎ (m ≡ n → ⊥)
-same_or_other m n = ⊎_elim (λ (e : eqb m n ≡ true). inl (eqb-true m n e)) (λ (e : eqb m n ≡ false). inr (eqb-false m n e)) (is_or_not (eqb m n))
 
 same_bytes-equal : (x y : List ℕ) → same_bytes x y ≡ true → x ≡ y
 same_bytes-equal [] [] e = refl
@@ -67,21 +60,20 @@ gap_of true (b ∷ bs) =
     ⊎_elim
     (λ (e : b ≡ 10). longer true false b bs (λ last gap s. inl (e, s)) (gap_of false bs))
     (λ (n : b ≡ 10 → ⊥). longer true true b bs (λ last gap s. inr (n, s)) (gap_of true bs))
-    (same_or_other b 10)
+    (cases_eq b 10)
 gap_of false (b ∷ bs) =
     ⊎_elim
     (λ (w : is_white b ≡ true). longer false false b bs (λ last gap s. inl (w, s)) (gap_of false bs))
     (λ (w : is_white b ≡ false). ⊎_elim
     (λ (e : b ≡ 35). longer false true b bs (λ last gap s. inr (e, s)) (gap_of true bs))
     (λ (n : b ≡ 35 → ⊥). record { gap = []; rest = b ∷ bs; split = refl; space = inl tt; begins = (w, n) })
-    (same_or_other b 35))
-    (is_or_not (is_white b))
+    (cases_eq b 35))
+    (cases_Bool (is_white b))
 
 skips : (bytes : List ℕ) (g : Gap false bytes) → SkipsGap bytes g.rest
 skips bytes g = (g.gap, g.split, g.space)
 
 -- ---- signs
-
 abbrev Sign : List ℕ → Type 0
 Sign bytes = (m : Mark) × (rest : List ℕ) × MarkAt bytes m rest
 
@@ -100,7 +92,7 @@ pair n c short long s l ends never b (x ∷ bs) e =
     ⊎_elim
     (λ (t : (x == c) ≡ true). (long, bs, (ap (λ (z : ℕ). z ∷ x ∷ bs) e ∙ ap (λ (z : ℕ). n ∷ z ∷ bs) (eqb-true x c t) ∙ ap (λ (z : List ℕ). z ++ bs) (sym l), never_longer long never bs)))
     (λ (t : (x == c) ≡ false). (short, x ∷ bs, (ap (λ (z : ℕ). z ∷ x ∷ bs) e ∙ ap (λ (z : List ℕ). z ++ x ∷ bs) (sym s), ends x ∙ t)))
-    (is_or_not (x == c))
+    (cases_Bool (x == c))
 
 -- a byte that begins a sign with another of its kind
 record OtherByte (b : ℕ) : Type 0 where
@@ -123,7 +115,7 @@ not_lone b o = let f1 = o.plus in let f2 = o.minus in let f3 = o.less in let f4 
 -- two equals signs, where none of the other signs stands
 equal : (b : ℕ) (bs : List ℕ) → OtherByte b → begins_mark (b ∷ bs) ≡ true → Sign (b ∷ bs)
 equal b [] o h = absurd (let f = not_lone b o in cc)
-equal b (c ∷ bs) o h = step (is_or_not (b == 61)) (is_or_not (c == 61))
+equal b (c ∷ bs) o h = step (cases_Bool (b == 61)) (cases_Bool (c == 61))
   where
     step : ((b == 61) ≡ true) ⊎ ((b == 61) ≡ false) → ((c == 61) ≡ true) ⊎ ((c == 61) ≡ false) → Sign (b ∷ c ∷ bs)
     step (inl e) (inl f) = (mark.Equal, bs, (ap (λ (z : ℕ). z ∷ c ∷ bs) (eqb-true b 61 e) ∙ ap (λ (z : ℕ). 61 ∷ z ∷ bs) (eqb-true c 61 f), never_longer mark.Equal (λ x. refl) bs))
@@ -146,10 +138,9 @@ sign_from b bs h =
     ⊎_elim (λ (e : b ≡ 41). alone 41 mark.Close refl (λ x. refl) b bs e) (λ (closing : b ≡ 41 → ⊥).
     ⊎_elim (λ (e : b ≡ 42). alone 42 mark.Star refl (λ x. refl) b bs e) (λ (star : b ≡ 42 → ⊥).
     equal b bs (record { plus = plus; minus = minus; less = less; more = more; semicolon = semicolon; comma = comma; colon = colon; open_brace = open_brace; close_brace = close_brace; opening = opening; closing = closing; star = star }) h
-    ) (same_or_other b 42)) (same_or_other b 41)) (same_or_other b 40)) (same_or_other b 125)) (same_or_other b 123)) (same_or_other b 58)) (same_or_other b 44)) (same_or_other b 59)) (same_or_other b 62)) (same_or_other b 60)) (same_or_other b 45)) (same_or_other b 43)
+    ) (cases_eq b 42)) (cases_eq b 41)) (cases_eq b 40)) (cases_eq b 125)) (cases_eq b 123)) (cases_eq b 58)) (cases_eq b 44)) (cases_eq b 59)) (cases_eq b 62)) (cases_eq b 60)) (cases_eq b 45)) (cases_eq b 43)
 
 -- ---- tokens
-
 abbrev FromToken : List ℕ → Type 0
 FromToken bytes = (k : Kind) × (after : List ℕ) × TokenFrom bytes k after
 
@@ -184,7 +175,7 @@ module _ (bytes : List ℕ) (first : BeginsByLetter bytes) where
 
   -- the word that stands first is a keyword or a name
   word_token : FromToken bytes
-  word_token = choose (is_or_not (same_bytes (mark_bytes (keyword_of word)) word))
+  word_token = choose (cases_Bool (same_bytes (mark_bytes (keyword_of word)) word))
     where
       choose : (same_bytes (mark_bytes (keyword_of word)) word ≡ true) ⊎ (same_bytes (mark_bytes (keyword_of word)) word ≡ false) → FromToken bytes
       choose (inl same) =
@@ -206,10 +197,9 @@ token_or_none b bs =
     ⊎_elim (λ (e : is_letter b ≡ true). inl (word_token (b ∷ bs) e)) (λ (letter : is_letter b ≡ false).
     ⊎_elim (λ (e : is_ascii_digit b ≡ true). inl (kind.Number (take (prefix_len is_ascii_digit (b ∷ bs)) (b ∷ bs)), drop (prefix_len is_ascii_digit (b ∷ bs)) (b ∷ bs), number_from (b ∷ bs) e)) (λ (digit : is_ascii_digit b ≡ false).
     ⊎_elim (λ (e : begins_mark (b ∷ bs) ≡ true). let s = sign_from b bs e in inl (kind.Fixed s.0, s.1, record { split = s.2.0; is = tt; longest = s.2.1 })) (λ (sign : begins_mark (b ∷ bs) ≡ false). inr (letter, digit, sign))
-    (is_or_not (begins_mark (b ∷ bs)))) (is_or_not (is_ascii_digit b))) (is_or_not (is_letter b))
+    (cases_Bool (begins_mark (b ∷ bs)))) (cases_Bool (is_ascii_digit b))) (cases_Bool (is_letter b))
 
 -- ---- texts
-
 abbrev TokensOrRefused : List ℕ → Type 0
 TokensOrRefused bytes = ((ts : List Token) × AreTokens bytes ts) ⊎ ((refused : ℕ) × IsRefused bytes refused)
 

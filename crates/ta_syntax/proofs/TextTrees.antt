@@ -1,14 +1,12 @@
 -- A text has a tree, or a first fault of its tokens or its grammar.
-use Rattle.std.proofs.Common.{◌≡◌, ◌≢◌, ℕ, ◌≤◌, List, length, ⊎_elim, sym, subst}
+use Rattle.std.proofs.Common.{ℕ, ◌≤◌, List, length, ⊎_elim, sym, subst}
 use Rattle.ta_syntax.specs.Grammar.{FileText}
-use Rattle.ta_syntax.specs.Limits.{at_start, Within, IsTreeWithin}
+use Rattle.ta_syntax.specs.Limits.{at_start, StaysWithin}
 use Rattle.ta_syntax.specs.Tokens.{AreTokens, IsRefused}
-use Rattle.ta_syntax.specs.Faults.{kinds, FirstFault}
-use Rattle.ta_syntax.specs.TreeOf.{IsTextOf, IsTreeOf}
-use Rattle.ta_syntax.specs.AnswerLaws.{Either, Stops, HasTree, HasTextFault}
-use Rattle.ta_syntax.specs.declared.tree.Tree.{Tree}
+use Rattle.ta_syntax.specs.Faults.{kinds}
+use Rattle.ta_syntax.specs.TreeOf.{IsTextOf}
+use Rattle.ta_syntax.specs.AnswerLaws.{Either, HasTree, HasGrammarFault}
 use Rattle.ta_syntax.specs.declared.placed.Token.{Token}
-use Rattle.ta_syntax.specs.declared.fault.FileFault.{FileFault}
 use Rattle.ta_syntax.specs.declared.fault.FileFault.TheVariants as fault
 use Rattle.ta_syntax.proofs.LegalTrees.{file_fault}
 use Rattle.ta_syntax.proofs.TextTokens.{texts_have_tokens}
@@ -16,13 +14,13 @@ use Rattle.ta_syntax.proofs.FirstTokens.{tokens_have_answers}
 use Rattle.ta_syntax.proofs.TreeLimits.{tree_limits}
 use Rattle.ta_syntax.proofs.BuiltTrees.{trees_exist}
 
-with_tree : (bytes : List ℕ) (ts : List Token) → length bytes ≤ 1048576 → AreTokens bytes ts → FileText (kinds ts) × Within at_start (kinds ts) → HasTree bytes
+with_tree : (bytes : List ℕ) (ts : List Token) → length bytes ≤ 1048576 → AreTokens bytes ts → FileText (kinds ts) × StaysWithin at_start (kinds ts) → HasTree bytes
 with_tree bytes ts small are (file, within) =
     let text : IsTextOf bytes file.0 = record { tokens = ts; are = are; spelled = sym file.2; legal = file.1 } in
-    let b = trees_exist bytes file.0 small text (tree_limits file.0 (subst (Within at_start) (sym file.2) within)) in
+    let b = trees_exist bytes file.0 small text (tree_limits file.0 (subst (StaysWithin at_start) (sym file.2) within)) in
     (b.0, b.1)
 
-pub texts_have_trees : (bytes : List ℕ) → length bytes ≤ 1048576 → Either (HasTree bytes) (HasTextFault bytes)
+pub texts_have_trees : (bytes : List ℕ) → length bytes ≤ 1048576 → Either (HasTree bytes) (HasGrammarFault bytes)
 texts_have_trees bytes small no_tree no_fault =
     ⊎_elim
     (λ (h : (ts : List Token) × AreTokens bytes ts). tokens_have_answers (length bytes) h.0

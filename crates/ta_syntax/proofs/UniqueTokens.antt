@@ -4,7 +4,10 @@ use Rattle.std.specs.Prelude.{IsTrue, ◌&&◌, ◌==◌, ◌⊎◌, codes}
 use Rattle.std.specs.Char.{is_ascii_digit}
 use Rattle.std.specs.List.{AllByRecursion}
 use Rattle.std.proofs.lemmas.Bool.Decides.{nat_tests}
-use Rattle.ta_syntax.specs.Kinds.{is_white, is_letter, is_word, is_lone, mark_bytes, kind_bytes, BeginsByLetter, IsDigits, IsNameText, IsKind, IsKind-prop}
+use Rattle.ta_base.proofs.DecimalDigits.{letter_no_digit}
+use Rattle.ta_base.proofs.Lists.{after_same, unlike}
+use Rattle.ta_syntax.specs.Kinds.{is_white, is_lone, mark_bytes, kind_bytes, IsDigits, IsNameText, IsKind, IsKind-prop}
+use Rattle.ta_base.specs.Bytes.{is_letter, is_word, BeginsByLetter}
 use Rattle.ta_syntax.specs.Tokens.{lengthens, IsLongest, IsSpace, IsGap, IsLastGap, ScansTo, AreTokens, begins_mark, IsRefusedHere, IsRefused}
 use Rattle.ta_syntax.specs.Inside.Tokens.{NoToken}
 use Rattle.ta_syntax.specs.declared.tokens.Kind.{Kind}
@@ -15,7 +18,6 @@ use Rattle.ta_syntax.specs.declared.placed.Token.{Token}
 use Rattle.ta_syntax.proofs.Words.{Fails}
 
 -- ---- the longest run of bytes that pass a test
-
 longest_unique : (p : ℕ → Bool) (a x b y : List ℕ) → AllByRecursion (λ c. IsTrue (p c)) a → Fails p x → AllByRecursion (λ c. IsTrue (p c)) b → Fails p y → a ++ x ≡ b ++ y → (a ≡ b) × (x ≡ y)
 longest_unique p [] x [] y all fails all' fails' e = (refl, e)
 longest_unique p [] x (c ∷ b) y all fails all' fails' e = absurd (let h : p c ≡ false = subst (Fails p) e fails in let g : p c ≡ true = all'.0 in cc)
@@ -26,12 +28,7 @@ longest_unique p (c ∷ a) x (d ∷ b) y all fails all' fails' e =
     let r = longest_unique p a x b y all.1 fails all'.1 fails' rest in
     (ap (λ (z : ℕ). z ∷ a) same ∙ ap (λ (z : List ℕ). d ∷ z) r.0, r.1)
 
-after_same : (a x y : List ℕ) → a ++ x ≡ a ++ y → x ≡ y
-after_same [] x y e = e
-after_same (c ∷ a) x y e = let h : a ++ x ≡ a ++ y = cc in after_same a x y h
-
 -- ---- which sign stands first
-
 abbrev next_is : ℕ → List ℕ → Bool
 next_is n [] = false
 next_is n (c ∷ cs) = c == n
@@ -116,11 +113,6 @@ mark_is mark.Equal = inr (record { first = (refl, refl, refl, λ e. omega arith)
 mark_is mark.AtLeast = inr (record { first = (refl, refl, refl, λ e. omega arith); known = λ bs h. refl; begins = λ bs. lone_begins 62 (61 ∷ bs) refl })
 mark_is m = inl (record { each = all_passed is_word (mark_bytes m) refl; first = refl; longest = λ b. refl; known = refl })
 
--- ---- by what a token begins
-
-letter_no_digit : (b : ℕ) → IsTrue (is_letter b) → is_ascii_digit b ≡ false
-letter_no_digit b h = grind (arith, nat_tests)
-
 letter_no_gap : (b : ℕ) → IsTrue (is_letter b) → (is_white b ≡ false) × (b ≡ 35 → ⊥)
 letter_no_gap b h = (grind (arith, nat_tests), λ e. grind (arith, nat_tests))
 
@@ -147,7 +139,6 @@ token_begins (kind.Number (b ∷ d)) x is = digit_no_gap b is.0
 token_begins (kind.Fixed m) x is = ⊎_elim (λ (w : IsWordMark m). letters_begin (mark_bytes m) x w.first) (λ (s : IsSignMark m). sign_begins (mark_bytes m) x s.first) (mark_is m)
 
 -- ---- two tokens at one place
-
 abbrev FirstLetter : List ℕ → Bool
 FirstLetter [] = false
 FirstLetter (b ∷ bs) = is_letter b
@@ -186,9 +177,6 @@ word_fails m (b ∷ x) w h = sym (w.longest b) ∙ h
 digits_all : (d : List ℕ) → IsDigits d → AllByRecursion (λ c. IsTrue (is_ascii_digit c)) d
 digits_all [] h = absurd h
 digits_all (b ∷ d) h = h
-
-unlike : (f : List ℕ → Bool) (x y : List ℕ) → x ≡ y → f x ≡ true → f y ≡ false → ⊥
-unlike f x y e a b = let h : f x ≡ f y = ap f e in cc
 
 name_mark : (n x : List ℕ) (m : Mark) (y : List ℕ) → IsNameText n → IsLongest (kind.Name n) x → IsLongest (kind.Fixed m) y → n ++ x ≡ mark_bytes m ++ y → ⊥
 name_mark n x m y is long long' e =
@@ -231,7 +219,6 @@ kind_unique (kind.Fixed m) x (kind.Fixed m') y is is' long long' e =
     (ap kind.Fixed same, after_same (mark_bytes m') x y (ap (λ (z : Mark). mark_bytes z ++ x) (sym same) ∙ e))
 
 -- ---- gaps
-
 white_no_comment : (b : ℕ) → IsTrue (is_white b) → b ≡ 35 → ⊥
 white_no_comment b h e = grind (arith, nat_tests)
 
@@ -278,7 +265,6 @@ last_gap_none false (i ∷ r) (j ∷ a) x (inr h) (inl k) p e = white_no_comment
 last_gap_none false (i ∷ r) (j ∷ a) x (inr h) (inr k) p e = last_gap_none true r a x h.1 k.1 p (let g : r ≡ a ++ x = cc in g)
 
 -- ---- texts
-
 token_same : (t u : Token) → t.kind ≡ u.kind → t.at ≡ u.at → t ≡ u
 token_same t u e f = subst (λ (a : ℕ). (l : IsKind u.kind) → t ≡ made u.kind a l) f (subst (λ (k : Kind). (l : IsKind k) → t ≡ made k t.at l) e (λ l. ap (λ (z : IsKind t.kind). made t.kind t.at z) (IsKind-prop t.kind t.legal l))) u.legal
   where

@@ -2,6 +2,7 @@
 use Rattle.std.proofs.Common.{◌≡◌, ℕ, Bool, true, false, List, [], ◌∷◌, ◌++◌, refl, sym, ap, subst, ◌∙◌, append_assoc}
 use Rattle.std.specs.List.{AllByRecursion}
 use Rattle.std.proofs.lemmas.List.{append-nil}
+use Rattle.ta_base.proofs.Lists.{tails}
 use Rattle.ta_syntax.specs.Kinds.{IsNameText}
 use Rattle.ta_syntax.specs.Grammar.{Terms, Term, Factor, done, term, number, times, alone, blank, named, nested, sum_kinds, more_kinds, term_kinds, factor_kinds, relation_kind, IsSum, AreTerms, IsTerm, IsFactor, PlainComparison, PlainLocation, PlainUpdate, PlainRule, PlainEvent, PlainPattern, PlainTree, listed, further, led, ended, each, name_kinds, initial_kinds, location_kinds, comparison_kinds, update_kinds, rule_kinds, event_kinds, pattern_kinds, file_kinds, IsSome, IsComparison, IsUpdate, IsRule, IsEvent, IsPattern, IsTree}
 use Rattle.ta_syntax.specs.Reading.{begins_by}
@@ -195,7 +196,6 @@ comparisons_determined = record { same = determined }
         (made a b l.0 (sym (relation_known a.relation) ∙ ap relation_of_kind h.0 ∙ relation_known b.relation) r.0, r.1)
 
 -- ---- lists
-
 less_list : (x : List Kind) → begins_by extends_list x ≡ false → begins_by extends_item x ≡ false
 less_list [] h = refl
 less_list (kind.Fixed mark.Plus ∷ x) h = h
@@ -272,11 +272,6 @@ each_same m Is f first same (a ∷ xs) (b ∷ ys) x y is is' s t e =
     let i = same a b (each f xs ++ x) (each f ys ++ y) is.0 is'.0 (sym (append_assoc (f a) (each f xs) x) ∙ e ∙ append_assoc (f b) (each f ys) y) in
     let r = each_same m Is f first same xs ys x y is.1 is'.1 s t i.1 in
     (cc (i.0, r.0), r.1)
-
--- ---- rules, events and patterns
-
-tails : (j k : Kind) (v w : List Kind) → j ∷ v ≡ k ∷ w → v ≡ w
-tails j k v w h = cc
 
 same_name : (n m : List ℕ) (v w : List Kind) → kind.Name n ∷ v ≡ kind.Name m ∷ w → (n ≡ m) × (v ≡ w)
 same_name n m v w h = (cc, cc)
@@ -363,7 +358,6 @@ pattern_same a b x y is is' e =
     made n s m v = ap (λ z. with_fields z a.start a.empty a.events) n ∙ ap (λ z. with_fields b.name z a.empty a.events) s ∙ ap (λ z. with_fields b.name b.start z a.events) m ∙ ap (with_fields b.name b.start b.empty) v
 
 -- ---- files
-
 name_not_end : (n : List ℕ) (v w : List Kind) → IsNameText n → name_kinds n ++ v ≡ kind.Fixed mark.Semicolon ∷ w → ⊥
 name_not_end n v w is e = cc
 

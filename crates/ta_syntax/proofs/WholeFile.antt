@@ -5,7 +5,7 @@ use Rattle.ta_syntax.specs.Grammar.{FileText}
 use Rattle.ta_syntax.specs.Limits.{Counts, at_start, IsDeep, IsMany}
 use Rattle.ta_syntax.specs.Parts.{Text, nothing, both}
 use Rattle.ta_syntax.specs.Inside.Parts.{file_part}
-use Rattle.ta_syntax.specs.Faults.{kinds, Stopped, IsPast}
+use Rattle.ta_syntax.specs.Faults.{kinds, IsStopped, IsPast}
 use Rattle.ta_syntax.specs.declared.tokens.Kind.{Kind}
 use Rattle.ta_syntax.specs.declared.placed.Token.{Token}
 use Rattle.ta_syntax.specs.declared.fault.FileFault.{FileFault}
@@ -21,7 +21,7 @@ whole_from w (a, b, t, e, s) = subst FileText (sym (s ∙ ap (λ (z : List Kind)
 past_whole : (over : Counts → Kind → Type 0) (c : Counts) (tokens : List Token) (at : ℕ) → IsPast over (Text (both file_part nothing)) c tokens at → IsPast over FileText c tokens at
 past_whole over c tokens at w = record { front = w.front; first = w.first; bad = w.bad; split = w.split; place = w.place; begins = (w.begins.0, whole_from ((kinds w.front ++ w.first.kind ∷ []) ++ w.begins.0) w.begins.1); within = w.within; past = w.past }
 
-pub whole_stops : (end : ℕ) (tokens : List Token) (e : FileFault) → Stopped (Text (both file_part nothing)) at_start end tokens e → Stopped FileText at_start end tokens e
+pub whole_stops : (end : ℕ) (tokens : List Token) (e : FileFault) → IsStopped (Text (both file_part nothing)) at_start end tokens e → IsStopped FileText at_start end tokens e
 whole_stops end tokens fault.Memory h = tt
 whole_stops end tokens (fault.Syntax at) w = record { front = w.front; bad = w.bad; split = w.split; place = w.place; begins = (w.begins.0, whole_from (kinds w.front ++ w.begins.0) w.begins.1); refused = λ other same f. w.refused other same (whole_to (kinds w.front ++ other) f); within = w.within }
 whole_stops end tokens (fault.TooDeep at) w = past_whole IsDeep at_start tokens at w

@@ -1,15 +1,20 @@
 -- A tree within the limits, in plain words, has tokens within the limits.
 use Rattle.std.proofs.Common.{◌≡◌, ℕ, suc, ◌+◌, ◌-◌, ◌<◌, ◌≤◌, Bool, true, false, List, [], ◌∷◌, ◌++◌, length, lit<, refl, sym, ap, subst, ◌∙◌, append_assoc, arith}
 use Rattle.std.specs.List.{AllByRecursion}
+use Rattle.ta_base.proofs.Each.{all_both}
+use Rattle.ta_base.proofs.Lists.{regroup}
+use Rattle.ta_base.proofs.Naturals.{left_less}
+use Rattle.ta_syntax.proofs.BuiltTrees.{some_length}
+use Rattle.ta_syntax.proofs.ItemSteps.{may_open}
 use Rattle.ta_syntax.specs.Grammar.{Terms, Term, Factor, done, term, number, times, alone, blank, named, nested, sum_kinds, more_kinds, term_kinds, factor_kinds, relation_kind, PlainComparison, PlainRule, PlainEvent, PlainPattern, PlainTree, listed, further, led, ended, each, name_kinds, initial_kinds, location_kinds, comparison_kinds, update_kinds, rule_kinds, event_kinds, pattern_kinds, file_kinds, IsSome, IsEvent, IsPattern, IsTree}
 use Rattle.ta_syntax.specs.PlainSums.{sum_depth, term_depth, factor_depth}
-use Rattle.ta_syntax.specs.Limits.{Counts, at_start, begin_list, after_mark, after, run, Within, IsShallow, IsRuleWithin, IsEventWithin, IsPatternWithin, IsTreeWithin}
+use Rattle.ta_syntax.specs.Limits.{Counts, at_start, begin_list, after_mark, counted_after, run, StaysWithin, IsShallow, IsRuleWithin, IsEventWithin, IsPatternWithin, IsTreeWithin}
 use Rattle.ta_syntax.specs.Reading.{HasRoom}
 use Rattle.ta_syntax.specs.Inside.Reading.{MayOpen}
 use Rattle.ta_syntax.specs.ListReading.{IsReady}
 use Rattle.ta_syntax.specs.Inside.ListReading.{IsFresh, with_commas}
 use Rattle.ta_syntax.specs.BlockReading.{IsEntered, KeptBlock}
-use Rattle.ta_syntax.specs.Inside.BlockReading.{Kept, Leads, block_count, IsBlock, KeptOthers, with_mark}
+use Rattle.ta_syntax.specs.Inside.BlockReading.{IsBetweenParts, BeginsListOf, block_count, IsBlock, KeptOthers, with_mark}
 use Rattle.ta_syntax.specs.declared.tokens.Kind.{Kind}
 use Rattle.ta_syntax.specs.declared.tokens.Kind.TheVariants as kind
 use Rattle.ta_syntax.specs.declared.tokens.Mark.{Mark}
@@ -17,26 +22,25 @@ use Rattle.ta_syntax.specs.declared.tokens.Mark.TheVariants as mark
 use Rattle.ta_syntax.specs.declared.sums.Sign.TheVariants as sign
 use Rattle.ta_syntax.proofs.Steps.{run-append, within-append, Fits, room_fits, room_fits_name, room_fits_number, relation_fits, after_relation, IsPlainMark}
 use Rattle.ta_syntax.proofs.SumExits.{inside, open_fits, may_inside, closed_again}
-use Rattle.ta_syntax.proofs.ClauseSteps.{kept_then, kept_ready, kept_same, leads_list, leads_plain, list_kept}
+use Rattle.ta_syntax.proofs.ClauseSteps.{kept_then, kept_ready, kept_same, leads_list, leads_plain, list_kept, fresh_list}
 use Rattle.ta_syntax.proofs.BlockSteps.{block_fits, entered, others_kept, one_more}
-use Rattle.ta_syntax.proofs.FileSteps.{regroup}
 use Rattle.ta_syntax.proofs.FileTexts.{behind_rule, behind_event, behind_pattern}
 
 -- The tokens take the counts from c to d, and none goes past a limit.
 record Scan (c : Counts) (ks : List Kind) (d : Counts) : Type 0 where
-  within : Within c ks
+  within : StaysWithin c ks
   counted : run c ks ≡ d
 
 scan_none : (c : Counts) → Scan c [] c
 scan_none c = record { within = tt; counted = refl }
 
 scan_then : {c d e : Counts} {a b : List Kind} → Scan c a d → Scan d b e → Scan c (a ++ b) e
-scan_then {c = c} {a = a} {b = b} p q = record { within = within-append c a b p.within (subst (λ (z : Counts). Within z b) (sym p.counted) q.within); counted = run-append c a b ∙ ap (λ (z : Counts). run z b) p.counted ∙ q.counted }
+scan_then {c = c} {a = a} {b = b} p q = record { within = within-append c a b p.within (subst (λ (z : Counts). StaysWithin z b) (sym p.counted) q.within); counted = run-append c a b ∙ ap (λ (z : Counts). run z b) p.counted ∙ q.counted }
 
 scan_as : {c d e : Counts} {a : List Kind} → Scan c a d → d ≡ e → Scan c a e
 scan_as p e = record { within = p.within; counted = p.counted ∙ e }
 
-scan_first : {c e : Counts} (k : Kind) {b : List Kind} → Fits c k → Scan (after c k) b e → Scan c (k ∷ b) e
+scan_first : {c e : Counts} (k : Kind) {b : List Kind} → Fits c k → Scan (counted_after c k) b e → Scan c (k ∷ b) e
 scan_first k fits q = record { within = (fits.0, fits.1, q.within); counted = q.counted }
 
 scan_name : {c e : Counts} (n : List ℕ) {b : List Kind} → HasRoom c → Scan c b e → Scan c (kind.Name n ∷ b) e
@@ -47,11 +51,6 @@ scan_number {c = c} n room q = scan_first (kind.Number n) (room_fits_number c n 
 
 scan_mark : {c e : Counts} (m : Mark) {b : List Kind} → HasRoom c → IsPlainMark m → Scan (after_mark c m) b e → Scan c (kind.Fixed m ∷ b) e
 scan_mark {c = c} m room p q = scan_first (kind.Fixed m) (room_fits c m room p) q
-
--- ---- sums
-
-left_less : (left : ℕ) (d : ℕ) → suc d ≤ left → d ≤ left - 1
-left_less left d h = omega arith
 
 mutual
   sum_scan : (ts : Terms) (left : ℕ) (c : Counts) → sum_depth ts ≤ left → MayOpen left c → Scan c (sum_kinds ts) c
@@ -78,12 +77,8 @@ mutual
       scan_first (kind.Fixed mark.Open) (open_fits left c some may) (scan_then (sum_scan ts (left - 1) (inside c) (left_less left (sum_depth ts) le) m) (scan_mark mark.Close m.room tt (scan_as (scan_none (after_mark (inside c) mark.Close)) (closed_again c))))
 
 -- ---- items
-
 abbrev ScansItem : {A : Type 0} → (A → Type 0) → (A → List Kind) → Type 0
 ScansItem {A = A} Fine f = (x : A) (c : Counts) → Fine x → IsReady c → Scan c (f x) c
-
-may_open : (c : Counts) → IsReady c → MayOpen 32 c
-may_open c r = record { left_open = let e : c.open_now ≡ 0 = r.closed in omega arith; room = r.room }
 
 abbrev Fine : {A : Type 0} → A → Type 0
 Fine x = Unit {0}
@@ -107,7 +102,6 @@ comparison_scan x c fine r =
     (scan_first (relation_kind x.relation) (relation_fits c x.relation r.room) (subst (λ (d : Counts). Scan d (sum_kinds x.right) c) (sym (after_relation c x.relation)) (sum_scan x.right 32 c fine.right (may_open c r))))
 
 -- ---- lists
-
 all_fine : {A : Type 0} (xs : List A) → AllByRecursion Fine xs
 all_fine [] = tt
 all_fine (x ∷ xs) = (tt, all_fine xs)
@@ -129,10 +123,9 @@ module _ {A : Type 0} (Good : A → Type 0) (f : A → List Kind) (item : ScansI
       (subst (λ (d : Counts). Scan d (further kind.Fixed f xs) (with_commas (length (x ∷ xs) - 1) c)) (ap (λ (k : ℕ). with_commas k c) (sym none)) (scan_as (further_scan limit 0 xs c fresh all.1 (omega arith)) (ap (λ (k : ℕ). with_commas k c) (omega arith))))
 
 -- ---- between parts
-
 record KeptScan (c : Counts) (ks : List Kind) : Type 0 where
   counts : Counts
-  kept : Kept c counts
+  kept : IsBetweenParts c counts
   scan : Scan c ks counts
 
 kept_scan_then : {c : Counts} {a b : List Kind} (p : KeptScan c a) → KeptScan p.counts b → KeptScan c (a ++ b)
@@ -147,18 +140,11 @@ end_scan c r = record { counts = c; kept = kept_same c r; scan = scan_mark mark.
 fresh_ready : (limit : ℕ) (c : Counts) → 1 ≤ limit → IsFresh limit c → IsReady c
 fresh_ready limit c some fresh = record { closed = fresh.closed; room = let a : c.commas ≡ 0 = fresh.none in let b : c.limit ≡ limit = fresh.limited in let h : c.commas < c.limit = omega arith in h }
 
-some_length : {A : Type 0} (xs : List A) → IsSome xs → 1 ≤ length xs
-some_length [] some = absurd some
-some_length (x ∷ xs) some = omega arith
-
-begun_fresh : (limit : ℕ) (c : Counts) → IsReady c → IsFresh limit (begin_list limit c)
-begun_fresh limit c r = record { closed = r.closed; none = refl; limited = refl }
-
 -- a keyword of a list, and what follows it
-lead_scan : (m : Mark) (limit : ℕ) (c : Counts) (b : List Kind) → Leads m limit → IsReady c → KeptScan (begin_list limit c) b → KeptScan c (kind.Fixed m ∷ b)
+lead_scan : (m : Mark) (limit : ℕ) (c : Counts) (b : List Kind) → BeginsListOf m limit → IsReady c → KeptScan (begin_list limit c) b → KeptScan c (kind.Fixed m ∷ b)
 lead_scan m limit c b leads r p = record {
   counts = p.counts;
-  kept = let k : Kept (begin_list limit c) p.counts = p.kept in record { closed = k.closed; room = k.room; rules = k.rules; patterns = k.patterns; events = k.events };
+  kept = let k : IsBetweenParts (begin_list limit c) p.counts = p.kept in record { closed = k.closed; room = k.room; rules = k.rules; patterns = k.patterns; events = k.events };
   scan = scan_mark m r.room (leads_plain m limit leads) (subst (λ (d : Counts). Scan d b p.counts) (sym (leads_list m limit c leads)) p.scan);
 }
 
@@ -169,20 +155,19 @@ module _ {A : Type 0} (Good : A → Type 0) (f : A → List Kind) (item : ScansI
   list_end_scan : (xs : List A) (c : Counts) → IsFresh limit c → AllByRecursion Good xs → 1 ≤ length xs → length xs ≤ limit → KeptScan c (listed kind.Fixed f xs ++ kind.Fixed mark.Semicolon ∷ [])
   list_end_scan xs c fresh all some few = let p = list_scan xs c fresh all some few in kept_scan_then p (end_scan p.counts (scan_ready p))
 
-  led_scan : (m : Mark) (xs : List A) (c : Counts) → Leads m limit → IsReady c → AllByRecursion Good xs → length xs ≤ limit → KeptScan c (led kind.Fixed m f xs)
+  led_scan : (m : Mark) (xs : List A) (c : Counts) → BeginsListOf m limit → IsReady c → AllByRecursion Good xs → length xs ≤ limit → KeptScan c (led kind.Fixed m f xs)
   led_scan m [] c leads r all few = record { counts = c; kept = kept_same c r; scan = scan_none c }
-  led_scan m (x ∷ xs) c leads r all few = lead_scan m limit c (listed kind.Fixed f (x ∷ xs)) leads r (list_scan (x ∷ xs) (begin_list limit c) (begun_fresh limit c r) all (omega arith) few)
+  led_scan m (x ∷ xs) c leads r all few = lead_scan m limit c (listed kind.Fixed f (x ∷ xs)) leads r (list_scan (x ∷ xs) (begin_list limit c) (fresh_list limit c r) all (omega arith) few)
 
-  ended_scan : (m : Mark) (xs : List A) (c : Counts) → Leads m limit → IsReady c → AllByRecursion Good xs → length xs ≤ limit → KeptScan c (ended kind.Fixed m f xs)
+  ended_scan : (m : Mark) (xs : List A) (c : Counts) → BeginsListOf m limit → IsReady c → AllByRecursion Good xs → length xs ≤ limit → KeptScan c (ended kind.Fixed m f xs)
   ended_scan m [] c leads r all few = record { counts = c; kept = kept_same c r; scan = scan_none c }
-  ended_scan m (x ∷ xs) c leads r all few = lead_scan m limit c (listed kind.Fixed f (x ∷ xs) ++ kind.Fixed mark.Semicolon ∷ []) leads r (list_end_scan (x ∷ xs) (begin_list limit c) (begun_fresh limit c r) all (omega arith) few)
+  ended_scan m (x ∷ xs) c leads r all few = lead_scan m limit c (listed kind.Fixed f (x ∷ xs) ++ kind.Fixed mark.Semicolon ∷ []) leads r (list_end_scan (x ∷ xs) (begin_list limit c) (fresh_list limit c r) all (omega arith) few)
 
-  declared_scan : (m : Mark) (xs : List A) (c : Counts) → 1 ≤ limit → Leads m limit → IsReady c → AllByRecursion Good xs → length xs ≤ limit → KeptScan c (kind.Fixed m ∷ (listed kind.Fixed f xs ++ kind.Fixed mark.Semicolon ∷ []))
-  declared_scan m [] c some leads r all few = lead_scan m limit c (kind.Fixed mark.Semicolon ∷ []) leads r (end_scan (begin_list limit c) (fresh_ready limit (begin_list limit c) some (begun_fresh limit c r)))
-  declared_scan m (x ∷ xs) c some leads r all few = lead_scan m limit c (listed kind.Fixed f (x ∷ xs) ++ kind.Fixed mark.Semicolon ∷ []) leads r (list_end_scan (x ∷ xs) (begin_list limit c) (begun_fresh limit c r) all (omega arith) few)
+  declared_scan : (m : Mark) (xs : List A) (c : Counts) → 1 ≤ limit → BeginsListOf m limit → IsReady c → AllByRecursion Good xs → length xs ≤ limit → KeptScan c (kind.Fixed m ∷ (listed kind.Fixed f xs ++ kind.Fixed mark.Semicolon ∷ []))
+  declared_scan m [] c some leads r all few = lead_scan m limit c (kind.Fixed mark.Semicolon ∷ []) leads r (end_scan (begin_list limit c) (fresh_ready limit (begin_list limit c) some (fresh_list limit c r)))
+  declared_scan m (x ∷ xs) c some leads r all few = lead_scan m limit c (listed kind.Fixed f (x ∷ xs) ++ kind.Fixed mark.Semicolon ∷ []) leads r (list_end_scan (x ∷ xs) (begin_list limit c) (fresh_list limit c r) all (omega arith) few)
 
 -- ---- blocks
-
 record BlockScan (m : Mark) (c : Counts) (ks : List Kind) : Type 0 where
   counts : Counts
   kept : KeptBlock m c counts
@@ -200,7 +185,7 @@ rule_scan r c fine e =
     let guards = led_scan IsShallow comparison_kinds comparison_scan 16 mark.When r.guards (colon c) refl q fine.shallow fine.guards in
     let updates = led_scan Fine update_kinds update_scan 16 mark.Do r.updates guards.counts refl (scan_ready guards) (all_fine r.updates) fine.updates in
     let rest = kept_scan_then guards (kept_scan_then updates (end_scan updates.counts (scan_ready updates))) in
-    let k : Kept (colon c) rest.counts = rest.kept in
+    let k : IsBetweenParts (colon c) rest.counts = rest.kept in
     record {
       counts = rest.counts;
       kept = record { closed = k.closed; room = k.room; rules = k.rules; patterns = k.patterns; events = λ other. k.events };
@@ -210,8 +195,8 @@ rule_scan r c fine e =
 -- a condition behind its colon
 colon_scan : (xs : List PlainComparison) (c : Counts) → IsReady c → AllByRecursion IsShallow xs → 1 ≤ length xs → length xs ≤ 16 → KeptScan c (kind.Fixed mark.Colon ∷ (listed kind.Fixed comparison_kinds xs ++ kind.Fixed mark.Semicolon ∷ []))
 colon_scan xs c r all some few =
-    let p = list_end_scan IsShallow comparison_kinds comparison_scan 16 xs (colon c) (begun_fresh 16 c r) all some few in
-    let k : Kept (colon c) p.counts = p.kept in
+    let p = list_end_scan IsShallow comparison_kinds comparison_scan 16 xs (colon c) (fresh_list 16 c r) all some few in
+    let k : IsBetweenParts (colon c) p.counts = p.kept in
     record { counts = p.counts; kept = record { closed = k.closed; room = k.room; rules = k.rules; patterns = k.patterns; events = k.events }; scan = scan_mark mark.Colon r.room tt p.scan }
 
 record IsFineEvent (e : PlainEvent) : Type 0 where
@@ -223,7 +208,7 @@ event_scan e c fine i =
     let r : IsReady c = record { closed = i.closed; room = i.room } in
     let names = led_scan Fine name_kinds name_scan 8 mark.After e.after c refl r (all_fine e.after) fine.within.after in
     let rest = kept_scan_then names (colon_scan e.condition names.counts (scan_ready names) fine.within.shallow (some_length e.condition fine.some) fine.within.condition) in
-    let k : Kept c rest.counts = rest.kept in
+    let k : IsBetweenParts c rest.counts = rest.kept in
     record {
       counts = rest.counts;
       kept = record { closed = k.closed; room = k.room; rules = k.rules; patterns = k.patterns; events = λ other. k.events };
@@ -257,10 +242,6 @@ module _ {A : Type 0} (Good : A → Type 0) (m : Mark) (limit : ℕ) (block : Is
         scan = scan_first (kind.Fixed m) (block_fits m limit c block r.room (omega arith)) (scan_then p.scan rest.scan);
       }
 
-all_both : {A : Type 0} (P Q R : A → Type 0) → ((x : A) → P x → Q x → R x) → (xs : List A) → AllByRecursion P xs → AllByRecursion Q xs → AllByRecursion R xs
-all_both P Q R f [] p q = tt
-all_both P Q R f (x ∷ xs) p q = (f x p.0 q.0, all_both P Q R f xs p.1 q.1)
-
 record IsFinePattern (p : PlainPattern) : Type 0 where
   within : IsPatternWithin p
   legal : IsPattern p
@@ -270,8 +251,8 @@ pattern_scan p c fine i =
     let r : IsReady c = record { closed = i.closed; room = i.room } in
     let start = ended_scan IsShallow comparison_kinds comparison_scan 16 mark.Start p.start c refl r fine.within.shallow fine.within.start in
     let empty = kept_scan_then start (ended_scan Fine name_kinds name_scan 32 mark.Empty p.empty start.counts refl (scan_ready start) (all_fine p.empty) fine.within.empty) in
-    let events = blocks_scan IsFineEvent mark.Event 8 refl behind_event event_scan p.events 0 empty.counts (scan_ready empty) (let k : Kept c empty.counts = empty.kept in k.events ∙ i.events refl) (all_both IsEventWithin IsEvent IsFineEvent (λ e w l. record { within = w; some = l.some }) p.events fine.within.each_event fine.legal.events) (omega (arith, fine.within.events)) in
-    let k : Kept c empty.counts = empty.kept in
+    let events = blocks_scan IsFineEvent mark.Event 8 refl behind_event event_scan p.events 0 empty.counts (scan_ready empty) (let k : IsBetweenParts c empty.counts = empty.kept in k.events ∙ i.events refl) (all_both IsEventWithin IsEvent IsFineEvent (λ e w l. record { within = w; some = l.some }) p.events fine.within.each_event fine.legal.events) (omega (arith, fine.within.events)) in
+    let k : IsBetweenParts c empty.counts = empty.kept in
     let j : KeptOthers mark.Event empty.counts events.counts = events.kept in
     record {
       counts = events.counts;
@@ -286,8 +267,7 @@ pattern_scan p c fine i =
         (scan_then empty.scan (scan_then events.scan (scan_mark mark.CloseBrace room tt (scan_none events.counts))))
 
 -- ---- files
-
-pub tree_scan : (t : PlainTree) → IsTree t → IsTreeWithin t → Within at_start (file_kinds t)
+pub tree_scan : (t : PlainTree) → IsTree t → IsTreeWithin t → StaysWithin at_start (file_kinds t)
 tree_scan t legal fine =
     let r : IsReady at_start = record { closed = refl; room = lit< tt } in
     let name_end : KeptScan at_start (kind.Name t.name ∷ kind.Fixed mark.Semicolon ∷ []) = record { counts = at_start; kept = kept_same at_start r; scan = scan_name t.name r.room (scan_mark mark.Semicolon r.room tt (scan_none at_start)) } in
@@ -298,9 +278,9 @@ tree_scan t legal fine =
     let ready5 = scan_ready locations in
     let sum : KeptScan locations.counts (kind.Fixed mark.Processes ∷ (sum_kinds t.processes ++ kind.Fixed mark.Semicolon ∷ [])) = record { counts = locations.counts; kept = kept_same locations.counts ready5; scan = scan_mark mark.Processes ready5.room tt (scan_then (sum_scan t.processes 32 locations.counts fine.processes (may_open locations.counts ready5)) (scan_mark mark.Semicolon ready5.room tt (scan_none locations.counts))) } in
     let resilience = declared_scan IsShallow comparison_kinds comparison_scan 16 mark.Resilience t.resilience sum.counts (omega arith) refl ready5 fine.shallow fine.resilience in
-    let k7 : Kept at_start resilience.counts = kept_then at_start parameters.counts resilience.counts parameters.kept (kept_then parameters.counts shared.counts resilience.counts shared.kept (kept_then shared.counts locations.counts resilience.counts locations.kept resilience.kept)) in
+    let k7 : IsBetweenParts at_start resilience.counts = kept_then at_start parameters.counts resilience.counts parameters.kept (kept_then parameters.counts shared.counts resilience.counts shared.kept (kept_then shared.counts locations.counts resilience.counts locations.kept resilience.kept)) in
     let rules = blocks_scan IsRuleWithin mark.Rule 128 refl behind_rule rule_scan t.rules 0 resilience.counts (scan_ready resilience) k7.rules fine.each_rule (omega (arith, fine.rules)) in
     let k8 : KeptOthers mark.Rule resilience.counts rules.counts = rules.kept in
     let patterns = blocks_scan IsFinePattern mark.Pattern 16 refl behind_pattern pattern_scan t.patterns 0 rules.counts (record { closed = k8.closed; room = k8.room }) (k8.patterns (λ e. cc) ∙ k7.patterns) (all_both IsPatternWithin IsPattern IsFinePattern (λ p w l. record { within = w; legal = l }) t.patterns fine.each_pattern legal.patterns) (omega (arith, fine.patterns)) in
     let whole = scan_then title.scan (scan_then parameters.scan (scan_then shared.scan (scan_then locations.scan (scan_then sum.scan (scan_then resilience.scan (scan_then rules.scan patterns.scan)))))) in
-    subst (Within at_start) (ap (λ (z : List Kind). kind.Fixed mark.Automaton ∷ kind.Name t.name ∷ kind.Fixed mark.Semicolon ∷ z) (regroup (kind.Fixed mark.Parameters) (kind.Fixed mark.Shared) (kind.Fixed mark.Locations) (kind.Fixed mark.Processes) (kind.Fixed mark.Resilience) (kind.Fixed mark.Semicolon) (kind.Fixed mark.Semicolon) (kind.Fixed mark.Semicolon) (kind.Fixed mark.Semicolon) (kind.Fixed mark.Semicolon) (listed kind.Fixed name_kinds t.parameters) (listed kind.Fixed name_kinds t.shared) (listed kind.Fixed location_kinds t.locations) (sum_kinds t.processes) (listed kind.Fixed comparison_kinds t.resilience) (each rule_kinds t.rules ++ each pattern_kinds t.patterns))) whole.within
+    subst (StaysWithin at_start) (ap (λ (z : List Kind). kind.Fixed mark.Automaton ∷ kind.Name t.name ∷ kind.Fixed mark.Semicolon ∷ z) (regroup (kind.Fixed mark.Parameters) (kind.Fixed mark.Shared) (kind.Fixed mark.Locations) (kind.Fixed mark.Processes) (kind.Fixed mark.Resilience) (kind.Fixed mark.Semicolon) (kind.Fixed mark.Semicolon) (kind.Fixed mark.Semicolon) (kind.Fixed mark.Semicolon) (kind.Fixed mark.Semicolon) (listed kind.Fixed name_kinds t.parameters) (listed kind.Fixed name_kinds t.shared) (listed kind.Fixed location_kinds t.locations) (sum_kinds t.processes) (listed kind.Fixed comparison_kinds t.resilience) (each rule_kinds t.rules ++ each pattern_kinds t.patterns))) whole.within

@@ -1,9 +1,9 @@
 -- That each text has an answer (this project's profile)
-use Rattle.std.specs.Prelude.{ℕ, ◌≤◌, ◌≡◌, ◌≢◌, ◌⊎◌, ◌↔◌, List, length}
+use Rattle.std.specs.Prelude.{ℕ, ◌≤◌, ◌≡◌, ◌≢◌, ◌⊎◌, List, length}
 use Rattle.ta_syntax.specs.Tokens.{AreTokens, IsRefused}
 use Rattle.ta_syntax.specs.Grammar.{PlainTree, IsTree, FileText, file_kinds}
-use Rattle.ta_syntax.specs.Limits.{Counts, at_start, Within, IsTreeWithin}
-use Rattle.ta_syntax.specs.Faults.{kinds, Stopped, FirstFault}
+use Rattle.ta_syntax.specs.Limits.{Counts, at_start, StaysWithin, IsTreeWithin}
+use Rattle.ta_syntax.specs.Faults.{kinds, IsStopped, FirstGrammarFault}
 use Rattle.ta_syntax.specs.TreeOf.{IsTextOf, IsTreeOf}
 use Rattle.ta_syntax.specs.PlainTrees.{plain_tree}
 use Rattle.ta_syntax.specs.declared.tokens.Kind.{Kind}
@@ -21,16 +21,16 @@ abbrev pub TextsHaveTokens : Type 0
 TextsHaveTokens = (bytes : List ℕ) → ((ts : List Token) × AreTokens bytes ts) ⊎ ((refused : ℕ) × IsRefused bytes refused)
 
 -- tokens leave the grammar or its limits at a first token
-abbrev pub Stops : (List Kind → Type 0) → Counts → ℕ → List Token → Type 0
-Stops L c end ts = (e : FileFault) × (e ≢ fault.Memory) × Stopped L c end ts e
+abbrev pub StopsReading : (List Kind → Type 0) → Counts → ℕ → List Token → Type 0
+StopsReading L c end ts = (e : FileFault) × (e ≢ fault.Memory) × IsStopped L c end ts e
 
 -- tokens are those of a file and go past no limit, or they leave the grammar or its limits at a first token
 abbrev pub TokensHaveAnswers : Type 0
-TokensHaveAnswers = (end : ℕ) (ts : List Token) → Either (FileText (kinds ts) × Within at_start (kinds ts)) (Stops FileText at_start end ts)
+TokensHaveAnswers = (end : ℕ) (ts : List Token) → Either (FileText (kinds ts) × StaysWithin at_start (kinds ts)) (StopsReading FileText at_start end ts)
 
 -- the scan over the tokens of a tree of the grammar finds nothing past a limit exactly where the tree's lists and parentheses are within them
 abbrev pub LimitsAgree : Type 0
-LimitsAgree = (t : PlainTree) → IsTree t → (Within at_start (file_kinds t) → IsTreeWithin t) × (IsTreeWithin t → Within at_start (file_kinds t))
+LimitsAgree = (t : PlainTree) → IsTree t → (StaysWithin at_start (file_kinds t) → IsTreeWithin t) × (IsTreeWithin t → StaysWithin at_start (file_kinds t))
 
 -- a text of the grammar within the limits has a tree
 abbrev pub TreesExist : Type 0
@@ -41,9 +41,9 @@ abbrev pub HasTree : List ℕ → Type 0
 HasTree bytes = (tree : Tree) × IsTreeOf bytes tree
 
 -- a text has a first fault, as far as tokens and grammar go
-abbrev pub HasTextFault : List ℕ → Type 0
-HasTextFault bytes = (e : FileFault) × (e ≢ fault.Memory) × FirstFault bytes e
+abbrev pub HasGrammarFault : List ℕ → Type 0
+HasGrammarFault bytes = (e : FileFault) × (e ≢ fault.Memory) × FirstGrammarFault bytes e
 
 -- a text of at most 1,048,576 bytes has a tree, or a first fault of its tokens or its grammar
 abbrev pub TextsHaveTrees : Type 0
-TextsHaveTrees = (bytes : List ℕ) → length bytes ≤ 1048576 → Either (HasTree bytes) (HasTextFault bytes)
+TextsHaveTrees = (bytes : List ℕ) → length bytes ≤ 1048576 → Either (HasTree bytes) (HasGrammarFault bytes)

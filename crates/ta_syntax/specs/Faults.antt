@@ -1,7 +1,7 @@
 -- The first token with which a text leaves the grammar or its limits (this project's profile)
 use Rattle.std.specs.Prelude.{ℕ, ◌≡◌, List, [], ◌∷◌, ◌++◌, length}
 use Rattle.ta_syntax.specs.Grammar.{FileText}
-use Rattle.ta_syntax.specs.Limits.{Counts, at_start, run, Within, IsDeep, IsMany}
+use Rattle.ta_syntax.specs.Limits.{Counts, at_start, run, StaysWithin, IsDeep, IsMany}
 use Rattle.ta_syntax.specs.Tokens.{AreTokens, IsRefused}
 use Rattle.ta_syntax.specs.declared.tokens.Kind.{Kind}
 use Rattle.ta_syntax.specs.declared.placed.Token.{Token}
@@ -39,7 +39,7 @@ pub record IsWrong (L : List Kind → Type 0) (c : Counts) (end : ℕ) (tokens :
   pub place : at ≡ offset_of end bad
   pub begins : Begins L (kinds front)
   pub refused : Refuses L (kinds front) (kinds bad)
-  pub within : Within c (kinds front)
+  pub within : StaysWithin c (kinds front)
 
 -- The first token past a limit, which is over at what was counted before it: with it the tokens still begin a text.
 pub record IsPast (over : Counts → Kind → Type 0) (L : List Kind → Type 0) (c : Counts) (tokens : List Token) (at : ℕ) : Type 0 where
@@ -49,28 +49,28 @@ pub record IsPast (over : Counts → Kind → Type 0) (L : List Kind → Type 0)
   pub split : tokens ≡ front ++ first ∷ bad
   pub place : at ≡ first.at
   pub begins : Begins L (kinds front ++ first.kind ∷ [])
-  pub within : Within c (kinds front)
+  pub within : StaysWithin c (kinds front)
   pub past : over (run c (kinds front)) first.kind
 
 -- why no text of the grammar was read
-abbrev pub Stopped : (List Kind → Type 0) → Counts → ℕ → List Token → FileFault → Type 0
-Stopped L c end tokens fault.Memory = Unit {0}
-Stopped L c end tokens (fault.Syntax at) = IsWrong L c end tokens at
-Stopped L c end tokens (fault.TooDeep at) = IsPast IsDeep L c tokens at
-Stopped L c end tokens (fault.TooMany at) = IsPast IsMany L c tokens at
-Stopped L c end tokens _ = ⊥
+abbrev pub IsStopped : (List Kind → Type 0) → Counts → ℕ → List Token → FileFault → Type 0
+IsStopped L c end tokens fault.Memory = Unit {0}
+IsStopped L c end tokens (fault.Syntax at) = IsWrong L c end tokens at
+IsStopped L c end tokens (fault.TooDeep at) = IsPast IsDeep L c tokens at
+IsStopped L c end tokens (fault.TooMany at) = IsPast IsMany L c tokens at
+IsStopped L c end tokens _ = ⊥
 
 -- the tokens of the text leave the grammar or its limits there
 pub record FaultOfTokens (bytes : List ℕ) (e : FileFault) : Type 0 where
   pub tokens : List Token
   pub are : AreTokens bytes tokens
-  pub stopped : Stopped FileText at_start (length bytes) tokens e
+  pub stopped : IsStopped FileText at_start (length bytes) tokens e
 
 -- The first fault of a text, as far as tokens and grammar go: the first refused byte, else the first token that is wrong or past a limit. Want of memory is free.
-abbrev pub FirstFault : List ℕ → FileFault → Type 0
-FirstFault bytes fault.Memory = Unit {0}
-FirstFault bytes (fault.Byte at) = IsRefused bytes at
-FirstFault bytes (fault.Syntax at) = FaultOfTokens bytes (fault.Syntax at)
-FirstFault bytes (fault.TooDeep at) = FaultOfTokens bytes (fault.TooDeep at)
-FirstFault bytes (fault.TooMany at) = FaultOfTokens bytes (fault.TooMany at)
-FirstFault bytes _ = ⊥
+abbrev pub FirstGrammarFault : List ℕ → FileFault → Type 0
+FirstGrammarFault bytes fault.Memory = Unit {0}
+FirstGrammarFault bytes (fault.Byte at) = IsRefused bytes at
+FirstGrammarFault bytes (fault.Syntax at) = FaultOfTokens bytes (fault.Syntax at)
+FirstGrammarFault bytes (fault.TooDeep at) = FaultOfTokens bytes (fault.TooDeep at)
+FirstGrammarFault bytes (fault.TooMany at) = FaultOfTokens bytes (fault.TooMany at)
+FirstGrammarFault bytes _ = ⊥

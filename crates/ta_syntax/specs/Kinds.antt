@@ -1,9 +1,10 @@
 -- What a token is, in bytes (this project's profile)
 use Rattle.std.specs.Prelude.{ℕ, ◌≡◌, ◌==◌, ◌||◌, Bool, List, [], ◌∷◌, codes}
-use Rattle.std.specs.Char.{is_ascii_alphabetic, is_ascii_digit}
+use Rattle.std.specs.Char.{is_ascii_digit}
 use Rattle.std.specs.List.{AllByRecursion}
 use Rattle.std.specs.Prelude.{IsTrue}
 use Rattle.std.proofs.Props.{props}
+use Rattle.ta_base.specs.Bytes.{is_word, BeginsByLetter}
 use Rattle.ta_syntax.specs.declared.tokens.Kind.{Kind}
 use Rattle.ta_syntax.specs.declared.tokens.Kind.TheVariants as kind
 use Rattle.ta_syntax.specs.declared.tokens.Mark.{Mark}
@@ -12,14 +13,6 @@ use Rattle.ta_syntax.specs.declared.tokens.Mark.TheVariants as mark
 -- a blank, a tab, a line feed or a carriage return
 abbrev pub is_white : ℕ → Bool
 is_white b = b == 32 || b == 9 || b == 10 || b == 13
-
--- a letter of ASCII, or `_`
-abbrev pub is_letter : ℕ → Bool
-is_letter b = is_ascii_alphabetic b || b == 95
-
--- a byte of a name behind its first
-abbrev pub is_word : ℕ → Bool
-is_word b = is_letter b || is_ascii_digit b
 
 -- ; , : { } ( ) * + - < >
 abbrev pub is_lone : ℕ → Bool
@@ -65,11 +58,6 @@ abbrev pub kind_bytes : Kind → List ℕ
 kind_bytes (kind.Name n) = n
 kind_bytes (kind.Number d) = d
 kind_bytes (kind.Fixed m) = mark_bytes m
-
--- a letter or `_` stands first
-abbrev pub BeginsByLetter : List ℕ → Type 0
-BeginsByLetter [] = ⊥
-BeginsByLetter (b ∷ bs) = IsTrue (is_letter b)
 
 -- digits, at least one
 abbrev pub IsDigits : List ℕ → Type 0

@@ -46,15 +46,15 @@ after_mark c mark.Event = record { open_now = c.open_now; commas = c.commas; lim
 after_mark c _ = c
 
 -- the counts after a token
-abbrev pub after : Counts → Kind → Counts
-after c (kind.Name n) = c
-after c (kind.Number d) = c
-after c (kind.Fixed m) = after_mark c m
+abbrev pub counted_after : Counts → Kind → Counts
+counted_after c (kind.Name n) = c
+counted_after c (kind.Number d) = c
+counted_after c (kind.Fixed m) = after_mark c m
 
 -- the counts after tokens
 abbrev pub run : Counts → List Kind → Counts
 run c [] = c
-run c (k ∷ ks) = run (after c k) ks
+run c (k ∷ ks) = run (counted_after c k) ks
 
 -- an opening parenthesis inside 32 open ones
 abbrev pub IsDeep : Counts → Kind → Type 0
@@ -73,9 +73,9 @@ abbrev pub IsMany : Counts → Kind → Type 0
 IsMany c k = (c.limit ≤ c.commas) ⊎ IsBlockPast c k
 
 -- no token goes past a limit
-abbrev pub Within : Counts → List Kind → Type 0
-Within c [] = Unit {0}
-Within c (k ∷ ks) = (IsDeep c k → ⊥) × (IsMany c k → ⊥) × Within (after c k) ks
+abbrev pub StaysWithin : Counts → List Kind → Type 0
+StaysWithin c [] = Unit {0}
+StaysWithin c (k ∷ ks) = (IsDeep c k → ⊥) × (IsMany c k → ⊥) × StaysWithin (counted_after c k) ks
 
 -- ---- the same in plain words
 

@@ -1,12 +1,10 @@
 -- What the readers of lists and of their items say (this project's profile)
-use Rattle.std.specs.Prelude.{ℕ, ◌≡◌, ◌-◌, ◌≤◌, Bool, true, false, List, ◌∷◌, ◌++◌, length}
-use Rattle.ta_syntax.specs.Grammar.{listed}
-use Rattle.ta_syntax.specs.Stated.{Offsets, unplaced}
+use Rattle.std.specs.Prelude.{ℕ, ◌≡◌, ◌≤◌, Bool, true, false, List, ◌∷◌, ◌++◌, length}
+use Rattle.ta_syntax.specs.Stated.{Offsets}
 use Rattle.ta_syntax.specs.Limits.{Counts}
-use Rattle.ta_syntax.specs.Parts.{Part, Text, both}
-use Rattle.ta_syntax.specs.Inside.Parts.{list_part}
-use Rattle.ta_syntax.specs.Faults.{kinds, SameStart, Stopped}
-use Rattle.ta_syntax.specs.Reading.{Reads, Avoids, HasRoom}
+use Rattle.ta_syntax.specs.Parts.{GrammarPart, Text, both}
+use Rattle.ta_syntax.specs.Faults.{kinds, SameStart, IsStopped}
+use Rattle.ta_syntax.specs.Reading.{ReadsPart, NeverBegins, HasRoom}
 use Rattle.ta_syntax.specs.declared.tokens.Kind.{Kind}
 use Rattle.ta_syntax.specs.declared.tokens.Kind.TheVariants as kind
 use Rattle.ta_syntax.specs.declared.tokens.Mark.TheVariants as mark
@@ -27,15 +25,15 @@ pub record IsReady (c : Counts) : Type 0 where
   pub room : HasRoom c
 
 -- an item of a list was read, whatever part may come after that does not go on with it
-pub record TookItem (p : Part) (text : List Kind) (stated : List Offsets) (tokens rest : List Token) : Type 0 where
+pub record TookItem (p : GrammarPart) (text : List Kind) (stated : List Offsets) (tokens rest : List Token) : Type 0 where
   pub shorter : length rest ≤ length tokens
-  pub reads : (K : Part) (c : Counts) → Avoids extends_item K → IsReady c → Reads (both p K) c tokens rest K c text stated
+  pub reads : (K : GrammarPart) (c : Counts) → NeverBegins extends_item K → IsReady c → ReadsPart (both p K) c tokens rest K c text stated
 
 -- an item of a list could not be read
-abbrev pub ItemStops : Part → ℕ → List Token → FileFault → Type 0
-ItemStops p end tokens e = (K : Part) (c : Counts) → Avoids extends_item K → IsReady c → Stopped (Text (both p K)) c end tokens e
+abbrev pub ItemStops : GrammarPart → ℕ → List Token → FileFault → Type 0
+ItemStops p end tokens e = (K : GrammarPart) (c : Counts) → NeverBegins extends_item K → IsReady c → IsStopped (Text (both p K)) c end tokens e
 
 -- whether some text of the part begins by the first token
-abbrev pub IsStart : Part → List Token → Bool → Type 0
+abbrev pub IsStart : GrammarPart → List Token → Bool → Type 0
 IsStart p tokens true = (first : Token) × (rest : List Token) × (tokens ≡ first ∷ rest) × ((a : List Kind) × Text p (first.kind ∷ a))
 IsStart p tokens false = (w a b : List Kind) → SameStart (kinds tokens) w → Text p a → w ≡ a ++ b → ⊥

@@ -6,29 +6,28 @@ use Rattle.ta_syntax.specs.Grammar.{Terms, Term, Factor, sum_kinds, more_kinds, 
 use Rattle.ta_syntax.specs.declared.tokens.Kind.{Kind}
 use Rattle.ta_syntax.specs.declared.tokens.Kind.TheVariants as kind
 use Rattle.ta_syntax.specs.declared.tokens.Mark.{Mark}
-use Rattle.ta_syntax.specs.declared.tokens.Mark.TheVariants as mark
 use Rattle.ta_syntax.specs.declared.tokens.Relation.{Relation}
 
 -- a part of the grammar, or what may still come
-pub data Part : Type 0 where
-  nothing : Part
-  a_mark : Mark → Part
-  a_name : Part
-  a_number : Part
-  a_relation : Part
-  a_sum : Part
+pub data GrammarPart : Type 0 where
+  nothing : GrammarPart
+  a_mark : Mark → GrammarPart
+  a_name : GrammarPart
+  a_number : GrammarPart
+  a_relation : GrammarPart
+  a_sum : GrammarPart
   -- terms after the first, each with its sign before it
-  more_terms : Part
-  a_term : Part
-  a_factor : Part
+  more_terms : GrammarPart
+  a_term : GrammarPart
+  a_factor : GrammarPart
   -- one after the other
-  both : Part → Part → Part
+  both : GrammarPart → GrammarPart → GrammarPart
   -- [ mark part ]
-  maybe : Mark → Part → Part
+  maybe : Mark → GrammarPart → GrammarPart
   -- { mark part }
-  many : Mark → Part → Part
+  many : Mark → GrammarPart → GrammarPart
   -- [ part ] mark
-  upto : Mark → Part → Part
+  upto : Mark → GrammarPart → GrammarPart
 
 -- pieces, each after the mark
 abbrev pub blocks : Mark → List (List Kind) → List Kind
@@ -36,7 +35,7 @@ blocks m [] = []
 blocks m (x ∷ xs) = kind.Fixed m ∷ (x ++ blocks m xs)
 
 -- the token lists of a part
-abbrev pub Text : Part → List Kind → Type 0
+abbrev pub Text : GrammarPart → List Kind → Type 0
 Text nothing ks = ks ≡ []
 Text (a_mark m) ks = ks ≡ kind.Fixed m ∷ []
 Text a_name ks = (n : List ℕ) × IsNameText n × (ks ≡ kind.Name n ∷ [])

@@ -1,12 +1,9 @@
 -- How tokens are printed (this project's profile)
-use Rattle.std.specs.Prelude.{ℕ, zero, suc, ◌≡◌, List, [], ◌∷◌, ◌++◌}
+use Rattle.std.specs.Prelude.{ℕ, List, [], ◌∷◌, ◌++◌}
 use Rattle.ta_syntax.specs.Kinds.{kind_bytes}
 use Rattle.ta_syntax.specs.declared.tokens.Kind.{Kind}
 use Rattle.ta_syntax.specs.declared.tokens.Kind.TheVariants as kind
 use Rattle.ta_syntax.specs.declared.tokens.Mark.TheVariants as mark
-use Rattle.ta_syntax.specs.declared.sums.Sign.{Sign}
-use Rattle.ta_syntax.specs.declared.sums.Sign.TheVariants as sign
-use Rattle.ta_syntax.specs.Grammar.{PlainTree, sign_kind, listed, name_kinds, location_kinds}
 
 -- what stands behind a token: a line feed after ; { and }, else a space
 abbrev pub separator : Kind → ℕ

@@ -1,27 +1,18 @@
 -- What the readers of parts say (this project's profile). Each reader takes the tokens that are left, and its clause holds whatever part may come after.
-use Rattle.std.specs.Prelude.{ℕ, ◌≡◌, ◌+◌, ◌<◌, ◌≤◌, Bool, true, false, List, [], ◌∷◌, ◌++◌, length}
-use Rattle.ta_syntax.specs.Grammar.{IsSum, IsTerm, IsFactor, sum_kinds, term_kinds, factor_kinds, relation_kind}
-use Rattle.ta_syntax.specs.PlainSums.{plain_sum, plain_term, plain_factor, sum_depth, term_depth, factor_depth}
-use Rattle.ta_syntax.specs.Stated.{Offsets, IsPlaced, sum_stated, sum_term_stated, sum_factor_stated}
-use Rattle.ta_syntax.specs.Limits.{Counts, run, Within}
-use Rattle.ta_syntax.specs.Parts.{Part, Text, both, a_sum, a_term, a_factor}
-use Rattle.ta_syntax.specs.Faults.{kinds, SameStart, Stopped, offset_of}
+use Rattle.std.specs.Prelude.{ℕ, ◌≡◌, ◌<◌, Bool, false, List, [], ◌∷◌, ◌++◌}
+use Rattle.ta_syntax.specs.Stated.{Offsets, IsPlaced}
+use Rattle.ta_syntax.specs.Limits.{Counts, run, StaysWithin}
+use Rattle.ta_syntax.specs.Parts.{GrammarPart, Text}
+use Rattle.ta_syntax.specs.Faults.{kinds, SameStart, offset_of}
 use Rattle.ta_syntax.specs.declared.tokens.Kind.{Kind}
 use Rattle.ta_syntax.specs.declared.tokens.Kind.TheVariants as kind
 use Rattle.ta_syntax.specs.declared.tokens.Mark.{Mark}
-use Rattle.ta_syntax.specs.declared.tokens.Mark.TheVariants as mark
-use Rattle.ta_syntax.specs.declared.tokens.Relation.{Relation}
-use Rattle.ta_syntax.specs.declared.sums.Sign.{Sign}
-use Rattle.ta_syntax.specs.declared.sums.Sign.TheVariants as sign
 use Rattle.ta_syntax.specs.declared.placed.Token.{Token}
 use Rattle.ta_syntax.specs.declared.fault.FileFault.{FileFault}
 use Rattle.ta_syntax.specs.declared.fault.FileFault.TheVariants as fault
-use Rattle.ta_syntax.specs.declared.sums.TreeSum.{TreeSum}
-use Rattle.ta_syntax.specs.declared.sums.TreeTerm.{TreeTerm}
-use Rattle.ta_syntax.specs.declared.sums.TreeFactor.{TreeFactor}
 
 -- The tokens of text were read, at the stated offsets, and rest is left. Before them L had to come, and now M has to: every text of M completes them, and every text of L that agrees with them and with the next token does so with a text of M.
-pub record Reads (L : Part) (c : Counts) (tokens rest : List Token) (M : Part) (d : Counts) (text : List Kind) (stated : List Offsets) : Type 0 where
+pub record ReadsPart (L : GrammarPart) (c : Counts) (tokens rest : List Token) (M : GrammarPart) (d : Counts) (text : List Kind) (stated : List Offsets) : Type 0 where
   pub front : List Token
   pub split : tokens ≡ front ++ rest
   pub spelled : kinds front ≡ text
@@ -29,7 +20,7 @@ pub record Reads (L : Part) (c : Counts) (tokens rest : List Token) (M : Part) (
   pub up : (w : List Kind) → Text M w → Text L (text ++ w)
   pub down : (w : List Kind) → SameStart (kinds rest) w → Text L (text ++ w) → Text M w
   pub counted : run c text ≡ d
-  pub within : Within c text
+  pub within : StaysWithin c text
 
 -- whether the first token is one of them
 abbrev pub begins_by : (Kind → Bool) → List Kind → Bool
@@ -37,15 +28,15 @@ begins_by p [] = false
 begins_by p (k ∷ ks) = p k
 
 -- no text of the part begins by one of them
-abbrev pub Avoids : (Kind → Bool) → Part → Type 0
-Avoids p K = (w : List Kind) → Text K w → begins_by p w ≡ false
+abbrev pub NeverBegins : (Kind → Bool) → GrammarPart → Type 0
+NeverBegins p K = (w : List Kind) → Text K w → begins_by p w ≡ false
 
 -- a token may come
 abbrev pub HasRoom : Counts → Type 0
 HasRoom c = c.commas < c.limit
 
 -- the first token is of the kind, and rest follows
-pub record BeginsWith (tokens : List Token) (k : Kind) (rest : List Token) : Type 0 where
+pub record BeginsWithKind (tokens : List Token) (k : Kind) (rest : List Token) : Type 0 where
   pub first : Token
   pub split : tokens ≡ first ∷ rest
   pub is : first.kind ≡ k

@@ -46,9 +46,9 @@ leading signed sign.Plus = []
 leading signed sign.Minus = signed sign.Minus ∷ []
 
 -- what a sum makes of its signs and terms
-abbrev pub sum_of : {B : Type 0} → (Sign → B) → List (Sign × List B) → List B
-sum_of signed [] = []
-sum_of signed (t ∷ ts) = leading signed t.0 ++ (t.1 ++ more_of signed ts)
+abbrev pub signed_sum : {B : Type 0} → (Sign → B) → List (Sign × List B) → List B
+signed_sum signed [] = []
+signed_sum signed (t ∷ ts) = leading signed t.0 ++ (t.1 ++ more_of signed ts)
 
 -- nothing is stated of a sign before a term
 abbrev pub unplaced_sign : Sign → Offsets
@@ -72,7 +72,7 @@ term_layer_stated t = at_first t.at (parts_stated t.factor t.body)
 
 -- what is stated of a sum, given what is of its terms
 abbrev pub sum_layer_stated : TreeSum-F (List Offsets) (List Offsets) (List Offsets) → List Offsets
-sum_layer_stated s = sum_of unplaced_sign s.terms.items
+sum_layer_stated s = signed_sum unplaced_sign s.terms.items
 
 -- the offsets that a sum states
 abbrev pub sum_stated : TreeSum → List Offsets

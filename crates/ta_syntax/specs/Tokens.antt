@@ -1,16 +1,14 @@
 -- The tokens of a text: the longest that fits, with white space and comments between (this project's profile)
 use Rattle.std.specs.Prelude.{ℕ, ◌≡◌, ◌+◌, ◌==◌, ◌||◌, ◌&&◌, ◌⊎◌, Bool, true, false, List, [], ◌∷◌, ◌++◌, length}
 use Rattle.std.specs.Char.{is_ascii_digit}
-use Rattle.std.specs.List.{AllByRecursion, list_all}
+use Rattle.std.specs.List.{list_all}
 use Rattle.std.specs.Prelude.{IsTrue}
-use Rattle.ta_syntax.specs.Kinds.{is_white, is_letter, is_word, is_lone, mark_bytes, kind_bytes, IsKind}
+use Rattle.ta_syntax.specs.Kinds.{is_white, is_lone, mark_bytes, kind_bytes, IsKind}
+use Rattle.ta_base.specs.Bytes.{is_letter, is_word}
 use Rattle.ta_syntax.specs.declared.tokens.Kind.{Kind}
 use Rattle.ta_syntax.specs.declared.tokens.Kind.TheVariants as kind
-use Rattle.ta_syntax.specs.declared.tokens.Mark.{Mark}
 use Rattle.ta_syntax.specs.declared.tokens.Mark.TheVariants as mark
 use Rattle.ta_syntax.specs.declared.placed.Token.{Token}
-use Rattle.ta_syntax.specs.declared.fault.FileFault.{FileFault}
-use Rattle.ta_syntax.specs.declared.fault.FileFault.TheVariants as fault
 
 -- whether a byte right after the token would make it a longer one: behind a word, one of a word
 abbrev pub lengthens : Kind → ℕ → Bool

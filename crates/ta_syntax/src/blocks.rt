@@ -2,7 +2,7 @@
 #![tactic(auto)]
 
 ghost use Rattle.std.specs.Prelude.{◌≡◌, List, ℕ, MatchResult};
-ghost use Rattle.ta_syntax.specs.Parts.{Part};
+ghost use Rattle.ta_syntax.specs.Parts.{GrammarPart};
 ghost use Rattle.ta_syntax.specs.BlockReading.{TookBlock, BlockStops};
 ghost use Rattle.ta_syntax.specs.Inside.BlockReading.{IsBlock, TookBlocks, BlocksStop};
 ghost use Rattle.ta_syntax.specs.declared.tokens.Kind.{Kind};
@@ -18,7 +18,7 @@ use std::alloc::Global;
 pub trait Block: Sized + Drop {
     ghost mark: { Mark };
 
-    ghost part: { Part };
+    ghost part: { GrammarPart };
 
     ghost spelled: { Self → List Kind };
 

@@ -3,16 +3,16 @@
 
 ghost use Rattle.std.specs.Prelude.{◌≡◌, ◌≤◌, MatchResult};
 ghost use Rattle.ta_syntax.specs.Inside.Parts.{list_part};
-ghost use Rattle.ta_syntax.specs.Inside.BlockReading.{StartsOther, Leads, TookNameThen, NameThenStops, TookEnd, EndStops, TookLed, LedStops, TookEnded, EndedStops, TookDeclared, DeclaredStops};
+ghost use Rattle.ta_syntax.specs.Inside.BlockReading.{StartsOther, BeginsListOf, TookNameThen, NameThenStops, TookEnd, EndStops, TookLed, LedStops, TookEnded, EndedStops, TookDeclared, DeclaredStops};
 
 use crate::fault::FileFault;
-use crate::list::List;
 use crate::lists::{Item, read_list};
 use crate::names::Spelled;
 use crate::placed::Token;
 use crate::reading::{expect, read_name, skip};
 use crate::tokens::Mark;
 use std::alloc::Global;
+use ta_base::List;
 
 /// Reads a name and the mark after it.
 pub fn read_name_then(
@@ -51,7 +51,7 @@ pub fn read_led<T: Item>(
     mark: Mark,
     limit: usize,
 ) -> Result<(List<T>, &[Token]), FileFault>
-    requires { Leads mark limit }
+    requires { BeginsListOf mark limit }
     ensures { MatchResult result (λ x. TookLed mark T.part T.spelled T.stated limit x.0 tokens.now x.1.now) (λ e. LedStops mark T.part end tokens.now e) }
 {
     let Some(inner) = skip(tokens, mark) else {
@@ -69,7 +69,7 @@ pub fn read_ended<T: Item>(
     mark: Mark,
     limit: usize,
 ) -> Result<(List<T>, &[Token]), FileFault>
-    requires { Leads mark limit }
+    requires { BeginsListOf mark limit }
     ensures { MatchResult result (λ x. TookEnded mark T.part T.spelled T.stated limit x.0 tokens.now x.1.now) (λ e. EndedStops mark T.part end tokens.now e) }
 {
     let Some(inner) = skip(tokens, mark) else {
@@ -87,7 +87,7 @@ pub fn read_declared<T: Item>(
     mark: Mark,
     limit: usize,
 ) -> Result<(List<T>, &[Token]), FileFault>
-    requires leads { Leads mark limit }
+    requires leads { BeginsListOf mark limit }
     requires other { StartsOther Mark.Semicolon (list_part T.part) }
     ensures { MatchResult result (λ x. TookDeclared mark T.part T.spelled T.stated limit x.0 tokens.now x.1.now) (λ e. DeclaredStops mark T.part end tokens.now e) }
 {

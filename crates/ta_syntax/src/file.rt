@@ -5,14 +5,13 @@ ghost use Rattle.std.specs.Prelude.{◌≡◌, ◌≤◌, length, IfErr, IfOk, M
 ghost use Rattle.ta_syntax.specs.Grammar.{FileText, PlainTree};
 ghost use Rattle.ta_syntax.specs.PlainTrees.{plain_tree};
 ghost use Rattle.ta_syntax.specs.Limits.{at_start, IsTreeWithin};
-ghost use Rattle.ta_syntax.specs.Faults.{Stopped, FirstFault};
+ghost use Rattle.ta_syntax.specs.Faults.{IsStopped, FirstGrammarFault};
 ghost use Rattle.ta_syntax.specs.Inside.FileReading.{TookLocations, LocationsStop, TookProcesses, ProcessesStop, TookHead, IsSpelled};
 ghost use Rattle.ta_syntax.specs.TreeOf.{IsTextOf, IsTreeOf};
 
 use crate::blocks::read_blocks;
 use crate::clauses::{read_declared, read_list_end, read_name_then};
 use crate::fault::FileFault;
-use crate::list::List;
 use crate::names::Spelled;
 use crate::placed::Token;
 use crate::reading::{expect, first_offset, read_sum};
@@ -21,11 +20,12 @@ use crate::sums::TreeSum;
 use crate::tokens::Mark;
 use crate::tree::{Tree, TreeComparison, TreeLocation, TreePattern, TreeRule};
 use std::alloc::Global;
+use ta_base::List;
 
 /// Reads an automaton file.
 pub fn read_tree(alloc: Global, bytes: &[u8]) -> Result<Tree, FileFault>
     requires { length bytes.now ≤ 1048576 }
-    ensures exact { MatchResult result (λ t. IsTreeOf bytes.now t) (λ e. FirstFault bytes.now e) }
+    ensures exact { MatchResult result (λ t. IsTreeOf bytes.now t) (λ e. FirstGrammarFault bytes.now e) }
     ensures alone { IfOk result (λ t. (u : PlainTree) → IsTextOf bytes.now u → u ≡ plain_tree t) }
     ensures only { (t : PlainTree) → IsTextOf bytes.now t → IsTreeWithin t → IfErr result (λ e. e ≡ FileFault.Memory) }
 {
@@ -48,7 +48,7 @@ struct Head {
 
 /// Reads the head of an automaton file.
 fn read_head(alloc: Global, tokens: &[Token], end: u32) -> Result<(Head, &[Token]), FileFault>
-    ensures { MatchResult result (λ x. TookHead end x.0 tokens.now x.1.now) (λ e. Stopped FileText at_start end tokens.now e) }
+    ensures { MatchResult result (λ x. TookHead end x.0 tokens.now x.1.now) (λ e. IsStopped FileText at_start end tokens.now e) }
 {
     let begun = expect(tokens, end, Mark::Automaton)?;
     let (name, after_name) = read_name_then(alloc, begun, end, Mark::Semicolon)?;
@@ -82,7 +82,7 @@ fn read_head(alloc: Global, tokens: &[Token], end: u32) -> Result<(Head, &[Token
 
 /// Reads the tokens of an automaton file.
 fn read_file(alloc: Global, tokens: &[Token], end: u32) -> Result<Tree, FileFault>
-    ensures { MatchResult result (λ t. IsSpelled t tokens.now) (λ e. Stopped FileText at_start end tokens.now e) }
+    ensures { MatchResult result (λ t. IsSpelled t tokens.now) (λ e. IsStopped FileText at_start end tokens.now e) }
 {
     let (head, after_processes) = read_head(alloc, tokens, end)?;
     let (resilience, after_resilience) = read_declared::<TreeComparison>(

@@ -8,7 +8,7 @@ ghost use Rattle.ta_syntax.specs.Stated.{name_stated, location_stated, update_st
 ghost use Rattle.ta_syntax.specs.Parts.{a_name};
 ghost use Rattle.ta_syntax.specs.Inside.Parts.{location_part, update_part, comparison_part};
 ghost use Rattle.ta_syntax.specs.Faults.{kinds};
-ghost use Rattle.ta_syntax.specs.Reading.{BeginsWith, begins_by};
+ghost use Rattle.ta_syntax.specs.Reading.{BeginsWithKind, begins_by};
 ghost use Rattle.ta_syntax.specs.Inside.Reading.{NoRelation, is_name, is_sum_start};
 ghost use Rattle.ta_syntax.specs.ListReading.{TookItem, ItemStops};
 
@@ -136,7 +136,7 @@ impl Item for TreeComparison {
 
 /// The relation that stands first, and the tokens after it.
 fn next_relation(tokens: &[Token]) -> Option<(Relation, &[Token])>
-    ensures { MatchOption result (NoRelation (kinds tokens.now)) (λ x. BeginsWith tokens.now (relation_kind x.0) x.1.now) }
+    ensures { MatchOption result (NoRelation (kinds tokens.now)) (λ x. BeginsWithKind tokens.now (relation_kind x.0) x.1.now) }
 {
     let Some((first, rest)) = tokens.split_first() else {
         return None;

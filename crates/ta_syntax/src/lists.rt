@@ -2,7 +2,7 @@
 #![tactic(auto)]
 
 ghost use Rattle.std.specs.Prelude.{◌≡◌, ◌≤◌, List, ℕ, MatchResult};
-ghost use Rattle.ta_syntax.specs.Parts.{Part};
+ghost use Rattle.ta_syntax.specs.Parts.{GrammarPart};
 ghost use Rattle.ta_syntax.specs.ListReading.{TookItem, ItemStops, IsStart};
 ghost use Rattle.ta_syntax.specs.Inside.ListReading.{PastStops, TookList, ListStops};
 ghost use Rattle.ta_syntax.specs.declared.tokens.Kind.{Kind};
@@ -15,7 +15,7 @@ use std::alloc::Global;
 
 /// What a list has, with commas between.
 pub trait Item: Sized + Drop {
-    ghost part: { Part };
+    ghost part: { GrammarPart };
 
     ghost spelled: { Self → List Kind };
 

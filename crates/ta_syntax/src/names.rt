@@ -3,7 +3,7 @@
 
 ghost use Rattle.ta_syntax.specs.Kinds.{IsNameText, IsNameText-prop, IsDigits, IsDigits-prop};
 
-use crate::text::Text;
+use ta_base::Text;
 
 /// A name and the offset of its first byte.
 #[derive(Drop)]

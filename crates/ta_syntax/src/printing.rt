@@ -14,12 +14,12 @@ ghost use Rattle.ta_syntax.specs.declared.tokens.Mark.{Mark};
 
 use crate::names::{Digits, Spelled};
 use crate::sums::{Sign, TreeFactor, TreeSum, TreeTerm};
-use crate::text::Text;
 use crate::tokens::{Mark, Relation};
 use crate::tree::{
     Tree, TreeComparison, TreeEvent, TreeLocation, TreePattern, TreeRule, TreeUpdate,
 };
 use std::alloc::{AllocError, Global};
+use ta_base::Text;
 
 /// What a list of a tree has.
 trait Printed {

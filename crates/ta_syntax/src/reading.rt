@@ -4,7 +4,7 @@
 ghost use Rattle.std.specs.Prelude.{◌≡◌, ℕ, MatchResult, MatchOption, false};
 ghost use Rattle.ta_syntax.specs.Grammar.{sign_kind};
 ghost use Rattle.ta_syntax.specs.Faults.{kinds, offset_of};
-ghost use Rattle.ta_syntax.specs.Reading.{BeginsWith, IsOther, IsUnexpected, NoNumber, begins_by};
+ghost use Rattle.ta_syntax.specs.Reading.{BeginsWithKind, IsOther, IsUnexpected, NoNumber, begins_by};
 ghost use Rattle.ta_syntax.specs.Inside.Reading.{TookSum, TookTerm, TookFactor, SumStops, TermStops, FactorStops, LeadingSign, IsUnnamed, is_sign};
 
 use crate::fault::FileFault;
@@ -108,7 +108,7 @@ pub fn read_name(
     tokens: &[Token],
     end: u32,
 ) -> Result<(Spelled, &[Token]), FileFault>
-    ensures { MatchResult result (λ x. BeginsWith tokens.now (Kind.Name x.0.name) x.1.now × (x.0.at ≡ offset_of end tokens.now)) (λ e. IsUnnamed end tokens.now e) }
+    ensures { MatchResult result (λ x. BeginsWithKind tokens.now (Kind.Name x.0.name) x.1.now × (x.0.at ≡ offset_of end tokens.now)) (λ e. IsUnnamed end tokens.now e) }
 {
     let Some((first, rest)) = tokens.split_first() else {
         return Err(FileFault::Syntax(end));
@@ -122,7 +122,7 @@ pub fn read_name(
 
 /// Reads a number, where one stands first.
 pub fn read_number(alloc: Global, tokens: &[Token]) -> Result<Option<(Digits, &[Token])>, FileFault>
-    ensures { MatchResult result (λ found. MatchOption found (NoNumber (kinds tokens.now)) (λ x. BeginsWith tokens.now (Kind.Number x.0.text) x.1.now × ((end : ℕ) → x.0.at ≡ offset_of end tokens.now))) (λ e. e ≡ FileFault.Memory) }
+    ensures { MatchResult result (λ found. MatchOption found (NoNumber (kinds tokens.now)) (λ x. BeginsWithKind tokens.now (Kind.Number x.0.text) x.1.now × ((end : ℕ) → x.0.at ≡ offset_of end tokens.now))) (λ e. e ≡ FileFault.Memory) }
 {
     let Some((first, rest)) = tokens.split_first() else {
         return Ok(None);
@@ -146,7 +146,7 @@ fn leading_sign(tokens: &[Token]) -> (Sign, &[Token])
 
 /// The sign before a further term, and the tokens after it.
 fn next_sign(tokens: &[Token]) -> Option<(Sign, &[Token])>
-    ensures { MatchOption result (begins_by is_sign (kinds tokens.now) ≡ false) (λ x. BeginsWith tokens.now (sign_kind x.0) x.1.now) }
+    ensures { MatchOption result (begins_by is_sign (kinds tokens.now) ≡ false) (λ x. BeginsWithKind tokens.now (sign_kind x.0) x.1.now) }
 {
     if let Some(rest) = skip(tokens, Mark::Plus) {
         return Some((Sign::Plus, rest));
@@ -159,7 +159,7 @@ fn next_sign(tokens: &[Token]) -> Option<(Sign, &[Token])>
 
 /// The tokens after a mark, where it stands first.
 pub fn skip(tokens: &[Token], mark: Mark) -> Option<&[Token]>
-    ensures { MatchOption result (IsOther tokens.now mark) (λ rest. BeginsWith tokens.now (Kind.Fixed mark) rest.now) }
+    ensures { MatchOption result (IsOther tokens.now mark) (λ rest. BeginsWithKind tokens.now (Kind.Fixed mark) rest.now) }
 {
     let (first, rest) = tokens.split_first()?;
     match first.kind {
@@ -170,7 +170,7 @@ pub fn skip(tokens: &[Token], mark: Mark) -> Option<&[Token]>
 
 /// The tokens after a mark, which has to stand first.
 pub fn expect(tokens: &[Token], end: u32, mark: Mark) -> Result<&[Token], FileFault>
-    ensures { MatchResult result (λ rest. BeginsWith tokens.now (Kind.Fixed mark) rest.now) (λ e. IsUnexpected end tokens.now mark e) }
+    ensures { MatchResult result (λ rest. BeginsWithKind tokens.now (Kind.Fixed mark) rest.now) (λ e. IsUnexpected end tokens.now mark e) }
 {
     match skip(tokens, mark) {
         Some(rest) => Ok(rest),

@@ -8,13 +8,13 @@ ghost use Rattle.ta_syntax.specs.declared.tokens.Mark.TheVariants as mark;
 use crate::blocks::{Block, read_blocks};
 use crate::clauses::{read_ended, read_led, read_list_end, read_name_then};
 use crate::fault::FileFault;
-use crate::list::List;
 use crate::names::Spelled;
 use crate::placed::Token;
 use crate::reading::{expect, read_name};
 use crate::tokens::Mark;
 use crate::tree::{TreeComparison, TreeEvent, TreePattern, TreeRule, TreeUpdate};
 use std::alloc::Global;
+use ta_base::List;
 
 impl Block for TreeRule {
     ghost mark = { mark.Rule };

@@ -5,15 +5,17 @@ ghost use Rattle.std.specs.Prelude.{◌≡◌, IfOk, MatchResult, length, ◌+�
 ghost use Rattle.std.specs.Str.{IsAscii};
 ghost use Rattle.ta_syntax.specs.Tokens.{AreTokens};
 ghost use Rattle.ta_syntax.specs.Inside.Tokens.{BeginsByDigit, TokenFrom, TokenStops, ScanStops};
-ghost use Rattle.ta_syntax.specs.Kinds.{BeginsByLetter};
+ghost use Rattle.ta_base.specs.Bytes.{BeginsByLetter};
 ghost use Rattle.ta_syntax.specs.declared.fault.FileFault.{FileFault};
 
 use crate::fault::FileFault;
-use crate::marks::{digits_len, is_letter, keyword, mark_at, skip_gap, word_len};
+use crate::marks::{keyword, mark_at, skip_gap};
 use crate::placed::Token;
-use crate::text::Text;
 use crate::tokens::Kind;
 use std::alloc::{AllocError, Global};
+use ta_base::Text;
+use ta_base::bytes::{is_letter, word_len};
+use ta_base::decimals::digits_len;
 
 /// The text of ASCII bytes.
 fn ascii_text(alloc: Global, bytes: &[u8]) -> Result<Text, AllocError>

@@ -1,7 +1,7 @@
 //! The tokens of a text.
 #![tactic(auto)]
 
-use crate::text::Text;
+use ta_base::Text;
 
 /// A sign or a keyword.
 #[derive(Clone, Copy, Debug, PartialEq, Eq)]

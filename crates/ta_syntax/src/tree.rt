@@ -5,10 +5,10 @@ ghost use Rattle.std.specs.Prelude.{◌≤◌, length};
 ghost use Rattle.ta_syntax.specs.Grammar.{IsSum};
 ghost use Rattle.ta_syntax.specs.PlainSums.{plain_sum, sum_depth, IsSum-prop};
 
-use crate::list::List;
 use crate::names::{Digits, Spelled};
 use crate::sums::TreeSum;
 use crate::tokens::Relation;
+use ta_base::List;
 
 /// Two sums and how they are compared. The offset is that of the first token.
 #[derive(Drop)]

@@ -2,9 +2,11 @@
 use Rattle.std.proofs.Common.{◌≡◌, ◌∙◌, ℕ, ◌+◌, ◌<◌, ◌≤◌, ◌^◌, suc, List, [], ◌∷◌, ◌++◌, length, map, Option, Some, None, slice_get, refl, sym, ap, subst, append_assoc, arith, codes, decimal, lit≤, lit<}
 use Rattle.std.specs.List.{AllByRecursion}
 use Rattle.std.proofs.lemmas.Option.{slice_get_within}
+use Rattle.ta_base.proofs.DecimalDigits.{row_short}
+use Rattle.ta_base.proofs.Each.{above_apart, all_of, weaker}
 use Rattle.ta_automaton.specs.declared.file.File.{File}
 use Rattle.ta_automaton.specs.declared.pattern.Pattern.{Pattern}
-use Rattle.ta_automaton.specs.Lists.{Distinct, Each}
+use Rattle.ta_base.specs.Lists.{Distinct}
 use Rattle.ta_automaton.specs.Runs.{LoopsPure}
 use Rattle.ta_cert.proofs.Writing.{cert_parts}
 use Rattle.ta_cert.specs.Certificates.{AreWritable, cert_lines, cert_text, head_text, order_lines, pair_of, proof_lines, proof_of, proofs_of, proofs_text, version_of}
@@ -19,7 +21,7 @@ use Rattle.ta_cert.specs.declared.line.Order.{Order}
 use Rattle.ta_cert.specs.declared.line.Proof.{Proof}
 use Rattle.ta_claim.specs.Claims.{search_for}
 use Rattle.ta_claim.specs.declared.claim.Claim.TheVariants.{Safe}
-use Rattle.ta_check.specs.Certificate.{Certificate, ProvesClaim, number_of}
+use Rattle.ta_check.specs.Certificate.{Certificate, ProvesClaim, proof_number}
 use Rattle.ta_check.specs.Subjects.{Subject, claiming}
 use Rattle.ta_check.proofs.Searches.{search_named}
 use Rattle.ta_cursor.specs.Range.{IsJudged}
@@ -27,7 +29,6 @@ use Rattle.ta_encode.specs.InPreorder.{RefutedInOrder}
 use Rattle.ta_encode.specs.Search.{Search}
 use Rattle.ta_encode.proofs.Preorders.{in_order}
 use Rattle.ta_report.specs.declared.verdict.Verdict.{Verdict}
-use Rattle.ta_walk.proofs.NodesShort.{row_short}
 use Rattle.ta_walk.proofs.ProofsMade.{refuted_safe}
 use Rattle.ta_walk.proofs.OrdersOnce.{orders_once}
 use Rattle.ta_walk.proofs.OrdersSound.{orders_sound}
@@ -37,19 +38,15 @@ use Rattle.ta_encode.specs.PatternSearch.{pattern_search}
 use Rattle.ta_verdict.specs.Certificates.{AreTrees, AreTreesOf, CertificateOf, SafeOne, safe_numbers, safe_ones, tree_size, tree_under, with_safe}
 use Rattle.ta_verdict.specs.Drafts.{ended_line}
 
-all_of : {X : Type 0} (P : X → Type 0) (xs : List X) → Each P xs → AllByRecursion P xs
-all_of P [] each = tt
-all_of P (x ∷ xs) each = (each.0, all_of P xs each.1)
-
 -- the numbers of those that are safe
 abbrev numbers : List SafeOne → List ℕ
 numbers ones = map (λ one. one.number) ones
 
-one_named : (file : File) (number : ℕ) (p : Pattern) (size : Option ℕ) (rest : List SafeOne) → slice_get file.patterns number ≡ Some p → Each (λ one. slice_get file.patterns one.number ≡ Some one.pattern) rest → Each (λ one. slice_get file.patterns one.number ≡ Some one.pattern) (with_safe number p size rest)
+one_named : (file : File) (number : ℕ) (p : Pattern) (size : Option ℕ) (rest : List SafeOne) → slice_get file.patterns number ≡ Some p → AllByRecursion (λ one. slice_get file.patterns one.number ≡ Some one.pattern) rest → AllByRecursion (λ one. slice_get file.patterns one.number ≡ Some one.pattern) (with_safe number p size rest)
 one_named file number p None rest at named = named
 one_named file number p (Some nodes) rest at named = (at, named)
 
-ones_named : (file : File) (number : ℕ) (ps : List Pattern) (vs : List Verdict) → ((k : ℕ) (p : Pattern) → slice_get ps k ≡ Some p → slice_get file.patterns (number + k) ≡ Some p) → Each (λ one. slice_get file.patterns one.number ≡ Some one.pattern) (safe_ones number ps vs)
+ones_named : (file : File) (number : ℕ) (ps : List Pattern) (vs : List Verdict) → ((k : ℕ) (p : Pattern) → slice_get ps k ≡ Some p → slice_get file.patterns (number + k) ≡ Some p) → AllByRecursion (λ one. slice_get file.patterns one.number ≡ Some one.pattern) (safe_ones number ps vs)
 ones_named file number [] vs at = tt
 ones_named file number (p ∷ ps) [] at = tt
 ones_named file number (p ∷ ps) (v ∷ vs) at =
@@ -57,26 +54,18 @@ ones_named file number (p ∷ ps) (v ∷ vs) at =
     one_named file number p (tree_size v) (safe_ones (number + 1) ps vs) (subst (λ (k : ℕ). slice_get file.patterns k ≡ Some p) here (at 0 p refl))
     (ones_named file (number + 1) ps vs (λ k q given. let there : number + suc k ≡ (number + 1) + k = omega arith in subst (λ (n : ℕ). slice_get file.patterns n ≡ Some q) there (at (suc k) q given)))
 
-weaker : (low high : ℕ) (ks : List ℕ) → low ≤ high → Each (λ k. high ≤ k) ks → Each (λ k. low ≤ k) ks
-weaker low high [] less each = tt
-weaker low high (k ∷ ks) less each = (let first = each.0 in omega arith, weaker low high ks less each.1)
-
-one_low : (number : ℕ) (p : Pattern) (size : Option ℕ) (rest : List SafeOne) → Each (λ k. number + 1 ≤ k) (numbers rest) → Each (λ k. number ≤ k) (numbers (with_safe number p size rest))
+one_low : (number : ℕ) (p : Pattern) (size : Option ℕ) (rest : List SafeOne) → AllByRecursion (λ k. number + 1 ≤ k) (numbers rest) → AllByRecursion (λ k. number ≤ k) (numbers (with_safe number p size rest))
 one_low number p None rest low = weaker number (number + 1) (numbers rest) (omega arith) low
 one_low number p (Some nodes) rest low = (omega arith, weaker number (number + 1) (numbers rest) (omega arith) low)
 
-ones_low : (number : ℕ) (ps : List Pattern) (vs : List Verdict) → Each (λ k. number ≤ k) (numbers (safe_ones number ps vs))
+ones_low : (number : ℕ) (ps : List Pattern) (vs : List Verdict) → AllByRecursion (λ k. number ≤ k) (numbers (safe_ones number ps vs))
 ones_low number [] vs = tt
 ones_low number (p ∷ ps) [] = tt
 ones_low number (p ∷ ps) (v ∷ vs) = one_low number p (tree_size v) (safe_ones (number + 1) ps vs) (ones_low (number + 1) ps vs)
 
-apart : (number : ℕ) (ks : List ℕ) → Each (λ k. number + 1 ≤ k) ks → Each (λ k. number ≡ k → ⊥) ks
-apart number [] low = tt
-apart number (k ∷ ks) low = (λ same. let first = low.0 in omega arith, apart number ks low.1)
-
-one_distinct : (number : ℕ) (p : Pattern) (size : Option ℕ) (rest : List SafeOne) → Each (λ k. number + 1 ≤ k) (numbers rest) → Distinct (numbers rest) → Distinct (numbers (with_safe number p size rest))
+one_distinct : (number : ℕ) (p : Pattern) (size : Option ℕ) (rest : List SafeOne) → AllByRecursion (λ k. number + 1 ≤ k) (numbers rest) → Distinct (numbers rest) → Distinct (numbers (with_safe number p size rest))
 one_distinct number p None rest low distinct = distinct
-one_distinct number p (Some nodes) rest low distinct = (apart number (numbers rest) low, distinct)
+one_distinct number p (Some nodes) rest low distinct = (above_apart number (numbers rest) low, distinct)
 
 pub ones_distinct : (number : ℕ) (ps : List Pattern) (vs : List Verdict) → Distinct (numbers (safe_ones number ps vs))
 ones_distinct number [] vs = tt
@@ -87,7 +76,7 @@ ones_distinct number (p ∷ ps) (v ∷ vs) = one_distinct number p (tree_size v)
 pattern_short : (k : ℕ) → k < 2 ^ 32 → length (codes "pattern " ++ decimal k) ≤ line_limit
 pattern_short k below = let digits = row_short k below in omega arith
 
-lines_short : (ns : List Node) (ls : List Line) → Each IsShort ns → AreShort ls → AreShort (map line.Tree ns ++ ls)
+lines_short : (ns : List Node) (ls : List Line) → AllByRecursion IsShort ns → AreShort ls → AreShort (map line.Tree ns ++ ls)
 lines_short [] ls short rest = rest
 lines_short (n ∷ ns) ls short rest = (short.0, lines_short ns ls short.1 rest)
 
@@ -107,18 +96,18 @@ both_short (l ∷ ls) ms short rest = (short.0, both_short ls ms short.1 rest)
 pub record Made (subject : Subject) (pairs : List (ℕ × ℕ)) (ones : List SafeOne) (trees : List Proof) : Type 0 where
   pub proofs : List (ℕ × List Tree)
   pub are : proofs_of proofs ≡ trees
-  pub prove : Each (ProvesClaim subject pairs) proofs
-  pub named : map number_of proofs ≡ numbers ones
+  pub prove : AllByRecursion (ProvesClaim subject pairs) proofs
+  pub named : map proof_number proofs ≡ numbers ones
   pub writable : AreWritable trees
   pub short : AreShort (proof_lines trees)
 
 -- nodes that a judge accepts as refuting a search, and that can be written
 pub record Judgeable (s : Search) (nodes : List Node) : Type 0 where
   pub refutes : RefutedInOrder s (IsJudged s) s.roots nodes
-  pub writable : Each IsNode nodes
-  pub short : Each IsShort nodes
+  pub writable : AllByRecursion IsNode nodes
+  pub short : AllByRecursion IsShort nodes
 
-pub made : (subject : Subject) (pairs : List (ℕ × ℕ)) (Of : Pattern → List Node → ℕ → Type 0) → ((number : ℕ) (p : Pattern) → slice_get subject.file.patterns number ≡ Some p → (nodes : List Node) (count : ℕ) → Of p nodes count → Judgeable (search_for subject.claim subject.file.automaton p pairs) nodes) → (ones : List SafeOne) (trees : List Proof) → Each (λ one. slice_get subject.file.patterns one.number ≡ Some one.pattern) ones → AreTreesOf Of ones trees → Made subject pairs ones trees
+pub made : (subject : Subject) (pairs : List (ℕ × ℕ)) (Of : Pattern → List Node → ℕ → Type 0) → ((number : ℕ) (p : Pattern) → slice_get subject.file.patterns number ≡ Some p → (nodes : List Node) (count : ℕ) → Of p nodes count → Judgeable (search_for subject.claim subject.file.automaton p pairs) nodes) → (ones : List SafeOne) (trees : List Proof) → AllByRecursion (λ one. slice_get subject.file.patterns one.number ≡ Some one.pattern) ones → AreTreesOf Of ones trees → Made subject pairs ones trees
 made subject pairs Of judgeable [] [] named are = record { proofs = []; are = refl; prove = tt; named = refl; writable = tt; short = (lit≤ tt, tt) }
 made subject pairs Of judgeable [] (t ∷ ts) named are = absurd are
 made subject pairs Of judgeable (one ∷ ones) [] named are = absurd are
@@ -155,7 +144,7 @@ judgeable_under file orders found budget loops within number p at nodes count is
     record { refutes = proof.refutes; writable = proof.writable; short = proof.short }
 
 -- the numbers of those of a file that are safe are distinct and name their patterns
-pub safe_named : (file : File) (vs : List Verdict) → Each (λ one. slice_get file.patterns one.number ≡ Some one.pattern) (safe_ones 0 file.patterns vs)
+pub safe_named : (file : File) (vs : List Verdict) → AllByRecursion (λ one. slice_get file.patterns one.number ≡ Some one.pattern) (safe_ones 0 file.patterns vs)
 safe_named file vs = ones_named file 0 file.patterns vs (λ k p given. let here : k ≡ 0 + k = omega arith in subst (λ (n : ℕ). slice_get file.patterns n ≡ Some p) here given)
 
 -- the lines of a certificate with such proofs are short

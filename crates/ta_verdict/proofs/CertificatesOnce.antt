@@ -11,7 +11,7 @@ use Rattle.ta_walk.specs.declared.end.WalkEnd.TheVariants as walk
 use Rattle.ta_walk.specs.Ends.{TreeIs}
 use Rattle.ta_walk.proofs.DeterminedEnds.{ends_once}
 use Rattle.ta_walk.proofs.OrdersOnce.{orders_once}
-use Rattle.ta_verdict.specs.Certificates.{AreTrees, CertificatesAreDetermined, IsTree, SafeOne, safe_ones}
+use Rattle.ta_verdict.specs.Certificates.{AreTrees, CertificatesAreDetermined, IsProofTree, SafeOne, safe_ones}
 use Rattle.ta_verdict.proofs.VerdictsOnce.{verdicts_once}
 
 -- a pattern has one tree
@@ -21,7 +21,7 @@ tree_of (walk.Found count solution) = []
 tree_of (walk.Spent count) = []
 tree_of (walk.Overflow node kind) = []
 
-one_tree : (file : File) (budget : ℕ) (one : SafeOne) (p q : Proof) → IsTree file budget one p → IsTree file budget one q → p ≡ q
+one_tree : (file : File) (budget : ℕ) (one : SafeOne) (p q : Proof) → IsProofTree file budget one p → IsProofTree file budget one q → p ≡ q
 one_tree file budget one p q h k =
     let numbers : p.pattern ≡ q.pattern = h.numbered ∙ sym k.numbered in
     let orders = orders_once file.automaton h.is.orders k.is.orders h.is.found k.is.found in

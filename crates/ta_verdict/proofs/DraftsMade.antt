@@ -1,10 +1,11 @@
 -- a certificate as it is written
-use Rattle.std.proofs.Common.{◌≡◌, ◌∙◌, ℕ, ◌+◌, ◌<◌, true, false, List, [], ◌∷◌, ◌++◌, length, take, Option, Some, None, get_or, refl, sym, ap, subst, arith, append_assoc, append-nil}
+use Rattle.std.proofs.Common.{◌≡◌, ◌∙◌, ℕ, ◌+◌, ◌<◌, true, List, [], ◌∷◌, ◌++◌, length, take, Option, Some, None, get_or, refl, sym, ap, subst, arith, append_assoc, append-nil}
 use Rattle.std.specs.Prelude.{is_some, OnOk, Result, Ok, Err}
 use Rattle.std.specs.declared.alloc.AllocError.{AllocError}
 use Rattle.std.proofs.lemmas.Bool.{false≢true}
 use Rattle.std.proofs.lemmas.List.{length-take-le, take_more}
 use Rattle.std.proofs.lemmas.Option.{get_or_from_slice_get}
+use Rattle.ta_base.proofs.Lists.{some_at}
 use Rattle.ta_automaton.specs.declared.file.File.{File}
 use Rattle.ta_automaton.specs.declared.pattern.Pattern.{Pattern}
 use Rattle.ta_cert.specs.Certificates.{nodes_text, proof_text, proofs_text}
@@ -12,13 +13,12 @@ use Rattle.ta_cert.specs.Lines.{line_text, node_text}
 use Rattle.ta_cert.specs.declared.line.Line.TheVariants as line
 use Rattle.ta_cert.specs.declared.line.Node.{Node}
 use Rattle.ta_cert.specs.declared.line.Proof.{Proof}
-use Rattle.ta_encode.proofs.Switch.{some_at}
 use Rattle.ta_report.specs.declared.verdict.Verdict.{Verdict}
 use Rattle.ta_words.specs.Calls.{OfPattern}
 use Rattle.ta_verdict.specs.declared.draft.Draft.{Draft}
 use Rattle.ta_verdict.specs.declared.pieces.Pieces.{Pieces}
 use Rattle.ta_verdict.specs.Certificates.{AreTreesOf, SafeOne, safe_ones, tree_size, with_safe}
-use Rattle.ta_verdict.specs.Drafts.{AddsTree, DraftBegins, DraftKeeps, Drafted, HasProofs, HasText, HasTrees, ended_line, pieces_text}
+use Rattle.ta_verdict.specs.Drafts.{AddsTree, DraftBegins, DraftKeeps, DraftHasTree, HasProofs, HasText, HasTrees, ended_line, pieces_text}
 
 nodes_joined : (ns ms : List Node) → nodes_text (ns ++ ms) ≡ nodes_text ns ++ nodes_text ms
 nodes_joined [] ms = refl
@@ -27,10 +27,6 @@ nodes_joined (n ∷ ns) ms = ap (λ (xs : List ℕ). node_text n ++ (10 ∷ xs))
 -- without nodes it is what it was
 pub keeps_none : (draft : Draft) → DraftKeeps draft draft []
 keeps_none draft = record { wanted = refl; text = λ begun h w. h w ∙ sym (append-nil begun) }
-
--- one more node, where no lines are wanted
-pub keeps_unwanted : (first now : Draft) (ns : List Node) (n : Node) → now.wanted ≡ false → DraftKeeps first now ns → DraftKeeps first now (ns ++ n ∷ [])
-keeps_unwanted first now ns n not k = record { wanted = k.wanted; text = λ begun h w. absurd (false≢true (sym not ∙ w)) }
 
 -- and where they are
 pub keeps_line : (first now next : Draft) (ns : List Node) (n : Node) → next.wanted ≡ now.wanted → pieces_text next.lines ≡ pieces_text now.lines ++ ended_line (line.Tree n) → DraftKeeps first now ns → DraftKeeps first next (ns ++ n ∷ [])
@@ -68,21 +64,9 @@ pub keeps_appended : (done : Result (Unit {0}) AllocError) (first begun now part
 keeps_appended (Ok u) first begun now part lines ns ms added k b m = keeps_joined first begun now part lines ns ms added k b m
 keeps_appended (Err e) first begun now part lines ns ms added k b m = tt
 
--- and where no lines are wanted
-pub joined_unwanted : (first now : Draft) (ns ms : List Node) → now.wanted ≡ false → DraftKeeps first now ns → DraftKeeps first now (ns ++ ms)
-joined_unwanted first now ns ms not k = record { wanted = k.wanted; text = λ begun h w. absurd (false≢true (sym not ∙ w)) }
-
 proofs_more : (ps qs : List Proof) → proofs_text (ps ++ qs) ≡ proofs_text ps ++ proofs_text qs
 proofs_more [] qs = refl
 proofs_more (p ∷ ps) qs = ap (λ (xs : List ℕ). proof_text p ++ xs) (proofs_more ps qs) ∙ sym (append_assoc (proof_text p) (proofs_text ps) (proofs_text qs))
-
--- a verdict that doesn't say safe adds nothing
-adds_by_none : (Tree : Pattern → List Node → ℕ → Type 0) (number : ℕ) (p : Pattern) (size : Option ℕ) (first : Draft) → is_some size ≡ false → (head : List ℕ) (proofs : List Proof) → HasProofs first head proofs → (more : List Proof) × AreTreesOf Tree (with_safe number p size []) more × HasProofs first head (proofs ++ more)
-adds_by_none Tree number p None first is head proofs has = ([], tt, subst (λ (ps : List Proof). HasProofs first head ps) (sym (append-nil proofs)) has)
-adds_by_none Tree number p (Some nodes) first is head proofs has = absurd (false≢true (sym is))
-
-pub adds_nothing : (Tree : Pattern → List Node → ℕ → Type 0) (number : ℕ) (p : Pattern) (v : Verdict) (draft : Draft) → is_some (tree_size v) ≡ false → AddsTree Tree number p v draft draft
-adds_nothing Tree number p v draft is head proofs has = adds_by_none Tree number p (tree_size v) draft is head proofs has
 
 -- one that does adds the tree
 adds_by : (Tree : Pattern → List Node → ℕ → Type 0) (number : ℕ) (p : Pattern) (size : Option ℕ) (first begun proof next : Draft) → is_some size ≡ true → ((nodes : ℕ) → size ≡ Some nodes → (tree : List Node) × Tree p tree nodes × DraftKeeps begun proof tree) → HasText begun (ended_line (line.Pattern number)) → ((text more : List ℕ) → HasText first text → HasText proof more → HasText next (text ++ more)) → (head : List ℕ) (proofs : List Proof) → HasProofs first head proofs → (more : List Proof) × AreTreesOf Tree (with_safe number p size []) more × HasProofs next head (proofs ++ more)
@@ -99,7 +83,7 @@ adds_by Tree number p (Some nodes) first begun proof next is drafted begins adde
     ∙ ap (λ (xs : List ℕ). head ++ xs) (sym (proofs_more proofs (one ∷ []))) in
     (one ∷ [], (record { numbered = refl; is = d.1 }, tt), subst (HasText next) joined whole)
 
-pub adds_tree : (Tree : Pattern → List Node → ℕ → Type 0) (number : ℕ) (p : Pattern) (v : Verdict) (first begun proof next : Draft) → is_some (tree_size v) ≡ true → Drafted Tree p v begun proof → HasText begun (ended_line (line.Pattern number)) → ((text more : List ℕ) → HasText first text → HasText proof more → HasText next (text ++ more)) → AddsTree Tree number p v first next
+pub adds_tree : (Tree : Pattern → List Node → ℕ → Type 0) (number : ℕ) (p : Pattern) (v : Verdict) (first begun proof next : Draft) → is_some (tree_size v) ≡ true → DraftHasTree Tree p v begun proof → HasText begun (ended_line (line.Pattern number)) → ((text more : List ℕ) → HasText first text → HasText proof more → HasText next (text ++ more)) → AddsTree Tree number p v first next
 adds_tree Tree number p v first begun proof next is drafted begins added head proofs has = adds_by Tree number p (tree_size v) first begun proof next is drafted begins added head proofs has
 
 wanted_by : (Tree : Pattern → List Node → ℕ → Type 0) (p : Pattern) (size : Option ℕ) (begun proof : Draft) → is_some size ≡ true → ((nodes : ℕ) → size ≡ Some nodes → (tree : List Node) × Tree p tree nodes × DraftKeeps begun proof tree) → proof.wanted ≡ begun.wanted
@@ -107,14 +91,10 @@ wanted_by Tree p None begun proof is drafted = absurd (false≢true is)
 wanted_by Tree p (Some nodes) begun proof is drafted = (drafted nodes refl).2.wanted
 
 -- lines are wanted of a tree where they were before
-pub wanted_same : (file : File) (Tree : Pattern → List Node → ℕ → Type 0) (number : ℕ) (v : Verdict) (begun proof : Draft) → number < length file.patterns → is_some (tree_size v) ≡ true → OfPattern file number (λ p. Drafted Tree p v begun proof) → proof.wanted ≡ begun.wanted
+pub wanted_same : (file : File) (Tree : Pattern → List Node → ℕ → Type 0) (number : ℕ) (v : Verdict) (begun proof : Draft) → number < length file.patterns → is_some (tree_size v) ≡ true → OfPattern file number (λ p. DraftHasTree Tree p v begun proof) → proof.wanted ≡ begun.wanted
 wanted_same file Tree number v begun proof within is drafted =
     let at = some_at file.patterns number within in
     wanted_by Tree at.0 (tree_size v) begun proof is (drafted at.0 at.1)
-
--- before any verdict
-pub trees_none : (Tree : Pattern → List Node → ℕ → Type 0) (head : List ℕ) (vs : List Verdict) (draft : Draft) → HasProofs draft head [] → HasTrees Tree head (safe_ones 0 [] vs) draft
-trees_none Tree head vs draft has = ([], tt, has)
 
 trees_append : (Tree : Pattern → List Node → ℕ → Type 0) (xs ys : List SafeOne) (ps qs : List Proof) → AreTreesOf Tree xs ps → AreTreesOf Tree ys qs → AreTreesOf Tree (xs ++ ys) (ps ++ qs)
 trees_append Tree [] ys [] qs h k = k

@@ -1,11 +1,7 @@
 -- pieces of a text
-use Rattle.std.proofs.Common.{◌≡◌, ◌∙◌, ℕ, List, [], ◌∷◌, ◌++◌, sym, ap, append_assoc, append-nil}
+use Rattle.std.proofs.Common.{◌≡◌, ◌∙◌, ℕ, List, [], ◌∷◌, ◌++◌, ap, append_assoc, append-nil}
 use Rattle.ta_shell.proofs.Joined.{joined_append, joined_more}
 use Rattle.ta_shell.specs.Puts.{texts_joined}
-
--- the open piece grew
-pub open_grown : (whole : List (List ℕ)) (last more line : List ℕ) → more ≡ last ++ line → texts_joined whole ++ more ≡ (texts_joined whole ++ last) ++ line
-open_grown whole last more line e = ap (λ (xs : List ℕ). texts_joined whole ++ xs) e ∙ sym (append_assoc (texts_joined whole) last line)
 
 -- the open piece was ended
 pub open_ended : (whole whole' : List (List ℕ)) (last : List ℕ) → whole' ≡ whole ++ last ∷ [] → texts_joined whole' ≡ texts_joined whole ++ last

@@ -1,8 +1,8 @@
 -- A sample of the parameters of a file, by how the search for it ends
 use Rattle.std.proofs.Common.{◌≡◌, ℕ, ◌<◌, ◌^◌, ℤ, pos, List, [], ◌∷◌, map, length, refl, sym, ap, subst, ◌∙◌}
 use Rattle.std.proofs.lemmas.List.{length-map}
+use Rattle.std.specs.List.{AllByRecursion}
 use Rattle.ta_automaton.specs.declared.file.File.{File}
-use Rattle.ta_automaton.specs.Lists.{Each}
 use Rattle.ta_counter.specs.Values.{Value}
 use Rattle.ta_replay.proofs.Decimals.{value_is}
 use Rattle.ta_report.specs.declared.verdict.ReportKind.{ReportKind}
@@ -15,7 +15,7 @@ use Rattle.ta_walk.specs.Samples.{IsSampleEnd}
 use Rattle.ta_walk.proofs.SamplesFound.{found_small, found_starts, sample_ends_once, samples_real}
 use Rattle.ta_verdict.specs.Verdicts.{IsSample, SampleHolds, SamplesAreDetermined, place_of}
 
-all_values : (ns : List ℕ) → Each (λ n. n < 2 ^ 127) ns → Each Value (map pos ns)
+all_values : (ns : List ℕ) → AllByRecursion (λ n. n < 2 ^ 127) ns → AllByRecursion Value (map pos ns)
 all_values [] small = tt
 all_values (n ∷ ns) small = (value_is n small.0, all_values ns small.1)
 
@@ -29,7 +29,7 @@ found_sample file budget values found =
     let count : length real.0 ≡ length a.parameters = ap (λ (ps : List ℕ). length ps) (sym start.are) ∙ start.initial.admissible.count in
     record {
       holds = record { parameters = real.0; are = real.1; start = start; found = found };
-      fits = (ap (λ (vs : List ℤ). length vs) real.1 ∙ length-map real.0 pos ∙ count, subst (Each Value) (sym real.1) (all_values real.0 small));
+      fits = (ap (λ (vs : List ℤ). length vs) real.1 ∙ length-map real.0 pos ∙ count, subst (AllByRecursion Value) (sym real.1) (all_values real.0 small));
     }
 
 pub no_sample : (file : File) (budget : ℕ) → IsSampleEnd file.automaton budget walk.Empty → IsSample file budget Empty

@@ -1,11 +1,11 @@
 -- what is known of verdicts as they are made and counted
 use Rattle.std.proofs.Common.{◌≡◌, ℕ, suc, ◌+◌, ◌<◌, ◌≤◌, List, [], ◌∷◌, ◌++◌, length, map, reverse, take, arith, refl, sym, ap, subst, ◌∙◌, Some, slice_get, get_or}
-use Rattle.std.proofs.Math.Seq.{take-length}
 use Rattle.std.proofs.lemmas.List.{length-take-le, take_more}
 use Rattle.std.proofs.lemmas.Option.{get_or_from_slice_get}
+use Rattle.std.specs.List.{AllByRecursion}
+use Rattle.ta_base.proofs.Lists.{some_at}
 use Rattle.ta_automaton.specs.declared.file.File.{File}
 use Rattle.ta_automaton.specs.declared.pattern.Pattern.{Pattern}
-use Rattle.ta_automaton.specs.Lists.{Each}
 use Rattle.ta_automaton.specs.Runs.{LoopsPure}
 use Rattle.ta_cert.specs.Certificates.{pair_of}
 use Rattle.ta_cert.specs.declared.line.Node.{Node}
@@ -15,11 +15,10 @@ use Rattle.ta_words.specs.Calls.{OfPattern}
 use Rattle.ta_words.proofs.Counts.{legal_under}
 use Rattle.ta_encode.specs.InPreorder.{Pending}
 use Rattle.ta_encode.specs.declared.encoded.Solution.{Solution}
-use Rattle.ta_encode.proofs.Switch.{some_at}
 use Rattle.ta_walk.specs.declared.end.PlaceKind.{PlaceKind}
 use Rattle.ta_walk.specs.Ends.{IsSpent, NodeOf, SolutionAt, TreeIs, leaf_count}
 use Rattle.ta_walk.specs.FoundOrders.{FoundOrders}
-use Rattle.ta_walk.specs.Visit.{LeavesAt}
+use Rattle.ta_walk.specs.Visit.{IsOutOfRangeAt}
 use Rattle.ta_walk.proofs.OrdersSound.{orders_sound}
 use Rattle.ta_walk.proofs.ProofsMade.{refuted_safe}
 use Rattle.ta_walk.proofs.SpentSplits.{spent_split}
@@ -28,9 +27,9 @@ use Rattle.ta_report.specs.declared.verdict.ReportKind.{ReportKind}
 use Rattle.ta_report.specs.declared.verdict.ReportKind.TheVariants as kind
 use Rattle.ta_report.specs.declared.verdict.Verdict.{Verdict}
 use Rattle.ta_report.specs.Report.{VerdictFits}
-use Rattle.ta_witness.specs.Witness.{IsSolution, WitnessLeaves}
+use Rattle.ta_witness.specs.Witness.{IsSolution}
 use Rattle.ta_encode.specs.PatternSearch.{pattern_search}
-use Rattle.ta_verdict.specs.Verdicts.{AreVerdicts, LeavesIn, RunLeaves, SafeHolds, SpentHolds, UnderOrders, VerdictHolds, VerdictsHold, place_of}
+use Rattle.ta_verdict.specs.Verdicts.{IsOutOfRangeIn, SafeHolds, SpentHolds, UnderOrders, VerdictHolds, VerdictsHold, place_of}
 
 -- a fact under the pairs of the orders that are found
 pub under : (file : File) (fact : List (ℕ × ℕ) → Type 0) (orders : List Order) (pairs : List (ℕ × ℕ)) → FoundOrders file.automaton orders → pairs ≡ map pair_of orders → fact pairs → UnderOrders file fact
@@ -74,19 +73,14 @@ of_node file p pairs budget number fact other gives node =
     record { before = node.before; number_is = node.number_is; within = node.within; word = node.word; visited = node.visited; holds = gives node.word node.holds }
 
 -- where a walk says that a number leaves the range, it does
-leaves_in : (file : File) (pairs : List (ℕ × ℕ)) (number : ℕ) (p : Pattern) (k : PlaceKind) (r : ReportKind) (w : Pending) → place_of r ≡ k → LeavesAt (pattern_search file.automaton p pairs) w k → LeavesIn file pairs number p r w
-leaves_in file pairs number p k (kind.Pivot pivot) w same leaves = subst (LeavesAt (pattern_search file.automaton p pairs) w) (sym same) leaves
-leaves_in file pairs number p k kind.Leaf w same leaves = subst (LeavesAt (pattern_search file.automaton p pairs) w) (sym same) leaves
-leaves_in file pairs number p k kind.Run w same leaves = absurd (subst (LeavesAt (pattern_search file.automaton p pairs) w) (sym same) leaves)
+out_of_range_in : (file : File) (pairs : List (ℕ × ℕ)) (number : ℕ) (p : Pattern) (k : PlaceKind) (r : ReportKind) (w : Pending) → place_of r ≡ k → IsOutOfRangeAt (pattern_search file.automaton p pairs) w k → IsOutOfRangeIn file pairs number p r w
+out_of_range_in file pairs number p k (kind.Pivot pivot) w same leaves = subst (IsOutOfRangeAt (pattern_search file.automaton p pairs) w) (sym same) leaves
+out_of_range_in file pairs number p k kind.Leaf w same leaves = subst (IsOutOfRangeAt (pattern_search file.automaton p pairs) w) (sym same) leaves
+out_of_range_in file pairs number p k kind.Run w same leaves = absurd (subst (IsOutOfRangeAt (pattern_search file.automaton p pairs) w) (sym same) leaves)
 
-pub overflow_holds : (file : File) (pairs : List (ℕ × ℕ)) (number : ℕ) (p : Pattern) (budget node : ℕ) (k : PlaceKind) (r : ReportKind) → place_of r ≡ k → NodeOf (pattern_search file.automaton p pairs) budget node (λ w. LeavesAt (pattern_search file.automaton p pairs) w k) → NodeOf (pattern_search file.automaton p pairs) budget node (LeavesIn file pairs number p r)
+pub overflow_holds : (file : File) (pairs : List (ℕ × ℕ)) (number : ℕ) (p : Pattern) (budget node : ℕ) (k : PlaceKind) (r : ReportKind) → place_of r ≡ k → NodeOf (pattern_search file.automaton p pairs) budget node (λ w. IsOutOfRangeAt (pattern_search file.automaton p pairs) w k) → NodeOf (pattern_search file.automaton p pairs) budget node (IsOutOfRangeIn file pairs number p r)
 overflow_holds file pairs number p budget node k r same found =
-    of_node file p pairs budget node (λ w. LeavesAt (pattern_search file.automaton p pairs) w k) (LeavesIn file pairs number p r) (λ w. leaves_in file pairs number p k r w same) found
-
--- the run of a whole node leaves the range
-pub run_leaves : (file : File) (pairs : List (ℕ × ℕ)) (number : ℕ) (p : Pattern) (budget node : ℕ) (solution : Solution) → NodeOf (pattern_search file.automaton p pairs) budget node (SolutionAt file.automaton p pairs number solution) → WitnessLeaves file solution → NodeOf (pattern_search file.automaton p pairs) budget node (LeavesIn file pairs number p kind.Run)
-run_leaves file pairs number p budget node solution found leaves =
-    of_node file p pairs budget node (SolutionAt file.automaton p pairs number solution) (RunLeaves file pairs number p) (λ w whole. record { solution = solution; whole = whole; run = leaves }) found
+    of_node file p pairs budget node (λ w. IsOutOfRangeAt (pattern_search file.automaton p pairs) w k) (IsOutOfRangeIn file pairs number p r) (λ w. out_of_range_in file pairs number p k r w same) found
 
 -- one more verdict at the end
 holds_more : (file : File) (budget number : ℕ) (ps : List Pattern) (vs : List Verdict) (p : Pattern) (v : Verdict) → VerdictsHold file budget number ps vs → VerdictHolds file budget (number + length ps) p v → VerdictsHold file budget number (ps ++ p ∷ []) (vs ++ v ∷ [])
@@ -108,9 +102,9 @@ as_many file budget number (p ∷ ps) (v ∷ vs) hold = ap suc (as_many file bud
 pub record VerdictsSoFar (file : File) (budget count done : ℕ) (vs : List Verdict) : Type 0 where
   pub counted : count ≡ length file.patterns
   pub hold : VerdictsHold file budget 0 (take done file.patterns) vs
-  pub fit : Each (VerdictFits file) vs
+  pub fit : AllByRecursion (VerdictFits file) vs
 
-fit_more : (file : File) (vs : List Verdict) (v : Verdict) → Each (VerdictFits file) vs → VerdictFits file v → Each (VerdictFits file) (vs ++ v ∷ [])
+fit_more : (file : File) (vs : List Verdict) (v : Verdict) → AllByRecursion (VerdictFits file) vs → VerdictFits file v → AllByRecursion (VerdictFits file) (vs ++ v ∷ [])
 fit_more file [] v fit fits = (fits, tt)
 fit_more file (w ∷ vs) v fit fits = (fit.0, fit_more file vs v fit.1 fits)
 
@@ -137,9 +131,3 @@ so_many file budget count done vs so below =
     let counted = so.counted in
     let within : done < length file.patterns = omega arith in
     (within, as_many file budget 0 (take done file.patterns) vs so.hold ∙ length-take-le done file.patterns (omega arith))
-
--- a verdict on each of all patterns
-pub all_made : (file : File) (budget count : ℕ) (vs : List Verdict) → VerdictsSoFar file budget count count vs → AreVerdicts file budget vs
-all_made file budget count vs so =
-    let all : take count file.patterns ≡ file.patterns = ap (λ (n : ℕ). take n file.patterns) so.counted ∙ take-length file.patterns in
-    record { hold = subst (λ (ps : List Pattern). VerdictsHold file budget 0 ps vs) all so.hold; fit = so.fit }

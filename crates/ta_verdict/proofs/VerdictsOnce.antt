@@ -9,12 +9,12 @@ use Rattle.ta_walk.specs.declared.end.PlaceKind.{PlaceKind}
 use Rattle.ta_walk.specs.declared.end.PlaceKind.TheVariants as place
 use Rattle.ta_walk.specs.declared.end.WalkEnd.{WalkEnd}
 use Rattle.ta_walk.specs.declared.end.WalkEnd.TheVariants as walk
-use Rattle.ta_walk.specs.Ends.{IsEnd, leaf_count}
+use Rattle.ta_walk.specs.Ends.{IsWalkEnd, leaf_count}
 use Rattle.ta_walk.proofs.DeterminedEnds.{ends_once}
 use Rattle.ta_report.specs.declared.verdict.ReportKind.TheVariants as kind
 use Rattle.ta_report.specs.declared.verdict.Verdict.{Verdict}
 use Rattle.ta_report.specs.declared.verdict.Verdict.TheVariants.{Safe, Unsafe, Spent, Overflow}
-use Rattle.ta_witness.specs.Witness.{IsSolution, WitnessLeaves, WitnessOf}
+use Rattle.ta_witness.specs.Witness.{IsSolution, WitnessOutOfRange, WitnessOf}
 use Rattle.ta_witness.proofs.WitnessOnce.{one_witness}
 use Rattle.ta_cert.specs.Certificates.{pair_of}
 use Rattle.ta_cert.specs.declared.line.Order.{Order}
@@ -31,7 +31,7 @@ record ShownBy (file : File) (count : ℕ) (solution : Solution) (v : Verdict) :
 
 record LeftBy (file : File) (count : ℕ) (solution : Solution) (v : Verdict) : Type 0 where
   says : v ≡ Overflow count kind.Run
-  leaves : WitnessLeaves file solution
+  leaves : WitnessOutOfRange file solution
 
 -- the verdict where a walk says that a number leaves the range
 abbrev SaysPlace : ℕ → PlaceKind → Verdict → Type 0
@@ -49,7 +49,7 @@ Gives file (walk.Overflow node k) v = SaysPlace node k v
 -- the walk of a pattern ends as a verdict says
 record EndOf (file : File) (pairs : List (ℕ × ℕ)) (budget number : ℕ) (p : Pattern) (v : Verdict) : Type 0 where
   end : WalkEnd
-  is : IsEnd file.automaton p pairs number budget end
+  is : IsWalkEnd file.automaton p pairs number budget end
   gives : Gives file end v
 
 end_of : (file : File) (pairs : List (ℕ × ℕ)) (budget number : ℕ) (p : Pattern) (v : Verdict) → HoldsUnder file pairs budget number p v → EndOf file pairs budget number p v
@@ -80,7 +80,7 @@ place_once node (place.Pivot pivot) v w a b = a ∙ sym b
 place_once node place.Leaf v w a b = a ∙ sym b
 place_once node place.Run v w a b = absurd a
 
-gives_once : (file : File) (p : Pattern) (pairs : List (ℕ × ℕ)) (number budget : ℕ) (e : WalkEnd) (v w : Verdict) → slice_get file.patterns number ≡ Some p → IsEnd file.automaton p pairs number budget e → Gives file e v → Gives file e w → v ≡ w
+gives_once : (file : File) (p : Pattern) (pairs : List (ℕ × ℕ)) (number budget : ℕ) (e : WalkEnd) (v w : Verdict) → slice_get file.patterns number ≡ Some p → IsWalkEnd file.automaton p pairs number budget e → Gives file e v → Gives file e w → v ≡ w
 gives_once file p pairs number budget (walk.Refuted nodes count) v w at is a b = a ∙ sym b
 gives_once file p pairs number budget (walk.Found count solution) v w at is (inl a) (inl b) = shown_once file count solution v w (solution_is file number p at pairs budget count solution is) a b
 gives_once file p pairs number budget (walk.Found count solution) v w at is (inl a) (inr b) = absurd (never_both file count solution v w (solution_is file number p at pairs budget count solution is) a b)

@@ -56,8 +56,8 @@ AreTreesOf Tree (one ∷ ones) (proof ∷ proofs) = HasNodes Tree one proof × A
 abbrev pub tree_under : File → ℕ → Pattern → List Node → ℕ → Type 0
 tree_under file budget p nodes count = UnderOrders file (λ pairs. TreeIs (pattern_search file.automaton p pairs) budget nodes count)
 
-abbrev pub IsTree : File → ℕ → SafeOne → Proof → Type 0
-IsTree file budget one proof = HasNodes (tree_under file budget) one proof
+abbrev pub IsProofTree : File → ℕ → SafeOne → Proof → Type 0
+IsProofTree file budget one proof = HasNodes (tree_under file budget) one proof
 
 -- a tree for each, in order, and no other
 abbrev pub AreTrees : File → ℕ → List SafeOne → List Proof → Type 0

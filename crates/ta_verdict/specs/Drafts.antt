@@ -39,8 +39,8 @@ abbrev pub HasProofs : Draft → List ℕ → List Proof → Type 0
 HasProofs draft head proofs = HasText draft (head ++ proofs_text proofs)
 
 -- the draft has the lines of nodes of which a fact holds for the pattern, where a verdict says that it is safe
-abbrev pub Drafted : (Pattern → List Node → ℕ → Type 0) → Pattern → Verdict → Draft → Draft → Type 0
-Drafted Tree p verdict first now = (nodes : ℕ) → tree_size verdict ≡ Some nodes → (tree : List Node) × Tree p tree nodes × DraftKeeps first now tree
+abbrev pub DraftHasTree : (Pattern → List Node → ℕ → Type 0) → Pattern → Verdict → Draft → Draft → Type 0
+DraftHasTree Tree p verdict first now = (nodes : ℕ) → tree_size verdict ≡ Some nodes → (tree : List Node) × Tree p tree nodes × DraftKeeps first now tree
 
 -- behind a text the draft has such nodes of these, and no other proofs
 abbrev pub HasTrees : (Pattern → List Node → ℕ → Type 0) → List ℕ → List SafeOne → Draft → Type 0

@@ -1,9 +1,9 @@
 -- What is said of the patterns and of the parameters of a file, and when it holds (this project's profile)
 use Rattle.std.specs.Prelude.{ℕ, ◌+◌, ◌≡◌, Bool, true, false, List, [], ◌∷◌, slice_get, Some, ℤ, pos, map}
+use Rattle.std.specs.List.{AllByRecursion}
 use Rattle.ta_automaton.specs.declared.automaton.Automaton.{Automaton}
 use Rattle.ta_automaton.specs.declared.file.File.{File}
 use Rattle.ta_automaton.specs.declared.pattern.Pattern.{Pattern}
-use Rattle.ta_automaton.specs.Lists.{Each}
 use Rattle.ta_automaton.specs.Runs as runs
 use Rattle.ta_cert.specs.Certificates.{pair_of}
 use Rattle.ta_cert.specs.declared.line.Node.{Node}
@@ -18,7 +18,7 @@ use Rattle.ta_walk.specs.Samples.{IsSampleEnd}
 use Rattle.ta_walk.specs.declared.end.SampleEnd.TheVariants as samples
 use Rattle.ta_walk.specs.declared.end.PlaceKind.{PlaceKind}
 use Rattle.ta_walk.specs.declared.end.PlaceKind.TheVariants as place
-use Rattle.ta_walk.specs.Visit.{LeavesAt}
+use Rattle.ta_walk.specs.Visit.{IsOutOfRangeAt}
 use Rattle.ta_walk.specs.Ends.{IsSpent, NodeOf, SolutionAt, TreeIs, leaf_count}
 use Rattle.ta_walk.specs.FoundOrders.{FoundOrders}
 use Rattle.ta_walk.specs.Splits.{HasAtMost, WasSplit}
@@ -30,7 +30,7 @@ use Rattle.ta_report.specs.declared.verdict.ReportSample.{ReportSample}
 use Rattle.ta_report.specs.declared.verdict.ReportSample.TheVariants as sample
 use Rattle.ta_report.specs.Report.{SampleFits, VerdictFits}
 use Rattle.ta_encode.specs.PatternSearch.{pattern_search}
-use Rattle.ta_witness.specs.Witness.{IsShortRun, WitnessLeaves, WitnessOf}
+use Rattle.ta_witness.specs.Witness.{IsShortRun, WitnessOutOfRange, WitnessOf}
 
 -- the place of a walk that a report names
 abbrev pub place_of : ReportKind → PlaceKind
@@ -68,16 +68,16 @@ pub record SpentHolds (file : File) (pairs : List (ℕ × ℕ)) (p : Pattern) (b
   pub split : HasAtMost file.automaton p pairs budget → WasSplit (pattern_search file.automaton p pairs) budget
 
 -- the word is that of a whole node, and a number of the replay of its run leaves the range
-pub record RunLeaves (file : File) (pairs : List (ℕ × ℕ)) (number : ℕ) (p : Pattern) (w : Pending) : Type 0 where
+pub record RunOutOfRange (file : File) (pairs : List (ℕ × ℕ)) (number : ℕ) (p : Pattern) (w : Pending) : Type 0 where
   pub solution : Solution
   pub whole : SolutionAt file.automaton p pairs number solution w
-  pub run : WitnessLeaves file solution
+  pub run : WitnessOutOfRange file solution
 
 -- where a number of a node leaves the range: in a pivot, in the check of the leaf that it is, or in the replay of its run
-abbrev pub LeavesIn : File → List (ℕ × ℕ) → ℕ → Pattern → ReportKind → Pending → Type 0
-LeavesIn file pairs number p (kind.Pivot pivot) w = LeavesAt (pattern_search file.automaton p pairs) w (place.Pivot pivot)
-LeavesIn file pairs number p kind.Leaf w = LeavesAt (pattern_search file.automaton p pairs) w place.Leaf
-LeavesIn file pairs number p kind.Run w = RunLeaves file pairs number p w
+abbrev pub IsOutOfRangeIn : File → List (ℕ × ℕ) → ℕ → Pattern → ReportKind → Pending → Type 0
+IsOutOfRangeIn file pairs number p (kind.Pivot pivot) w = IsOutOfRangeAt (pattern_search file.automaton p pairs) w (place.Pivot pivot)
+IsOutOfRangeIn file pairs number p kind.Leaf w = IsOutOfRangeAt (pattern_search file.automaton p pairs) w place.Leaf
+IsOutOfRangeIn file pairs number p kind.Run w = RunOutOfRange file pairs number p w
 
 -- the values are a sample of the parameters: natural numbers that meet the resilience condition and have an initial configuration; and
 -- the search for a sample ends with them within a budget of nodes
@@ -108,13 +108,13 @@ pub record IsSample (file : File) (budget : ℕ) (s : ReportSample) : Type 0 whe
 abbrev pub SamplesAreDetermined : Type 0
 SamplesAreDetermined = (file : File) (budget : ℕ) (s t : ReportSample) → IsSample file budget s → IsSample file budget t → s ≡ t
 
--- a verdict on the pattern of a number holds under pairs of guards, for a budget of nodes. Each node before the one that is named was
+-- a verdict on the pattern of a number holds under pairs of guards, for a budget of nodes. AllByRecursion node before the one that is named was
 -- a leaf, an extension or a split, and no number of it left the range
 abbrev pub HoldsUnder : File → List (ℕ × ℕ) → ℕ → ℕ → Pattern → Verdict → Type 0
 HoldsUnder file pairs budget number p (Safe nodes leaves) = SafeHolds file pairs p budget nodes leaves
 HoldsUnder file pairs budget number p (Unsafe nodes run) = UnsafeHolds file pairs number p budget nodes run
 HoldsUnder file pairs budget number p (Spent nodes) = SpentHolds file pairs p budget nodes
-HoldsUnder file pairs budget number p (Overflow node kind) = NodeOf (pattern_search file.automaton p pairs) budget node (LeavesIn file pairs number p kind)
+HoldsUnder file pairs budget number p (Overflow node kind) = NodeOf (pattern_search file.automaton p pairs) budget node (IsOutOfRangeIn file pairs number p kind)
 
 -- it holds under the pairs of the orders that are found
 abbrev pub VerdictHolds : File → ℕ → ℕ → Pattern → Verdict → Type 0
@@ -142,7 +142,7 @@ is_unknown (Overflow node kind) = true
 -- a verdict on each pattern of a file, in order: each holds, its numbers are below 2^64, and its run fits the file
 pub record AreVerdicts (file : File) (budget : ℕ) (verdicts : List Verdict) : Type 0 where
   pub hold : VerdictsHold file budget 0 file.patterns verdicts
-  pub fit : Each (VerdictFits file) verdicts
+  pub fit : AllByRecursion (VerdictFits file) verdicts
 
 -- a file has one list of verdicts for a budget
 abbrev pub VerdictsAreDetermined : Type 0

@@ -9,8 +9,8 @@ ghost use Rattle.ta_verdict.specs.Drafts.{DraftKeeps, HasText, ended_line};
 
 use crate::pieces::Pieces;
 use std::alloc::{AllocError, Global};
+use ta_base::{List, Text};
 use ta_cert::{Line, Node, Order};
-use ta_shelf::{List, Text};
 use ta_walk::{Keeper, PartKeeper};
 
 /// The lines of a certificate, or of the proof of a pattern, as they are made; none where no

@@ -14,7 +14,7 @@ ghost use Rattle.ta_walk.specs.FoundOrders.{FoundOrders};
 ghost use Rattle.ta_witness.specs.Witness.{IsSolution};
 ghost use Rattle.ta_words.specs.Calls.{OfPattern};
 ghost use Rattle.ta_verdict.specs.Certificates.{CertificateOf, safe_numbers, safe_ones, tree_size, tree_under};
-ghost use Rattle.ta_verdict.specs.Drafts.{AddsTree, Drafted, HasProofs, HasTrees};
+ghost use Rattle.ta_verdict.specs.Drafts.{AddsTree, DraftHasTree, HasProofs, HasTrees};
 ghost use Rattle.ta_verdict.specs.Verdicts.{AreVerdicts, VerdictHolds};
 
 use crate::draft::Draft;
@@ -22,12 +22,12 @@ use crate::sampling::report_kind;
 use crate::saying::is_safe;
 use std::alloc::{AllocError, Global};
 use std::thread::Threads;
+use ta_base::{List, Text};
 use ta_cert::Line;
 use ta_dense::NarrowDictionary;
 use ta_encode::Solution;
 use ta_report::{ReportKind, Verdict};
 use ta_scope::ScopedFile;
-use ta_shelf::{List, Text};
 use ta_walk::{OrdersFound, VisitEnd, find_orders, visit};
 use ta_witness::{WitnessFault, witness};
 
@@ -140,7 +140,7 @@ fn verdict_on<R: Threads + Sync>(
     requires same { found.now.orders ≡ map pair_of found.now.list }
     ensures holds { IfOk result (λ verdict. OfPattern scoped.now.file pattern (λ p. VerdictHolds scoped.now.file nodes pattern p verdict)) }
     ensures fits { IfOk result (VerdictFits scoped.now.file) }
-    ensures drafted { IfOk result (λ verdict. OfPattern scoped.now.file pattern (λ p. Drafted (tree_under scoped.now.file nodes) p verdict draft.old draft.new)) }
+    ensures drafted { IfOk result (λ verdict. OfPattern scoped.now.file pattern (λ p. DraftHasTree (tree_under scoped.now.file nodes) p verdict draft.old draft.new)) }
 {
     match visit::<NarrowDictionary, Draft, R>(
         rt,

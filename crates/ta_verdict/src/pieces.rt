@@ -9,8 +9,8 @@ ghost use Rattle.ta_verdict.specs.Drafts.{pieces_text};
 
 use std::alloc::{AllocError, Global};
 use std::mem;
+use ta_base::Text;
 use ta_cert::{Line, Order, write_head, write_line};
-use ta_shelf::Text;
 
 /// How long a piece grows before the next one is begun, in bytes.
 const PIECE: usize = 65_536;

@@ -1,26 +1,16 @@
 -- the children of a word are distinct
-use Rattle.std.proofs.Common.{◌≡◌, inl, inr, ℕ, zero, suc, ◌+◌, ◌-◌, ◌^◌, ◌≤◌, Bool, true, false, cond, List, [], ◌∷◌, ◌++◌, length, map, arith, refl, sym, ◌∙◌, subst}
+use Rattle.std.proofs.Common.{◌≡◌, inl, inr, ℕ, zero, suc, ◌+◌, ◌-◌, ◌^◌, ◌≤◌, Bool, true, false, cond, List, [], ◌∷◌, ◌++◌, length, map, arith, ◌∙◌}
 use Rattle.std.specs.Prelude.{filter}
+use Rattle.ta_base.proofs.Each.{distinct_append, each_from_in}
+use Rattle.ta_base.proofs.Members.{in_append, in_filter, in_map}
+use Rattle.ta_base.proofs.Ranges.{in_numbers}
 use Rattle.ta_automaton.specs.declared.automaton.Automaton.{Automaton}
 use Rattle.ta_automaton.specs.declared.pattern.Pattern.{Pattern}
-use Rattle.ta_automaton.specs.Lists.{Distinct}
-use Rattle.ta_automaton.specs.Masks.{In, numbers_from}
-use Rattle.ta_implied.proofs.Implying.{each_in}
-use Rattle.ta_implied.proofs.Joining.{each_from}
-use Rattle.ta_implied.proofs.Members.{in_append, in_filter, in_map, in_numbers}
+use Rattle.ta_base.specs.Lists.{Distinct}
+use Rattle.ta_base.specs.Masks.{In, numbers_from}
 use Rattle.ta_words.specs.declared.element.Element.{Element}
 use Rattle.ta_words.specs.declared.element.Element.TheVariants.{Event, Rise, Fall}
 use Rattle.ta_words.specs.Words.{children, is_complete, is_ready, is_standing, may_rise}
-
-distinct_append : {X : Type 0} (xs ys : List X) → Distinct xs → Distinct ys → ((x : X) → In x xs → In x ys → ⊥) → Distinct (xs ++ ys)
-distinct_append [] ys d e apart = e
-distinct_append (x ∷ xs) ys d e apart = (
-  each_from (λ y. x ≡ y → ⊥) (xs ++ ys) (λ y h same. elim (in_append y xs ys h) [
-    | inl g ↦ each_in (λ z. x ≡ z → ⊥) xs y d.0 g same
-    | inr g ↦ apart x (inl refl) (subst (λ z. In z ys) (sym same) g)
-  ]),
-  distinct_append xs ys d.1 e (λ z h. apart z (inr h)),
-)
 
 -- those of some numbers that pass
 abbrev passed : (ℕ → Element) → (ℕ → Bool) → ℕ → ℕ → List Element
@@ -35,7 +25,7 @@ in_passed f test k n e h =
 kept_once : (f : ℕ → Element) (test : ℕ → Bool) (k n : ℕ) (b : Bool) → ((x y : ℕ) → f x ≡ f y → x ≡ y) → Distinct (passed f test (k + 1) n) → Distinct (map f (cond b (k ∷ filter test (numbers_from (k + 1) n)) (filter test (numbers_from (k + 1) n))))
 kept_once f test k n false one d = d
 kept_once f test k n true one d = (
-  each_from (λ e. f k ≡ e → ⊥) (passed f test (k + 1) n) (λ e h same.
+  each_from_in (λ e. f k ≡ e → ⊥) (passed f test (k + 1) n) (λ e h same.
       let at = in_passed f test (k + 1) n e h in
       let is : k ≡ at.0 = one k at.0 (same ∙ at.1) in
       let above = at.2 in

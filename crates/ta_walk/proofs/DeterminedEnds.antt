@@ -5,8 +5,8 @@ use Rattle.std.proofs.Common.{◌≡◌, inl, inr, ℕ, ◌<◌, List, ℤ, leng
 use Rattle.ta_cert.specs.declared.line.Node.{Node}
 use Rattle.ta_words.specs.declared.element.Element.{Element}
 use Rattle.ta_walk.specs.declared.end.PlaceKind.{PlaceKind}
-use Rattle.ta_walk.specs.Visit.{NodeAt, WholeAt, LeavesAt}
-use Rattle.ta_walk.specs.Ends.{TreeIs, NodeOf, SolutionAt, IsSpent, Ending, Whole, Solved, Stopped, Left, IsEnding, EndingsAreDetermined, IsEnd, EndsAreDetermined}
+use Rattle.ta_walk.specs.Visit.{NodeAt, WholeAt, IsOutOfRangeAt}
+use Rattle.ta_walk.specs.Ends.{TreeIs, NodeOf, SolutionAt, IsSpent, Ending, Whole, Solved, Stopped, Left, IsVisitEnding, EndingsAreDetermined, IsWalkEnd, WalksAreDetermined}
 use Rattle.ta_walk.proofs.DeterminedNodes.{whole_once, whole_is_no_node, leaving_is_no_node, leaving_is_not_whole, leaving_once}
 use Rattle.ta_walk.proofs.DeterminedVisits.{tree_once, word_of_tree, word_once, node_at_word}
 use Rattle.ta_automaton.specs.declared.automaton.Automaton.{Automaton}
@@ -71,7 +71,7 @@ IsWhole s word values w = (w ≡ word) × WholeAt s w values
 whole_bars : (s : Search) (word : Pending) (values : List ℤ) → BarsNodes s (IsWhole s word values)
 whole_bars s word values w n h g = whole_is_no_node s w values n h.1 g
 
-leaving_bars : (s : Search) (j : PlaceKind) → BarsNodes s (λ w. LeavesAt s w j)
+leaving_bars : (s : Search) (j : PlaceKind) → BarsNodes s (λ w. IsOutOfRangeAt s w j)
 leaving_bars s j w n h g = leaving_is_no_node s w j n h g
 
 pub endings_once : EndingsAreDetermined
@@ -81,7 +81,7 @@ endings_once s budget (Whole ns c) (Whole ms d) h g =
     cc
 endings_once s budget (Whole ns c) (Solved j v ks) h g = absurd (not_in_tree s budget c j ns (IsWhole s v ks) (whole_bars s v ks) h g)
 endings_once s budget (Whole ns c) (Stopped d) h g = absurd (tree_is_not_spent s budget c d ns h g)
-endings_once s budget (Whole ns c) (Left j l) h g = absurd (not_in_tree s budget c j ns (λ w. LeavesAt s w l) (leaving_bars s l) h g)
+endings_once s budget (Whole ns c) (Left j l) h g = absurd (not_in_tree s budget c j ns (λ w. IsOutOfRangeAt s w l) (leaving_bars s l) h g)
 endings_once s budget (Solved i v ks) (Whole ms d) h g = absurd (not_in_tree s budget d i ms (IsWhole s v ks) (whole_bars s v ks) g h)
 endings_once s budget (Solved i v ks) (Solved j u ns) h g =
     let same = place_once s budget i j (IsWhole s v ks) (IsWhole s u ns) (whole_bars s v ks) (whole_bars s u ns) h g in
@@ -91,19 +91,19 @@ endings_once s budget (Solved i v ks) (Solved j u ns) h g =
     cc
 endings_once s budget (Solved i v ks) (Stopped d) h g = absurd (not_before_spent s budget d i (IsWhole s v ks) (whole_bars s v ks) g h)
 endings_once s budget (Solved i v ks) (Left j l) h g =
-    let same = place_once s budget i j (IsWhole s v ks) (λ w. LeavesAt s w l) (whole_bars s v ks) (leaving_bars s l) h g in
+    let same = place_once s budget i j (IsWhole s v ks) (λ w. IsOutOfRangeAt s w l) (whole_bars s v ks) (leaving_bars s l) h g in
     absurd (leaving_is_not_whole s same.word l ks same.other same.one.1)
 endings_once s budget (Stopped c) (Whole ms d) h g = absurd (tree_is_not_spent s budget d c ms g h)
 endings_once s budget (Stopped c) (Solved j u ns) h g = absurd (not_before_spent s budget c j (IsWhole s u ns) (whole_bars s u ns) h g)
 endings_once s budget (Stopped c) (Stopped d) h g = ap Stopped (h.counted ∙ sym g.counted)
-endings_once s budget (Stopped c) (Left j l) h g = absurd (not_before_spent s budget c j (λ w. LeavesAt s w l) (leaving_bars s l) h g)
-endings_once s budget (Left i k) (Whole ms d) h g = absurd (not_in_tree s budget d i ms (λ w. LeavesAt s w k) (leaving_bars s k) g h)
+endings_once s budget (Stopped c) (Left j l) h g = absurd (not_before_spent s budget c j (λ w. IsOutOfRangeAt s w l) (leaving_bars s l) h g)
+endings_once s budget (Left i k) (Whole ms d) h g = absurd (not_in_tree s budget d i ms (λ w. IsOutOfRangeAt s w k) (leaving_bars s k) g h)
 endings_once s budget (Left i k) (Solved j u ns) h g =
-    let same = place_once s budget i j (λ w. LeavesAt s w k) (IsWhole s u ns) (leaving_bars s k) (whole_bars s u ns) h g in
+    let same = place_once s budget i j (λ w. IsOutOfRangeAt s w k) (IsWhole s u ns) (leaving_bars s k) (whole_bars s u ns) h g in
     absurd (leaving_is_not_whole s same.word k ns same.one same.other.1)
-endings_once s budget (Left i k) (Stopped d) h g = absurd (not_before_spent s budget d i (λ w. LeavesAt s w k) (leaving_bars s k) g h)
+endings_once s budget (Left i k) (Stopped d) h g = absurd (not_before_spent s budget d i (λ w. IsOutOfRangeAt s w k) (leaving_bars s k) g h)
 endings_once s budget (Left i k) (Left j l) h g =
-    let same = place_once s budget i j (λ w. LeavesAt s w k) (λ w. LeavesAt s w l) (leaving_bars s k) (leaving_bars s l) h g in
+    let same = place_once s budget i j (λ w. IsOutOfRangeAt s w k) (λ w. IsOutOfRangeAt s w l) (leaving_bars s k) (leaving_bars s l) h g in
     let counts = same.number in
     let kinds = leaving_once s same.word k l same.one same.other in
     cc
@@ -112,17 +112,17 @@ endings_once s budget (Left i k) (Left j l) h g =
 pub node_with : (s : Search) (budget number : ℕ) (F G : Pending → Type 0) (n : NodeOf s budget number F) → G n.word → NodeOf s budget number G
 node_with s budget number F G n holds = record { before = n.before; number_is = n.number_is; within = n.within; word = n.word; visited = n.visited; holds = holds }
 
-word_same : (xs ys zs : List Element) → reverse xs ≡ zs → reverse ys ≡ zs → xs ≡ ys
+pub word_same : (xs ys zs : List Element) → reverse xs ≡ zs → reverse ys ≡ zs → xs ≡ ys
 word_same xs ys zs is are = sym (reverse-reverse xs) ∙ ap reverse (is ∙ sym are) ∙ reverse-reverse ys
 
 -- what a walk ended at, as an end of the search of its pattern
-abbrev ending_of : (a : Automaton) (p : Pattern) (pairs : List (ℕ × ℕ)) (number budget : ℕ) (e : WalkEnd) → IsEnd a p pairs number budget e → Ending
+abbrev ending_of : (a : Automaton) (p : Pattern) (pairs : List (ℕ × ℕ)) (number budget : ℕ) (e : WalkEnd) → IsWalkEnd a p pairs number budget e → Ending
 ending_of a p pairs number budget (Refuted ns c) h = Whole ns c
 ending_of a p pairs number budget (Found i x) h = Solved i h.word x.values
 ending_of a p pairs number budget (Spent c) h = Stopped c
 ending_of a p pairs number budget (Overflow i k) h = Left i k
 
-is_ending : (a : Automaton) (p : Pattern) (pairs : List (ℕ × ℕ)) (number budget : ℕ) (e : WalkEnd) (h : IsEnd a p pairs number budget e) → IsEnding (pattern_search a p pairs) budget (ending_of a p pairs number budget e h)
+is_ending : (a : Automaton) (p : Pattern) (pairs : List (ℕ × ℕ)) (number budget : ℕ) (e : WalkEnd) (h : IsWalkEnd a p pairs number budget e) → IsVisitEnding (pattern_search a p pairs) budget (ending_of a p pairs number budget e h)
 is_ending a p pairs number budget (Refuted ns c) h = h
 is_ending a p pairs number budget (Found i x) h = node_with (pattern_search a p pairs) budget i (SolutionAt a p pairs number x) (IsWhole (pattern_search a p pairs) h.word x.values) h (refl, h.holds.whole)
 is_ending a p pairs number budget (Spent c) h = h
@@ -135,10 +135,10 @@ solution_once a p pairs number x y w v same values h g =
     let words = word_same x.word y.word v.past (h.word ∙ ap (λ (u : Pending). u.past) same) g.word in
     λ i. record { pattern = patterns i; start_mask = starts i; word = words i; values = values i }
 
-pub ends_once : EndsAreDetermined
+pub ends_once : WalksAreDetermined
 ends_once a p pairs number budget e f h g = from e f h g (endings_once (pattern_search a p pairs) budget (ending_of a p pairs number budget e h) (ending_of a p pairs number budget f g) (is_ending a p pairs number budget e h) (is_ending a p pairs number budget f g))
   where
-    from : (e f : WalkEnd) (h : IsEnd a p pairs number budget e) (g : IsEnd a p pairs number budget f) → ending_of a p pairs number budget e h ≡ ending_of a p pairs number budget f g → e ≡ f
+    from : (e f : WalkEnd) (h : IsWalkEnd a p pairs number budget e) (g : IsWalkEnd a p pairs number budget f) → ending_of a p pairs number budget e h ≡ ending_of a p pairs number budget f g → e ≡ f
     from (Refuted ns c) (Refuted ms d) h g same = cc
     from (Refuted ns c) (Found j y) h g same = absurd (cc)
     from (Refuted ns c) (Spent d) h g same = absurd (cc)

@@ -1,18 +1,16 @@
 -- at a word stands one node, or it is whole, or a number leaves the range
-use Rattle.std.proofs.Common.{◌≡◌, ℕ, List, true, false, Bool, ap, ◌∙◌, refl, subst, ℤ}
+use Rattle.std.proofs.Common.{◌≡◌, ℕ, List, ap, ◌∙◌, refl, subst, ℤ}
+use Rattle.ta_base.proofs.Booleans.{not_open}
 use Rattle.ta_cert.specs.declared.line.Node.{Node}
 use Rattle.ta_cert.specs.declared.line.Node.TheVariants as node
 use Rattle.ta_cursor.specs.Range.{LeafStays}
 use Rattle.ta_simplex.specs.declared.fraction.Fraction.{Fraction}
 use Rattle.ta_walk.specs.declared.end.PlaceKind.{PlaceKind}
 use Rattle.ta_walk.specs.declared.end.PlaceKind.TheVariants as kind
-use Rattle.ta_walk.specs.Visit.{SplitsAt, AreNumbers, NodeAt, WholeAt, LeavesAt, SplitVertex}
+use Rattle.ta_walk.specs.Visit.{SplitsAt, AreNumbers, NodeAt, WholeAt, IsOutOfRangeAt, SplitVertex}
 use Rattle.ta_walk.proofs.DeterminedOutcomes.{multipliers_at, values_at, no_vertex, counts_at, no_overflow_refuted, no_overflow_vertex}
 use Rattle.ta_walk.proofs.DeterminedValues.{SameSplit, split_once, numbers_once, whole_has_no_split}
-use Rattle.ta_encode.specs.Search.{Pending, Search, rows_of}
-
-not_open : (b : Bool) → b ≡ true → b ≡ false → ⊥
-not_open b yea nay = absurd (cc)
+use Rattle.ta_encode.specs.Search.{Pending, Search, bounded_rows}
 
 split_same : (s : Search) (w : Pending) (x y : ℕ) (k n : ℤ) → SplitVertex s w x k → SplitVertex s w y n → SameSplit x y k n
 split_same s w x y k n h g =
@@ -46,21 +44,21 @@ whole_is_no_node s w ks (node.Split x k) h g =
     whole_has_no_split h.values ks x k h.whole (subst (λ (fs : List Fraction). SplitsAt fs x k) values g.splits)
 
 -- nor does one stand where a number leaves the range
-pub leaving_is_no_node : (s : Search) (w : Pending) (j : PlaceKind) (n : Node) → LeavesAt s w j → NodeAt s w n → ⊥
+pub leaving_is_no_node : (s : Search) (w : Pending) (j : PlaceKind) (n : Node) → IsOutOfRangeAt s w j → NodeAt s w n → ⊥
 leaving_is_no_node s w (kind.Pivot c) (node.Leaf ts) h g = no_overflow_refuted s w ts c g.refuted h
 leaving_is_no_node s w (kind.Pivot c) node.Extend h g = no_overflow_vertex s w g.values c g.vertex h
 leaving_is_no_node s w (kind.Pivot c) (node.Split x k) h g = no_overflow_vertex s w g.values c g.vertex h
-leaving_is_no_node s w kind.Leaf (node.Leaf ts) h g = h.leaves (subst (LeafStays (rows_of s w)) (multipliers_at s w ts h.multipliers g.refuted h.refuted) g.in_range)
+leaving_is_no_node s w kind.Leaf (node.Leaf ts) h g = h.leaves (subst (LeafStays (bounded_rows s w)) (multipliers_at s w ts h.multipliers g.refuted h.refuted) g.in_range)
 leaving_is_no_node s w kind.Leaf node.Extend h g = no_vertex s w h.multipliers g.values h.refuted g.vertex
 leaving_is_no_node s w kind.Leaf (node.Split x k) h g = no_vertex s w h.multipliers g.values h.refuted g.vertex
 leaving_is_no_node s w kind.Run n h g = absurd h
 
-pub leaving_is_not_whole : (s : Search) (w : Pending) (j : PlaceKind) (ks : List ℤ) → LeavesAt s w j → WholeAt s w ks → ⊥
+pub leaving_is_not_whole : (s : Search) (w : Pending) (j : PlaceKind) (ks : List ℤ) → IsOutOfRangeAt s w j → WholeAt s w ks → ⊥
 leaving_is_not_whole s w (kind.Pivot c) ks h g = no_overflow_vertex s w g.values c g.vertex h
 leaving_is_not_whole s w kind.Leaf ks h g = no_vertex s w h.multipliers g.values h.refuted g.vertex
 leaving_is_not_whole s w kind.Run ks h g = absurd h
 
-pub leaving_once : (s : Search) (w : Pending) (i j : PlaceKind) → LeavesAt s w i → LeavesAt s w j → i ≡ j
+pub leaving_once : (s : Search) (w : Pending) (i j : PlaceKind) → IsOutOfRangeAt s w i → IsOutOfRangeAt s w j → i ≡ j
 leaving_once s w (kind.Pivot c) (kind.Pivot d) h g = ap kind.Pivot (counts_at s w c d h g)
 leaving_once s w (kind.Pivot c) kind.Leaf h g = absurd (no_overflow_refuted s w g.multipliers c g.refuted h)
 leaving_once s w (kind.Pivot c) kind.Run h g = absurd g

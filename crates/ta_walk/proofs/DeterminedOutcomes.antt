@@ -2,9 +2,9 @@
 use Rattle.std.proofs.Common.{◌≡◌, ℕ, List, [], ◌∷◌, sym, ◌∙◌, ℤ}
 use Rattle.ta_linear.specs.declared.row.Row.{Row}
 use Rattle.ta_linear.specs.declared.row.System.{System}
-use Rattle.ta_encode.specs.Code.{RowOf, RowsOf, SystemAt}
+use Rattle.ta_encode.specs.Code.{IsRowOf, AreRowsOf, SystemAt}
 use Rattle.ta_encode.specs.System.{LinearRow}
-use Rattle.ta_encode.specs.Search.{Pending, Search, rows_of}
+use Rattle.ta_encode.specs.Search.{Pending, Search, bounded_rows}
 use Rattle.ta_dense.specs.Slack.{slack_tableau}
 use Rattle.ta_simplex.specs.declared.End.TheVariants as end
 use Rattle.ta_simplex.specs.Laws.{SameRow, RowsAlike, SameNumbers}
@@ -13,10 +13,10 @@ use Rattle.ta_simplex.specs.declared.fraction.Fraction.{Fraction}
 use Rattle.ta_simplex.proofs.DeterminedEnds.{end_once, none_beside, first_once}
 use Rattle.ta_walk.specs.Visit.{OfSystem, RefutedAt, VertexAt}
 
-row_same : (l : LinearRow) (r q : Row) → RowOf l r → RowOf l q → SameRow r q
+row_same : (l : LinearRow) (r q : Row) → IsRowOf l r → IsRowOf l q → SameRow r q
 row_same l r q is are = record { constant = is.constant ∙ sym are.constant; coefficients = λ u. is.coefficients u ∙ sym (are.coefficients u) }
 
-rows_same : (ls : List LinearRow) (rs qs : List Row) → RowsOf ls rs → RowsOf ls qs → RowsAlike rs qs
+rows_same : (ls : List LinearRow) (rs qs : List Row) → AreRowsOf ls rs → AreRowsOf ls qs → RowsAlike rs qs
 rows_same [] [] [] is are = tt
 rows_same [] [] (q ∷ qs) is are = absurd are
 rows_same [] (r ∷ rs) qs is are = absurd is
@@ -26,9 +26,9 @@ rows_same (l ∷ ls) (r ∷ rs) (q ∷ qs) is are = (row_same l r q is.0 are.0, 
 
 -- two systems that are one word's have the same numbers
 same_numbers : (s : Search) (w : Pending) (y z : System) → SystemAt s w y → SystemAt s w z → SameNumbers y z
-same_numbers s w y z is are = record { unknowns = is.unknowns ∙ sym are.unknowns; rows = rows_same (rows_of s w) y.rows z.rows is.rows are.rows }
+same_numbers s w y z is are = record { unknowns = is.unknowns ∙ sym are.unknowns; rows = rows_same (bounded_rows s w) y.rows z.rows is.rows are.rows }
 
-multipliers_of : (ts us : List (ℕ × ℤ)) → end.Refuted ts ≡ end.Refuted us → ts ≡ us
+pub multipliers_of : (ts us : List (ℕ × ℤ)) → end.Refuted ts ≡ end.Refuted us → ts ≡ us
 multipliers_of ts us e = cc
 
 values_of : (fs gs : List Fraction) → end.Vertex fs ≡ end.Vertex gs → fs ≡ gs

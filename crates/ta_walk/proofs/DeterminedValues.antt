@@ -1,24 +1,16 @@
 -- the whole numbers that are values are one list, and so are their split and its floor
 use Rattle.std.proofs.lemmas.Bool.{cases_order}
-use Rattle.std.proofs.Common.{◌≡◌, inl, inr, ℕ, zero, suc, ◌<◌, List, [], ◌∷◌, arith, refl, sym, ◌∙◌, subst, ℤ, pos, ◌+ℤ◌, ◌*ℤ◌, ◌-ℤ◌, ◌<ℤ◌, Option, Some, None, slice_get}
+use Rattle.std.proofs.Common.{◌≡◌, inl, inr, ℕ, zero, suc, ◌<◌, List, [], ◌∷◌, arith, refl, sym, ◌∙◌, subst, ℤ, pos, ◌+ℤ◌, slice_get}
 use Rattle.std.specs.Prelude.{IsSomeAnd}
 use Rattle.std.proofs.lemmas.Int.{ints}
-use Rattle.ta_linear.proofs.Integers.{mul_comm, minus_times}
-use Rattle.ta_linear.proofs.Signs.{lt-zero_of_mul}
-use Rattle.ta_dense.proofs.Divide.{cancel_positive}
+use Rattle.std.proofs.Math.IntN.{*ℤ_comm}
+use Rattle.ta_base.proofs.Integers.{cancel_positive, factor_below}
+use Rattle.ta_simplex.proofs.WholeLemmas.{some_both}
 use Rattle.ta_simplex.specs.declared.fraction.Fraction.{Fraction}
-use Rattle.ta_walk.specs.Visit.{IsNumber, IsWhole, IsAbove, SplitsAt, AreNumbers}
+use Rattle.ta_walk.specs.Visit.{IsWholeNumber, IsWhole, IsAbove, SplitsAt, AreNumbers}
 
--- a product with a positive number is below another only if the other factor is
-factor_below : (b x y : ℤ) → pos 0 <ℤ b → (x *ℤ b) <ℤ (y *ℤ b) → x <ℤ y
-factor_below b x y positive h =
-    let e = minus_times x y b in
-    let c = mul_comm (x -ℤ y) b in
-    let less = lt-zero_of_mul b (x -ℤ y) positive (omega (arith, ints)) in
-    omega (arith, ints)
-
-number_once : (f : Fraction) (k n : ℤ) → IsNumber k f → IsNumber n f → k ≡ n
-number_once f k n is are = cancel_positive f.bottom k n f.positive (mul_comm f.bottom k ∙ sym is ∙ are ∙ mul_comm n f.bottom)
+number_once : (f : Fraction) (k n : ℤ) → IsWholeNumber k f → IsWholeNumber n f → k ≡ n
+number_once f k n is are = cancel_positive f.bottom k n f.positive (*ℤ_comm f.bottom k ∙ sym is ∙ are ∙ *ℤ_comm n f.bottom)
 
 floor_once : (f : Fraction) (k n : ℤ) → IsAbove k f → IsAbove n f → k ≡ n
 floor_once f k n is are =
@@ -47,10 +39,6 @@ numbers_once (f ∷ fs) (k ∷ ks) (n ∷ ns) is are =
     let rest = numbers_once fs ks ns is.1 are.1 in
     cc
 
-both : (o : Option Fraction) (P Q : Fraction → Type 0) (C : Type 0) → IsSomeAnd o P → IsSomeAnd o Q → ((f : Fraction) → P f → Q f → C) → C
-both None P Q C p q g = absurd p
-both (Some f) P Q C p q g = g f p q
-
 -- values that are all whole have no split
 pub whole_has_no_split : (fs : List Fraction) (ks : List ℤ) (x : ℕ) (k : ℤ) → AreNumbers fs ks → SplitsAt fs x k → ⊥
 whole_has_no_split fs ks x k is splits = absurd (go fs ks x is splits.here)
@@ -67,11 +55,11 @@ pub record SameSplit (x y : ℕ) (k n : ℤ) : Type 0 where
   pub floor : k ≡ n
 
 not_before : (fs : List Fraction) (x y : ℕ) (k n : ℤ) → SplitsAt fs x k → SplitsAt fs y n → x < y → ⊥
-not_before fs x y k n is are less = both (slice_get fs x) (IsAbove k) IsWhole ⊥ is.here (are.before x less) (λ f above whole. not_whole f k above whole)
+not_before fs x y k n is are less = some_both (slice_get fs x) (IsAbove k) IsWhole ⊥ is.here (are.before x less) (λ f above whole. not_whole f k above whole)
 
 pub split_once : (fs : List Fraction) (x y : ℕ) (k n : ℤ) → SplitsAt fs x k → SplitsAt fs y n → SameSplit x y k n
 split_once fs x y k n is are =
     elim (cases_order x y) [
-      | inl same ↦ record { unknown = same; floor = both (slice_get fs x) (IsAbove k) (IsAbove n) (k ≡ n) is.here (subst (λ (u : ℕ). IsSomeAnd (slice_get fs u) (IsAbove n)) (sym same) are.here) (λ f h g. floor_once f k n h g) }
+      | inl same ↦ record { unknown = same; floor = some_both (slice_get fs x) (IsAbove k) (IsAbove n) (k ≡ n) is.here (subst (λ (u : ℕ). IsSomeAnd (slice_get fs u) (IsAbove n)) (sym same) are.here) (λ f h g. floor_once f k n h g) }
       | inr other ↦ elim other [ inl less ↦ absurd (not_before fs x y k n is are less) | inr more ↦ absurd (not_before fs y x n k are is more) ]
     ]

@@ -3,7 +3,7 @@ use Rattle.std.proofs.lemmas.Bool.{cases_order}
 use Rattle.std.proofs.Common.{◌≡◌, inl, inr, ℕ, ◌<◌, List, [], ◌∷◌, ◌++◌, length, arith, refl, sym, ◌∙◌, subst}
 use Rattle.ta_cert.specs.declared.line.Node.{Node}
 use Rattle.ta_walk.specs.Visit.{NodeAt, Visits}
-use Rattle.ta_walk.specs.Ends.{TreeIs, Visited}
+use Rattle.ta_walk.specs.Ends.{TreeIs, IsVisited}
 use Rattle.ta_walk.proofs.DeterminedNodes.{node_once}
 use Rattle.ta_encode.specs.Search.{Pending, Search, parts}
 
@@ -67,7 +67,7 @@ tree_once s budget ns ms c d t u =
     ]
 
 -- a word that is left within a whole tree has a node
-pub word_of_tree : (s : Search) (budget : ℕ) (ns : List Node) (c before : ℕ) (w : Pending) → TreeIs s budget ns c → Visited s before w → (before < c) × ((n : Node) × NodeAt s w n)
+pub word_of_tree : (s : Search) (budget : ℕ) (ns : List Node) (c before : ℕ) (w : Pending) → TreeIs s budget ns c → IsVisited s before w → (before < c) × ((n : Node) × NodeAt s w n)
 word_of_tree s budget ns c before w t v =
     let counted = t.counted in
     let many = v.counted in
@@ -80,7 +80,7 @@ word_of_tree s budget ns c before w t v =
     ]
 
 -- the word that is left after so many nodes is one
-pub word_once : (s : Search) (before after : ℕ) (w x : Pending) → before ≡ after → Visited s before w → Visited s after x → w ≡ x
+pub word_once : (s : Search) (before after : ℕ) (w x : Pending) → before ≡ after → IsVisited s before w → IsVisited s after x → w ≡ x
 word_once s before after w x e v u =
     let many = v.counted in
     let others = u.counted in
@@ -88,7 +88,7 @@ word_once s before after w x e v u =
     cc
 
 -- where more are visited, a node stands at the word
-pub node_at_word : (s : Search) (before after : ℕ) (w x : Pending) → before < after → Visited s before w → Visited s after x → (n : Node) × NodeAt s w n
+pub node_at_word : (s : Search) (before after : ℕ) (w x : Pending) → before < after → IsVisited s before w → IsVisited s after x → (n : Node) × NodeAt s w n
 node_at_word s before after w x h v u =
     let many = v.counted in
     let others = u.counted in

@@ -3,12 +3,12 @@ use Rattle.std.proofs.lemmas.Bool.Decides.{nat_tests}
 use Rattle.std.proofs.Common.{◌≡◌, ℕ, ◌+◌, ◌-◌, ◌<◌, ◌≤◌, nat_lt, Bool, true, false, cond, List, [], ◌++◌, length, length-append, arith, refl, subst}
 use Rattle.ta_cert.specs.declared.line.Node.{Node}
 use Rattle.ta_encode.specs.Search.{Pending, Search}
-use Rattle.ta_walk.specs.Visit.{LeavesAt, Visits}
-use Rattle.ta_walk.specs.Ends.{IsSpent, NodeOf, TreeKept, Visited, WholeWord, leaf_count}
+use Rattle.ta_walk.specs.Visit.{IsOutOfRangeAt, Visits}
+use Rattle.ta_walk.specs.Ends.{IsSpent, NodeOf, TreeKept, IsVisited, WholeWord, leaf_count}
 use Rattle.ta_walk.specs.declared.end.TreeEnd.{TreeEnd}
 use Rattle.ta_walk.specs.declared.end.TreeEnd.TheVariants as tree
 use Rattle.ta_walk.specs.Inside.Parts.{PartEnds, beginning, behind}
-use Rattle.ta_walk.proofs.SearchesMoved.{moved_leaves, moved_visits, moved_whole}
+use Rattle.ta_walk.proofs.SearchesMoved.{moved_out_of_range, moved_visits, moved_whole}
 use Rattle.ta_walk.proofs.VisitsJoined.{LeftBefore, leaves_added, left_before, left_in_tree, visited_behind, visits_on}
 
 chosen : (P : TreeEnd → Type 0) (b : Bool) (x y : TreeEnd) → (b ≡ true → P x) → (b ≡ false → P y) → P (cond b x y)
@@ -29,7 +29,7 @@ spent_behind s ws us ns count leaves budget before to is left =
     record {
       counted = refl;
       word = left.word;
-      visited = subst (λ (k : ℕ). Visited (beginning s ws) k left.word) sum (visited_behind s ws us ns before left.word to.visits left.visited);
+      visited = subst (λ (k : ℕ). IsVisited (beginning s ws) k left.word) sum (visited_behind s ws us ns before left.word to.visits left.visited);
     }
 
 -- a node behind them
@@ -95,6 +95,6 @@ end_behind s ws us ns count leaves budget later Keeps Kept (tree.Spent more) to 
     (λ no'. spent_behind s ws us ns count leaves (count + more) more to refl (record { word = is.word; visited = is.visited }))
 end_behind s ws us ns count leaves budget later Keeps Kept (tree.Overflow more kind) to within on is =
     chosen (PartEnds (beginning s ws) budget Kept) (nat_lt (budget - count) more) (tree.Spent budget) (tree.Overflow (count + more) kind)
-    (λ yes'. spent_at s ws us ns count leaves budget later more (λ w. LeavesAt (beginning s us) w kind) to within (grind (arith, nat_tests)) is)
-    (λ no'. node_behind s ws us ns count leaves budget later more (λ w. LeavesAt (beginning s us) w kind) (λ w. LeavesAt (beginning s ws) w kind) to (let fits : more ≤ budget - count = grind (arith, nat_tests) in omega arith)
-    (λ w at. moved_leaves s us ws w kind at) is)
+    (λ yes'. spent_at s ws us ns count leaves budget later more (λ w. IsOutOfRangeAt (beginning s us) w kind) to within (grind (arith, nat_tests)) is)
+    (λ no'. node_behind s ws us ns count leaves budget later more (λ w. IsOutOfRangeAt (beginning s us) w kind) (λ w. IsOutOfRangeAt (beginning s ws) w kind) to (let fits : more ≤ budget - count = grind (arith, nat_tests) in omega arith)
+    (λ w at. moved_out_of_range s us ws w kind at) is)

@@ -16,7 +16,7 @@ mod DeterminedOutcomes
 mod DeterminedValues
 mod DeterminedVisits
 mod Vertices
-mod Nodes
+pub mod Nodes
 mod WalkSoFar
 mod LeavesCounted
 mod PairSystems

@@ -1,5 +1,6 @@
 -- the node at a cursor: its leaf, and its system
-use Rattle.std.proofs.Common.{ℕ, ◌+◌, ◌<◌, ◌≤◌, ◌^◌, ℤ, List, [], ◌∷◌, length, arith}
+use Rattle.std.proofs.Common.{ℕ, ◌<◌, ◌≤◌, ◌^◌, ℤ, List, length, arith}
+use Rattle.ta_simplex.proofs.SlotLemmas.{multipliers-wider}
 use Rattle.ta_linear.specs.Leaf.{AreMultipliers, LeafOf}
 use Rattle.ta_linear.specs.declared.row.System.{System}
 use Rattle.ta_encode.specs.Code.{SystemAt}
@@ -9,16 +10,11 @@ use Rattle.ta_cursor.specs.TreeCalls.{IsSmall}
 use Rattle.ta_cursor.proofs.Ranges.{leaf_stays, check_stays}
 use Rattle.ta_dense.specs.Slack.{variables}
 use Rattle.ta_simplex.specs.Refuted.{IsRefuted}
-use Rattle.ta_walk.specs.Visit.{LeafAt, LeafLeaves}
-
--- multipliers of few rows
-widened : (low count high : ℕ) (ts : List (ℕ × ℤ)) → count ≤ high → AreMultipliers low count ts → AreMultipliers low high ts
-widened low count high [] most are = tt
-widened low count high (t ∷ ts) most are = let below = are.1 in (are.0, omega arith, are.2, widened (t.0 + 1) count high ts most are.3)
+use Rattle.ta_walk.specs.Visit.{LeafAt, LeafOutOfRange}
 
 -- the multipliers of a refuted system are those of a list that can be judged
 pub judgeable : (s : System) (ts : List (ℕ × ℤ)) → variables s < 2 ^ 32 → IsRefuted s ts → AreMultipliers 0 (2 ^ 32) ts
-judgeable s ts few refuted = widened 0 (length s.rows) (2 ^ 32) ts (omega arith) refuted.multipliers.leaf.multipliers
+judgeable s ts few refuted = multipliers-wider 0 (length s.rows) (2 ^ 32) ts (omega arith) refuted.multipliers.leaf.multipliers
 
 -- a leaf whose check stays in range
 pub leaf_at : (search : Search) (w : Pending) (s : System) (ts : List (ℕ × ℤ)) → SystemAt search w s → IsRefuted s ts → CheckStays s ts → LeafAt search w ts
@@ -28,8 +24,8 @@ leaf_at search w s ts is refuted stays = record {
 }
 
 -- and one whose check leaves it
-pub leaf_leaves : (search : Search) (w : Pending) (s : System) (ts : List (ℕ × ℤ)) → SystemAt search w s → IsRefuted s ts → (LeafOf s ts → CheckStays s ts → ⊥) → LeafLeaves search w
-leaf_leaves search w s ts is refuted refused = record {
+pub leaf_out_of_range : (search : Search) (w : Pending) (s : System) (ts : List (ℕ × ℤ)) → SystemAt search w s → IsRefuted s ts → (LeafOf s ts → CheckStays s ts → ⊥) → LeafOutOfRange search w
+leaf_out_of_range search w s ts is refuted refused = record {
   multipliers = ts;
   refuted = record { system = s; is = is; holds = refuted };
   leaves = λ stays. refused refuted.multipliers.leaf (check_stays search w s ts is stays);

@@ -1,16 +1,16 @@
 -- the nodes of a walk are short
-use Rattle.std.proofs.Common.{◌≡◌, ℕ, ◌+◌, ◌*◌, ◌<◌, ◌≤◌, ◌^◌, ℤ, pos, negsuc, ◌≤ℤ◌, ◌<ℤ◌, List, [], ◌∷◌, ◌++◌, length, slice_get, Some, arith, length-append, codes, decimal, lit<}
+use Rattle.std.proofs.Common.{◌≡◌, ℕ, ◌+◌, ◌*◌, ◌<◌, ◌≤◌, ◌^◌, ℤ, List, [], ◌∷◌, ◌++◌, length, slice_get, Some, arith, length-append, codes, decimal, lit<}
 use Rattle.std.specs.Fmt.{signed_decimal}
-use Rattle.std.proofs.lemmas.Fmt.{length-decimal-le_wide}
 use Rattle.std.proofs.lemmas.Int.{ints}
+use Rattle.std.specs.List.{AllByRecursion}
+use Rattle.ta_base.proofs.DecimalDigits.{row_short}
+use Rattle.ta_base.proofs.Integers.{number_short}
 use Rattle.ta_automaton.specs.declared.pattern.Pattern.{Pattern}
 use Rattle.ta_automaton.specs.declared.file.File.{File}
-use Rattle.ta_automaton.specs.Lists.{Each}
-use Rattle.ta_words.specs.Words.{Legal}
+use Rattle.ta_words.specs.Words.{LegalWord}
 use Rattle.ta_cert.specs.declared.line.Node.{Node}
 use Rattle.ta_cert.specs.declared.line.Node.TheVariants as node
-use Rattle.ta_cert.specs.Lines.{pair_text, pairs_text, split_text, IsPair, ArePairs, IsSplit, IsNode}
-use Rattle.ta_cert.proofs.Decimals.{wide}
+use Rattle.ta_cert.specs.Lines.{pair_text, pairs_text, split_text, IsMultiplierPair, ArePairs, IsSplit, IsNode}
 use Rattle.ta_simplex.proofs.FewMultipliers.{few_multipliers}
 use Rattle.ta_walk.specs.Visit.{NodeAt, Visits}
 use Rattle.ta_walk.specs.Ends.{HasFewPairs, IsShort}
@@ -20,21 +20,8 @@ use Rattle.ta_encode.specs.PatternSearch.{pattern_search}
 use Rattle.ta_cursor.proofs.PatternWords.{comes_legal}
 use Rattle.ta_cursor.proofs.RowCounts.{few_unknowns}
 
--- a row or an unknown has at most 10 digits, and a multiplier or a floor at most 39
-pub row_short : (k : ℕ) → k < 2 ^ 32 → length (decimal k) ≤ 10
-row_short k below =
-    let small : 2 ^ 32 < 10 ^ 10 = lit< tt in
-    length-decimal-le_wide 10 k (omega arith) (omega arith) (wide k (2 ^ 32) below (omega arith))
-
-number_short : (z : ℤ) → pos 0 ≤ℤ z → z <ℤ pos (2 ^ 127) → length (signed_decimal z) ≤ 39
-number_short (pos k) low high =
-    let large : 2 ^ 127 < 10 ^ 39 = lit< tt in
-    let below : k < 2 ^ 127 = omega (arith, ints) in
-    length-decimal-le_wide 39 k (omega arith) (omega arith) (wide k (2 ^ 127) below (omega arith))
-number_short (negsuc k) low high = absurd (omega (arith, ints))
-
 -- a pair has at most 51 bytes
-pair_short : (t : ℕ × ℤ) → IsPair t → length (pair_text t) ≤ 51
+pair_short : (t : ℕ × ℤ) → IsMultiplierPair t → length (pair_text t) ≤ 51
 pair_short t is =
     let low = is.low in
     let number = number_short t.1 (omega (arith, ints)) is.high in
@@ -57,12 +44,12 @@ node_short (node.Leaf ts) is few = omega (arith, pairs_short 0 ts is.1, few)
 node_short node.Extend is few = omega arith
 node_short (node.Split unknown floor) is few = omega (arith, split_short unknown floor is)
 
-pub nodes_short : (ns : List Node) → Each IsNode ns → Each HasFewPairs ns → Each IsShort ns
+pub nodes_short : (ns : List Node) → AllByRecursion IsNode ns → AllByRecursion HasFewPairs ns → AllByRecursion IsShort ns
 nodes_short [] are few = tt
 nodes_short (n ∷ ns) are few = (node_short n are.0 few.0, nodes_short ns are.1 few.1)
 
 -- a node that stands at a legal word of a file's pattern has few pairs
-node_few : (file : File) (number : ℕ) (p : Pattern) (pairs : List (ℕ × ℕ)) (w : Pending) (n : Node) → slice_get file.patterns number ≡ Some p → Legal file.automaton p w.start w.past → NodeAt (pattern_search file.automaton p pairs) w n → HasFewPairs n
+node_few : (file : File) (number : ℕ) (p : Pattern) (pairs : List (ℕ × ℕ)) (w : Pending) (n : Node) → slice_get file.patterns number ≡ Some p → LegalWord file.automaton p w.start w.past → NodeAt (pattern_search file.automaton p pairs) w n → HasFewPairs n
 node_few file number p pairs w (node.Leaf ts) at legal stands =
     let s = stands.refuted.system in
     let unknowns = stands.refuted.is.unknowns in
@@ -71,7 +58,7 @@ node_few file number p pairs w node.Extend at legal stands = tt
 node_few file number p pairs w (node.Split unknown floor) at legal stands = tt
 
 -- each node that is visited has few pairs
-pub nodes_few : (file : File) (number : ℕ) (p : Pattern) (pairs : List (ℕ × ℕ)) → slice_get file.patterns number ≡ Some p → (most : ℕ) (ws : List Pending) (ns : List Node) (rest : List Pending) → Each (Waits (pattern_search file.automaton p pairs) most) ws → Visits (pattern_search file.automaton p pairs) ws ns rest → Each HasFewPairs ns
+pub nodes_few : (file : File) (number : ℕ) (p : Pattern) (pairs : List (ℕ × ℕ)) → slice_get file.patterns number ≡ Some p → (most : ℕ) (ws : List Pending) (ns : List Node) (rest : List Pending) → AllByRecursion (Waits (pattern_search file.automaton p pairs) most) ws → Visits (pattern_search file.automaton p pairs) ws ns rest → AllByRecursion HasFewPairs ns
 nodes_few file number p pairs at most ws [] rest all v = tt
 nodes_few file number p pairs at most [] (n ∷ ns) rest all v = absurd v
 nodes_few file number p pairs at most (w ∷ ws) (n ∷ ns) rest all v =

@@ -1,7 +1,6 @@
 -- the nodes of a walk can be written
-use Rattle.std.proofs.Common.{ℕ, ◌+◌, ◌<◌, ◌≤◌, ◌^◌, ℤ, pos, negsuc, ◌<ℤ◌, ◌≤ℤ◌, List, [], ◌∷◌, length, arith, subst}
-use Rattle.std.specs.Prelude.{unsigned_abs}
-use Rattle.std.proofs.lemmas.Int.{ints}
+use Rattle.std.proofs.Common.{ℕ, ◌+◌, ◌<◌, ◌≤◌, ◌^◌, ℤ, List, [], ◌∷◌, length, arith, subst}
+use Rattle.ta_base.proofs.Integers.{below_limit}
 use Rattle.ta_linear.specs.Numbers.{InRange}
 use Rattle.ta_linear.specs.Terms.{coefficient}
 use Rattle.ta_linear.specs.Leaf.{AreMultipliers}
@@ -16,10 +15,6 @@ use Rattle.ta_walk.proofs.SplitsFit.{split_within, split_fits}
 use Rattle.ta_simplex.proofs.MultiplierCoefficients.{coefficient_first, coefficient_after}
 use Rattle.ta_encode.specs.Code.{SystemAt}
 use Rattle.ta_encode.specs.Search.{Pending, Search}
-
-below_limit : (z : ℤ) (limit : ℕ) → pos 1 ≤ℤ z → unsigned_abs z < limit → z <ℤ pos limit
-below_limit (pos n) limit low h = omega (arith, ints, h)
-below_limit (negsuc n) limit low h = absurd (omega (arith, ints, low))
 
 -- multipliers in range are pairs
 pub are_pairs : (low count : ℕ) (ts : List (ℕ × ℤ)) → count ≤ 2 ^ 32 → AreMultipliers low count ts → ((k : ℕ) → low ≤ k → k < count → InRange (coefficient ts k)) → ArePairs low ts

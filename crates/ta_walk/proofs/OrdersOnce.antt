@@ -1,5 +1,6 @@
 -- the orders that are found are one list
 use Rattle.std.proofs.Common.{◌≡◌, inl, inr, ℕ, zero, suc, ℤ, List, [], ◌∷◌, ◌++◌, length, sym, ap, ◌∙◌, subst}
+use Rattle.ta_walk.proofs.DeterminedOutcomes.{multipliers_of}
 use Rattle.ta_linear.specs.declared.row.System.{System}
 use Rattle.ta_automaton.specs.declared.automaton.Automaton.{Automaton}
 use Rattle.ta_cert.specs.declared.line.Order.{Order}
@@ -14,10 +15,7 @@ use Rattle.ta_simplex.specs.Vertex.{IsVertex}
 use Rattle.ta_simplex.specs.declared.fraction.Fraction.{Fraction}
 use Rattle.ta_simplex.proofs.DeterminedEnds.{end_once, none_beside}
 use Rattle.ta_walk.proofs.PairSystems.{check_alike, pair_numbers}
-use Rattle.ta_walk.specs.FoundOrders.{FoundAfter, FoundBefore, FoundOrdersAreDetermined, RefutedPair, Tried}
-
-multipliers_of : (ts us : List (ℕ × ℤ)) → end.Refuted ts ≡ end.Refuted us → ts ≡ us
-multipliers_of ts us e = cc
+use Rattle.ta_walk.specs.FoundOrders.{FoundAfter, FoundBefore, FoundOrdersAreDetermined, RefutedPair, TryAnswers}
 
 -- a pair is refuted with one list of multipliers
 pub refuted_once : (a : Automaton) (before after : ℕ) (ts us : List (ℕ × ℤ)) → RefutedPair a before after ts → RefutedPair a before after us → ts ≡ us
@@ -41,7 +39,7 @@ none_leaves a before after s us is refuted refused ts r =
     let same = multipliers_of ts us (end_once r.system s numbers (end.Refuted ts) (end.Refuted us) r.refuted refuted) in
     refused refuted.multipliers.leaf (subst (CheckStays s) same (check_alike r.system s ts numbers r.stays))
 
-pair_once : (a : Automaton) (orders : List Order) (before after : ℕ) (x y : List Order) → Tried a orders before after x → Tried a orders before after y → x ≡ y
+pair_once : (a : Automaton) (orders : List Order) (before after : ℕ) (x y : List Order) → TryAnswers a orders before after x → TryAnswers a orders before after y → x ≡ y
 pair_once a orders before after x y (inl t) (inl u) =
     let same = refuted_once a before after t.multipliers u.multipliers t.taken.refuted u.taken.refuted in
     t.whole ∙ ap (λ (ts : List (ℕ × ℤ)). orders ++ record { before = before; after = after; multipliers = ts } ∷ []) same ∙ sym u.whole
@@ -53,7 +51,7 @@ before_once : (a : Automaton) (orders : List Order) (after count : ℕ) (x y : L
 before_once a orders after zero x y f g = f ∙ sym g
 before_once a orders after (suc before) x y (next, f, t) (other, g, u) =
     let same = before_once a orders after before next other f g in
-    pair_once a next before after x y t (subst (λ (os : List Order). Tried a os before after y) (sym same) u)
+    pair_once a next before after x y t (subst (λ (os : List Order). TryAnswers a os before after y) (sym same) u)
 
 after_once : (a : Automaton) (count : ℕ) (x y : List Order) → FoundAfter a count x → FoundAfter a count y → x ≡ y
 after_once a zero x y f g = f ∙ sym g

@@ -1,9 +1,9 @@
 -- the orders that are found are those that a judge accepts
 use Rattle.std.proofs.Common.{inl, inr, ℕ, zero, suc, ◌<◌, ◌≤◌, ◌^◌, List, [], ◌∷◌, ◌++◌, length, map, sym, subst, arith, codes, decimal, length-append}
-use Rattle.std.specs.List.{AllByRecursion}
 use Rattle.std.proofs.lemmas.List.{map-append}
+use Rattle.ta_base.proofs.DecimalDigits.{row_short}
+use Rattle.ta_base.proofs.Each.{each_push}
 use Rattle.ta_automaton.specs.declared.automaton.Automaton.{Automaton}
-use Rattle.ta_automaton.specs.Lists.{Each}
 use Rattle.ta_cert.specs.Certificates.{IsOrder, order_lines, pair_of}
 use Rattle.ta_cert.specs.Laws.{AreShort}
 use Rattle.ta_cert.specs.Lines.{line_text, ArePairs}
@@ -11,24 +11,15 @@ use Rattle.ta_cert.specs.Streams.{line_limit}
 use Rattle.ta_cert.specs.declared.line.Line.TheVariants as line
 use Rattle.ta_cert.specs.declared.line.Node.TheVariants as node
 use Rattle.ta_cert.specs.declared.line.Order.{Order}
-use Rattle.ta_implied.specs.Implied.{Good, IsImplied, IsPair, Leads}
+use Rattle.ta_implied.specs.Implied.{Good, IsImplied, IsPair, ChainLeads}
 use Rattle.ta_implied.specs.Orders.{IsShown}
 use Rattle.ta_implied.proofs.Joining.{good_behind}
 use Rattle.ta_simplex.proofs.FewMultipliers.{few_multipliers}
-use Rattle.ta_walk.specs.FoundOrders.{AreSound, FoundAfter, FoundBefore, FoundOrdersAreSound, IsTaken, RefutedPair, Tried}
+use Rattle.ta_walk.specs.FoundOrders.{AreSoundOrders, FoundAfter, FoundBefore, FoundOrdersAreSound, IsTaken, RefutedPair, TryAnswers}
 use Rattle.ta_walk.proofs.TableausInRange.{multipliers_fit}
 use Rattle.ta_walk.proofs.PairSystems.{few_of_pair}
-use Rattle.ta_walk.proofs.NodesShort.{pairs_short, row_short}
+use Rattle.ta_walk.proofs.NodesShort.{pairs_short}
 use Rattle.ta_walk.proofs.NodesWritten.{are_pairs}
-
--- one item more
-pub each_push : {X : Type 0} (P : X → Type 0) (xs : List X) (x : X) → Each P xs → P x → Each P (xs ++ x ∷ [])
-each_push P [] x all is = (is, tt)
-each_push P (y ∷ ys) x all is = (all.0, each_push P ys x all.1 is)
-
-all_push : {X : Type 0} (P : X → Type 0) (xs : List X) (x : X) → AllByRecursion P xs → P x → AllByRecursion P (xs ++ x ∷ [])
-all_push P [] x all is = (is, tt)
-all_push P (y ∷ ys) x all is = (all.0, all_push P ys x all.1 is)
 
 shown_of : (a : Automaton) (o : Order) → RefutedPair a o.before o.after o.multipliers → IsShown a (pair_of o) o.multipliers
 shown_of a o r = record { system = r.system; is = r.is; leaf = r.refuted.multipliers.leaf; stays = r.stays }
@@ -68,26 +59,26 @@ short_push [] o short guards leaf = (guards, (leaf, tt))
 short_push (p ∷ ps) o short guards leaf = (short.0, (short.1.0, short_push ps o short.1.1 guards leaf))
 
 -- one more order
-sound_push : (a : Automaton) (os : List Order) (o : Order) → AreSound a os → IsTaken a os o.before o.after o.multipliers → AreSound a (os ++ o ∷ [])
+sound_push : (a : Automaton) (os : List Order) (o : Order) → AreSoundOrders a os → IsTaken a os o.before o.after o.multipliers → AreSoundOrders a (os ++ o ∷ [])
 sound_push a os o sound taken =
     let r = taken.refuted in
     let is = order_of a o taken.may.is r in
     record {
       good = subst (Good a) (sym (map-append pair_of os (o ∷ []))) (good_behind a (map pair_of os) (pair_of o) sound.good taken.may (implied_of a o r));
       shown = each_push (λ (p : Order). IsShown a (pair_of p) p.multipliers) os o sound.shown (shown_of a o r);
-      writable = all_push IsOrder os o sound.writable is;
+      writable = each_push IsOrder os o sound.writable is;
       short = short_push os o sound.short (guards_short o is) (leaf_short a o r);
     }
 
-tried_sound : (a : Automaton) (os : List Order) (before after : ℕ) (found : List Order) → AreSound a os → Tried a os before after found → AreSound a found
-tried_sound a os before after found sound (inl t) = subst (AreSound a) (sym t.whole) (sound_push a os (record { before = before; after = after; multipliers = t.multipliers }) sound t.taken)
-tried_sound a os before after found sound (inr t) = subst (AreSound a) (sym t.same) sound
+tried_sound : (a : Automaton) (os : List Order) (before after : ℕ) (found : List Order) → AreSoundOrders a os → TryAnswers a os before after found → AreSoundOrders a found
+tried_sound a os before after found sound (inl t) = subst (AreSoundOrders a) (sym t.whole) (sound_push a os (record { before = before; after = after; multipliers = t.multipliers }) sound t.taken)
+tried_sound a os before after found sound (inr t) = subst (AreSoundOrders a) (sym t.same) sound
 
-before_sound : (a : Automaton) (os : List Order) (after count : ℕ) (found : List Order) → AreSound a os → FoundBefore a os after count found → AreSound a found
-before_sound a os after zero found sound f = subst (AreSound a) (sym f) sound
+before_sound : (a : Automaton) (os : List Order) (after count : ℕ) (found : List Order) → AreSoundOrders a os → FoundBefore a os after count found → AreSoundOrders a found
+before_sound a os after zero found sound f = subst (AreSoundOrders a) (sym f) sound
 before_sound a os after (suc before) found sound (next, f, t) = tried_sound a next before after found (before_sound a os after before next sound f) t
 
-none_sound : (a : Automaton) → AreSound a []
+none_sound : (a : Automaton) → AreSoundOrders a []
 none_sound a = record {
   good = record { pairs_are = tt; implied = tt; distinct = tt; acyclic = λ more guard leads. nothing more guard guard leads };
   shown = tt;
@@ -95,12 +86,12 @@ none_sound a = record {
   short = tt;
 }
   where
-    nothing : (more first last : ℕ) → Leads [] more first last → ⊥
+    nothing : (more first last : ℕ) → ChainLeads [] more first last → ⊥
     nothing zero first last leads = leads
     nothing (suc more) first last leads = leads.1
 
-after_sound : (a : Automaton) (count : ℕ) (found : List Order) → FoundAfter a count found → AreSound a found
-after_sound a zero found f = subst (AreSound a) (sym f) (none_sound a)
+after_sound : (a : Automaton) (count : ℕ) (found : List Order) → FoundAfter a count found → AreSoundOrders a found
+after_sound a zero found f = subst (AreSoundOrders a) (sym f) (none_sound a)
 after_sound a (suc after) found (next, f, t) = before_sound a next after (length a.rise) found (after_sound a after next f) t
 
 pub orders_sound : FoundOrdersAreSound

@@ -1,15 +1,15 @@
 -- two parts of a visit, one behind the other
-use Rattle.std.proofs.Common.{◌≡◌, ℕ, ◌≤◌, List, [], ◌∷◌, ◌++◌, arith, refl, sym, subst, append_assoc, append-nil}
+use Rattle.std.proofs.Common.{◌≡◌, ℕ, ◌≤◌, List, [], ◌∷◌, ◌++◌, refl, sym, subst, append_assoc}
 use Rattle.ta_cert.specs.declared.line.Node.{Node}
 use Rattle.ta_encode.specs.Search.{Pending, Search}
 use Rattle.ta_cursor.specs.Cursors.{left_at}
 use Rattle.ta_cursor.specs.declared.cursor.Cursor.{Cursor}
-use Rattle.ta_walk.specs.Visit.{LeavesAt}
-use Rattle.ta_walk.specs.Ends.{IsSpent, IsTreeEnd, NodeOf, TreeKept, Visited, WholeWord}
+use Rattle.ta_walk.specs.Visit.{IsOutOfRangeAt}
+use Rattle.ta_walk.specs.Ends.{IsSpent, IsTreeEnd, NodeOf, TreeKept, IsVisited, WholeWord}
 use Rattle.ta_walk.specs.declared.end.TreeEnd.{TreeEnd}
 use Rattle.ta_walk.specs.declared.end.TreeEnd.TheVariants as tree
-use Rattle.ta_walk.specs.Inside.Parts.{Begins, IsNotRefuted, IsWholeEnd, LeadsToBoth, PartEnds, PartVisited, beginning, behind}
-use Rattle.ta_walk.proofs.SearchesMoved.{moved_leaves, moved_visits, moved_whole}
+use Rattle.ta_walk.specs.Inside.Parts.{IsLaterKeeper, IsNotRefuted, IsWholeEnd, LeadsToBoth, PartEnds, PartVisited, beginning, behind}
+use Rattle.ta_walk.proofs.SearchesMoved.{moved_out_of_range, moved_visits, moved_whole}
 use Rattle.ta_walk.proofs.VisitsJoined.{visits_before}
 use Rattle.ta_walk.proofs.EndsBehind.{LeadsTo, end_behind}
 
@@ -23,7 +23,7 @@ leads_to Keeps s ws vs nodes count leaves t = record {
 
 -- a refuted part, and one behind it, whatever budget it had
 pub merged_parts : {K : Type 0} (Keeps : K → K → List Node → Type 0) (begins : K → K → Type 0) (s : Search) (ws vs : List Pending) (nodes later count leaves : ℕ) (begun late first second kept : K) (end : TreeEnd)
-    → PartVisited Keeps (beginning s ws) nodes begun first (tree.Refuted count leaves) → PartVisited Keeps (beginning s vs) later late second end → Begins begins Keeps begun late
+    → PartVisited Keeps (beginning s ws) nodes begun first (tree.Refuted count leaves) → PartVisited Keeps (beginning s vs) later late second end → IsLaterKeeper begins Keeps begun late
     → ((f b : K) (ns ms : List Node) → Keeps f first ns → begins f b → Keeps b second ms → Keeps f kept (ns ++ ms))
     → PartVisited Keeps (beginning s (ws ++ vs)) nodes begun kept (behind nodes count leaves end)
 merged_parts Keeps begins s ws vs nodes later count leaves begun late first second kept end one other fresh append = λ f before has.
@@ -47,7 +47,7 @@ shared_part Keeps s words first later nodes left count leaves begun taken kept e
     (both f (before ++ t.nodes) t.kept)
 
 -- where a part isn't refuted, what comes behind it doesn't matter
-visited_before : (s : Search) (ws vs : List Pending) (count : ℕ) (w : Pending) → Visited (beginning s ws) count w → Visited (beginning s (ws ++ vs)) count w
+visited_before : (s : Search) (ws vs : List Pending) (count : ℕ) (w : Pending) → IsVisited (beginning s ws) count w → IsVisited (beginning s (ws ++ vs)) count w
 visited_before s ws vs count w v = record {
   nodes = v.nodes;
   words = v.words ++ vs;
@@ -72,20 +72,11 @@ end_before s ws vs budget Keeps (tree.Found count start word values) decides is 
     (λ w at. record { start_is = at.start_is; word_is = at.word_is; whole = moved_whole s ws (ws ++ vs) w values at.whole }) is
 end_before s ws vs budget Keeps (tree.Spent count) decides is = record { counted = refl; word = is.word; visited = visited_before s ws vs count is.word is.visited }
 end_before s ws vs budget Keeps (tree.Overflow node kind) decides is =
-    node_before s ws vs budget node (λ w. LeavesAt (beginning s ws) w kind) (λ w. LeavesAt (beginning s (ws ++ vs)) w kind) (λ w at. moved_leaves s ws (ws ++ vs) w kind at) is
+    node_before s ws vs budget node (λ w. IsOutOfRangeAt (beginning s ws) w kind) (λ w. IsOutOfRangeAt (beginning s (ws ++ vs)) w kind) (λ w at. moved_out_of_range s ws (ws ++ vs) w kind at) is
 
 pub decided_part : {K : Type 0} (Keeps : K → K → List Node → Type 0) (s : Search) (ws vs : List Pending) (nodes : ℕ) (begun kept : K) (end : TreeEnd) → IsNotRefuted end
     → PartVisited Keeps (beginning s ws) nodes begun kept end → PartVisited Keeps (beginning s (ws ++ vs)) nodes begun kept end
 decided_part Keeps s ws vs nodes begun kept end decides one = λ f before has. end_before s ws vs nodes (λ ms. Keeps f kept (before ++ ms)) end decides (one f before has)
-
--- no word
-pub no_part : {K : Type 0} (Keeps : K → K → List Node → Type 0) (s : Search) (nodes : ℕ) (begun : K) → PartVisited Keeps (beginning s []) nodes begun begun (tree.Refuted 0 0)
-no_part Keeps s nodes begun = λ f before has. record {
-  nodes = [];
-  is = record { visits = refl; counted = refl; within = omega arith };
-  counted = refl;
-  kept = subst (Keeps f begun) (sym (append-nil before)) has;
-}
 
 -- what is kept may be said otherwise, of an end that is whole
 kept_otherwise : (s : Search) (budget : ℕ) (Keeps Kept : List Node → Type 0) (end : TreeEnd) → IsWholeEnd budget end → ((ms : List Node) → Keeps ms → Kept ms) → PartEnds s budget Keeps end → IsTreeEnd s budget Kept end
@@ -95,7 +86,7 @@ kept_otherwise s budget Keeps Kept (tree.Spent count) whole on is = subst (λ (k
 kept_otherwise s budget Keeps Kept (tree.Overflow node kind) whole on is = is
 
 -- a visit of all words, whose nodes went to a keeper of their own
-pub whole_visited : {K : Type 0} (Keeps : K → K → List Node → Type 0) (begins : K → K → Type 0) (s : Search) (words : List Pending) (nodes : ℕ) (begun late part kept : K) (end : TreeEnd) → words ≡ s.roots → Keeps begun begun [] → Begins begins Keeps begun late
+pub whole_visited : {K : Type 0} (Keeps : K → K → List Node → Type 0) (begins : K → K → Type 0) (s : Search) (words : List Pending) (nodes : ℕ) (begun late part kept : K) (end : TreeEnd) → words ≡ s.roots → Keeps begun begun [] → IsLaterKeeper begins Keeps begun late
     → ((f b : K) (ns ms : List Node) → Keeps f begun ns → begins f b → Keeps b part ms → Keeps f kept (ns ++ ms)) → IsWholeEnd nodes end
     → PartVisited Keeps (beginning s words) nodes late part end → IsTreeEnd s nodes (Keeps begun kept) end
 whole_visited Keeps begins s words nodes begun late part kept end all keeps fresh append whole visited =

@@ -1,7 +1,7 @@
 -- the nodes of a walk that refutes a pattern are a proof of it
 use Rattle.std.proofs.Common.{◌≡◌, ℕ, ◌+◌, ◌≤◌, List, [], ◌∷◌, ◌++◌, length, Some, slice_get, arith, sym}
+use Rattle.std.specs.List.{AllByRecursion}
 use Rattle.ta_automaton.specs.declared.file.File.{File}
-use Rattle.ta_automaton.specs.Lists.{Each}
 use Rattle.ta_cert.specs.declared.line.Node.{Node}
 use Rattle.ta_cert.specs.declared.line.Node.TheVariants as node
 use Rattle.ta_cert.specs.Lines.{IsNode}
@@ -36,7 +36,7 @@ refuted_in_order s [] (n ∷ ns) v = absurd v
 refuted_in_order s (w ∷ ws) (n ∷ ns) v = (may_stand s w n v.0, refuted_in_order s (parts s w n ++ ws) ns v.1)
 
 -- each node that is visited within the budget can be written
-nodes_written : (file : File) (number : ℕ) (p : Pattern) (pairs : List (ℕ × ℕ)) → slice_get file.patterns number ≡ Some p → (most : ℕ) (ws : List Pending) (ns : List Node) (rest : List Pending) → most + length ns ≤ 1000000000 → Each (Waits (pattern_search file.automaton p pairs) most) ws → Visits (pattern_search file.automaton p pairs) ws ns rest → Each IsNode ns
+nodes_written : (file : File) (number : ℕ) (p : Pattern) (pairs : List (ℕ × ℕ)) → slice_get file.patterns number ≡ Some p → (most : ℕ) (ws : List Pending) (ns : List Node) (rest : List Pending) → most + length ns ≤ 1000000000 → AllByRecursion (Waits (pattern_search file.automaton p pairs) most) ws → Visits (pattern_search file.automaton p pairs) ws ns rest → AllByRecursion IsNode ns
 nodes_written file number p pairs at most ws [] rest budget all v = tt
 nodes_written file number p pairs at most [] (n ∷ ns) rest budget all v = absurd v
 nodes_written file number p pairs at most (w ∷ ws) (n ∷ ns) rest budget all v =

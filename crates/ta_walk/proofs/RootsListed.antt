@@ -1,16 +1,17 @@
 -- lists of words with which trees begin
 use Rattle.std.proofs.lemmas.List.{append_assoc, append-nil, map-append, take-append-drop}
-use Rattle.std.proofs.Common.{◌≡◌, ℕ, zero, suc, ◌<◌, ◌≤◌, ◌^◌, List, [], ◌∷◌, ◌++◌, length, length-append, map, drop, take, reverse, slice_get, Some, None, arith, refl, sym, ap, ◌∙◌, subst}
-use Rattle.ta_automaton.specs.Lists.{Each}
+use Rattle.std.proofs.Common.{◌≡◌, ℕ, ◌<◌, ◌≤◌, ◌^◌, List, [], ◌∷◌, ◌++◌, length, length-append, map, drop, take, reverse, slice_get, Some, None, arith, refl, sym, ap, ◌∙◌, subst}
+use Rattle.std.specs.List.{AllByRecursion}
+use Rattle.ta_base.proofs.Each.{each_push}
+use Rattle.ta_base.proofs.Lists.{next_dropped, none_dropped}
+use Rattle.ta_base.proofs.Members.{in_at}
 use Rattle.ta_encode.specs.Search.{Pending, Search}
 use Rattle.ta_cursor.specs.TreeCalls.{RootIs}
-use Rattle.ta_cursor.specs.Cursors.{IsFirst, Within, left_at}
+use Rattle.ta_cursor.specs.Cursors.{IsAtRoot, Within, left_at}
 use Rattle.ta_cursor.specs.declared.cursor.Cursor.{Cursor}
 use Rattle.ta_cursor.specs.declared.root.Root.{Root}
 use Rattle.ta_cursor.proofs.Beginning.{at_word, comes_first}
-use Rattle.ta_cursor.proofs.FramesKept.{next_dropped, none_dropped}
-use Rattle.ta_cursor.proofs.FramesParts.{in_at}
-use Rattle.ta_walk.specs.Inside.Parts.{ComesTo, HasFewBounds, Stands, root_word}
+use Rattle.ta_walk.specs.Inside.Parts.{ComesTo, HasFewBounds, HasFewLeft, root_word}
 use Rattle.ta_walk.proofs.WordSoFar.{pending_is}
 
 -- the search comes to a word with which it begins
@@ -18,31 +19,24 @@ pub root_comes : (s : Search) (number : ℕ) (root : Root) → RootIs s number r
 root_comes s number root is = comes_first s root.start_mask (reverse root.word) (root_word root, in_at s.roots number (root_word root) is.is, refl, refl)
 
 -- the cursor at the first node of its tree leaves that word alone
-pub root_left : (s : Search) (root : Root) (c : Cursor) → ComesTo s root → IsFirst c (root_word root) → left_at s c ≡ root_word root ∷ []
+pub root_left : (s : Search) (root : Root) (c : Cursor) → ComesTo s root → IsAtRoot c (root_word root) → left_at s c ≡ root_word root ∷ []
 root_left s root c comes is = sym (pending_is s c (root_word root ∷ []) (at_word s c (root_word root) is (record { comes = comes; bounds = tt })))
 
-pub root_stands : (s : Search) (root : Root) (c : Cursor) (nodes : ℕ) → ComesTo s root → IsFirst c (root_word root) → nodes ≤ 1000000000 → Stands s nodes c
+pub root_stands : (s : Search) (root : Root) (c : Cursor) (nodes : ℕ) → ComesTo s root → IsAtRoot c (root_word root) → nodes ≤ 1000000000 → HasFewLeft s nodes c
 root_stands s root c nodes comes is limit =
     let left = sym (root_left s root c comes is) in
     record {
       within = subst (Within s c) left (at_word s c (root_word root) is (record { comes = comes; bounds = tt }));
       most = 0;
       room = omega arith;
-      few = subst (Each (HasFewBounds 0)) left (omega arith, tt);
+      few = subst (AllByRecursion (HasFewBounds 0)) left (omega arith, tt);
     }
 
 -- the first so many words of a list
 pub record Listed (s : Search) (all : List Pending) (roots : List Root) : Type 0 where
   pub words : map root_word roots ++ drop (length roots) all ≡ all
-  pub come : Each (ComesTo s) roots
+  pub come : AllByRecursion (ComesTo s) roots
   pub few : length roots ≤ 2 ^ 31
-
-pub none_listed : (s : Search) (all : List Pending) → Listed s all []
-none_listed s all = record { words = refl; come = tt; few = omega arith }
-
-each_more : (P : Root → Type 0) (xs : List Root) (x : Root) → Each P xs → P x → Each P (xs ++ x ∷ [])
-each_more P [] x all one = (one, tt)
-each_more P (y ∷ ys) x all one = (all.0, each_more P ys x all.1 one)
 
 -- one more
 pub listed_more : (s : Search) (all : List Pending) (roots : List Root) (root : Root) → Listed s all roots → slice_get all (length roots) ≡ Some (root_word root) → ComesTo s root → length roots < 2 ^ 31 → Listed s all (roots ++ root ∷ [])
@@ -56,7 +50,7 @@ listed_more s all roots root so at comes small =
           ∙ ap (λ (k : ℕ). map root_word roots ++ (root_word root ∷ drop k all)) n
           ∙ ap (λ (ws : List Pending). map root_word roots ++ ws) (sym next)
           ∙ so.words;
-      come = each_more (ComesTo s) roots root so.come comes;
+      come = each_push (ComesTo s) roots root so.come comes;
       few = omega arith;
     }
 
@@ -64,17 +58,6 @@ listed_more s all roots root so at comes small =
 pub all_listed : (s : Search) (all : List Pending) (roots : List Root) → Listed s all roots → slice_get all (length roots) ≡ None → map root_word roots ≡ all
 all_listed s all roots so none =
     sym (append-nil (map root_word roots)) ∙ ap (λ (ws : List Pending). map root_word roots ++ ws) (sym (none_dropped all (length roots) none)) ∙ so.words
-
--- the halves of a list
-pub each_taken : (P : Root → Type 0) (k : ℕ) (xs : List Root) → Each P xs → Each P (take k xs)
-each_taken P zero xs all = tt
-each_taken P (suc k) [] all = tt
-each_taken P (suc k) (x ∷ xs) all = (all.0, each_taken P k xs all.1)
-
-pub each_dropped : (P : Root → Type 0) (k : ℕ) (xs : List Root) → Each P xs → Each P (drop k xs)
-each_dropped P zero xs all = all
-each_dropped P (suc k) [] all = tt
-each_dropped P (suc k) (x ∷ xs) all = each_dropped P k xs all.1
 
 pub halves_listed : (k : ℕ) (xs ys zs : List Root) → ys ≡ take k xs → zs ≡ drop k xs → map root_word ys ++ map root_word zs ≡ map root_word xs
 halves_listed k xs ys zs low high =

@@ -3,14 +3,14 @@ use Rattle.std.proofs.Common.{◌≡◌, ℕ, zero, suc, ◌+◌, ◌*◌, ◌^�
 use Rattle.std.specs.Prelude.{IsSomeAnd, unsigned_abs}
 use Rattle.std.proofs.lemmas.Int.{ints}
 use Rattle.std.proofs.lemmas.List.{length-map}
-use Rattle.std.specs.List.{take-map}
+use Rattle.std.specs.List.{take-map, AllByRecursion}
+use Rattle.ta_base.proofs.Each.{first_ones}
 use Rattle.ta_linear.specs.Numbers.{InRange}
 use Rattle.ta_linear.specs.declared.row.System.{System}
 use Rattle.ta_automaton.specs.declared.automaton.Automaton.{Automaton}
-use Rattle.ta_automaton.specs.Lists.{Each}
 use Rattle.ta_encode.specs.Code.{SystemAt}
 use Rattle.ta_encode.specs.Sample.{HasStart, sample_meanings, sample_rows, sample_search, sampled}
-use Rattle.ta_encode.specs.Search.{Pending, SolvesAt, rows_of}
+use Rattle.ta_encode.specs.Search.{Pending, SolvesAt, bounded_rows}
 use Rattle.ta_encode.specs.declared.meaning.Bound.{Bound}
 use Rattle.ta_encode.specs.System.{bound_row, condition_rows, opposite, processes_row}
 use Rattle.ta_encode.proofs.CodeRows.{rows_count}
@@ -21,10 +21,10 @@ use Rattle.ta_cursor.specs.Range.{IsJudged}
 use Rattle.ta_simplex.specs.declared.fraction.Fraction.{Fraction}
 use Rattle.ta_walk.specs.declared.end.SampleEnd.{SampleEnd}
 use Rattle.ta_walk.specs.declared.end.SampleEnd.TheVariants.{Sample, Empty, Spent, Overflow}
-use Rattle.ta_walk.specs.Ends.{Ending, IsEnding}
+use Rattle.ta_walk.specs.Ends.{Ending, IsVisitEnding}
 use Rattle.ta_walk.specs.Ends.Ending.{Whole, Solved, Stopped, Left}
 use Rattle.ta_walk.specs.Samples.{IsSampleEnd, SampleAt, SampleEndsAreDetermined, SampleFound, SampleRefuted, SamplesAreReal}
-use Rattle.ta_walk.specs.Visit.{AreNumbers, IsNumber, WholeAt}
+use Rattle.ta_walk.specs.Visit.{AreNumbers, IsWholeNumber, WholeAt}
 use Rattle.ta_walk.proofs.DeterminedEnds.{endings_once, node_with}
 use Rattle.ta_walk.proofs.ProofsMade.{refuted_in_order}
 use Rattle.ta_walk.proofs.SplitsFit.{vertex_in_range}
@@ -42,7 +42,7 @@ pub sample_small : (a : Automaton) (bounds : List Bound) (system : System) → S
 sample_small a bounds system is =
     let unknowns = is.unknowns in
     let few = sample_few a in
-    omega (arith, rows_count (rows_of (sample_search a) (sampled bounds)) system.rows is.rows, length-append (sample_rows a) (map bound_row bounds), length-map bounds bound_row, sample_rows_few a)
+    omega (arith, rows_count (bounded_rows (sample_search a) (sampled bounds)) system.rows is.rows, length-append (sample_rows a) (map bound_row bounds), length-map bounds bound_row, sample_rows_few a)
 
 -- a solution with bounds is one without
 without_bounds : (a : Automaton) (w : Pending) (vs : List ℕ) → SolvesAt (sample_search a) w vs → SolvesAt (sample_search a) (sampled []) vs
@@ -63,7 +63,7 @@ refuted_starts a budget refuted =
     none_starts a (IsJudged s) (λ w ts judged. judged.leaf) refuted.nodes (refuted_in_order s s.roots refuted.nodes refuted.tree.visits)
 
 -- a natural number whose fraction is in range is below 2^127
-small : (n : ℕ) (f : Fraction) → IsNumber (pos n) f → InRange f.top → n < 2 ^ 127
+small : (n : ℕ) (f : Fraction) → IsWholeNumber (pos n) f → InRange f.top → n < 2 ^ 127
 small n f is fits = of_bottom f.bottom f.positive is fits
   where
     of_bottom : (b : ℤ) → pos 0 <ℤ b → f.top ≡ (pos n *ℤ b) → InRange f.top → n < 2 ^ 127
@@ -75,19 +75,14 @@ small n f is fits = of_bottom f.bottom f.positive is fits
         omega arith
     of_bottom (negsuc m) positive e h = absurd (omega (arith, ints))
 
-all_small : (values : List Fraction) (ns : List ℕ) → AreNumbers values (map pos ns) → ((x : ℕ) → x < length values → IsSomeAnd (slice_get values x) (λ f. InRange f.top)) → Each (λ n. n < 2 ^ 127) ns
+all_small : (values : List Fraction) (ns : List ℕ) → AreNumbers values (map pos ns) → ((x : ℕ) → x < length values → IsSomeAnd (slice_get values x) (λ f. InRange f.top)) → AllByRecursion (λ n. n < 2 ^ 127) ns
 all_small [] [] are fits = tt
 all_small [] (n ∷ ns) are fits = absurd are
 all_small (f ∷ fs) [] are fits = tt
 all_small (f ∷ fs) (n ∷ ns) are fits = (small n f are.0 (fits 0 (omega arith)), all_small fs ns are.1 (λ x b. fits (suc x) (omega arith)))
 
-first_ones : (n : ℕ) (P : ℕ → Type 0) (xs : List ℕ) → Each P xs → Each P (take n xs)
-first_ones zero P xs are = tt
-first_ones (suc n) P [] are = tt
-first_ones (suc n) P (x ∷ xs) are = (are.0, first_ones n P xs are.1)
-
 -- the values of a sample are below 2^127
-pub found_small : (a : Automaton) (budget : ℕ) (parameters : List ℤ) (found : SampleFound a budget parameters) → Each (λ n. n < 2 ^ 127) (found_starts a budget parameters found).0
+pub found_small : (a : Automaton) (budget : ℕ) (parameters : List ℤ) (found : SampleFound a budget parameters) → AllByRecursion (λ n. n < 2 ^ 127) (found_starts a budget parameters found).0
 unfolding found_starts
 found_small a budget parameters found =
     let at = found.node.holds in
@@ -107,7 +102,7 @@ ending_of a budget Empty h = Whole h.nodes h.count
 ending_of a budget (Spent count) h = Stopped count
 ending_of a budget (Overflow node kind) h = Left node kind
 
-is_ending : (a : Automaton) (budget : ℕ) (e : SampleEnd) (h : IsSampleEnd a budget e) → IsEnding (sample_search a) budget (ending_of a budget e h)
+is_ending : (a : Automaton) (budget : ℕ) (e : SampleEnd) (h : IsSampleEnd a budget e) → IsVisitEnding (sample_search a) budget (ending_of a budget e h)
 is_ending a budget (Sample parameters) h = node_with (sample_search a) budget h.number (SampleAt a parameters) (λ w. (w ≡ h.node.word) × WholeAt (sample_search a) w h.node.holds.values) h.node (refl, h.node.holds.whole)
 is_ending a budget Empty h = h.tree
 is_ending a budget (Spent count) h = h

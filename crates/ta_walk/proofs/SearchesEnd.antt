@@ -4,10 +4,11 @@ use Rattle.std.specs.Prelude.{IsSomeAnd}
 use Rattle.std.specs.Int.{int_div_euclid, int_rem_euclid}
 use Rattle.std.proofs.lemmas.Bool.{true≢false}
 use Rattle.std.proofs.lemmas.Int.{ints}
-use Rattle.ta_linear.proofs.Floor.{floor_low, floor_high}
+use Rattle.std.specs.List.{AllByRecursion}
+use Rattle.ta_base.proofs.Each.{each_append}
+use Rattle.ta_base.proofs.Integers.{floor_high, floor_low}
 use Rattle.ta_linear.specs.declared.row.System.{System}
-use Rattle.ta_automaton.specs.Lists.{Each}
-use Rattle.ta_automaton.specs.Masks.{In}
+use Rattle.ta_base.specs.Masks.{In}
 use Rattle.ta_cert.specs.declared.line.Node.{Node}
 use Rattle.ta_cert.specs.declared.line.Node.TheVariants as node
 use Rattle.ta_words.specs.declared.element.Element.{Element}
@@ -27,14 +28,13 @@ use Rattle.ta_simplex.proofs.RunEndings.{run_ends}
 use Rattle.ta_simplex.proofs.SystemEnds.{end_exists}
 use Rattle.ta_walk.specs.declared.end.PlaceKind.TheVariants as kind
 use Rattle.ta_walk.specs.Answers.{HasSystems, HasEnding, SearchesHaveEnds}
-use Rattle.ta_walk.specs.Ends.{Whole, Solved, Stopped, Left, IsUnbounded, Visited}
+use Rattle.ta_walk.specs.Ends.{Whole, Solved, Stopped, Left, IsUnbounded, IsVisited}
 use Rattle.ta_walk.specs.Visit.{AreNumbers, IsAbove, IsWhole, NodeAt, SplitsAt, Visits}
 use Rattle.ta_walk.proofs.SplitsFit.{split_within, split_floor}
 use Rattle.ta_walk.proofs.Vertices.{rest_above, rest_whole}
 use Rattle.ta_walk.proofs.WalkSoFar.{visits_more}
 
 -- ---- the values of a vertex are all whole, or there is a first one that isn't
-
 whole_or_above : (f : Fraction) → IsWhole f ⊎ ((floor : ℤ) × IsAbove floor f)
 whole_or_above f = of_rest (int_rem_euclid f.top f.bottom) refl
   where
@@ -75,10 +75,6 @@ record Lives (s : Search) (w : Pending) : Type 0 where
   bounds : BoundsWithin (s.unknowns w.start w.past) w.bounds
   open_ : IsUnbounded w ⊎ (s.complete w.start w.past ≡ true)
 
-each_append : {X : Type 0} (P : X → Type 0) (xs ys : List X) → Each P xs → Each P ys → Each P (xs ++ ys)
-each_append P [] ys h g = g
-each_append P (x ∷ xs) ys h g = (h.0, each_append P xs ys h.1 g)
-
 unbounded_within : (n : ℕ) (w : Pending) → IsUnbounded w → BoundsWithin n w.bounds
 unbounded_within n w none = subst (BoundsWithin n) (sym none) tt
 
@@ -89,11 +85,11 @@ root_lives s w is none = record {
   open_ = inl none;
 }
 
-roots_live : (s : Search) (ws : List Pending) → ((w : Pending) → In w ws → In w s.roots) → Each IsUnbounded ws → Each (Lives s) ws
+roots_live : (s : Search) (ws : List Pending) → ((w : Pending) → In w ws → In w s.roots) → AllByRecursion IsUnbounded ws → AllByRecursion (Lives s) ws
 roots_live s [] inside all = tt
 roots_live s (w ∷ ws) inside all = (root_lives s w (inside w (inl (let same : w ≡ w = refl in same))) all.0, roots_live s ws (λ v is. inside v (inr is)) all.1)
 
-longer_lives : (s : Search) (w : Pending) → Comes s w.start w.past → IsUnbounded w → (es : List Element) → ((e : Element) → In e es → In e (s.following w.start w.past)) → Each (Lives s) (map (longer w) es)
+longer_lives : (s : Search) (w : Pending) → Comes s w.start w.past → IsUnbounded w → (es : List Element) → ((e : Element) → In e es → In e (s.following w.start w.past)) → AllByRecursion (Lives s) (map (longer w) es)
 longer_lives s w comes none [] inside = tt
 longer_lives s w comes none (e ∷ es) inside = (
   record {
@@ -114,7 +110,7 @@ bounded_lives s w b lives within complete = record {
   open_ = inr complete;
 }
 
-parts_live : (s : Search) (w : Pending) (n : Node) → Lives s w → NodeAt s w n → Each (Lives s) (parts s w n)
+parts_live : (s : Search) (w : Pending) (n : Node) → Lives s w → NodeAt s w n → AllByRecursion (Lives s) (parts s w n)
 parts_live s w (node.Leaf ts) lives stands = tt
 parts_live s w node.Extend lives stands = longer_lives s w lives.comes (is_unbounded s w lives stands.going_on) (s.following w.start w.past) (λ e is. is)
 parts_live s w (node.Split unknown floor) lives stands =
@@ -131,7 +127,7 @@ system_ends s no_end no_overflow = run_ends s (λ r. no_end (end_exists s r.0 r.
 
 module _ (s : Search) (has : HasSystems s) (budget : ℕ) (none : ¬ HasEnding s budget) where
   -- at a word before which so many nodes were visited, within the budget
-  module _ (w : Pending) (lives : Lives s w) (done : ℕ) (within : done < budget) (visited : Visited s done w) (next : (n : Node) → NodeAt s w n → ⊥) where
+  module _ (w : Pending) (lives : Lives s w) (done : ℕ) (within : done < budget) (visited : IsVisited s done w) (next : (n : Node) → NodeAt s w n → ⊥) where
     at_vertex : (system : System) → SystemAt s w system → (values : List Fraction) → IsSystemEnd system (end.Vertex values) → (b : Bool) → s.complete w.start w.past ≡ b → ⊥
     at_vertex system is values vertex false going = next node.Extend (record { values = values; vertex = record { system = system; is = is; holds = vertex }; going_on = going })
     at_vertex system is values vertex true complete = elim (numbers_or_split values) [
@@ -188,7 +184,7 @@ module _ (s : Search) (has : HasSystems s) (budget : ℕ) (none : ¬ HasEnding s
         let system = has.systems w lives.comes lives.bounds in
         system_ends system.0 (λ e. at_end system.0 system.1 e.0 e.1) (at_overflow system.0 system.1)
 
-  go : (left done : ℕ) (ns : List Node) (ws : List Pending) → Visits s s.roots ns ws → length ns ≡ done → done + left ≡ budget → Each (Lives s) ws → ⊥
+  go : (left done : ℕ) (ns : List Node) (ws : List Pending) → Visits s s.roots ns ws → length ns ≡ done → done + left ≡ budget → AllByRecursion (Lives s) ws → ⊥
   go left done ns [] visits counted all lives = none (Whole ns (length ns), record { visits = visits; counted = refl; within = omega arith })
   go zero done ns (w ∷ ws) visits counted all lives = none (Stopped budget, record { counted = refl; word = w; visited = record { nodes = ns; words = ws; visits = visits; counted = omega arith } })
   go (suc left) done ns (w ∷ ws) visits counted all lives =

@@ -10,7 +10,7 @@ use Rattle.ta_simplex.specs.Vertex.{IsVertex}
 use Rattle.ta_dense.specs.Slack.{slack_tableau}
 use Rattle.ta_walk.specs.declared.end.PlaceKind.{PlaceKind}
 use Rattle.ta_walk.specs.declared.end.PlaceKind.TheVariants as kind
-use Rattle.ta_walk.specs.Visit.{LeavesAt, NodeAt, OfSystem, Visits, WholeAt}
+use Rattle.ta_walk.specs.Visit.{IsOutOfRangeAt, NodeAt, OfSystem, Visits, WholeAt}
 use Rattle.ta_walk.specs.Inside.Parts.{beginning}
 
 moved_system : (s : Search) (us vs : List Pending) (w : Pending) (fact : System → Type 0) → OfSystem (beginning s us) w fact → OfSystem (beginning s vs) w fact
@@ -28,10 +28,10 @@ moved_node s us vs w (node.Split unknown floor) at = record { values = at.values
 pub moved_whole : (s : Search) (us vs : List Pending) (w : Pending) (numbers : List ℤ) → WholeAt (beginning s us) w numbers → WholeAt (beginning s vs) w numbers
 moved_whole s us vs w numbers at = record { values = at.values; vertex = moved_system s us vs w (λ system. IsVertex system at.values) at.vertex; complete = at.complete; whole = at.whole }
 
-pub moved_leaves : (s : Search) (us vs : List Pending) (w : Pending) (k : PlaceKind) → LeavesAt (beginning s us) w k → LeavesAt (beginning s vs) w k
-moved_leaves s us vs w (kind.Pivot count) at = moved_system s us vs w (λ system. OverflowsAt (slack_tableau system) count) at
-moved_leaves s us vs w kind.Leaf at = record { multipliers = at.multipliers; refuted = moved_system s us vs w (λ system. IsRefuted system at.multipliers) at.refuted; leaves = at.leaves }
-moved_leaves s us vs w kind.Run at = at
+pub moved_out_of_range : (s : Search) (us vs : List Pending) (w : Pending) (k : PlaceKind) → IsOutOfRangeAt (beginning s us) w k → IsOutOfRangeAt (beginning s vs) w k
+moved_out_of_range s us vs w (kind.Pivot count) at = moved_system s us vs w (λ system. OverflowsAt (slack_tableau system) count) at
+moved_out_of_range s us vs w kind.Leaf at = record { multipliers = at.multipliers; refuted = moved_system s us vs w (λ system. IsRefuted system at.multipliers) at.refuted; leaves = at.leaves }
+moved_out_of_range s us vs w kind.Run at = at
 
 same_parts : (s : Search) (us vs : List Pending) (w : Pending) (n : Node) → parts (beginning s us) w n ≡ parts (beginning s vs) w n
 same_parts s us vs w (node.Leaf ts) = refl

@@ -1,16 +1,16 @@
 -- a budget that is large enough for the words is spent only where a node was split
 use Rattle.std.proofs.Common.{◌≡◌, inl, inr, ℕ, zero, suc, ◌+◌, ◌<◌, ◌≤◌, ◌^◌, Bool, List, [], ◌∷◌, ◌++◌, length, length-append, map, slice_get, Some, arith, refl, sym, ap, ◌∙◌, subst}
 use Rattle.std.proofs.lemmas.List.{length-map}
+use Rattle.std.specs.List.{AllByRecursion}
+use Rattle.ta_base.proofs.Each.{each_from_in, each_in}
+use Rattle.ta_base.proofs.Members.{In-left, In-map, In-right, in_append, in_map}
+use Rattle.ta_base.proofs.Ranges.{In-numbers, in_numbers}
 use Rattle.ta_automaton.specs.declared.automaton.Automaton.{Automaton}
 use Rattle.ta_automaton.specs.declared.file.File.{File}
 use Rattle.ta_automaton.specs.declared.pattern.Pattern.{Pattern}
-use Rattle.ta_automaton.specs.Lists.{Distinct, Each}
-use Rattle.ta_automaton.specs.Masks.{In, numbers_from}
-use Rattle.ta_automaton.proofs.MaskTests.{In-left, In-map, In-numbers, In-right}
+use Rattle.ta_base.specs.Lists.{Distinct}
+use Rattle.ta_base.specs.Masks.{In, numbers_from}
 use Rattle.ta_cert.specs.declared.line.Node.{Node}
-use Rattle.ta_implied.proofs.Implying.{each_in}
-use Rattle.ta_implied.proofs.Joining.{each_from}
-use Rattle.ta_implied.proofs.Members.{in_append, in_map, in_numbers}
 use Rattle.ta_words.specs.declared.element.Element.{Element}
 use Rattle.ta_words.specs.Words.{LegalUnder, children}
 use Rattle.ta_words.proofs.Counts.{legal_length, legal_under}
@@ -19,16 +19,16 @@ use Rattle.ta_encode.specs.PatternSearch.{all_starts, empty_word, pattern_search
 use Rattle.ta_encode.specs.Search.{Comes, Pending, Search, parts}
 use Rattle.ta_encode.specs.System.{LinearRow}
 use Rattle.ta_cursor.proofs.PatternWords.{comes_legal}
-use Rattle.ta_walk.specs.Ends.{IsSpent, Visited}
+use Rattle.ta_walk.specs.Ends.{IsSpent, IsVisited}
 use Rattle.ta_walk.specs.Splits.{HasAtMost, HasSplit, SpentNeedsSplits, WasSplit}
 use Rattle.ta_walk.specs.Visit.{Visits}
 use Rattle.ta_walk.proofs.ChildrenOnce.{children_once}
 use Rattle.ta_walk.proofs.DeterminedVisits.{word_once}
-use Rattle.ta_walk.proofs.SubtreesApart.{AllApart, Apart, Branches, IsPlain, UnderSome, mark, marks, not_again, parts_apart, split_or_plain, under_before, under_here, under_start}
+use Rattle.ta_walk.proofs.SubtreesApart.{AllApart, Branches, IsPlain, UnderSome, mark, marks, not_again, parts_apart, split_or_plain, under_before, under_here, under_start}
 use Rattle.ta_walk.proofs.WordsVisited.{Waits, next_wait, roots_wait, starts_unbounded}
 
 -- each mark is one that goes on from a word with which the visit begins
-marks_under : (s : Search) (ws : List Pending) (ns : List Node) (rest : List Pending) → Each IsPlain ns → Visits s ws ns rest → (t : ℕ × List Element) → In t (marks s ws ns) → UnderSome ws t.0 t.1
+marks_under : (s : Search) (ws : List Pending) (ns : List Node) (rest : List Pending) → AllByRecursion IsPlain ns → Visits s ws ns rest → (t : ℕ × List Element) → In t (marks s ws ns) → UnderSome ws t.0 t.1
 marks_under s ws [] rest plain v t h =
     let at = in_map mark t ws h in
     record { word = at.0; one = at.1; under = under_here at.0 t.0 t.1 (ap (λ (m : ℕ × List Element). m.0) (sym at.2)) (ap (λ (m : ℕ × List Element). m.1) (sym at.2)) }
@@ -40,7 +40,7 @@ marks_under s (w ∷ ws) (n ∷ ns) rest plain v t (inr h) = under_before s w ws
 words_once : (ws : List Pending) → AllApart ws → Distinct (map mark ws)
 words_once [] all = tt
 words_once (w ∷ ws) all = (
-  each_from (λ t. mark w ≡ t → ⊥) (map mark ws) (λ t h same.
+  each_from_in (λ t. mark w ≡ t → ⊥) (map mark ws) (λ t h same.
       let v = in_map mark t ws h in
       let e : mark v.0 ≡ mark w = sym (same ∙ v.2) in
       all.0 v.0 v.1 w.start w.past (under_here w w.start w.past refl refl) (under_here v.0 w.start w.past (ap (λ (m : ℕ × List Element). m.0) e) (ap (λ (m : ℕ × List Element). m.1) e))
@@ -48,11 +48,11 @@ words_once (w ∷ ws) all = (
   words_once ws all.1,
 )
 
-marks_once : (s : Search) (ws : List Pending) (ns : List Node) (rest : List Pending) → Branches s → AllApart ws → Each IsPlain ns → Visits s ws ns rest → Distinct (marks s ws ns)
+marks_once : (s : Search) (ws : List Pending) (ns : List Node) (rest : List Pending) → Branches s → AllApart ws → AllByRecursion IsPlain ns → Visits s ws ns rest → Distinct (marks s ws ns)
 marks_once s ws [] rest branches all plain v = words_once ws all
 marks_once s [] (n ∷ ns) rest branches all plain v = absurd v
 marks_once s (w ∷ ws) (n ∷ ns) rest branches all plain v = (
-  each_from (λ t. mark w ≡ t → ⊥) (marks s (parts s w n ++ ws) ns) (λ t h same.
+  each_from_in (λ t. mark w ≡ t → ⊥) (marks s (parts s w n ++ ws) ns) (λ t h same.
       not_again s w ws n plain.0 all (subst (λ (m : ℕ × List Element). UnderSome (parts s w n ++ ws) m.0 m.1) (sym same) (marks_under s (parts s w n ++ ws) ns rest plain.1 v.1 t h))
       ),
   marks_once s (parts s w n ++ ws) ns rest branches (parts_apart s w ws n branches plain.0 all) plain.1 v.1,
@@ -63,7 +63,7 @@ marks_count s ws [] rest v = omega (arith, length-map ws mark, ap length v)
 marks_count s [] (n ∷ ns) rest v = absurd v
 marks_count s (w ∷ ws) (n ∷ ns) rest v = omega (arith, marks_count s (parts s w n ++ ws) ns rest v.1)
 
-marks_come : (s : Search) (most : ℕ) (ws : List Pending) (ns : List Node) → Each (Waits s most) ws → (t : ℕ × List Element) → In t (marks s ws ns) → Comes s t.0 t.1
+marks_come : (s : Search) (most : ℕ) (ws : List Pending) (ns : List Node) → AllByRecursion (Waits s most) ws → (t : ℕ × List Element) → In t (marks s ws ns) → Comes s t.0 t.1
 marks_come s most ws [] all t h =
     let at = in_map mark t ws h in
     subst (λ (m : ℕ × List Element). Comes s m.0 m.1) (sym at.2) (each_in (Waits s most) ws at.0 all at.1).comes
@@ -158,7 +158,7 @@ record LeftOther (s : Search) (ws : List Pending) (count : ℕ) (w : Pending) : 
   pub counted : length nodes ≡ count
   pub other : mark word ≡ mark w → ⊥
 
-left_other : (s : Search) (ws : List Pending) (ns : List Node) (w : Pending) (rest : List Pending) (count : ℕ) → Branches s → AllApart ws → Each IsPlain ns → count < length ns → Visits s ws ns (w ∷ rest) → LeftOther s ws count w
+left_other : (s : Search) (ws : List Pending) (ns : List Node) (w : Pending) (rest : List Pending) (count : ℕ) → Branches s → AllApart ws → AllByRecursion IsPlain ns → count < length ns → Visits s ws ns (w ∷ rest) → LeftOther s ws count w
 left_other s ws [] w rest count branches all plain less v = absurd (omega arith)
 left_other s [] (n ∷ ns) w rest count branches all plain less v = absurd v
 left_other s (u ∷ ws) (n ∷ ns) w rest zero branches all plain less v = record {
@@ -176,8 +176,8 @@ left_other s (u ∷ ws) (n ∷ ns) w rest (suc count) branches all plain less v 
     record { word = on.word; words = on.words; nodes = n ∷ on.nodes; visits = (v.0, on.visits); counted = ap suc on.counted; other = on.other }
 
 words_apart :
-    (a : Automaton) (p : Pattern) (pairs : List (ℕ × ℕ)) (before later : ℕ) (v w : Pending) → before < later → Visited (pattern_search a p pairs) before v
-    → (at : Visited (pattern_search a p pairs) later w) → ¬ HasSplit at.nodes → v.start ≡ w.start → v.past ≡ w.past → ⊥
+    (a : Automaton) (p : Pattern) (pairs : List (ℕ × ℕ)) (before later : ℕ) (v w : Pending) → before < later → IsVisited (pattern_search a p pairs) before v
+    → (at : IsVisited (pattern_search a p pairs) later w) → ¬ HasSplit at.nodes → v.start ≡ w.start → v.past ≡ w.past → ⊥
 words_apart a p pairs before later v w less begun at none starts pasts =
     let s = pattern_search a p pairs in
     let counted = at.counted in

@@ -1,11 +1,12 @@
 -- a split at a vertex is one that can be written, and its floor is one that a bound may have
-use Rattle.std.proofs.Common.{◌≡◌, inl, inr, ℕ, zero, suc, ◌^◌, ◌<◌, List, [], ◌∷◌, length, arith, sym, subst, ℤ, pos, negsuc, ◌+ℤ◌, ◌*ℤ◌, ◌<ℤ◌, ◌≤ℤ◌, Option, Some, None, slice_get}
+use Rattle.std.proofs.Common.{◌≡◌, inl, inr, ℕ, zero, suc, ◌^◌, ◌<◌, List, arith, subst, ℤ, pos, negsuc, ◌+ℤ◌, ◌*ℤ◌, ◌<ℤ◌, ◌≤ℤ◌, Option, Some, None, slice_get}
 use Rattle.std.specs.Prelude.{IsSomeAnd}
 use Rattle.std.proofs.lemmas.Int.{ints}
+use Rattle.ta_base.proofs.Integers.{floor_natural, twice_most}
+use Rattle.ta_base.proofs.Lists.{some_within}
+use Rattle.ta_base.proofs.Options.{is_some-map}
 use Rattle.ta_linear.specs.Numbers.{InRange}
 use Rattle.ta_linear.specs.declared.row.System.{System}
-use Rattle.ta_linear.proofs.Integers.{distributes}
-use Rattle.ta_linear.proofs.Signs.{mul-ge-zero, mul-le-zero}
 use Rattle.ta_cert.specs.Lines.{IsSplit}
 use Rattle.ta_dense.specs.Tableau.{row_of, basic_of, non_basic_of}
 use Rattle.ta_simplex.specs.Vertex.{IsVertex}
@@ -14,15 +15,6 @@ use Rattle.ta_simplex.proofs.RunLemmas.{reached_dictionary}
 use Rattle.ta_walk.specs.Visit.{IsAbove, SplitVertex}
 use Rattle.ta_walk.proofs.TableausInRange.{reached_proper}
 use Rattle.ta_encode.specs.Search.{Pending, Search}
-
-some_map : {A : Type 0} (o : Option A) (P Q : A → Type 0) → ((x : A) → P x → Q x) → IsSomeAnd o P → IsSomeAnd o Q
-some_map None P Q f p = p
-some_map (Some x) P Q f p = f x p
-
-some_within : {A : Type 0} (xs : List A) (k : ℕ) (P : A → Type 0) → IsSomeAnd (slice_get xs k) P → k < length xs
-some_within [] k P h = absurd h
-some_within (x ∷ xs) zero P h = omega arith
-some_within (x ∷ xs) (suc k) P h = let below = some_within xs k P h in omega arith
 
 -- the numerators of a vertex are in range
 pub vertex_in_range : (s : System) (values : List Fraction) → IsVertex s values → (x : ℕ) → x < s.unknowns → IsSomeAnd (slice_get values x) (λ f. InRange f.top)
@@ -34,33 +26,20 @@ vertex_in_range s values v x below =
       | inl b ↦
           let e = b.2 in
           subst (λ (u : ℕ). IsSomeAnd (slice_get values u) (λ f. InRange f.top)) b.2
-          (some_map (slice_get values (basic_of t b.0)) (λ f. (f.top ≡ (row_of t b.0).constant) × (f.bottom ≡ (row_of t b.0).denominator)) (λ f. InRange f.top) (λ f is. rw (is.0) (proper.rows b.0 b.1).constant) (v.gives.basic b.0 b.1 (omega arith)))
+          (is_some-map (slice_get values (basic_of t b.0)) (λ f. (f.top ≡ (row_of t b.0).constant) × (f.bottom ≡ (row_of t b.0).denominator)) (λ f. InRange f.top) (λ f is. rw (is.0) (proper.rows b.0 b.1).constant) (v.gives.basic b.0 b.1 (omega arith)))
       | inr j ↦
           let e = j.2 in
           subst (λ (u : ℕ). IsSomeAnd (slice_get values u) (λ f. InRange f.top)) j.2
-          (some_map (slice_get values (non_basic_of t j.0)) (λ f. (f.top ≡ pos 0) × (f.bottom ≡ pos 1)) (λ f. InRange f.top) (λ f is. rw (is.0) (omega arith)) (v.gives.non_basic j.0 j.1 (omega arith)))
+          (is_some-map (slice_get values (non_basic_of t j.0)) (λ f. (f.top ≡ pos 0) × (f.bottom ≡ pos 1)) (λ f. InRange f.top) (λ f is. rw (is.0) (omega arith)) (v.gives.non_basic j.0 j.1 (omega arith)))
     ]
-
-floor_natural : (k t b : ℤ) → pos 0 <ℤ b → pos 0 ≤ℤ t → t <ℤ ((k +ℤ pos 1) *ℤ b) → pos 0 ≤ℤ k
-floor_natural (pos n) t b positive natural below = omega (arith, ints)
-floor_natural (negsuc n) t b positive natural below =
-    let least = mul-le-zero (negsuc n +ℤ pos 1) b (omega (arith, ints)) (omega (arith, ints)) in
-    absurd (omega (arith, ints))
-
-twice : (n d : ℕ) → (pos n *ℤ pos 2) ≤ℤ (pos n *ℤ pos (suc (suc d)))
-twice n d =
-    let e : pos (suc (suc d)) ≡ pos d +ℤ pos 2 = omega (arith, ints) in
-    let more = mul-ge-zero (pos n) (pos d) (omega (arith, ints)) (omega (arith, ints)) in
-    let shown : (pos n *ℤ pos 2) ≤ℤ (pos n *ℤ (pos d +ℤ pos 2)) = rw (distributes (pos n) (pos d) (pos 2)) (omega (arith, ints)) in
-    subst (λ (z : ℤ). (pos n *ℤ pos 2) ≤ℤ (pos n *ℤ z)) (sym e) shown
 
 floor_small : (k t b : ℤ) → pos 0 <ℤ b → pos 0 ≤ℤ k → (k *ℤ b) <ℤ t → t <ℤ ((k +ℤ pos 1) *ℤ b) → InRange t → k <ℤ pos (2 ^ 126)
 floor_small (negsuc n) t b positive natural above below fits = absurd (omega (arith, ints))
 floor_small (pos n) t (negsuc b) positive natural above below fits = absurd (omega (arith, ints))
 floor_small (pos n) t (pos zero) positive natural above below fits = absurd (omega (arith, ints))
 floor_small (pos n) t (pos (suc zero)) positive natural above below fits = absurd (omega (arith, ints))
-floor_small (pos n) (negsuc m) (pos (suc (suc d))) positive natural above below fits = (let double = twice n d in absurd (omega (arith, ints)))
-floor_small (pos n) (pos m) (pos (suc (suc d))) positive natural above below fits = (let double = twice n d in omega (arith, ints))
+floor_small (pos n) (negsuc m) (pos (suc (suc d))) positive natural above below fits = (let double = twice_most n d in absurd (omega (arith, ints)))
+floor_small (pos n) (pos m) (pos (suc (suc d))) positive natural above below fits = (let double = twice_most n d in omega (arith, ints))
 
 pub record FloorFits (floor : ℤ) : Type 0 where
   pub low : pos 0 ≤ℤ floor

@@ -1,11 +1,12 @@
 -- the words that a visit meets, where no node is a split: none of them twice
 use Rattle.std.proofs.Common.{◌≡◌, ◌⊎◌, inl, inr, ℕ, suc, ◌<◌, ◌≤◌, List, [], ◌∷◌, ◌++◌, length, map, arith, refl, sym, ap, ◌∙◌, subst}
-use Rattle.ta_automaton.specs.Lists.{Distinct, Each}
-use Rattle.ta_automaton.specs.Masks.{In}
+use Rattle.std.specs.List.{AllByRecursion}
+use Rattle.ta_base.specs.Lists.{Distinct}
+use Rattle.ta_base.specs.Masks.{In}
+use Rattle.ta_base.proofs.Each.{each_in}
+use Rattle.ta_base.proofs.Members.{in_append, in_map}
 use Rattle.ta_cert.specs.declared.line.Node.{Node}
 use Rattle.ta_cert.specs.declared.line.Node.TheVariants as node
-use Rattle.ta_implied.proofs.Implying.{each_in}
-use Rattle.ta_implied.proofs.Members.{in_append, in_map}
 use Rattle.ta_words.specs.declared.element.Element.{Element}
 use Rattle.ta_encode.specs.Search.{Pending, Search, longer, parts}
 use Rattle.ta_walk.specs.Splits.{HasSplit}
@@ -71,7 +72,7 @@ IsPlain (node.Leaf ts) = Unit {0}
 IsPlain node.Extend = Unit {0}
 IsPlain (node.Split unknown floor) = ⊥
 
-pub split_or_plain : (ns : List Node) → HasSplit ns ⊎ Each IsPlain ns
+pub split_or_plain : (ns : List Node) → HasSplit ns ⊎ AllByRecursion IsPlain ns
 split_or_plain [] = inr tt
 split_or_plain (node.Split unknown floor ∷ ns) = inl (record { unknown = unknown; floor = floor; is = inl refl })
 split_or_plain (node.Leaf ts ∷ ns) = elim (split_or_plain ns) [ inl s ↦ inl (record { unknown = s.unknown; floor = s.floor; is = inr s.is }) | inr all ↦ inr (tt, all) ]

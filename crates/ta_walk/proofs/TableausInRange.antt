@@ -1,19 +1,17 @@
 -- the numbers of each tableau that the rule reaches are in range
-use Rattle.std.proofs.Common.{◌≡◌, inl, inr, ℕ, zero, suc, ◌+◌, ◌<◌, ℤ, pos, List, [], ◌∷◌, length, get_or, arith, sym, ap, ◌∙◌, subst}
+use Rattle.std.proofs.Common.{◌≡◌, inl, inr, ℕ, zero, suc, ◌+◌, ◌<◌, ℤ, pos, List, length, arith, sym, ap, ◌∙◌, subst}
 use Rattle.std.proofs.lemmas.Bool.{cases_eq}
 use Rattle.std.proofs.lemmas.List.Elements.{All-get_or}
 use Rattle.std.proofs.lemmas.List.FromFn.{length-range_with_len}
+use Rattle.ta_base.proofs.Integers.{unsigned_abs-neg}
+use Rattle.ta_simplex.proofs.SystemEnds.{slack_proper}
 use Rattle.ta_linear.specs.Numbers.{InRange}
-use Rattle.ta_linear.specs.Rows.{AllBelow}
 use Rattle.ta_linear.specs.Terms.{coefficient}
-use Rattle.ta_linear.specs.declared.row.Row.{Row}
 use Rattle.ta_linear.specs.declared.row.System.{System}
-use Rattle.ta_dense.specs.Tableau.{Tableau, row_of, cell_of, basic_of, non_basic_of, no_row}
+use Rattle.ta_dense.specs.Tableau.{Tableau, row_of, cell_of, basic_of, non_basic_of}
 use Rattle.ta_dense.specs.Merge.{IsProper}
-use Rattle.ta_dense.specs.Slack.{slack_tableau, slack_rows}
+use Rattle.ta_dense.specs.Slack.{slack_tableau}
 use Rattle.ta_dense.specs.Laws.{DictionaryOf}
-use Rattle.ta_dense.proofs.DenseFacts.{IsProper-slack}
-use Rattle.ta_dense.proofs.Divide.{unsigned_abs-neg}
 use Rattle.ta_dense.proofs.Keeps.{row_count, column_count}
 use Rattle.ta_dense.proofs.ProperFacts.{proper_pivoted}
 use Rattle.ta_simplex.specs.LeastIndex.{LeastStep, Reached}
@@ -24,11 +22,6 @@ use Rattle.ta_simplex.proofs.RunLemmas.{reached_dictionary}
 pub record ReachesProper (unknowns : ℕ) (t : Tableau) : Type 0 where
   pub columns : length t.non_basic ≡ unknowns
   pub rows : (i : ℕ) → i < length t.rows → IsProper unknowns (row_of t i)
-
-slack_proper : (n v : ℕ) (rs : List Row) (i : ℕ) → AllBelow n rs → i < length (slack_rows n v rs) → IsProper n (get_or (slack_rows n v rs) i no_row)
-slack_proper n v [] i below h = absurd (omega arith)
-slack_proper n v (r ∷ rs) zero below h = IsProper-slack n v r below.0
-slack_proper n v (r ∷ rs) (suc i) below h = slack_proper n (suc v) rs i below.1 (omega arith)
 
 first_proper : (s : System) → ReachesProper s.unknowns (slack_tableau s)
 unfolding slack_tableau

@@ -1,42 +1,13 @@
 -- whole fractions, and the whole numbers below the others
-use Rattle.std.proofs.Common.{◌≡◌, ℕ, ◌/◌, ◌+◌, ◌<◌, List, [], ◌∷◌, ◌++◌, IsSomeAnd, length, get_or, slice_get, take, arith, ℤ, pos, negsuc, ◌≤ℤ◌, ◌<ℤ◌, ◌*ℤ◌, ◌+ℤ◌, ◌-ℤ◌, ap, refl, sym, subst, ◌∙◌}
+use Rattle.std.proofs.Common.{◌≡◌, ℕ, ◌+◌, ◌<◌, List, [], ◌∷◌, ◌++◌, IsSomeAnd, length, get_or, slice_get, take, arith, ℤ, pos, ◌≤ℤ◌, ◌<ℤ◌, ◌*ℤ◌, ◌+ℤ◌, ap, refl, sym, subst, ◌∙◌}
 use Rattle.std.specs.Int.{int_div_euclid, int_rem_euclid}
 use Rattle.std.proofs.lemmas.Int.{ints, by_lt_z}
-use Rattle.std.proofs.lemmas.Nat.{div-add-mod', mod_below}
 use Rattle.std.proofs.lemmas.Option.{slice_get_read}
 use Rattle.std.proofs.lemmas.List.{take_more}
 use borrow.Author.Count.{below_more}
-use borrow.Author.Differences.{product_is}
-use Rattle.ta_linear.proofs.Integers.{minus_times, distributes_right}
-use Rattle.ta_linear.proofs.Signs.{mul-ge-zero}
-use Rattle.ta_linear.proofs.Floor.{floor_low, floor_high}
+use Rattle.ta_base.proofs.Integers.{euclid, floor_high, floor_low, floor_once}
 use Rattle.ta_simplex.specs.declared.fraction.Fraction.{Fraction}
-use Rattle.ta_walk.specs.Visit.{AreNumbers, IsNumber, IsWhole, IsAbove, SplitsAt}
-
--- a greater factor gives a greater product
-scaled : (a c b : ℤ) → a ≤ℤ c → pos 0 ≤ℤ b → (a *ℤ b) ≤ℤ (c *ℤ b)
-scaled a c b least natural = omega (arith, ints, minus_times c a b, mul-ge-zero (c -ℤ a) b (omega (arith, ints)) natural)
-
--- the whole number below a whole fraction is its own
-pub floor_once : (top bottom floor k : ℤ) → pos 0 <ℤ bottom → (floor *ℤ bottom) ≤ℤ top → top <ℤ ((floor +ℤ pos 1) *ℤ bottom) → top ≡ (k *ℤ bottom) → floor ≡ k
-floor_once top bottom floor k positive low high is =
-    by_lt_z floor k
-    (λ less. let s = scaled (floor +ℤ pos 1) k bottom (omega (arith, ints)) (omega (arith, ints)) in absurd (omega (arith, ints)))
-    (λ most. by_lt_z k floor
-    (λ less. let s = scaled (k +ℤ pos 1) floor bottom (omega (arith, ints)) (omega (arith, ints)) in absurd (omega (arith, ints, distributes_right k (pos 1) bottom)))
-    (λ least. omega (arith, ints)))
-
--- a number is its quotient's product and its remainder
-euclid : (a b : ℤ) → pos 0 <ℤ b → a ≡ ((int_div_euclid a b *ℤ b) +ℤ int_rem_euclid a b)
-euclid (pos a) (pos b) h =
-    let e = div-add-mod' a b in
-    omega (arith, ints, e)
-euclid (negsuc a) (pos b) h =
-    let e = div-add-mod' a b in
-    let m = mod_below a b (omega (arith, ints, h)) in
-    let p = product_is (negsuc (a / b)) (pos b) in
-    omega (arith, ints, e, m, p)
-euclid a (negsuc b) h = absurd (omega (arith, ints, h))
+use Rattle.ta_walk.specs.Visit.{AreNumbers, IsWholeNumber, IsWhole, IsAbove, SplitsAt}
 
 -- without a remainder a fraction is whole
 pub rest_whole : (f : Fraction) (rest : ℤ) → rest ≡ int_rem_euclid f.top f.bottom → rest ≡ pos 0 → IsWhole f
@@ -75,7 +46,7 @@ pub whole_more : (fs : List Fraction) (i : ℕ) (f : Fraction) → ((k : ℕ) �
 whole_more fs i f before below is whole = below_more (λ k. IsSomeAnd (slice_get fs k) IsWhole) i before (has fs i f IsWhole below is whole)
 
 -- one more number
-appended : (fs : List Fraction) (ks : List ℤ) (f : Fraction) (k : ℤ) → AreNumbers fs ks → IsNumber k f → AreNumbers (fs ++ f ∷ []) (ks ++ k ∷ [])
+appended : (fs : List Fraction) (ks : List ℤ) (f : Fraction) (k : ℤ) → AreNumbers fs ks → IsWholeNumber k f → AreNumbers (fs ++ f ∷ []) (ks ++ k ∷ [])
 appended [] [] f k are is = (is, tt)
 appended [] (j ∷ ks) f k are is = absurd are
 appended (e ∷ fs) [] f k are is = absurd are
@@ -86,6 +57,6 @@ pub numbers_more : (fs : List Fraction) (ks : List ℤ) (i : ℕ) (f : Fraction)
 numbers_more fs ks i f floor are below is read low high =
     let whole : IsWhole f = of_read fs i f IsWhole below is read in
     let same : floor ≡ whole.0 = floor_once f.top f.bottom floor whole.0 f.positive low high whole.1 in
-    let number : IsNumber floor f = subst (λ k. IsNumber k f) (sym same) whole.1 in
+    let number : IsWholeNumber floor f = subst (λ k. IsWholeNumber k f) (sym same) whole.1 in
     let more : take (i + 1) fs ≡ take i fs ++ f ∷ [] = take_more fs i f below ∙ ap (λ g. take i fs ++ g ∷ []) (sym is) in
     subst (λ gs. AreNumbers gs (ks ++ floor ∷ [])) (sym more) (appended (take i fs) ks f floor are number)

@@ -5,7 +5,7 @@ use Rattle.ta_cert.specs.declared.line.Node.{Node}
 use Rattle.ta_cert.specs.declared.line.Node.TheVariants as node
 use Rattle.ta_encode.specs.Search.{Pending, Search, parts}
 use Rattle.ta_walk.specs.Visit.{Visits}
-use Rattle.ta_walk.specs.Ends.{Visited, leaf_count}
+use Rattle.ta_walk.specs.Ends.{IsVisited, leaf_count}
 use Rattle.ta_walk.specs.Inside.Parts.{beginning}
 use Rattle.ta_walk.proofs.SearchesMoved.{moved_visits}
 
@@ -39,7 +39,7 @@ stops_before s (w ∷ ws) (n ∷ ns) rest (suc count) less v =
     record { word = on.word; words = on.words; nodes = n ∷ on.nodes; visits = (v.0, on.visits); counted = ap suc on.counted }
 
 -- where some nodes lead to words, and a word is left behind so many nodes of theirs, it is left behind both
-pub visited_behind : (s : Search) (ws us : List Pending) (ns : List Node) (before : ℕ) (w : Pending) → Visits (beginning s ws) ws ns us → Visited (beginning s us) before w → Visited (beginning s ws) (length ns + before) w
+pub visited_behind : (s : Search) (ws us : List Pending) (ns : List Node) (before : ℕ) (w : Pending) → Visits (beginning s ws) ws ns us → IsVisited (beginning s us) before w → IsVisited (beginning s ws) (length ns + before) w
 visited_behind s ws us ns before w v u = record {
   nodes = ns ++ u.nodes;
   words = u.words;
@@ -50,12 +50,12 @@ visited_behind s ws us ns before w v u = record {
 -- a word that is left behind fewer nodes
 pub record LeftBefore (s : Search) (count : ℕ) : Type 0 where
   pub word : Pending
-  pub visited : Visited s count word
+  pub visited : IsVisited s count word
 
 stopped : (s : Search) (count : ℕ) → Stopped s s.roots count → LeftBefore s count
 stopped s count at = record { word = at.word; visited = record { nodes = at.nodes; words = at.words; visits = at.visits; counted = at.counted } }
 
-pub left_before : (s : Search) (count before : ℕ) (w : Pending) → count ≤ before → Visited s before w → LeftBefore s count
+pub left_before : (s : Search) (count before : ℕ) (w : Pending) → count ≤ before → IsVisited s before w → LeftBefore s count
 left_before s count before w most v =
     let many = v.counted in
     elim (cases_order count before) [

@@ -1,13 +1,13 @@
 -- what is known at each node of a visit
-use Rattle.std.proofs.Common.{◌≡◌, ℕ, ◌+◌, ◌≤◌, true, false, List, [], ◌∷◌, ◌++◌, length, arith, refl, sym, subst, Ok, length-append}
-use Rattle.ta_automaton.specs.Lists.{Each}
+use Rattle.std.proofs.Common.{◌≡◌, ℕ, ◌+◌, ◌≤◌, true, false, List, [], ◌∷◌, ◌++◌, length, arith, refl, subst, Ok, length-append}
+use Rattle.std.specs.List.{AllByRecursion}
 use Rattle.ta_cert.specs.declared.line.Node.{Node}
 use Rattle.ta_encode.specs.Search.{Pending, Search, parts}
 use Rattle.ta_cursor.specs.InTrees.{here_at, AllWithin, AllGoOn}
 use Rattle.ta_cursor.specs.declared.place.Place.{Place}
 use Rattle.ta_cursor.proofs.TreesLeft.{here_first, here_is, later_words}
 use Rattle.ta_walk.specs.Visit.{Visits, NodeAt}
-use Rattle.ta_walk.specs.Ends.{TreeIs, Visited, NodeOf, IsUnbounded}
+use Rattle.ta_walk.specs.Ends.{TreeIs, IsUnbounded}
 use Rattle.ta_walk.proofs.WordsVisited.{roots_wait, left_wait}
 
 -- before a node, behind these
@@ -23,9 +23,6 @@ visits_more s ws [] w rest n visits stands = subst (λ (us : List Pending). Visi
 visits_more s [] (m ∷ ms) w rest n visits stands = absurd visits
 visits_more s (v ∷ ws) (m ∷ ms) w rest n visits stands = (visits.0, visits_more s (parts s v m ++ ws) ms w rest n visits.1 stands)
 
-pub walk_begins : (s : Search) (place : Place) → AllWithin s place s.roots → WalkSoFar s place 0 []
-walk_begins s place within = record { pending = s.roots; within = within; visits = refl; counted = refl }
-
 -- the same, at the word of the place
 record AtHere (s : Search) (place : Place) (found : List Node) : Type 0 where
   pub words : List Pending
@@ -40,17 +37,12 @@ at_here s place done found so = record {
 }
 
 -- each node adds at most one bound to a word
-pub walk_few : (s : Search) (place : Place) (done : ℕ) (found : List Node) → Each IsUnbounded s.roots → WalkSoFar s place done found → length place.cursor.bounds.items ≤ done
+pub walk_few : (s : Search) (place : Place) (done : ℕ) (found : List Node) → AllByRecursion IsUnbounded s.roots → WalkSoFar s place done found → length place.cursor.bounds.items ≤ done
 walk_few s place done found none so =
     let at = at_here s place done found so in
     let counted = so.counted in
     let few = (left_wait s 0 s.roots found (here_at place ∷ at.words) (roots_wait s none) at.visits).0.few in
     omega arith
-
-pub walk_visited : (s : Search) (place : Place) (done : ℕ) (found : List Node) → WalkSoFar s place done found → Visited s done (here_at place)
-walk_visited s place done found so =
-    let at = at_here s place done found so in
-    record { nodes = found; words = at.words; visits = at.visits; counted = so.counted }
 
 went_on : (s : Search) (new : Place) (ws : List Pending) → AllGoOn s new ws (Ok true) → AllWithin s new ws
 went_on s new [] goes = absurd (cc)
@@ -87,18 +79,3 @@ walk_refutes s place new done budget found m so stands goes within =
       counted = omega (arith, length-append found (m ∷ []));
       within = within;
     }
-
--- the node of the place has a fact
-pub walk_at : (s : Search) (place : Place) (done budget : ℕ) (found : List Node) (F : Pending → Type 0) → WalkSoFar s place done found → F (here_at place) → done + 1 ≤ budget → NodeOf s budget (done + 1) F
-walk_at s place done budget found F so holds within = record {
-  before = done;
-  number_is = refl;
-  within = within;
-  word = here_at place;
-  visited = walk_visited s place done found so;
-  holds = holds;
-}
-
--- nothing is visited where the search begins with no word
-pub none_visited : (s : Search) (budget : ℕ) → s.roots ≡ [] → TreeIs s budget [] 0
-none_visited s budget none = record { visits = sym none; counted = refl; within = omega arith }

@@ -16,7 +16,7 @@ use Rattle.ta_walk.specs.declared.end.SampleEnd.TheVariants as sampled
 use Rattle.ta_walk.specs.declared.end.WalkEnd.{WalkEnd}
 use Rattle.ta_walk.specs.declared.end.WalkEnd.TheVariants as walked
 use Rattle.ta_walk.specs.Answers.{HasSystems, WalksHaveEnds, WordsHaveSystems}
-use Rattle.ta_walk.specs.Ends.{Ending, IsEnd, IsEnding, Left, NodeOf, SolutionAt, Solved, Stopped, Whole}
+use Rattle.ta_walk.specs.Ends.{Ending, IsWalkEnd, IsVisitEnding, Left, NodeOf, SolutionAt, Solved, Stopped, Whole}
 use Rattle.ta_walk.specs.Samples.{IsSampleEnd, SampleAt}
 use Rattle.ta_walk.specs.Visit.{WholeAt}
 use Rattle.ta_walk.proofs.SearchesEnd.{searches_end}
@@ -49,7 +49,7 @@ solution_at a p pairs number w v values h = record {
   whole = h.1;
 }
 
-walk_end : (a : Automaton) (p : Pattern) (pairs : List (ℕ × ℕ)) (number budget : ℕ) (e : Ending) → IsEnding (pattern_search a p pairs) budget e → (f : WalkEnd) × IsEnd a p pairs number budget f
+walk_end : (a : Automaton) (p : Pattern) (pairs : List (ℕ × ℕ)) (number budget : ℕ) (e : Ending) → IsVisitEnding (pattern_search a p pairs) budget e → (f : WalkEnd) × IsWalkEnd a p pairs number budget f
 walk_end a p pairs number budget (Whole nodes count) h = (walked.Refuted nodes count, h)
 walk_end a p pairs number budget (Solved k w values) h = (
   walked.Found k (record { pattern = number; start_mask = w.start; word = reverse w.past; values = values }),
@@ -58,7 +58,7 @@ walk_end a p pairs number budget (Solved k w values) h = (
 walk_end a p pairs number budget (Stopped count) h = (walked.Spent count, h)
 walk_end a p pairs number budget (Left k kind) h = (walked.Overflow k kind, h)
 
-sample_end : (a : Automaton) (budget : ℕ) (e : Ending) → IsEnding (sample_search a) budget e → (f : SampleEnd) × IsSampleEnd a budget f
+sample_end : (a : Automaton) (budget : ℕ) (e : Ending) → IsVisitEnding (sample_search a) budget e → (f : SampleEnd) × IsSampleEnd a budget f
 sample_end a budget (Whole nodes count) h = (sampled.Empty, record { nodes = nodes; count = count; tree = h })
 sample_end a budget (Solved k w values) h = (
   sampled.Sample (take (length a.parameters) values),

@@ -1,12 +1,13 @@
 -- what is known at each node of the visit of a word's tree
 use Rattle.std.proofs.Common.{◌≡◌, ℕ, ◌+◌, ◌-◌, ◌<◌, ◌≤◌, true, false, List, [], ◌∷◌, ◌++◌, ◌∙◌, length, arith, refl, sym, ap, subst, Ok, length-append}
+use Rattle.std.specs.List.{AllByRecursion}
+use Rattle.ta_base.proofs.Each.{each_back, each_front}
 use Rattle.ta_cert.specs.declared.line.Node.{Node}
 use Rattle.ta_encode.specs.Search.{Pending, Search, parts}
-use Rattle.ta_automaton.specs.Lists.{Each}
 use Rattle.ta_cursor.specs.Cursors.{GoesOn, Inside, IsShared, Within, here, left_at}
 use Rattle.ta_cursor.specs.declared.cursor.Cursor.{Cursor}
 use Rattle.ta_walk.specs.Visit.{NodeAt, Visits}
-use Rattle.ta_walk.specs.Ends.{IsSpent, NodeOf, TreeIs, Visited, leaf_count}
+use Rattle.ta_walk.specs.Ends.{IsSpent, NodeOf, TreeIs, IsVisited, leaf_count}
 use Rattle.ta_walk.specs.Inside.Parts.{HasFewBounds, LeadsToBoth, SharesBudget, beginning}
 use Rattle.ta_walk.proofs.SearchesMoved.{moved_visits}
 use Rattle.ta_walk.proofs.WalkSoFar.{visits_more}
@@ -48,12 +49,12 @@ at_here s begun c done found so = record {
 }
 
 -- each node adds at most one bound to a word
-pub word_few : (s : Search) (begun : List Pending) (c : Cursor) (done most : ℕ) (found : List Node) → Each (HasFewBounds most) begun → WordSoFar s begun c done found → Each (HasFewBounds (most + done)) (left_at s c)
+pub word_few : (s : Search) (begun : List Pending) (c : Cursor) (done most : ℕ) (found : List Node) → AllByRecursion (HasFewBounds most) begun → WordSoFar s begun c done found → AllByRecursion (HasFewBounds (most + done)) (left_at s c)
 word_few s begun c done most found few so =
-    subst (λ (k : ℕ). Each (HasFewBounds (most + k)) (left_at s c)) so.counted
-    (subst (Each (HasFewBounds (most + length found))) (pending_is s c so.pending so.within) (few_left s most begun found so.pending few so.visits))
+    subst (λ (k : ℕ). AllByRecursion (HasFewBounds (most + k)) (left_at s c)) so.counted
+    (subst (AllByRecursion (HasFewBounds (most + length found))) (pending_is s c so.pending so.within) (few_left s most begun found so.pending few so.visits))
 
-pub word_visited : (s : Search) (begun : List Pending) (c : Cursor) (done : ℕ) (found : List Node) → WordSoFar s begun c done found → Visited (beginning s begun) done (here c)
+pub word_visited : (s : Search) (begun : List Pending) (c : Cursor) (done : ℕ) (found : List Node) → WordSoFar s begun c done found → IsVisited (beginning s begun) done (here c)
 word_visited s begun c done found so =
     let at = at_here s begun c done found so in
     record { nodes = found; words = at.words; visits = moved_visits s s.roots begun begun found (here c ∷ at.words) at.visits; counted = so.counted }
@@ -122,19 +123,11 @@ word_shared s begun c new later done leaves found Keeps so shared few kept = rec
   kept = kept;
 }
 
-each_first : (P : Pending → Type 0) (xs ys : List Pending) → Each P (xs ++ ys) → Each P xs
-each_first P [] ys all = tt
-each_first P (x ∷ xs) ys all = (all.0, each_first P xs ys all.1)
-
-each_second : (P : Pending → Type 0) (xs ys : List Pending) → Each P (xs ++ ys) → Each P ys
-each_second P [] ys all = all
-each_second P (x ∷ xs) ys all = each_second P xs ys all.1
-
 -- and both cursors have room for what is left of the budget
-pub both_stand : (s : Search) (begun : List Pending) (c new later : Cursor) (done nodes most leaves : ℕ) (found : List Node) → Each (HasFewBounds most) begun → most + nodes ≤ 1000000000 → WordSoFar s begun c done found → IsShared s c new later → 0 < done → done ≤ nodes → leaves ≡ leaf_count found
+pub both_stand : (s : Search) (begun : List Pending) (c new later : Cursor) (done nodes most leaves : ℕ) (found : List Node) → AllByRecursion (HasFewBounds most) begun → most + nodes ≤ 1000000000 → WordSoFar s begun c done found → IsShared s c new later → 0 < done → done ≤ nodes → leaves ≡ leaf_count found
     → SharesBudget s nodes done leaves new later
 both_stand s begun c new later done nodes most leaves found few room so shared some within leaves_are =
-    let all = subst (Each (HasFewBounds (most + done))) shared.words (word_few s begun c done most found few so) in
+    let all = subst (AllByRecursion (HasFewBounds (most + done))) shared.words (word_few s begun c done most found few so) in
     let fits : (most + done) + (nodes - done) ≤ 1000000000 = omega arith in
     let counted = so.counted in
     let less = leaves_few found in
@@ -142,6 +135,6 @@ both_stand s begun c new later done nodes most leaves found few room so shared s
       some = some;
       within = within;
       leaves_few = omega arith;
-      here = record { within = shared.first; most = most + done; room = fits; few = each_first (HasFewBounds (most + done)) (left_at s new) (left_at s later) all };
-      there = record { within = shared.second; most = most + done; room = fits; few = each_second (HasFewBounds (most + done)) (left_at s new) (left_at s later) all };
+      here = record { within = shared.first; most = most + done; room = fits; few = each_front (HasFewBounds (most + done)) (left_at s new) (left_at s later) all };
+      there = record { within = shared.second; most = most + done; room = fits; few = each_back (HasFewBounds (most + done)) (left_at s new) (left_at s later) all };
     }

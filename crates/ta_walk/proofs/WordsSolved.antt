@@ -2,8 +2,8 @@
 use Rattle.std.proofs.Common.{◌≡◌, ℕ, zero, suc, ◌<◌, ◌^◌, ℤ, pos, negsuc, ◌*ℤ◌, ◌≤ℤ◌, List, [], ◌∷◌, map, length, reverse, slice_get, arith, refl, sym, ap, ◌∙◌, subst}
 use Rattle.std.specs.Prelude.{IsSomeAnd, slice_index}
 use Rattle.std.proofs.lemmas.Int.{ints}
-use Rattle.ta_linear.proofs.Signs.{ge-zero_of_mul}
-use Rattle.ta_linear.proofs.Integers.{mul_comm}
+use Rattle.std.proofs.Math.IntN.{*ℤ_comm}
+use Rattle.ta_base.proofs.Integers.{ge-zero_of_mul}
 use Rattle.ta_words.specs.declared.element.Element.{Element}
 use Rattle.ta_words.specs.Words.{LegalUnder, is_complete}
 use Rattle.ta_encode.specs.System.{SolvesWord}
@@ -13,7 +13,7 @@ use Rattle.ta_simplex.proofs.WholeLemmas.{whole_vertex_solves}
 use Rattle.ta_walk.proofs.WordsVisited.{starts_wait, left_wait}
 use Rattle.ta_encode.specs.PatternSearch.{pattern_search}
 use Rattle.ta_cursor.proofs.PatternWords.{comes_legal}
-use Rattle.ta_walk.specs.Visit.{IsNumber, AreNumbers}
+use Rattle.ta_walk.specs.Visit.{IsWholeNumber, AreNumbers}
 use Rattle.ta_walk.specs.Ends.{FoundWordsAreSolved, WholeNodesSolve}
 
 -- natural numbers that are the values
@@ -24,8 +24,8 @@ record Naturals (values : List Fraction) (numbers : List ℤ) : Type 0 where
   pub are : (x : ℕ) → x < length values → IsSomeAnd (slice_get values x) (λ f. f.top ≡ pos (slice_index naturals x) *ℤ f.bottom)
 
 -- a whole number whose fraction isn't negative is natural
-natural : (k : ℤ) (f : Fraction) → IsNumber k f → pos 0 ≤ℤ f.top → (n : ℕ) × (k ≡ pos n)
-natural k f is low = of_sign k (ge-zero_of_mul f.bottom k f.positive (subst (λ (z : ℤ). pos 0 ≤ℤ z) (is ∙ mul_comm k f.bottom) low))
+natural : (k : ℤ) (f : Fraction) → IsWholeNumber k f → pos 0 ≤ℤ f.top → (n : ℕ) × (k ≡ pos n)
+natural k f is low = of_sign k (ge-zero_of_mul f.bottom k f.positive (subst (λ (z : ℤ). pos 0 ≤ℤ z) (is ∙ *ℤ_comm k f.bottom) low))
   where
     of_sign : (z : ℤ) → pos 0 ≤ℤ z → (n : ℕ) × (z ≡ pos n)
     of_sign (pos n) h = (n, refl)

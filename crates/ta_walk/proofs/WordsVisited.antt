@@ -1,9 +1,10 @@
 -- what is known of each word that a visit leaves
 use Rattle.std.proofs.Common.{◌≡◌, inl, inr, ℕ, zero, suc, ◌+◌, ◌≤◌, ◌^◌, List, [], ◌∷◌, ◌++◌, map, length, length-append, arith, refl, sym, ap, subst}
+use Rattle.std.specs.List.{AllByRecursion}
+use Rattle.ta_base.proofs.Each.{each_append}
 use Rattle.ta_automaton.specs.declared.automaton.Automaton.{Automaton}
 use Rattle.ta_automaton.specs.declared.pattern.Pattern.{Pattern}
-use Rattle.ta_automaton.specs.Lists.{Each}
-use Rattle.ta_automaton.specs.Masks.{In, numbers_from}
+use Rattle.ta_base.specs.Masks.{In, numbers_from}
 use Rattle.ta_cert.specs.declared.line.Node.{Node}
 use Rattle.ta_cert.specs.declared.line.Node.TheVariants as node
 use Rattle.ta_words.specs.declared.element.Element.{Element}
@@ -20,17 +21,13 @@ pub record Waits (s : Search) (most : ℕ) (w : Pending) : Type 0 where
   pub comes : Comes s w.start w.past
   pub few : length w.bounds ≤ most
 
-waits_more : (s : Search) (few more : ℕ) (ws : List Pending) → few ≤ more → Each (Waits s few) ws → Each (Waits s more) ws
+waits_more : (s : Search) (few more : ℕ) (ws : List Pending) → few ≤ more → AllByRecursion (Waits s few) ws → AllByRecursion (Waits s more) ws
 waits_more s few more [] h all = tt
 waits_more s few more (w ∷ ws) h all =
     let first = all.0 in
     (record { comes = first.comes; few = (let k = first.few in omega arith) }, waits_more s few more ws h all.1)
 
-pub each_append : (P : Pending → Type 0) (xs ys : List Pending) → Each P xs → Each P ys → Each P (xs ++ ys)
-each_append P [] ys h g = g
-each_append P (x ∷ xs) ys h g = (h.0, each_append P xs ys h.1 g)
-
-longer_wait : (s : Search) (most : ℕ) (w : Pending) → Waits s most w → (es : List Element) → ((e : Element) → In e es → In e (s.following w.start w.past)) → Each (Waits s most) (map (longer w) es)
+longer_wait : (s : Search) (most : ℕ) (w : Pending) → Waits s most w → (es : List Element) → ((e : Element) → In e es → In e (s.following w.start w.past)) → AllByRecursion (Waits s most) (map (longer w) es)
 longer_wait s most w waits [] inside = tt
 longer_wait s most w waits (e ∷ es) inside =
     (record { comes = inr (inside e (inl (let same : e ≡ e = cc in same)), waits.comes); few = waits.few }, longer_wait s most w waits es (λ f is. inside f (inr is)))
@@ -38,41 +35,41 @@ longer_wait s most w waits (e ∷ es) inside =
 bounded_waits : (s : Search) (most : ℕ) (w : Pending) (b : Bound) → Waits s most w → Waits s (most + 1) (bounded w b)
 bounded_waits s most w b waits = record { comes = waits.comes; few = (let k = waits.few in omega (arith, length-append w.bounds (b ∷ []))) }
 
-parts_wait : (s : Search) (most : ℕ) (w : Pending) (n : Node) → Waits s most w → Each (Waits s (most + 1)) (parts s w n)
+parts_wait : (s : Search) (most : ℕ) (w : Pending) (n : Node) → Waits s most w → AllByRecursion (Waits s (most + 1)) (parts s w n)
 parts_wait s most w (node.Leaf ts) waits = tt
 parts_wait s most w node.Extend waits = waits_more s most (most + 1) (map (longer w) (s.following w.start w.past)) (omega arith) (longer_wait s most w waits (s.following w.start w.past) (λ e is. is))
 parts_wait s most w (node.Split unknown floor) waits =
     (bounded_waits s most w (bound_at unknown floor Low) waits, (bounded_waits s most w (bound_at unknown floor High) waits, tt))
 
 -- what is left after a node
-pub next_wait : (s : Search) (most : ℕ) (w : Pending) (ws : List Pending) (n : Node) → Each (Waits s most) (w ∷ ws) → Each (Waits s (most + 1)) (parts s w n ++ ws)
+pub next_wait : (s : Search) (most : ℕ) (w : Pending) (ws : List Pending) (n : Node) → AllByRecursion (Waits s most) (w ∷ ws) → AllByRecursion (Waits s (most + 1)) (parts s w n ++ ws)
 next_wait s most w ws n all = each_append (Waits s (most + 1)) (parts s w n) ws (parts_wait s most w n all.0) (waits_more s most (most + 1) ws (omega arith) all.1)
 
-roots_from : (s : Search) (ws : List Pending) → ((w : Pending) → In w ws → In w s.roots) → Each IsUnbounded ws → Each (Waits s 0) ws
+roots_from : (s : Search) (ws : List Pending) → ((w : Pending) → In w ws → In w s.roots) → AllByRecursion IsUnbounded ws → AllByRecursion (Waits s 0) ws
 roots_from s [] inside all = tt
 roots_from s (w ∷ ws) inside all =
     let none = all.0 in
     (record { comes = comes_first s w.start w.past (w, inside w (inl (let same : w ≡ w = refl in same)), refl, refl); few = omega (arith, ap length none) }, roots_from s ws (λ v is. inside v (inr is)) all.1)
 
 -- the words with which a search begins
-pub roots_wait : (s : Search) → Each IsUnbounded s.roots → Each (Waits s 0) s.roots
+pub roots_wait : (s : Search) → AllByRecursion IsUnbounded s.roots → AllByRecursion (Waits s 0) s.roots
 roots_wait s all = roots_from s s.roots (λ w is. is) all
 
-numbers_unbounded : (k n : ℕ) → Each IsUnbounded (map empty_word (numbers_from k n))
+numbers_unbounded : (k n : ℕ) → AllByRecursion IsUnbounded (map empty_word (numbers_from k n))
 numbers_unbounded k zero = tt
 numbers_unbounded k (suc n) = (refl, numbers_unbounded (k + 1) n)
 
 -- those of a pattern have no bounds
-pub starts_unbounded : (a : Automaton) → Each IsUnbounded (all_starts a)
+pub starts_unbounded : (a : Automaton) → AllByRecursion IsUnbounded (all_starts a)
 starts_unbounded a = numbers_unbounded 0 (2 ^ length a.fall)
 
 -- the start sets' words
-pub starts_wait : (a : Automaton) (p : Pattern) (pairs : List (ℕ × ℕ)) → Each (Waits (pattern_search a p pairs) 0) (all_starts a)
+pub starts_wait : (a : Automaton) (p : Pattern) (pairs : List (ℕ × ℕ)) → AllByRecursion (Waits (pattern_search a p pairs) 0) (all_starts a)
 starts_wait a p pairs = roots_wait (pattern_search a p pairs) (starts_unbounded a)
 
 -- the words that are left after nodes
-pub left_wait : (s : Search) (most : ℕ) (ws : List Pending) (ns : List Node) (rest : List Pending) → Each (Waits s most) ws → Visits s ws ns rest → Each (Waits s (most + length ns)) rest
-left_wait s most ws [] rest all v = waits_more s most (most + 0) rest (omega arith) (subst (Each (Waits s most)) (sym v) all)
+pub left_wait : (s : Search) (most : ℕ) (ws : List Pending) (ns : List Node) (rest : List Pending) → AllByRecursion (Waits s most) ws → Visits s ws ns rest → AllByRecursion (Waits s (most + length ns)) rest
+left_wait s most ws [] rest all v = waits_more s most (most + 0) rest (omega arith) (subst (AllByRecursion (Waits s most)) (sym v) all)
 left_wait s most [] (n ∷ ns) rest all v = absurd v
 left_wait s most (w ∷ ws) (n ∷ ns) rest all v =
     waits_more s ((most + 1) + length ns) (most + suc (length ns)) rest (omega arith) (left_wait s (most + 1) (parts s w n ++ ws) ns rest (next_wait s most w ws n all) v.1)

@@ -1,28 +1,28 @@
 -- That each search ends (this project's profile)
 use Rattle.std.specs.Prelude.{ℕ, ◌≡◌, List, slice_get, Some}
+use Rattle.std.specs.List.{AllByRecursion}
 use Rattle.ta_linear.specs.declared.row.System.{System}
 use Rattle.ta_automaton.specs.declared.automaton.Automaton.{Automaton}
 use Rattle.ta_automaton.specs.declared.file.File.{File}
 use Rattle.ta_automaton.specs.declared.pattern.Pattern.{Pattern}
-use Rattle.ta_automaton.specs.Lists.{Each}
 use Rattle.ta_encode.specs.Code.{SystemAt}
 use Rattle.ta_encode.specs.Lines.{BoundsWithin}
 use Rattle.ta_encode.specs.PatternSearch.{pattern_search}
 use Rattle.ta_encode.specs.Sample.{sample_search}
 use Rattle.ta_encode.specs.Search.{Pending, Search, Comes}
-use Rattle.ta_walk.specs.Ends.{Ending, IsEnd, IsEnding, IsUnbounded}
+use Rattle.ta_walk.specs.Ends.{Ending, IsWalkEnd, IsVisitEnding, IsUnbounded}
 use Rattle.ta_walk.specs.Samples.{IsSampleEnd}
 use Rattle.ta_walk.specs.declared.end.SampleEnd.{SampleEnd}
 use Rattle.ta_walk.specs.declared.end.WalkEnd.{WalkEnd}
 
 -- a search begins with words without bounds, and each word to which it comes has a system, whatever bounds its unknowns have
 pub record HasSystems (s : Search) : Type 0 where
-  pub unbounded : Each IsUnbounded s.roots
+  pub unbounded : AllByRecursion IsUnbounded s.roots
   pub systems : (w : Pending) → Comes s w.start w.past → BoundsWithin (s.unknowns w.start w.past) w.bounds → (system : System) × SystemAt s w system
 
 -- within a budget a search ends in some way
 abbrev pub HasEnding : Search → ℕ → Type 0
-HasEnding s budget = (e : Ending) × IsEnding s budget e
+HasEnding s budget = (e : Ending) × IsVisitEnding s budget e
 
 -- such a search ends within each budget: it can't be that it doesn't. It is said so since no test of the specs tells whether a pivot stays in range.
 abbrev pub SearchesHaveEnds : Type 0
@@ -35,5 +35,5 @@ pub record WordsHaveSystems : Type 0 where
 
 -- so under any pairs the walk of each pattern ends within each budget, and so does the search for a sample
 pub record WalksHaveEnds : Type 0 where
-  pub walks : (file : File) (number : ℕ) (p : Pattern) → slice_get file.patterns number ≡ Some p → (pairs : List (ℕ × ℕ)) (budget : ℕ) → ¬ ((e : WalkEnd) × IsEnd file.automaton p pairs number budget e) → ⊥
+  pub walks : (file : File) (number : ℕ) (p : Pattern) → slice_get file.patterns number ≡ Some p → (pairs : List (ℕ × ℕ)) (budget : ℕ) → ¬ ((e : WalkEnd) × IsWalkEnd file.automaton p pairs number budget e) → ⊥
   pub samples : (a : Automaton) (budget : ℕ) → ¬ ((e : SampleEnd) × IsSampleEnd a budget e) → ⊥

@@ -1,9 +1,9 @@
 -- How a search, a visit and the walk of a pattern end
 use Rattle.std.specs.Prelude.{ℕ, ℤ, pos, ◌+◌, ◌≤◌, ◌<◌, ◌^◌, ◌≡◌, List, [], ◌∷◌, length, map, reverse, slice_get, Some}
+use Rattle.std.specs.List.{AllByRecursion}
 use Rattle.ta_automaton.specs.declared.automaton.Automaton.{Automaton}
 use Rattle.ta_automaton.specs.declared.pattern.Pattern.{Pattern}
 use Rattle.ta_automaton.specs.declared.file.File.{File}
-use Rattle.ta_automaton.specs.Lists.{Each}
 use Rattle.ta_automaton.specs.Runs.{LoopsPure, Safe}
 use Rattle.ta_cert.specs.declared.line.Node.{Node}
 use Rattle.ta_implied.specs.Implied.{Good}
@@ -24,7 +24,14 @@ use Rattle.ta_walk.specs.declared.end.VisitEnd.{VisitEnd}
 use Rattle.ta_walk.specs.declared.end.VisitEnd.TheVariants as visit
 use Rattle.ta_walk.specs.declared.end.WalkEnd.{WalkEnd}
 use Rattle.ta_walk.specs.declared.end.WalkEnd.TheVariants.{Refuted, Found, Spent, Overflow}
-use Rattle.ta_walk.specs.Visit.{Visits, WholeAt, LeavesAt}
+use Rattle.ta_walk.specs.Visit.{Visits, WholeAt, IsOutOfRangeAt}
+
+-- how many nodes a visit visited that ended so
+abbrev pub node_count : TreeEnd → ℕ
+node_count (tree.Refuted count leaves) = count
+node_count (tree.Found count start word values) = count
+node_count (tree.Spent count) = count
+node_count (tree.Overflow node kind) = node
 
 -- a word without bounds
 abbrev pub IsUnbounded : Pending → Type 0
@@ -37,7 +44,7 @@ pub record TreeIs (s : Search) (budget : ℕ) (nodes : List Node) (count : ℕ) 
   pub within : count ≤ budget
 
 -- so many nodes were visited, and then a word is left
-pub record Visited (s : Search) (count : ℕ) (w : Pending) : Type 0 where
+pub record IsVisited (s : Search) (count : ℕ) (w : Pending) : Type 0 where
   pub nodes : List Node
   pub words : List Pending
   pub visits : Visits s s.roots nodes (w ∷ words)
@@ -49,14 +56,14 @@ pub record NodeOf (s : Search) (budget : ℕ) (number : ℕ) (fact : Pending →
   pub number_is : number ≡ before + 1
   pub within : number ≤ budget
   pub word : Pending
-  pub visited : Visited s before word
+  pub visited : IsVisited s before word
   pub holds : fact word
 
 -- some word is left behind the budget
 pub record IsSpent (s : Search) (budget count : ℕ) : Type 0 where
   pub counted : count ≡ budget
   pub word : Pending
-  pub visited : Visited s budget word
+  pub visited : IsVisited s budget word
 
 -- an end of a search: the nodes of its tree and how many these are; the number of the first whole node, its word and its values; a
 -- spent budget; or the number of the first node at which a number leaves the range, and where
@@ -67,15 +74,15 @@ pub data Ending : Type 0 where
   Left : ℕ → PlaceKind → Ending
 
 -- a search ends so within a budget
-abbrev pub IsEnding : Search → ℕ → Ending → Type 0
-IsEnding s budget (Whole nodes count) = TreeIs s budget nodes count
-IsEnding s budget (Solved number word values) = NodeOf s budget number (λ w. (w ≡ word) × WholeAt s w values)
-IsEnding s budget (Stopped count) = IsSpent s budget count
-IsEnding s budget (Left number kind) = NodeOf s budget number (λ w. LeavesAt s w kind)
+abbrev pub IsVisitEnding : Search → ℕ → Ending → Type 0
+IsVisitEnding s budget (Whole nodes count) = TreeIs s budget nodes count
+IsVisitEnding s budget (Solved number word values) = NodeOf s budget number (λ w. (w ≡ word) × WholeAt s w values)
+IsVisitEnding s budget (Stopped count) = IsSpent s budget count
+IsVisitEnding s budget (Left number kind) = NodeOf s budget number (λ w. IsOutOfRangeAt s w kind)
 
 -- a search has one end within a budget
 abbrev pub EndingsAreDetermined : Type 0
-EndingsAreDetermined = (s : Search) (budget : ℕ) (e f : Ending) → IsEnding s budget e → IsEnding s budget f → e ≡ f
+EndingsAreDetermined = (s : Search) (budget : ℕ) (e f : Ending) → IsVisitEnding s budget e → IsVisitEnding s budget f → e ≡ f
 
 -- the values of a whole node are natural numbers that solve its word's system
 abbrev pub WholeNodesSolve : Type 0
@@ -89,11 +96,11 @@ pub record SolutionAt (a : Automaton) (p : Pattern) (pairs : List (ℕ × ℕ)) 
   pub whole : WholeAt (pattern_search a p pairs) w solution.values
 
 -- how the walk of the pattern of a number under pairs of rise guards ends within a budget
-abbrev pub IsEnd : Automaton → Pattern → List (ℕ × ℕ) → ℕ → ℕ → WalkEnd → Type 0
-IsEnd a p pairs number budget (Refuted nodes count) = TreeIs (pattern_search a p pairs) budget nodes count
-IsEnd a p pairs number budget (Found count solution) = NodeOf (pattern_search a p pairs) budget count (SolutionAt a p pairs number solution)
-IsEnd a p pairs number budget (Spent count) = IsSpent (pattern_search a p pairs) budget count
-IsEnd a p pairs number budget (Overflow node kind) = NodeOf (pattern_search a p pairs) budget node (λ w. LeavesAt (pattern_search a p pairs) w kind)
+abbrev pub IsWalkEnd : Automaton → Pattern → List (ℕ × ℕ) → ℕ → ℕ → WalkEnd → Type 0
+IsWalkEnd a p pairs number budget (Refuted nodes count) = TreeIs (pattern_search a p pairs) budget nodes count
+IsWalkEnd a p pairs number budget (Found count solution) = NodeOf (pattern_search a p pairs) budget count (SolutionAt a p pairs number solution)
+IsWalkEnd a p pairs number budget (Spent count) = IsSpent (pattern_search a p pairs) budget count
+IsWalkEnd a p pairs number budget (Overflow node kind) = NodeOf (pattern_search a p pairs) budget node (λ w. IsOutOfRangeAt (pattern_search a p pairs) w kind)
 
 -- how many of some nodes are leaves
 abbrev pub leaf_count : List Node → ℕ
@@ -120,18 +127,18 @@ abbrev pub IsTreeEnd : Search → ℕ → (List Node → Type 0) → TreeEnd →
 IsTreeEnd s budget Keeps (tree.Refuted count leaves) = TreeKept s budget Keeps count leaves
 IsTreeEnd s budget Keeps (tree.Found count start word values) = NodeOf s budget count (WholeWord s start word values)
 IsTreeEnd s budget Keeps (tree.Spent count) = IsSpent s budget count
-IsTreeEnd s budget Keeps (tree.Overflow node kind) = NodeOf s budget node (λ w. LeavesAt s w kind)
+IsTreeEnd s budget Keeps (tree.Overflow node kind) = NodeOf s budget node (λ w. IsOutOfRangeAt s w kind)
 
 -- the same of a pattern's tree: a walk ends so
 abbrev pub IsVisitEnd : Automaton → Pattern → List (ℕ × ℕ) → ℕ → ℕ → (List Node → Type 0) → VisitEnd → Type 0
 IsVisitEnd a p pairs number budget Keeps (visit.Refuted count leaves) = TreeKept (pattern_search a p pairs) budget Keeps count leaves
-IsVisitEnd a p pairs number budget Keeps (visit.Found count solution) = IsEnd a p pairs number budget (Found count solution)
-IsVisitEnd a p pairs number budget Keeps (visit.Spent count) = IsEnd a p pairs number budget (Spent count)
-IsVisitEnd a p pairs number budget Keeps (visit.Overflow node kind) = IsEnd a p pairs number budget (Overflow node kind)
+IsVisitEnd a p pairs number budget Keeps (visit.Found count solution) = IsWalkEnd a p pairs number budget (Found count solution)
+IsVisitEnd a p pairs number budget Keeps (visit.Spent count) = IsWalkEnd a p pairs number budget (Spent count)
+IsVisitEnd a p pairs number budget Keeps (visit.Overflow node kind) = IsWalkEnd a p pairs number budget (Overflow node kind)
 
 -- a walk has one end
-abbrev pub EndsAreDetermined : Type 0
-EndsAreDetermined = (a : Automaton) (p : Pattern) (pairs : List (ℕ × ℕ)) (number budget : ℕ) (e f : WalkEnd) → IsEnd a p pairs number budget e → IsEnd a p pairs number budget f → e ≡ f
+abbrev pub WalksAreDetermined : Type 0
+WalksAreDetermined = (a : Automaton) (p : Pattern) (pairs : List (ℕ × ℕ)) (number budget : ℕ) (e f : WalkEnd) → IsWalkEnd a p pairs number budget e → IsWalkEnd a p pairs number budget f → e ≡ f
 
 -- a leaf has at most 4,657 multipliers
 abbrev pub HasFewPairs : Node → Type 0
@@ -146,9 +153,9 @@ IsShort n = length (node_text n) ≤ line_limit
 -- the nodes of a walk that refutes a pattern are a proof of it that a judge accepts, and each of them can be written in a line
 pub record IsProof (a : Automaton) (p : Pattern) (pairs : List (ℕ × ℕ)) (nodes : List Node) : Type 0 where
   pub refutes : RefutedInOrder (pattern_search a p pairs) (IsJudged (pattern_search a p pairs)) (pattern_search a p pairs).roots nodes
-  pub writable : Each IsNode nodes
-  pub few : Each HasFewPairs nodes
-  pub short : Each IsShort nodes
+  pub writable : AllByRecursion IsNode nodes
+  pub few : AllByRecursion HasFewPairs nodes
+  pub short : AllByRecursion IsShort nodes
 
 -- then the pattern is safe, whichever good pairs of guards ordered its words
 abbrev pub RefutedPatternsAreSafe : Type 0

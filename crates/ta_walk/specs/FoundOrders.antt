@@ -1,8 +1,8 @@
 -- The orders of guards that the maker finds, pair by pair (least-index solving of the pairs' systems; this project's profile)
 use Rattle.std.specs.Prelude.{ℕ, zero, suc, ℤ, ◌≡◌, ◌⊎◌, List, [], ◌∷◌, ◌++◌, length, map}
+use Rattle.std.specs.List.{AllByRecursion}
 use Rattle.ta_linear.specs.declared.row.System.{System}
 use Rattle.ta_automaton.specs.declared.automaton.Automaton.{Automaton}
-use Rattle.ta_automaton.specs.Lists.{Each}
 use Rattle.ta_cert.specs.Certificates.{AreOrders, order_lines, pair_of}
 use Rattle.ta_cert.specs.Laws.{AreShort}
 use Rattle.ta_cert.specs.declared.line.Order.{Order}
@@ -30,18 +30,18 @@ pub record TakesPair (a : Automaton) (orders : List Order) (before after : ℕ) 
   pub whole : found ≡ orders ++ record { before = before; after = after; multipliers = multipliers } ∷ []
 
 -- no order more, since with no multipliers it is taken
-pub record LeavesPair (a : Automaton) (orders : List Order) (before after : ℕ) (found : List Order) : Type 0 where
+pub record PassesOverPair (a : Automaton) (orders : List Order) (before after : ℕ) (found : List Order) : Type 0 where
   pub none : (ts : List (ℕ × ℤ)) → ¬ IsTaken a orders before after ts
   pub same : found ≡ orders
 
 -- what is found once a pair was tried behind others
-abbrev pub Tried : Automaton → List Order → ℕ → ℕ → List Order → Type 0
-Tried a orders before after found = TakesPair a orders before after found ⊎ LeavesPair a orders before after found
+abbrev pub TryAnswers : Automaton → List Order → ℕ → ℕ → List Order → Type 0
+TryAnswers a orders before after found = TakesPair a orders before after found ⊎ PassesOverPair a orders before after found
 
 -- what is found behind others once the first so many guards were tried before one guard
 abbrev pub FoundBefore : Automaton → List Order → ℕ → ℕ → List Order → Type 0
 FoundBefore a orders after zero found = found ≡ orders
-FoundBefore a orders after (suc before) found = (next : List Order) × FoundBefore a orders after before next × Tried a next before after found
+FoundBefore a orders after (suc before) found = (next : List Order) × FoundBefore a orders after before next × TryAnswers a next before after found
 
 -- what is found once all guards were tried before each of the first so many guards
 abbrev pub FoundAfter : Automaton → ℕ → List Order → Type 0
@@ -57,11 +57,11 @@ abbrev pub FoundOrdersAreDetermined : Type 0
 FoundOrdersAreDetermined = (a : Automaton) (os rs : List Order) → FoundOrders a os → FoundOrders a rs → os ≡ rs
 
 -- orders that a judge accepts: each has a leaf whose check stays in range, no chain of them leads back, and their lines can be written
-pub record AreSound (a : Automaton) (os : List Order) : Type 0 where
+pub record AreSoundOrders (a : Automaton) (os : List Order) : Type 0 where
   pub good : Good a (map pair_of os)
-  pub shown : Each (λ (o : Order). IsShown a (pair_of o) o.multipliers) os
+  pub shown : AllByRecursion (λ (o : Order). IsShown a (pair_of o) o.multipliers) os
   pub writable : AreOrders os
   pub short : AreShort (order_lines os)
 
 abbrev pub FoundOrdersAreSound : Type 0
-FoundOrdersAreSound = (a : Automaton) (os : List Order) → FoundOrders a os → AreSound a os
+FoundOrdersAreSound = (a : Automaton) (os : List Order) → FoundOrders a os → AreSoundOrders a os

@@ -7,7 +7,7 @@ use Rattle.ta_encode.specs.Search.{Pending}
 use Rattle.ta_walk.specs.declared.end.SampleEnd.{SampleEnd}
 use Rattle.ta_walk.specs.declared.end.SampleEnd.TheVariants.{Sample, Empty, Spent, Overflow}
 use Rattle.ta_walk.specs.Ends.{IsSpent, NodeOf, TreeIs}
-use Rattle.ta_walk.specs.Visit.{LeavesAt, WholeAt}
+use Rattle.ta_walk.specs.Visit.{IsOutOfRangeAt, WholeAt}
 
 -- a whole node, whose first values are these of the parameters
 pub record SampleAt (a : Automaton) (parameters : List ℤ) (w : Pending) : Type 0 where
@@ -31,7 +31,7 @@ abbrev pub IsSampleEnd : Automaton → ℕ → SampleEnd → Type 0
 IsSampleEnd a budget (Sample parameters) = SampleFound a budget parameters
 IsSampleEnd a budget Empty = SampleRefuted a budget
 IsSampleEnd a budget (Spent count) = IsSpent (sample_search a) budget count
-IsSampleEnd a budget (Overflow node kind) = NodeOf (sample_search a) budget node (λ w. LeavesAt (sample_search a) w kind)
+IsSampleEnd a budget (Overflow node kind) = NodeOf (sample_search a) budget node (λ w. IsOutOfRangeAt (sample_search a) w kind)
 
 -- it has one end
 abbrev pub SampleEndsAreDetermined : Type 0

@@ -3,14 +3,14 @@ use Rattle.std.specs.Prelude.{ℕ, ℤ, ◌<◌, ◌≤◌, ◌^◌, ◌≡◌, 
 use Rattle.ta_automaton.specs.declared.automaton.Automaton.{Automaton}
 use Rattle.ta_automaton.specs.declared.file.File.{File}
 use Rattle.ta_automaton.specs.declared.pattern.Pattern.{Pattern}
-use Rattle.ta_automaton.specs.Masks.{In}
+use Rattle.ta_base.specs.Masks.{In}
 use Rattle.ta_cert.specs.declared.line.Node.{Node}
 use Rattle.ta_cert.specs.declared.line.Node.TheVariants as node
 use Rattle.ta_words.specs.declared.element.Element.{Element}
 use Rattle.ta_words.specs.Words.{LegalUnder}
 use Rattle.ta_encode.specs.PatternSearch.{pattern_search}
 use Rattle.ta_encode.specs.Search.{Pending, Search}
-use Rattle.ta_walk.specs.Ends.{IsSpent, Visited}
+use Rattle.ta_walk.specs.Ends.{IsSpent, IsVisited}
 use Rattle.ta_walk.specs.Visit.{Visits}
 
 -- there are at most so many pairs of a start set and a word that is legal under pairs of rise guards: a list of no more items has each of them
@@ -39,5 +39,5 @@ pub record SpentNeedsSplits : Type 0 where
   pub number : (file : File) (number : ℕ) (p : Pattern) → slice_get file.patterns number ≡ Some p → (pairs : List (ℕ × ℕ)) → (most : ℕ) × HasAtMost file.automaton p pairs most
   pub split : (a : Automaton) (p : Pattern) (pairs : List (ℕ × ℕ)) (budget count : ℕ) → HasAtMost a p pairs budget → IsSpent (pattern_search a p pairs) budget count → WasSplit (pattern_search a p pairs) budget
   pub apart :
-      (a : Automaton) (p : Pattern) (pairs : List (ℕ × ℕ)) (before later : ℕ) (v w : Pending) → before < later → Visited (pattern_search a p pairs) before v
-      → (at : Visited (pattern_search a p pairs) later w) → ¬ HasSplit at.nodes → v.start ≡ w.start → v.past ≡ w.past → ⊥
+      (a : Automaton) (p : Pattern) (pairs : List (ℕ × ℕ)) (before later : ℕ) (v w : Pending) → before < later → IsVisited (pattern_search a p pairs) before v
+      → (at : IsVisited (pattern_search a p pairs) later w) → ¬ HasSplit at.nodes → v.start ≡ w.start → v.past ≡ w.past → ⊥

@@ -4,7 +4,7 @@ use Rattle.ta_linear.specs.declared.row.System.{System}
 use Rattle.ta_cert.specs.declared.line.Node.{Node}
 use Rattle.ta_cert.specs.declared.line.Node.TheVariants as node
 use Rattle.ta_encode.specs.Code.{SystemAt}
-use Rattle.ta_encode.specs.Search.{Pending, Search, parts, rows_of}
+use Rattle.ta_encode.specs.Search.{Pending, Search, parts, bounded_rows}
 use Rattle.ta_cursor.specs.Range.{LeafStays}
 use Rattle.ta_dense.specs.Slack.{slack_tableau}
 use Rattle.ta_simplex.specs.LeastIndex.{OverflowsAt}
@@ -29,11 +29,11 @@ abbrev pub VertexAt : Search → Pending → List Fraction → Type 0
 VertexAt s w values = OfSystem s w (λ system. IsVertex system values)
 
 -- a fraction is this whole number
-abbrev pub IsNumber : ℤ → Fraction → Type 0
-IsNumber k f = f.top ≡ (k *ℤ f.bottom)
+abbrev pub IsWholeNumber : ℤ → Fraction → Type 0
+IsWholeNumber k f = f.top ≡ (k *ℤ f.bottom)
 
 abbrev pub IsWhole : Fraction → Type 0
-IsWhole f = (k : ℤ) × IsNumber k f
+IsWhole f = (k : ℤ) × IsWholeNumber k f
 
 -- a fraction lies strictly between this whole number and the next
 pub record IsAbove (floor : ℤ) (f : Fraction) : Type 0 where
@@ -50,7 +50,7 @@ abbrev pub AreNumbers : List Fraction → List ℤ → Type 0
 AreNumbers [] [] = Unit {0}
 AreNumbers [] (k ∷ ks) = ⊥
 AreNumbers (f ∷ fs) [] = ⊥
-AreNumbers (f ∷ fs) (k ∷ ks) = IsNumber k f × AreNumbers fs ks
+AreNumbers (f ∷ fs) (k ∷ ks) = IsWholeNumber k f × AreNumbers fs ks
 
 -- a vertex of a complete word, one of whose values isn't whole
 pub record SplitVertex (s : Search) (w : Pending) (unknown : ℕ) (floor : ℤ) : Type 0 where
@@ -75,7 +75,7 @@ pub record WholeAt (s : Search) (w : Pending) (numbers : List ℤ) : Type 0 wher
 -- a leaf whose check stays in range
 pub record LeafAt (s : Search) (w : Pending) (ts : List (ℕ × ℤ)) : Type 0 where
   pub refuted : RefutedAt s w ts
-  pub in_range : LeafStays (rows_of s w) ts
+  pub in_range : LeafStays (bounded_rows s w) ts
 
 -- which node stands at a word, where it is no whole node and no number leaves the range: a leaf where the system is refuted;
 -- where it has a vertex, an Extend if the word isn't complete, else a Split of the least unknown that isn't whole, at its floor
@@ -85,16 +85,16 @@ NodeAt s w node.Extend = OpenVertex s w
 NodeAt s w (node.Split unknown floor) = SplitVertex s w unknown floor
 
 -- multipliers refute the word's system, and their check leaves the range
-pub record LeafLeaves (s : Search) (w : Pending) : Type 0 where
+pub record LeafOutOfRange (s : Search) (w : Pending) : Type 0 where
   pub multipliers : List (ℕ × ℤ)
   pub refuted : RefutedAt s w multipliers
-  pub leaves : LeafStays (rows_of s w) multipliers → ⊥
+  pub leaves : LeafStays (bounded_rows s w) multipliers → ⊥
 
 -- where a number of a node leaves the range. A walk makes no run, so it never says that one leaves it
-abbrev pub LeavesAt : Search → Pending → PlaceKind → Type 0
-LeavesAt s w (kind.Pivot count) = OfSystem s w (λ system. OverflowsAt (slack_tableau system) count)
-LeavesAt s w kind.Leaf = LeafLeaves s w
-LeavesAt s w kind.Run = ⊥
+abbrev pub IsOutOfRangeAt : Search → Pending → PlaceKind → Type 0
+IsOutOfRangeAt s w (kind.Pivot count) = OfSystem s w (λ system. OverflowsAt (slack_tableau system) count)
+IsOutOfRangeAt s w kind.Leaf = LeafOutOfRange s w
+IsOutOfRangeAt s w kind.Run = ⊥
 
 -- the visit: each node stands at the first word that is left, and what it leaves of the word comes in its place; from these
 -- words it leads to those

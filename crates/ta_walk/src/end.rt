@@ -1,7 +1,8 @@
 //! How a walk ends.
 #![tactic(auto)]
 
-use ta_cert::{List, Node};
+use ta_base::List;
+use ta_cert::Node;
 use ta_encode::Solution;
 use ta_words::Word;
 
@@ -32,7 +33,7 @@ pub enum TreeEnd {
         count: u64,
         start_mask: u8,
         word: Word,
-        values: ta_linear::List<i128>,
+        values: ta_base::List<i128>,
     },
     /// These many nodes were visited, and the tree has more.
     Spent {
@@ -43,6 +44,23 @@ pub enum TreeEnd {
         node: u64,
         kind: PlaceKind,
     },
+}
+
+impl TreeEnd {
+    ghost use Rattle.std.specs.Prelude.{◌≡◌};
+    ghost use Rattle.ta_walk.specs.Ends.{node_count};
+
+    /// How many nodes were visited.
+    pub fn node_count(&self) -> u64
+        ensures { result ≡ node_count self.now }
+    {
+        match self {
+            TreeEnd::Refuted { count, .. }
+            | TreeEnd::Found { count, .. }
+            | TreeEnd::Spent { count } => *count,
+            TreeEnd::Overflow { node, .. } => *node,
+        }
+    }
 }
 
 /// How a visit of a pattern's tree ends whose nodes were handed on as they came. Nodes are counted as
@@ -78,7 +96,7 @@ pub enum WalkEnd {
 pub enum SampleEnd {
     /// These values, one for each parameter in the order of the file, meet the resilience condition
     /// and have an initial configuration.
-    Sample(ta_linear::List<i128>),
+    Sample(ta_base::List<i128>),
     /// No values do.
     Empty,
     /// These many nodes were visited, and the tree has more.

@@ -5,11 +5,12 @@ ghost use Rattle.std.specs.Prelude.{ℕ, ℤ, ◌≡◌, ◌<◌, ◌+◌, ◌^�
 ghost use Rattle.ta_cert.specs.Certificates.{pair_of};
 ghost use Rattle.ta_implied.specs.Implied.{IsPair};
 ghost use Rattle.ta_walk.specs.FoundOrders.{FoundOrders, RefutedPair};
-ghost use Rattle.ta_walk.specs.Inside.Sought.{GuardTried, IsKept, PairTried};
+ghost use Rattle.ta_walk.specs.Inside.Sought.{GuardTried, MasksAgree, PairTried};
 
 use std::alloc::{AllocError, Global};
 use ta_automaton::Automaton;
-use ta_cert::{List, Order};
+use ta_base::List;
+use ta_cert::Order;
 use ta_dense::Dictionary;
 use ta_farkas::check_leaf;
 use ta_implied::{Orders, imply_system};
@@ -68,7 +69,7 @@ fn try_before<D: Dictionary>(
     after: u32,
     sought: &mut Sought,
 ) -> Result<(), AllocError>
-    requires { IsKept 0 after sought.old }
+    requires { MasksAgree 0 after sought.old }
     ensures { OnOk result (GuardTried automaton.now (length automaton.now.rise) after sought.old sought.new) }
 {
     for before in 0..rise_count(automaton) {
@@ -85,7 +86,7 @@ fn try_pair<D: Dictionary>(
     after: u32,
     sought: &mut Sought,
 ) -> Result<(), AllocError>
-    requires { IsKept before after sought.old }
+    requires { MasksAgree before after sought.old }
     ensures { OnOk result (PairTried automaton.now before after sought.old sought.new) }
 {
     if !sought.orders.takes(automaton, before, after) {
@@ -119,7 +120,7 @@ fn refute_pair<D: Dictionary>(
         Err(SolveFault::Overflow(_)) => Ok(None),
         Ok(End::Vertex(_)) => Ok(None),
         Ok(End::Refuted(multipliers)) => match check_leaf(&system, multipliers.as_slice()) {
-            Ok(()) => Ok(Some(List::from_vec(multipliers.into_vec()))),
+            Ok(()) => Ok(Some(multipliers)),
             Err(_) => Ok(None),
         },
     }

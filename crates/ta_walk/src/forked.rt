@@ -3,8 +3,8 @@
 
 ghost use Rattle.std.specs.Prelude.{◌<◌, ◌≤◌, ◌≡◌, [], IfNone, IfOk, IfSome, is_some, length, true, false};
 ghost use Rattle.ta_words.specs.Calls.{OfPattern};
-ghost use Rattle.ta_walk.specs.Ends.{IsEnd, IsTreeEnd, IsVisitEnd};
-ghost use Rattle.ta_walk.specs.Inside.Parts.{IsSmallEnd, IsWholeEnd, search_of};
+ghost use Rattle.ta_walk.specs.Ends.{IsWalkEnd, IsTreeEnd, IsVisitEnd};
+ghost use Rattle.ta_walk.specs.Inside.Parts.{IsSmallEnd, IsWholeEnd, search_of_tree};
 
 use crate::end::{TreeEnd, VisitEnd, WalkEnd};
 use crate::forking::visit_list;
@@ -14,7 +14,7 @@ use crate::part::{BESIDE, Board, Part, Watch};
 use crate::roots::roots_of;
 use std::alloc::{AllocError, Global};
 use std::thread::{Threads, available_parallelism};
-use ta_cert::List;
+use ta_base::List;
 use ta_cursor::PatternTree;
 use ta_dense::Dictionary;
 use ta_encode::Solution;
@@ -40,7 +40,7 @@ pub fn walk<D: Dictionary, R: Threads + Sync>(
     requires exists { pattern < length scoped.now.file.patterns }
     requires some { 0 < nodes }
     requires limit { nodes ≤ 1000000000 }
-    ensures { IfOk result (λ end. OfPattern scoped.now.file pattern (λ p. IsEnd scoped.now.file.automaton p orders.now pattern nodes end)) }
+    ensures { IfOk result (λ end. OfPattern scoped.now.file pattern (λ p. IsWalkEnd scoped.now.file.automaton p orders.now pattern nodes end)) }
 {
     walk_gated::<D, R, Idle>(rt, alloc, scoped, pattern, orders, nodes, &Idle {})
 }
@@ -59,7 +59,7 @@ pub fn walk_gated<D: Dictionary, R: Threads + Sync, G: Gate>(
     requires exists { pattern < length scoped.now.file.patterns }
     requires some { 0 < nodes }
     requires limit { nodes ≤ 1000000000 }
-    ensures { IfOk result (λ end. OfPattern scoped.now.file pattern (λ p. IsEnd scoped.now.file.automaton p orders.now pattern nodes end)) }
+    ensures { IfOk result (λ end. OfPattern scoped.now.file pattern (λ p. IsWalkEnd scoped.now.file.automaton p orders.now pattern nodes end)) }
 {
     let mut kept = Nodes {
         items: Vec::new(alloc),
@@ -149,7 +149,7 @@ fn fork_tree<D: Dictionary, K: PartKeeper, R: Threads + Sync, G: Gate>(
 ) -> Result<TreeEnd, AllocError>
     requires limit { nodes ≤ 1000000000 }
     requires keeps { K.keeps keeper.old keeper.old [] }
-    ensures { IfOk result (IsTreeEnd (search_of tree.now) nodes (K.keeps keeper.old keeper.new)) }
+    ensures { IfOk result (IsTreeEnd (search_of_tree tree.now) nodes (K.keeps keeper.old keeper.new)) }
 {
     let hasty = visit_parts::<D, K, R, G>(rt, alloc, tree, nodes, gate, false, keeper)?;
     if let Some(end) = hasty {
@@ -175,7 +175,7 @@ fn visit_parts<D: Dictionary, K: PartKeeper, R: Threads + Sync, G: Gate>(
 ) -> Result<Option<TreeEnd>, AllocError>
     requires limit { nodes ≤ 1000000000 }
     requires keeps { K.keeps keeper.old keeper.old [] }
-    ensures ends { IfOk result (λ end. IfSome end (IsTreeEnd (search_of tree.now) nodes (K.keeps keeper.old keeper.new))) }
+    ensures ends { IfOk result (λ end. IfSome end (IsTreeEnd (search_of_tree tree.now) nodes (K.keeps keeper.old keeper.new))) }
     ensures patient { patient ≡ true → IfOk result (λ end. is_some end ≡ true) }
     ensures kept { IfOk result (λ end. is_some end ≡ false → keeper.new ≡ keeper.old) }
 {

@@ -2,12 +2,12 @@
 #![tactic(auto)]
 
 ghost use Rattle.std.specs.Prelude.{◌+◌, ◌-◌, ◌<◌, ◌≤◌, ◌^◌, ◌≡◌, ◌++◌, [], ◌∷◌, IfOk, map, true, vec_len};
+ghost use Rattle.std.specs.List.{AllByRecursion};
 ghost use denote.Param.Send.{IsSend, IsSync};
-ghost use Rattle.ta_automaton.specs.Lists.{Each};
 ghost use Rattle.ta_cursor.specs.Cursors.{left_at};
 ghost use Rattle.ta_encode.specs.Marks.{IsEncoding};
 ghost use Rattle.ta_simplex.specs.Branch.{IsBranch};
-ghost use Rattle.ta_walk.specs.Inside.Parts.{Begins, ComesTo, IsSmallEnd, IsWholeEnd, PartVisited, Stands, beginning, root_word, search_of};
+ghost use Rattle.ta_walk.specs.Inside.Parts.{IsLaterKeeper, ComesTo, IsSmallEnd, IsWholeEnd, PartVisited, HasFewLeft, beginning, root_word, search_of_tree};
 
 use crate::end::TreeEnd;
 use crate::gate::Gate;
@@ -36,10 +36,10 @@ pub(crate) fn visit_list<D: Dictionary, K: PartKeeper, R: Threads + Sync, G: Gat
     nodes: u64,
     keeper: K,
 ) -> Result<Part<K>, AllocError>
-    requires come { Each (ComesTo (search_of tree.now)) words.items }
+    requires come { AllByRecursion (ComesTo (search_of_tree tree.now)) words.items }
     requires few { vec_len words ≤ 2 ^ 31 }
     requires limit { nodes ≤ 1000000000 }
-    ensures visited { IfOk result (λ part. PartVisited K.keeps (beginning (search_of tree.now) (map root_word words.items)) nodes keeper part.keeper part.end) }
+    ensures visited { IfOk result (λ part. PartVisited K.keeps (beginning (search_of_tree tree.now) (map root_word words.items)) nodes keeper part.keeper part.end) }
     ensures small { IfOk result (λ part. IsSmallEnd nodes part.end) }
     ensures patient { watch.entry.patient ≡ true → IfOk result (λ part. IsWholeEnd nodes part.end) }
 {
@@ -75,12 +75,12 @@ fn visit_halves<D: Dictionary, K: PartKeeper, R: Threads + Sync, G: Gate>(
     nodes: u64,
     keeper: K,
 ) -> Result<Part<K>, AllocError>
-    requires first { Each (ComesTo (search_of tree.now)) words.items }
-    requires second { Each (ComesTo (search_of tree.now)) others.items }
+    requires first { AllByRecursion (ComesTo (search_of_tree tree.now)) words.items }
+    requires second { AllByRecursion (ComesTo (search_of_tree tree.now)) others.items }
     requires some { (0 < vec_len words) × (0 < vec_len others) }
     requires few { vec_len words + vec_len others ≤ 2 ^ 31 }
     requires limit { nodes ≤ 1000000000 }
-    ensures visited { IfOk result (λ part. PartVisited K.keeps (beginning (search_of tree.now) (map root_word words.items ++ map root_word others.items)) nodes keeper part.keeper part.end) }
+    ensures visited { IfOk result (λ part. PartVisited K.keeps (beginning (search_of_tree tree.now) (map root_word words.items ++ map root_word others.items)) nodes keeper part.keeper part.end) }
     ensures small { IfOk result (λ part. IsSmallEnd nodes part.end) }
     ensures patient { watch.entry.patient ≡ true → IfOk result (λ part. IsWholeEnd nodes part.end) }
 {
@@ -109,13 +109,13 @@ fn visit_beside<D: Dictionary, K: PartKeeper, R: Threads + Sync, G: Gate>(
     keeper: K,
     late: K,
 ) -> Result<Part<K>, AllocError>
-    requires first { Each (ComesTo (search_of tree.now)) words.items }
-    requires second { Each (ComesTo (search_of tree.now)) others.items }
+    requires first { AllByRecursion (ComesTo (search_of_tree tree.now)) words.items }
+    requires second { AllByRecursion (ComesTo (search_of_tree tree.now)) others.items }
     requires some { (0 < vec_len words) × (0 < vec_len others) }
     requires few { vec_len words + vec_len others ≤ 2 ^ 31 }
     requires limit { nodes ≤ 1000000000 }
-    requires fresh { Begins K.begins K.keeps keeper late }
-    ensures visited { IfOk result (λ part. PartVisited K.keeps (beginning (search_of tree.now) (map root_word words.items ++ map root_word others.items)) nodes keeper part.keeper part.end) }
+    requires fresh { IsLaterKeeper K.begins K.keeps keeper late }
+    ensures visited { IfOk result (λ part. PartVisited K.keeps (beginning (search_of_tree tree.now) (map root_word words.items ++ map root_word others.items)) nodes keeper part.keeper part.end) }
     ensures small { IfOk result (λ part. IsSmallEnd nodes part.end) }
     ensures patient { watch.entry.patient ≡ true → IfOk result (λ part. IsWholeEnd nodes part.end) }
 {
@@ -124,8 +124,8 @@ fn visit_beside<D: Dictionary, K: PartKeeper, R: Threads + Sync, G: Gate>(
     let ended = AtomicU64::new(0);
     let ended = &ended;
     let front = move || -> Result<Part<K>, AllocError>
-        requires { IsSync R.row × IsSync G.row × IsSend K.row × Each (ComesTo (search_of tree.now)) words.items × (vec_len words ≤ 2 ^ 31) × (nodes ≤ 1000000000) }
-        ensures visited { IfOk result (λ part. PartVisited K.keeps (beginning (search_of tree.entry.now) (map root_word words.items)) nodes keeper part.keeper part.end) }
+        requires { IsSync R.row × IsSync G.row × IsSend K.row × AllByRecursion (ComesTo (search_of_tree tree.now)) words.items × (vec_len words ≤ 2 ^ 31) × (nodes ≤ 1000000000) }
+        ensures visited { IfOk result (λ part. PartVisited K.keeps (beginning (search_of_tree tree.entry.now) (map root_word words.items)) nodes keeper part.keeper part.end) }
         ensures small { IfOk result (λ part. IsSmallEnd nodes part.end) }
         ensures patient { low.entry.patient ≡ true → IfOk result (λ part. IsWholeEnd nodes part.end) }
     {
@@ -135,8 +135,8 @@ fn visit_beside<D: Dictionary, K: PartKeeper, R: Threads + Sync, G: Gate>(
         part
     };
     let back = move || -> Result<Part<K>, AllocError>
-        requires { IsSync R.row × IsSync G.row × IsSend K.row × Each (ComesTo (search_of tree.now)) others.items × (vec_len others ≤ 2 ^ 31) × (nodes ≤ 1000000000) }
-        ensures visited { IfOk result (λ part. PartVisited K.keeps (beginning (search_of tree.entry.now) (map root_word others.items)) nodes late part.keeper part.end) }
+        requires { IsSync R.row × IsSync G.row × IsSend K.row × AllByRecursion (ComesTo (search_of_tree tree.now)) others.items × (vec_len others ≤ 2 ^ 31) × (nodes ≤ 1000000000) }
+        ensures visited { IfOk result (λ part. PartVisited K.keeps (beginning (search_of_tree tree.entry.now) (map root_word others.items)) nodes late part.keeper part.end) }
         ensures small { IfOk result (λ part. IsSmallEnd nodes part.end) }
         ensures patient { high.entry.patient ≡ true → IfOk result (λ part. IsWholeEnd nodes part.end) }
     {
@@ -165,13 +165,13 @@ fn visit_in_turn<D: Dictionary, K: PartKeeper, R: Threads + Sync, G: Gate>(
     keeper: K,
     late: K,
 ) -> Result<Part<K>, AllocError>
-    requires first { Each (ComesTo (search_of tree.now)) words.items }
-    requires second { Each (ComesTo (search_of tree.now)) others.items }
+    requires first { AllByRecursion (ComesTo (search_of_tree tree.now)) words.items }
+    requires second { AllByRecursion (ComesTo (search_of_tree tree.now)) others.items }
     requires some { (0 < vec_len words) × (0 < vec_len others) }
     requires few { vec_len words + vec_len others ≤ 2 ^ 31 }
     requires limit { nodes ≤ 1000000000 }
-    requires fresh { Begins K.begins K.keeps keeper late }
-    ensures visited { IfOk result (λ part. PartVisited K.keeps (beginning (search_of tree.now) (map root_word words.items ++ map root_word others.items)) nodes keeper part.keeper part.end) }
+    requires fresh { IsLaterKeeper K.begins K.keeps keeper late }
+    ensures visited { IfOk result (λ part. PartVisited K.keeps (beginning (search_of_tree tree.now) (map root_word words.items ++ map root_word others.items)) nodes keeper part.keeper part.end) }
     ensures small { IfOk result (λ part. IsSmallEnd nodes part.end) }
     ensures patient { watch.entry.patient ≡ true → IfOk result (λ part. IsWholeEnd nodes part.end) }
 {
@@ -197,9 +197,9 @@ fn visit_root<D: Dictionary, K: PartKeeper, R: Threads + Sync, G: Gate>(
     nodes: u64,
     keeper: K,
 ) -> Result<Part<K>, AllocError>
-    requires comes { ComesTo (search_of tree.now) root }
+    requires comes { ComesTo (search_of_tree tree.now) root }
     requires limit { nodes ≤ 1000000000 }
-    ensures visited { IfOk result (λ part. PartVisited K.keeps (beginning (search_of tree.now) (root_word root ∷ [])) nodes keeper part.keeper part.end) }
+    ensures visited { IfOk result (λ part. PartVisited K.keeps (beginning (search_of_tree tree.now) (root_word root ∷ [])) nodes keeper part.keeper part.end) }
     ensures small { IfOk result (λ part. IsSmallEnd nodes part.end) }
     ensures patient { watch.entry.patient ≡ true → IfOk result (λ part. IsWholeEnd nodes part.end) }
 {
@@ -219,9 +219,9 @@ fn visit_tree_at<D: Dictionary, K: PartKeeper, R: Threads + Sync, G: Gate>(
     nodes: u64,
     keeper: K,
 ) -> Result<Part<K>, AllocError>
-    requires stands { Stands (search_of tree.now) nodes cursor }
+    requires stands { HasFewLeft (search_of_tree tree.now) nodes cursor }
     requires limit { nodes ≤ 1000000000 }
-    ensures visited { IfOk result (λ part. PartVisited K.keeps (beginning (search_of tree.now) (left_at (search_of tree.now) cursor)) nodes keeper part.keeper part.end) }
+    ensures visited { IfOk result (λ part. PartVisited K.keeps (beginning (search_of_tree tree.now) (left_at (search_of_tree tree.now) cursor)) nodes keeper part.keeper part.end) }
     ensures small { IfOk result (λ part. IsSmallEnd nodes part.end) }
     ensures patient { watch.entry.patient ≡ true → IfOk result (λ part. IsWholeEnd nodes part.end) }
 {
@@ -247,11 +247,11 @@ fn visit_on<D: Dictionary, K: PartKeeper, R: Threads + Sync, G: Gate>(
     nodes: u64,
     keeper: K,
 ) -> Result<Part<K>, AllocError>
-    requires stands { Stands (search_of tree.now) nodes cursor }
+    requires stands { HasFewLeft (search_of_tree tree.now) nodes cursor }
     requires limit { nodes ≤ 1000000000 }
     requires kept { IsEncoding tree.now.file.now.automaton tree.now.pattern.now kept }
     requires branch { IsBranch D.tableau D.pivot_of kept.system.rows branch }
-    ensures visited { IfOk result (λ part. PartVisited K.keeps (beginning (search_of tree.now) (left_at (search_of tree.now) cursor)) nodes keeper part.keeper part.end) }
+    ensures visited { IfOk result (λ part. PartVisited K.keeps (beginning (search_of_tree tree.now) (left_at (search_of_tree tree.now) cursor)) nodes keeper part.keeper part.end) }
     ensures small { IfOk result (λ part. IsSmallEnd nodes part.end) }
     ensures patient { watch.entry.patient ≡ true → IfOk result (λ part. IsWholeEnd nodes part.end) }
 {
@@ -306,12 +306,12 @@ fn visit_shared<D: Dictionary, K: PartKeeper, R: Threads + Sync, G: Gate>(
     nodes: u64,
     keeper: K,
 ) -> Result<Part<K>, AllocError>
-    requires stands { Stands (search_of tree.now) nodes cursor }
-    requires later { Stands (search_of tree.now) nodes later }
+    requires stands { HasFewLeft (search_of_tree tree.now) nodes cursor }
+    requires later { HasFewLeft (search_of_tree tree.now) nodes later }
     requires limit { nodes ≤ 1000000000 }
     requires kept { IsEncoding tree.now.file.now.automaton tree.now.pattern.now kept }
     requires branch { IsBranch D.tableau D.pivot_of kept.system.rows branch }
-    ensures visited { IfOk result (λ part. PartVisited K.keeps (beginning (search_of tree.now) (left_at (search_of tree.now) cursor ++ left_at (search_of tree.now) later)) nodes keeper part.keeper part.end) }
+    ensures visited { IfOk result (λ part. PartVisited K.keeps (beginning (search_of_tree tree.now) (left_at (search_of_tree tree.now) cursor ++ left_at (search_of_tree tree.now) later)) nodes keeper part.keeper part.end) }
     ensures small { IfOk result (λ part. IsSmallEnd nodes part.end) }
     ensures patient { watch.entry.patient ≡ true → IfOk result (λ part. IsWholeEnd nodes part.end) }
 {
@@ -321,8 +321,8 @@ fn visit_shared<D: Dictionary, K: PartKeeper, R: Threads + Sync, G: Gate>(
     let ended = AtomicU64::new(0);
     let ended = &ended;
     let back = move || -> Result<Part<K>, AllocError>
-        requires { IsSync R.row × IsSync G.row × IsSend K.row × Stands (search_of tree.now) nodes later × (nodes ≤ 1000000000) }
-        ensures visited { IfOk result (λ part. PartVisited K.keeps (beginning (search_of tree.entry.now) (left_at (search_of tree.entry.now) later)) nodes late part.keeper part.end) }
+        requires { IsSync R.row × IsSync G.row × IsSend K.row × HasFewLeft (search_of_tree tree.now) nodes later × (nodes ≤ 1000000000) }
+        ensures visited { IfOk result (λ part. PartVisited K.keeps (beginning (search_of_tree tree.entry.now) (left_at (search_of_tree tree.entry.now) later)) nodes late part.keeper part.end) }
         ensures small { IfOk result (λ part. IsSmallEnd nodes part.end) }
         ensures patient { high.entry.patient ≡ true → IfOk result (λ part. IsWholeEnd nodes part.end) }
     {
@@ -332,8 +332,8 @@ fn visit_shared<D: Dictionary, K: PartKeeper, R: Threads + Sync, G: Gate>(
         part
     };
     let front = move || -> Result<Part<K>, AllocError>
-        requires { IsSync R.row × IsSync G.row × IsSend K.row × Stands (search_of tree.now) nodes cursor × (nodes ≤ 1000000000) × IsEncoding tree.now.file.now.automaton tree.now.pattern.now kept × IsBranch D.tableau D.pivot_of kept.system.rows branch }
-        ensures visited { IfOk result (λ part. PartVisited K.keeps (beginning (search_of tree.entry.now) (left_at (search_of tree.entry.now) cursor)) nodes keeper part.keeper part.end) }
+        requires { IsSync R.row × IsSync G.row × IsSend K.row × HasFewLeft (search_of_tree tree.now) nodes cursor × (nodes ≤ 1000000000) × IsEncoding tree.now.file.now.automaton tree.now.pattern.now kept × IsBranch D.tableau D.pivot_of kept.system.rows branch }
+        ensures visited { IfOk result (λ part. PartVisited K.keeps (beginning (search_of_tree tree.entry.now) (left_at (search_of_tree tree.entry.now) cursor)) nodes keeper part.keeper part.end) }
         ensures small { IfOk result (λ part. IsSmallEnd nodes part.end) }
         ensures patient { low.entry.patient ≡ true → IfOk result (λ part. IsWholeEnd nodes part.end) }
     {

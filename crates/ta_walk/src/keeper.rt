@@ -73,3 +73,17 @@ impl PartKeeper for Nodes {
         Ok(())
     }
 }
+
+/// Keeps no nodes.
+#[derive(Drop)]
+pub struct Nothing {}
+
+impl Keeper for Nothing {
+    ghost keeps = { λ first now nodes. Unit {0} };
+
+    fn take(&mut self, alloc: Global, node: Node) -> Result<(), AllocError> {
+        let _alloc = alloc;
+        drop(node);
+        Ok(())
+    }
+}

@@ -2,7 +2,7 @@
 #![tactic(auto)]
 
 ghost use Rattle.ta_walk.specs.Answers.{SearchesHaveEnds, WalksHaveEnds, WordsHaveSystems};
-ghost use Rattle.ta_walk.specs.Ends.{EndingsAreDetermined, EndsAreDetermined, FoundWordsAreSolved, RefutedPatternsAreSafe, WholeNodesSolve};
+ghost use Rattle.ta_walk.specs.Ends.{EndingsAreDetermined, WalksAreDetermined, FoundWordsAreSolved, RefutedPatternsAreSafe, WholeNodesSolve};
 ghost use Rattle.ta_walk.specs.Samples.{SampleEndsAreDetermined, SamplesAreReal};
 ghost use Rattle.ta_walk.specs.Splits.{SpentNeedsSplits};
 
@@ -18,7 +18,7 @@ pub fn whole_nodes_solve()
 
 /// A pattern has one tree, and its walk within a budget one end.
 pub fn ends_are_determined()
-    ensures { EndsAreDetermined }
+    ensures { WalksAreDetermined }
 {}
 
 /// A walk that refutes a pattern has a proof of it, whose nodes can be written as lines, and the pattern

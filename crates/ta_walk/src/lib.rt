@@ -24,7 +24,7 @@ pub use end::{PlaceKind, SampleEnd, TreeEnd, VisitEnd, WalkEnd};
 pub use finding::{OrdersFound, find_orders};
 pub use forked::{visit, walk, walk_gated};
 pub use gate::{Gate, Idle};
-pub use keeper::{Keeper, PartKeeper};
+pub use keeper::{Keeper, Nothing, PartKeeper};
 pub use laws::{
     endings_are_determined, ends_are_determined, found_words_are_solved, refuted_patterns_are_safe,
     sample_ends_are_determined, samples_are_real, searches_have_ends, spent_needs_splits,
@@ -32,4 +32,4 @@ pub use laws::{
 };
 pub use orders_laws::{found_orders_are_determined, found_orders_are_sound};
 pub use sampling::sample;
-pub use walking::visit_tree;
+pub use walking::{visit_tree, visit_tree_along};

@@ -4,7 +4,7 @@
 ghost use Rattle.std.specs.Prelude.{ℕ, ◌+◌, ◌-◌, ◌<◌, ◌≤◌, ◌≡◌, ◌++◌, IfNone, IfOk, IfSome, List};
 ghost use Rattle.ta_encode.specs.Search.{Pending, Search};
 ghost use Rattle.ta_walk.specs.declared.end.TreeEnd.TheVariants.{Refuted};
-ghost use Rattle.ta_walk.specs.Inside.Parts.{Begins, IsNotRefuted, IsSmallEnd, IsWholeEnd, PartVisited, beginning, behind};
+ghost use Rattle.ta_walk.specs.Inside.Parts.{IsLaterKeeper, IsNotRefuted, IsSmallEnd, IsWholeEnd, PartVisited, beginning, behind};
 
 use crate::end::TreeEnd;
 use crate::keeper::{Keeper, PartKeeper};
@@ -23,7 +23,7 @@ pub(crate) fn merge<K: PartKeeper>(
     requires first { IsSmallEnd nodes first.end }
     requires second { IsSmallEnd nodes second.end }
     ensures visited { (s : Search) (ws vs : List Pending) (begun late : K)
-        → PartVisited K.keeps (beginning s ws) nodes begun first.keeper first.end → PartVisited K.keeps (beginning s vs) nodes late second.keeper second.end → Begins K.begins K.keeps begun late
+        → PartVisited K.keeps (beginning s ws) nodes begun first.keeper first.end → PartVisited K.keeps (beginning s vs) nodes late second.keeper second.end → IsLaterKeeper K.begins K.keeps begun late
         → IfOk result (λ whole. PartVisited K.keeps (beginning s (ws ++ vs)) nodes begun whole.keeper whole.end) }
     ensures small { IfOk result (λ whole. IsSmallEnd nodes whole.end) }
     ensures whole { IsWholeEnd nodes first.end → IsWholeEnd nodes second.end → IfOk result (λ whole. IsWholeEnd nodes whole.end) }
@@ -51,7 +51,7 @@ pub(crate) fn add<K: PartKeeper>(
     requires leaves { leaves ≤ count }
     requires small { (later : ℕ) × IsSmallEnd later second.end }
     ensures visited { (s : Search) (ws vs : List Pending) (later : ℕ) (begun late : K)
-        → PartVisited K.keeps (beginning s ws) nodes begun keeper (Refuted count leaves) → PartVisited K.keeps (beginning s vs) later late second.keeper second.end → Begins K.begins K.keeps begun late
+        → PartVisited K.keeps (beginning s ws) nodes begun keeper (Refuted count leaves) → PartVisited K.keeps (beginning s vs) later late second.keeper second.end → IsLaterKeeper K.begins K.keeps begun late
         → IfOk result (λ whole. PartVisited K.keeps (beginning s (ws ++ vs)) nodes begun whole.keeper whole.end) }
     ensures small { IfOk result (λ whole. IsSmallEnd nodes whole.end) }
     ensures whole { (later : ℕ) → nodes ≤ later + count → IsWholeEnd later second.end → IfOk result (λ whole. IsWholeEnd nodes whole.end) }
@@ -86,12 +86,14 @@ pub(crate) fn end_behind(nodes: u64, count: u64, leaves: u64, end: TreeEnd) -> T
     ensures small { IsSmallEnd nodes result }
     ensures whole { (later : ℕ) → nodes ≤ later + count → IsWholeEnd later end → IsWholeEnd nodes result }
 {
-    let left = nodes - count;
+    if end.node_count() > nodes - count {
+        return TreeEnd::Spent { count: nodes };
+    }
     match end {
         TreeEnd::Refuted {
             count: more,
             leaves: others,
-        } if more <= left => TreeEnd::Refuted {
+        } => TreeEnd::Refuted {
             count: count + more,
             leaves: leaves + others,
         },
@@ -100,19 +102,18 @@ pub(crate) fn end_behind(nodes: u64, count: u64, leaves: u64, end: TreeEnd) -> T
             start_mask,
             word,
             values,
-        } if more <= left => TreeEnd::Found {
+        } => TreeEnd::Found {
             count: count + more,
             start_mask,
             word,
             values,
         },
-        TreeEnd::Spent { count: more } if more <= left => TreeEnd::Spent {
+        TreeEnd::Spent { count: more } => TreeEnd::Spent {
             count: count + more,
         },
-        TreeEnd::Overflow { node: more, kind } if more <= left => TreeEnd::Overflow {
+        TreeEnd::Overflow { node: more, kind } => TreeEnd::Overflow {
             node: count + more,
             kind,
         },
-        _ => TreeEnd::Spent { count: nodes },
     }
 }

@@ -16,11 +16,12 @@ ghost use Rattle.ta_walk.specs.Visit.{VertexAt};
 use crate::end::PlaceKind;
 use crate::vertex::{first_split, whole_values};
 use std::alloc::{AllocError, Global};
+use ta_base::List;
 use ta_cert::Node;
 use ta_cursor::{Cursor, Tree, Written};
 use ta_dense::Dictionary;
 use ta_farkas::check_leaf;
-use ta_linear::{List, System};
+use ta_linear::System;
 use ta_simplex::{Branch, End, Fraction, SolveFault};
 
 /// What solving a node's system comes to.
@@ -31,7 +32,7 @@ pub(crate) enum Solved {
     /// A whole node, with its values.
     Whole(List<i128>),
     /// A number left 128 bits.
-    Leaves(PlaceKind),
+    OutOfRange(PlaceKind),
 }
 
 /// The system of the node at a cursor, written on from that of the node before.
@@ -71,7 +72,7 @@ pub(crate) fn solve_node<D: Dictionary, T: Tree>(
 {
     match branch.solve(alloc, system, same) {
         Err(SolveFault::Memory) => Err(AllocError),
-        Err(SolveFault::Overflow(pivot)) => Ok(Solved::Leaves(PlaceKind::Pivot(pivot))),
+        Err(SolveFault::Overflow(pivot)) => Ok(Solved::OutOfRange(PlaceKind::Pivot(pivot))),
         Ok(End::Refuted(multipliers)) => Ok(take_refuted(system, multipliers)),
         Ok(End::Vertex(values)) => take_vertex(alloc, tree, cursor, values.as_slice()),
     }
@@ -84,8 +85,8 @@ fn take_refuted(system: &System, multipliers: List<(u32, i128)>) -> Solved
     ensures { (s : Search) (w : Pending) → SystemAt s w system.now → SolvedAt s w result }
 {
     match check_leaf(system, multipliers.as_slice()) {
-        Ok(()) => Solved::Inner(Node::Leaf(ta_cert::List::from_vec(multipliers.into_vec()))),
-        Err(_) => Solved::Leaves(PlaceKind::Leaf),
+        Ok(()) => Solved::Inner(Node::Leaf(multipliers)),
+        Err(_) => Solved::OutOfRange(PlaceKind::Leaf),
     }
 }
 

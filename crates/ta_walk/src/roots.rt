@@ -2,7 +2,7 @@
 #![tactic(auto)]
 
 ghost use Rattle.std.specs.Prelude.{◌≡◌, ◌<◌, ◌≤◌, ◌^◌, [], ◌∷◌, ◌++◌, IfOk, List, Some, None, drop, map, true, vec_len};
-ghost use Rattle.ta_automaton.specs.Lists.{Each};
+ghost use Rattle.std.specs.List.{AllByRecursion};
 ghost use Rattle.ta_walk.specs.Inside.Parts.{ComesTo, root_word};
 
 use std::alloc::{AllocError, Global};
@@ -11,7 +11,7 @@ use ta_cursor::{Root, Tree};
 /// The words with which a search begins.
 pub(crate) fn roots_of<T: Tree>(alloc: Global, tree: &T) -> Result<Vec<Root>, AllocError>
     ensures words { IfOk result (λ roots. map root_word roots.items ≡ (T.search tree.now).roots) }
-    ensures come { IfOk result (λ roots. Each (ComesTo (T.search tree.now)) roots.items) }
+    ensures come { IfOk result (λ roots. AllByRecursion (ComesTo (T.search tree.now)) roots.items) }
     ensures few { IfOk result (λ roots. vec_len roots ≤ 2 ^ 31) }
 {
     let mut roots = Vec::new(alloc);

@@ -3,9 +3,10 @@
 
 use std::alloc::{AllocError, Global};
 use ta_automaton::File;
+use ta_base::List;
 use ta_cursor::{Root, Tree, Written};
 use ta_encode::{Bound, encode_sample};
-use ta_linear::{List, System};
+use ta_linear::System;
 use ta_words::Word;
 
 /// The search for a sample: one word, which is empty and complete, and the sample system.

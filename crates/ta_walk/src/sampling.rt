@@ -5,14 +5,13 @@ ghost use Rattle.std.specs.Prelude.{◌≡◌, ◌<◌, ◌≤◌, IfOk, length,
 ghost use Rattle.ta_walk.specs.Samples.{IsSampleEnd};
 
 use crate::end::{SampleEnd, TreeEnd};
-use crate::keeper::Keeper;
+use crate::keeper::Nothing;
 use crate::sample_tree::SampleTree;
 use crate::walking::visit_tree;
 use std::alloc::{AllocError, Global};
 use ta_automaton::File;
-use ta_cert::Node;
+use ta_base::List;
 use ta_dense::Dictionary;
-use ta_linear::List;
 
 /// Searches for parameters that meet the resilience condition and have an initial configuration, in
 /// at most so many nodes. A node is the sample system with bounds: it is refuted, or its vertex is
@@ -42,18 +41,4 @@ fn first_values(file: &File, values: List<i128>) -> List<i128>
     let mut items = values.into_vec();
     items.truncate(file.automaton.parameters.as_slice().len());
     List::from_vec(items)
-}
-
-/// Keeps no nodes.
-#[derive(Drop)]
-struct Nothing {}
-
-impl Keeper for Nothing {
-    ghost keeps = { λ first now nodes. Unit {0} };
-
-    fn take(&mut self, alloc: Global, node: Node) -> Result<(), AllocError> {
-        let _alloc = alloc;
-        drop(node);
-        Ok(())
-    }
 }

@@ -5,7 +5,8 @@ ghost use Rattle.std.specs.Prelude.{ℕ, ◌<◌, ◌^◌, IfNone, IfOk, IfSome,
 ghost use Rattle.ta_walk.specs.Visit.{AreNumbers, IsAbove, IsWhole, SplitsAt};
 
 use std::alloc::{AllocError, Global};
-use ta_linear::{List, floor_div};
+use ta_base::List;
+use ta_linear::floor_div;
 use ta_simplex::Fraction;
 
 /// The least unknown whose value isn't whole, and the whole number below its value.

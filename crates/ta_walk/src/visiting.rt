@@ -7,7 +7,7 @@ ghost use Rattle.ta_encode.specs.Search.{Pending, parts};
 ghost use Rattle.ta_cursor.specs.Cursors.{GoesOn, IsWithin, Shares, Within, here, left_at};
 ghost use Rattle.ta_simplex.specs.Branch.{IsBranch};
 ghost use Rattle.ta_walk.specs.Visit.{NodeAt};
-ghost use Rattle.ta_walk.specs.Inside.Parts.{IsSmallStretch, IsWholeStretch, OnShared, Stands, StretchEnds};
+ghost use Rattle.ta_walk.specs.Inside.Parts.{IsSmallStretch, IsWholeStretch, OnShared, HasFewLeft, StretchEnds};
 
 use crate::end::TreeEnd;
 use crate::keeper::Keeper;
@@ -46,7 +46,7 @@ pub(crate) fn visit_stretch<D: Dictionary, T: Tree, K: Keeper>(
     nodes: u64,
     keeper: &mut K,
 ) -> Result<Stretch, AllocError>
-    requires stands { Stands (T.search tree.now) nodes cursor.old }
+    requires stands { HasFewLeft (T.search tree.now) nodes cursor.old }
     requires limit { nodes ≤ 1000000000 }
     requires kept { T.is_kept tree.now kept.old }
     requires branch { IsBranch D.tableau D.pivot_of (T.system_of kept.old).rows branch.old }
@@ -66,7 +66,7 @@ pub(crate) fn visit_stretch<D: Dictionary, T: Tree, K: Keeper>(
         let Written { kept: next, same } = grow(alloc, tree, cursor, last)?;
         *kept = next;
         match solve_node(alloc, tree, cursor, tree.system(kept), same, branch)? {
-            Solved::Leaves(kind) => {
+            Solved::OutOfRange(kind) => {
                 return Ok(Stretch::Ended(TreeEnd::Overflow { node: count, kind }));
             }
             Solved::Whole(values) => {

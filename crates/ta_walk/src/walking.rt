@@ -2,9 +2,11 @@
 #![tactic(auto)]
 
 ghost use Rattle.std.specs.Prelude.{◌+◌, ◌<◌, ◌≤◌, ◌≡◌, [], ◌∷◌, ◌++◌, IfOk, List};
-ghost use Rattle.ta_automaton.specs.Lists.{Each};
+ghost use Rattle.std.specs.List.{AllByRecursion};
+ghost use Rattle.ta_linear.specs.declared.row.Row.{Row};
 ghost use Rattle.ta_encode.specs.Search.{Pending, parts};
 ghost use Rattle.ta_cursor.specs.InTrees.{AllGoOn, AllWithin, IsAllWithin, here_at};
+ghost use Rattle.ta_simplex.specs.Branch.{IsBranch};
 ghost use Rattle.ta_walk.specs.Visit.{NodeAt};
 ghost use Rattle.ta_walk.specs.Ends.{IsTreeEnd, IsUnbounded, leaf_count};
 
@@ -25,8 +27,27 @@ pub fn visit_tree<D: Dictionary, T: Tree, K: Keeper>(
     nodes: u64,
     keeper: &mut K,
 ) -> Result<TreeEnd, AllocError>
-    requires roots { Each IsUnbounded (T.search tree.now).roots }
+    requires roots { AllByRecursion IsUnbounded (T.search tree.now).roots }
     requires limit { nodes ≤ 1000000000 }
+    requires keeps { K.keeps keeper.old keeper.old [] }
+    ensures { IfOk result (IsTreeEnd (T.search tree.now) nodes (K.keeps keeper.old keeper.new)) }
+{
+    let mut branch: Branch<D> = Branch::new(alloc);
+    visit_tree_along(alloc, tree, nodes, &mut branch, keeper)
+}
+
+/// Visits the trees of a search as `visit_tree` does, along a branch of no system, which tells
+/// afterwards what the solving took.
+pub fn visit_tree_along<D: Dictionary, T: Tree, K: Keeper>(
+    alloc: Global,
+    tree: &T,
+    nodes: u64,
+    branch: &mut Branch<D>,
+    keeper: &mut K,
+) -> Result<TreeEnd, AllocError>
+    requires roots { AllByRecursion IsUnbounded (T.search tree.now).roots }
+    requires limit { nodes ≤ 1000000000 }
+    requires branch { (rows : List Row) → IsBranch D.tableau D.pivot_of rows branch.old }
     requires keeps { K.keeps keeper.old keeper.old [] }
     ensures { IfOk result (IsTreeEnd (T.search tree.now) nodes (K.keeps keeper.old keeper.new)) }
 {
@@ -37,15 +58,14 @@ pub fn visit_tree<D: Dictionary, T: Tree, K: Keeper>(
         });
     };
     let mut kept = tree.nothing(alloc);
-    let mut branch: Branch<D> = Branch::new(alloc);
     let mut leaves = 0;
     for before in 0..nodes {
         let count = before + 1;
         let Written { kept: next, same } = grow(alloc, tree, place.cursor(), kept)?;
         kept = next;
         let system = tree.system(&kept);
-        match solve_node(alloc, tree, place.cursor(), system, same, &mut branch)? {
-            Solved::Leaves(kind) => return Ok(TreeEnd::Overflow { node: count, kind }),
+        match solve_node(alloc, tree, place.cursor(), system, same, branch)? {
+            Solved::OutOfRange(kind) => return Ok(TreeEnd::Overflow { node: count, kind }),
             Solved::Whole(values) => {
                 return Ok(TreeEnd::Found {
                     count,

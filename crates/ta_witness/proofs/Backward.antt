@@ -1,19 +1,21 @@
 -- the pieces of a word, the newest first, and their firings
-use Rattle.std.proofs.Common.{◌≡◌, inl, inr, ℕ, zero, suc, ◌+◌, ◌<◌, ◌≤◌, ℤ, pos, ◌*ℤ◌, ◌≤ℤ◌, List, [], ◌∷◌, ◌++◌, map, length, drop, reverse, true, Option, Some, None, slice_get, arith, refl, sym, ap, ◌∙◌, subst, append_assoc, append-nil}
+use Rattle.std.proofs.Common.{◌≡◌, inl, inr, ℕ, zero, suc, ◌+◌, ◌<◌, ◌≤◌, ℤ, pos, ◌*ℤ◌, ◌≤ℤ◌, List, [], ◌∷◌, ◌++◌, map, length, drop, reverse, true, Option, Some, None, slice_get, arith, refl, sym, ap, ◌∙◌, subst, append-nil}
 use Rattle.std.proofs.lemmas.Int.{ints}
 use Rattle.std.proofs.lemmas.Bool.{cases_lt, cases_Bool}
-use Rattle.std.proofs.lemmas.List.{length-map, reverse-append}
+use Rattle.std.proofs.lemmas.List.{length-map}
 use Rattle.std.proofs.lemmas.Option.{slice_get_within}
+use Rattle.ta_base.proofs.Each.{each_from_in}
+use Rattle.ta_base.proofs.Lists.{map-map, reverse_onto, same_items}
+use Rattle.ta_base.proofs.Members.{filter_passes}
+use Rattle.ta_base.proofs.Ranges.{item_at, length_numbers, no_item}
 use Rattle.ta_automaton.specs.declared.automaton.Automaton.{Automaton}
 use Rattle.ta_automaton.specs.declared.pattern.Pattern.{Pattern}
-use Rattle.ta_automaton.specs.Lists.{Each}
-use Rattle.ta_automaton.specs.Masks.{numbers_from, In}
+use Rattle.ta_base.specs.Masks.{numbers_from, In}
 use Rattle.ta_automaton.specs.Places.{rule_change}
 use Rattle.ta_automaton.specs.Runs.{InScope}
 use Rattle.ta_automaton.specs.Sums.{total}
-use Rattle.ta_automaton.proofs.Fire.{length_numbers}
-use Rattle.ta_scope.specs.Arranged.{Counts, ArrangedOf, count_at}
-use Rattle.ta_scope.specs.Legal.{unit_steps}
+use Rattle.ta_scope.specs.Arranged.{AreRuleCounts, ArrangedOf, count_at}
+use Rattle.ta_scope.specs.Legal.{arranged_steps}
 use Rattle.ta_scope.proofs.ArrangedLaws.{FromCounts, from_counts}
 use Rattle.ta_words.specs.declared.element.Element.{Element}
 use Rattle.ta_words.specs.declared.element.Element.TheVariants.{Event, Rise, Fall}
@@ -21,14 +23,13 @@ use Rattle.ta_words.specs.Words.{allowed_rules, may_fire}
 use Rattle.ta_encode.specs.declared.meaning.Meaning.{Meaning}
 use Rattle.ta_encode.specs.declared.meaning.Meaning.TheVariants.{Count, Single}
 use Rattle.ta_encode.specs.Unknowns.{meanings, place_coefficient}
-use Rattle.ta_encode.specs.System.{combine}
-use Rattle.ta_encode.specs.Laws.{Fires, WordFires}
+use Rattle.ta_encode.specs.System.{sum_of_products}
+use Rattle.ta_encode.specs.Laws.{FiresBefore, WordFires}
 use Rattle.ta_encode.proofs.Forward.{forward_of}
-use Rattle.ta_encode.proofs.Values.{in_filter}
 use Rattle.ta_replay.specs.Pieces.{Piece}
 use Rattle.ta_witness.specs.Values.{unknown_value, same_meaning}
 use Rattle.ta_witness.specs.Witness.{PieceOf, PiecesOf, EndsPiece, counts_before}
-use Rattle.ta_witness.proofs.Lookups.{newer, count_value, value_for, value_in_list, value_sum, one_found, item_at, no_item, same_items}
+use Rattle.ta_witness.proofs.Lookups.{newer, count_value, value_for, value_in_list, value_sum, one_found}
 
 -- the last step of a piece
 abbrev pub last_rules : Option ℕ → List ℕ
@@ -37,7 +38,7 @@ last_rules (Some r) = r ∷ []
 
 -- the unit steps of a piece
 abbrev pub piece_rules : Piece → List ℕ
-piece_rules piece = unit_steps piece.steps ++ last_rules piece.last
+piece_rules piece = arranged_steps piece.steps ++ last_rules piece.last
 
 -- one piece for each element of a word, the newest first
 abbrev pub PiecesBack : Automaton → (Meaning → ℤ) → List Element → List Piece → Type 0
@@ -45,9 +46,6 @@ PiecesBack a value [] [] = Unit {0}
 PiecesBack a value [] (piece ∷ back) = ⊥
 PiecesBack a value (element ∷ past) [] = ⊥
 PiecesBack a value (element ∷ past) (piece ∷ back) = PieceOf a value (length past) element piece × PiecesBack a value past back
-
-pub reverse_onto : {X : Type 0} (x : X) (xs past : List X) → reverse (x ∷ xs) ++ past ≡ reverse xs ++ (x ∷ past)
-reverse_onto x xs past = ap (λ ys. ys ++ past) (reverse-append (x ∷ []) xs) ∙ append_assoc (reverse xs) (x ∷ []) past
 
 back_onto : (a : Automaton) (value : Meaning → ℤ) (word : List Element) (pieces : List Piece) (past : List Element) (back : List Piece) → length pieces ≡ length word → PiecesBack a value past back → ((k : ℕ) (element : Element) (piece : Piece) → slice_get word k ≡ Some element → slice_get pieces k ≡ Some piece → PieceOf a value (length past + k) element piece) → PiecesBack a value (reverse word ++ past) (reverse pieces ++ back)
 back_onto a value [] [] past back e h each = h
@@ -104,7 +102,7 @@ natural_value (n ∷ ms) (v ∷ vs) m = elim (cases_Bool (same_meaning n m)) [
   | inr f ↦ rw f (natural_value ms vs m)
 ]
 
-pub are_counts : (a : Automaton) (p : Pattern) (start : ℕ) (past : List Element) (vs : List ℕ) (k : ℕ) → Counts a (counts_before a (values_of a p start past vs) k)
+pub are_counts : (a : Automaton) (p : Pattern) (start : ℕ) (past : List Element) (vs : List ℕ) (k : ℕ) → AreRuleCounts a (counts_before a (values_of a p start past vs) k)
 are_counts a p start past vs k = record {
   each_rule = length-map (numbers_from 0 (length a.rules)) (λ q. values_of a p start past vs (Count k q)) ∙ length_numbers 0 (length a.rules);
   natural = λ r. elim (cases_lt r (length a.rules)) [
@@ -112,10 +110,6 @@ are_counts a p start past vs k = record {
     | inr b ↦ omega (arith, ints, no_item (λ q. values_of a p start past vs (Count k q)) 0 (length a.rules) r b)
   ];
 }
-
-each_from : {X : Type 0} (P : X → Type 0) (xs : List X) → ((x : X) → In x xs → P x) → Each P xs
-each_from P [] h = tt
-each_from P (x ∷ xs) h = (h x (inl refl), each_from P xs (λ y i. h y (inr i)))
 
 total_within : (f g : ℕ → ℤ) (k n : ℕ) → ((r : ℕ) → k ≤ r → r < k + n → f r ≡ g r) → total f (numbers_from k n) ≡ total g (numbers_from k n)
 unfolding total
@@ -125,30 +119,26 @@ total_within f g k (suc n) h = omega (arith, ints, h k (omega arith) (omega arit
 total_below : (f g : ℕ → ℤ) (n : ℕ) → ((r : ℕ) → r < n → f r ≡ g r) → total f (numbers_from 0 n) ≡ total g (numbers_from 0 n)
 total_below f g n h = total_within f g 0 n (λ r low high. h r (omega arith))
 
-map-map : {X Y Z : Type 0} (f : X → Y) (g : Y → Z) (xs : List X) → map g (map f xs) ≡ map (λ x. g (f x)) xs
-map-map f g [] = refl
-map-map {X} {Y} {Z} f g (x ∷ xs) = ap (λ (zs : List Z). g (f x) ∷ zs) (map-map f g xs)
-
-plain : (piece : Piece) → piece.last ≡ None → unit_steps piece.steps ≡ piece_rules piece
-plain piece e = sym (append-nil (unit_steps piece.steps)) ∙ ap (λ (l : Option ℕ). unit_steps piece.steps ++ last_rules l) (sym e)
+plain : (piece : Piece) → piece.last ≡ None → arranged_steps piece.steps ≡ piece_rules piece
+plain piece e = sym (append-nil (arranged_steps piece.steps)) ∙ ap (λ (l : Option ℕ). arranged_steps piece.steps ++ last_rules l) (sym e)
 
 -- arranged steps of an element's Counts fire as these say
-arranged_fire : (a : Automaton) → InScope a → (p : Pattern) (start : ℕ) (x : Element) (past : List Element) (vs : List ℕ) (steps : List (ℕ × ℤ)) → ArrangedOf a (counts_before a (values_of a p start (x ∷ past) vs) (length past)) steps → Fires a p start past vs (unit_steps steps)
+arranged_fire : (a : Automaton) → InScope a → (p : Pattern) (start : ℕ) (x : Element) (past : List Element) (vs : List ℕ) (steps : List (ℕ × ℤ)) → ArrangedOf a (counts_before a (values_of a p start (x ∷ past) vs) (length past)) steps → FiresBefore a p start past vs (arranged_steps steps)
 unfolding allowed_rules
 arranged_fire a scope p start x past vs steps h =
     let counts = counts_before a (values_of a p start (x ∷ past) vs) (length past) in
     let n = length a.rules in
     let al = allowed_rules a p start past in
     let ws = drop (length (meanings a p start past)) vs in
-    let f : FromCounts a counts (unit_steps steps) = from_counts a scope counts (are_counts a p start (x ∷ past) vs (length past)) steps h in
-    let may : (r : ℕ) → In r al → may_fire a p start past (slice_get a.rules r) ≡ true = (λ r i. in_filter (λ q. may_fire a p start past (slice_get a.rules q)) r (numbers_from 0 n) i) in
+    let f : FromCounts a counts (arranged_steps steps) = from_counts a scope counts (are_counts a p start (x ∷ past) vs (length past)) steps h in
+    let may : (r : ℕ) → In r al → may_fire a p start past (slice_get a.rules r) ≡ true = (λ r i. filter_passes (λ q. may_fire a p start past (slice_get a.rules q)) r (numbers_from 0 n) i) in
     record {
-      allowed = each_from (λ r. may_fire a p start past (slice_get a.rules r) ≡ true) (unit_steps steps) (λ r i.
+      allowed = each_from_in (λ r. may_fire a p start past (slice_get a.rules r) ≡ true) (arranged_steps steps) (λ r i.
           let named = f.named r i in
           let b = slice_get_within a.rules r named.0 named.1 in
           may r (value_in_list al ws r (omega (arith, ints, f.above r i, counts_are a p start x past vs r b))));
-      forward = forward_of a (unit_steps steps) f.onward;
-      adds = λ place. f.sums place ∙ total_below (λ r. rule_change a (slice_get a.rules r) place *ℤ count_at counts r) (λ r. rule_change a (slice_get a.rules r) place *ℤ pos (value_for al ws r)) n (λ r b. ap (λ z. rule_change a (slice_get a.rules r) place *ℤ z) (counts_are a p start x past vs r b)) ∙ value_sum (λ r. rule_change a (slice_get a.rules r) place) (λ r. may_fire a p start past (slice_get a.rules r)) 0 n ws ∙ ap (λ cs. combine cs ws) (sym (map-map (Count (length past)) (λ m. place_coefficient a m place) al));
+      forward = forward_of a (arranged_steps steps) f.onward;
+      adds = λ place. f.sums place ∙ total_below (λ r. rule_change a (slice_get a.rules r) place *ℤ count_at counts r) (λ r. rule_change a (slice_get a.rules r) place *ℤ pos (value_for al ws r)) n (λ r b. ap (λ z. rule_change a (slice_get a.rules r) place *ℤ z) (counts_are a p start x past vs r b)) ∙ value_sum (λ r. rule_change a (slice_get a.rules r) place) (λ r. may_fire a p start past (slice_get a.rules r)) 0 n ws ∙ ap (λ cs. sum_of_products cs ws) (sym (map-map (Count (length past)) (λ m. place_coefficient a m place) al));
     }
 
 -- the pieces of a word fire as its solution says
@@ -157,19 +147,19 @@ pieces_fire a scope p start [] vs [] h = tt
 pieces_fire a scope p start [] vs (piece ∷ back) h = absurd h
 pieces_fire a scope p start (x ∷ past) vs [] h = absurd h
 pieces_fire a scope p start (Event e ∷ past) vs (piece ∷ back) h = (
-  subst (Fires a p start past vs) (plain piece (h.0.ends.0)) (arranged_fire a scope p start (Event e) past vs piece.steps h.0.steps),
+  subst (FiresBefore a p start past vs) (plain piece (h.0.ends.0)) (arranged_fire a scope p start (Event e) past vs piece.steps h.0.steps),
   pieces_fire a scope p start past vs back (older a p start (Event e) past vs back h.1),
 )
 pieces_fire a scope p start (Rise i ∷ past) vs (piece ∷ back) h = (
-  subst (Fires a p start past vs) (plain piece (h.0.ends.0)) (arranged_fire a scope p start (Rise i) past vs piece.steps h.0.steps),
+  subst (FiresBefore a p start past vs) (plain piece (h.0.ends.0)) (arranged_fire a scope p start (Rise i) past vs piece.steps h.0.steps),
   pieces_fire a scope p start past vs back (older a p start (Rise i) past vs back h.1),
 )
 pieces_fire a scope p start (Fall mask ∷ past) vs (piece ∷ back) h =
     let single = h.0.ends.0 in (
       record {
-        front = unit_steps piece.steps;
+        front = arranged_steps piece.steps;
         last = single.0;
-        cut = ap (λ (l : Option ℕ). unit_steps piece.steps ++ last_rules l) single.1;
+        cut = ap (λ (l : Option ℕ). arranged_steps piece.steps ++ last_rules l) single.1;
         fires = arranged_fire a scope p start (Fall mask) past vs piece.steps h.0.steps;
         single = one_found (meanings a p start (Fall mask ∷ past)) vs (Single (length past) single.0) single.2;
       },

@@ -2,24 +2,26 @@
 use Rattle.std.proofs.Common.{◌≡◌, ◌⊎◌, inl, inr, ℕ, zero, suc, ◌+◌, ◌<◌, ◌≤◌, pos, List, [], ◌∷◌, ◌++◌, map, length, drop, reverse, eqb, true, Some, slice_get, arith, refl, sym, ap, ◌∙◌, subst, append-nil}
 use Rattle.std.proofs.lemmas.Bool.Decides.{nat_tests, eqb_tells}
 use Rattle.std.proofs.lemmas.Option.{slice_get_within}
+use Rattle.ta_base.proofs.Lists.{only_item, reverse_onto}
+use Rattle.ta_encode.proofs.Moments.{AllHold-left}
 use Rattle.ta_automaton.specs.declared.automaton.Automaton.{Automaton}
 use Rattle.ta_automaton.specs.declared.pattern.Pattern.{Pattern}
-use Rattle.ta_automaton.specs.Masks.{In}
+use Rattle.ta_base.specs.Masks.{In}
 use Rattle.ta_automaton.specs.Sums.{times_in}
 use Rattle.ta_automaton.proofs.Fired.{once}
 use Rattle.ta_words.specs.declared.element.Element.{Element}
 use Rattle.ta_words.specs.declared.element.Element.TheVariants.{Event, Rise, Fall}
-use Rattle.ta_words.specs.Words.{Legal, allowed_rules, children, may_fire}
+use Rattle.ta_words.specs.Words.{LegalWord, allowed_rules, children, may_fire}
 use Rattle.ta_words.proofs.Counts.{in_children}
 use Rattle.ta_encode.specs.declared.meaning.Meaning.{Meaning}
 use Rattle.ta_encode.specs.declared.meaning.Meaning.TheVariants.{Single}
 use Rattle.ta_encode.specs.Unknowns.{meanings, counts_after}
 use Rattle.ta_encode.specs.System.{AllHold, fall_rows, word_rows}
 use Rattle.ta_encode.proofs.Segment.{EachMay, may_exists}
-use Rattle.ta_encode.proofs.Singles.{one_single, only_item, singles_hold}
-use Rattle.ta_encode.proofs.Values.{AllHold-right, left_part, unfolded, repeat, unfolded-may, allowed_may}
+use Rattle.ta_encode.proofs.Singles.{one_single, singles_hold}
+use Rattle.ta_encode.proofs.Values.{AllHold-right, unfolded, repeat, unfolded-may, allowed_may}
 use Rattle.ta_witness.specs.Inside.Making.{EachMayEnd, IsSingle, MayEnd}
-use Rattle.ta_witness.proofs.Backward.{values_of, reverse_onto}
+use Rattle.ta_witness.proofs.Backward.{values_of}
 use Rattle.ta_witness.proofs.Lookups.{OtherElement, newer, single_value, value_for}
 
 in_repeat : (n q x : ℕ) (xs : List ℕ) → In x (repeat n q xs) → (x ≡ q) ⊎ In x xs
@@ -84,11 +86,11 @@ newer_all a p start (x ∷ more) past vs m h = newer a p start x (more ++ past) 
 older_rows : (a : Automaton) (p : Pattern) (start : ℕ) (more past : List Element) (vs : List ℕ) → AllHold vs (word_rows a p start (more ++ past)) → AllHold vs (word_rows a p start past)
 unfolding word_rows
 older_rows a p start [] past vs h = h
-older_rows a p start (Event e ∷ more) past vs h = older_rows a p start more past vs (left_part vs (word_rows a p start (more ++ past)) _ h)
-older_rows a p start (Rise i ∷ more) past vs h = older_rows a p start more past vs (left_part vs (word_rows a p start (more ++ past)) _ h)
-older_rows a p start (Fall mask ∷ more) past vs h = older_rows a p start more past vs (left_part vs (word_rows a p start (more ++ past)) _ h)
+older_rows a p start (Event e ∷ more) past vs h = older_rows a p start more past vs (AllHold-left vs (word_rows a p start (more ++ past)) _ h)
+older_rows a p start (Rise i ∷ more) past vs h = older_rows a p start more past vs (AllHold-left vs (word_rows a p start (more ++ past)) _ h)
+older_rows a p start (Fall mask ∷ more) past vs h = older_rows a p start more past vs (AllHold-left vs (word_rows a p start (more ++ past)) _ h)
 
-older_legal : (a : Automaton) (p : Pattern) (start : ℕ) (more past : List Element) → Legal a p start (more ++ past) → Legal a p start past
+older_legal : (a : Automaton) (p : Pattern) (start : ℕ) (more past : List Element) → LegalWord a p start (more ++ past) → LegalWord a p start past
 older_legal a p start [] past h = h
 older_legal a p start (x ∷ more) past h = older_legal a p start more past h.1
 
@@ -102,7 +104,7 @@ event_exists a p start past e h = elim (in_children a p [] start past (Event e) 
   same_event x y q = cc
 
 -- the newest element may end, by the values of a longer word
-newest_ends : (a : Automaton) (p : Pattern) (start : ℕ) (more : List Element) (x : Element) (past : List Element) (vs : List ℕ) → Legal a p start (x ∷ past) → AllHold vs (word_rows a p start (x ∷ past)) → MayEnd a p (values_of a p start (more ++ (x ∷ past)) vs) (length past) x
+newest_ends : (a : Automaton) (p : Pattern) (start : ℕ) (more : List Element) (x : Element) (past : List Element) (vs : List ℕ) → LegalWord a p start (x ∷ past) → AllHold vs (word_rows a p start (x ∷ past)) → MayEnd a p (values_of a p start (more ++ (x ∷ past)) vs) (length past) x
 unfolding word_rows
 newest_ends a p start more (Event e) past vs legal h = event_exists a p start past e legal.0
 newest_ends a p start more (Rise i) past vs legal h = tt
@@ -111,12 +113,12 @@ newest_ends a p start more (Fall mask) past vs legal h =
     let same = newer_all a p start more (Fall mask ∷ past) vs (Single (length past) w.0) (λ n b e. omega arith) in
     (w.0, record { exists = w.1.exists; one = same ∙ w.1.one })
 
-ends_onto : (a : Automaton) (p : Pattern) (start : ℕ) (word past : List Element) (vs : List ℕ) → Legal a p start (reverse word ++ past) → AllHold vs (word_rows a p start (reverse word ++ past)) → (k : ℕ) (element : Element) → slice_get word k ≡ Some element → MayEnd a p (values_of a p start (reverse word ++ past) vs) (length past + k) element
+ends_onto : (a : Automaton) (p : Pattern) (start : ℕ) (word past : List Element) (vs : List ℕ) → LegalWord a p start (reverse word ++ past) → AllHold vs (word_rows a p start (reverse word ++ past)) → (k : ℕ) (element : Element) → slice_get word k ≡ Some element → MayEnd a p (values_of a p start (reverse word ++ past) vs) (length past + k) element
 ends_onto a p start [] past vs legal h k element at = absurd (cc)
 ends_onto a p start (x ∷ word) past vs legal h zero element at =
     let same : x ≡ element = cc in
     let onto = reverse_onto x word past in
-    let now : Legal a p start (x ∷ past) = older_legal a p start (reverse word) (x ∷ past) (subst (Legal a p start) onto legal) in
+    let now : LegalWord a p start (x ∷ past) = older_legal a p start (reverse word) (x ∷ past) (subst (LegalWord a p start) onto legal) in
     let rows = older_rows a p start (reverse word) (x ∷ past) vs (subst (λ (xs : List Element). AllHold vs (word_rows a p start xs)) onto h) in
     let ends = newest_ends a p start (reverse word) x past vs now rows in
     let number : length past ≡ length past + 0 = omega arith in
@@ -125,15 +127,15 @@ ends_onto a p start (x ∷ word) past vs legal h zero element at =
     (subst (λ (n : ℕ). MayEnd a p (values_of a p start (reverse word ++ (x ∷ past)) vs) n x) number ends))
 ends_onto a p start (x ∷ word) past vs legal h (suc k) element at =
     let onto = reverse_onto x word past in
-    let ends = ends_onto a p start word (x ∷ past) vs (subst (Legal a p start) onto legal) (subst (λ (xs : List Element). AllHold vs (word_rows a p start xs)) onto h) k element at in
+    let ends = ends_onto a p start word (x ∷ past) vs (subst (LegalWord a p start) onto legal) (subst (λ (xs : List Element). AllHold vs (word_rows a p start xs)) onto h) k element at in
     let number : suc (length past) + k ≡ length past + suc k = omega arith in
     subst (λ (xs : List Element). MayEnd a p (values_of a p start xs vs) (length past + suc k) element) (sym onto)
     (subst (λ (n : ℕ). MayEnd a p (values_of a p start (reverse word ++ (x ∷ past)) vs) n element) number ends)
 
-pub each_ends : (a : Automaton) (p : Pattern) (start : ℕ) (word : List Element) (vs : List ℕ) → Legal a p start (reverse word) → AllHold vs (word_rows a p start (reverse word)) → EachMayEnd a p (values_of a p start (reverse word) vs) word
+pub each_ends : (a : Automaton) (p : Pattern) (start : ℕ) (word : List Element) (vs : List ℕ) → LegalWord a p start (reverse word) → AllHold vs (word_rows a p start (reverse word)) → EachMayEnd a p (values_of a p start (reverse word) vs) word
 each_ends a p start word vs legal h k element at =
     let none = append-nil (reverse word) in
-    let ends = ends_onto a p start word [] vs (subst (Legal a p start) (sym none) legal) (subst (λ (xs : List Element). AllHold vs (word_rows a p start xs)) (sym none) h) k element at in
+    let ends = ends_onto a p start word [] vs (subst (LegalWord a p start) (sym none) legal) (subst (λ (xs : List Element). AllHold vs (word_rows a p start xs)) (sym none) h) k element at in
     let number : 0 + k ≡ k = omega arith in
     subst (λ (xs : List Element). MayEnd a p (values_of a p start xs vs) k element) none
     (subst (λ (n : ℕ). MayEnd a p (values_of a p start (reverse word ++ []) vs) n element) number ends)

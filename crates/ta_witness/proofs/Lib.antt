@@ -5,5 +5,5 @@ pub mod Backward
 pub mod Marks
 pub mod Starts
 pub mod Witnesses
-mod Making
+pub mod Making
 mod Endings

@@ -1,30 +1,32 @@
 -- the value of an unknown, by what it stands for
-use Rattle.std.proofs.Common.{◌≡◌, ◌≢◌, inl, inr, ℕ, zero, suc, ◌+◌, ◌<◌, ◌≤◌, ℤ, pos, ◌*ℤ◌, List, [], ◌∷◌, ◌++◌, map, length, drop, eqb, cond, Bool, true, false, ◌&&◌, arith, refl, sym, ap, ◌∙◌, subst, slice_get, Some}
-use Rattle.std.specs.Prelude.{filter, slice_index_or}
+use Rattle.std.proofs.Common.{◌≡◌, ◌≢◌, inl, inr, ℕ, zero, suc, ◌+◌, ◌<◌, ◌≤◌, ℤ, pos, ◌*ℤ◌, List, [], ◌∷◌, ◌++◌, map, length, drop, eqb, cond, Bool, true, false, arith, refl, sym, ap, ◌∙◌, subst, slice_get, Some}
+use Rattle.std.specs.Prelude.{filter}
 use Rattle.std.proofs.lemmas.Int.{ints}
 use Rattle.std.proofs.lemmas.Bool.{cases_Bool, and_parts, eqb-true, true≢false}
 use Rattle.std.proofs.lemmas.Bool.Decides.{nat_tests, eqb_tells}
 use Rattle.std.proofs.Math.IntN.{*ℤ-zero}
+use Rattle.std.specs.List.{AllByRecursion}
+use Rattle.ta_base.proofs.Integers.{pos_cond}
+use Rattle.ta_base.proofs.Lists.{drop_map, filter_false, filter_true}
+use Rattle.ta_base.proofs.Naturals.{other_number, same_number}
 use Rattle.ta_automaton.specs.declared.automaton.Automaton.{Automaton}
 use Rattle.ta_automaton.specs.declared.pattern.Pattern.{Pattern}
-use Rattle.ta_automaton.specs.Lists.{Each}
-use Rattle.ta_automaton.specs.Masks.{numbers_from, In}
+use Rattle.ta_base.specs.Masks.{numbers_from, In}
 use Rattle.ta_automaton.specs.Sums.{total}
 use Rattle.ta_automaton.proofs.Sums.{total-zero}
-use Rattle.ta_automaton.proofs.Fired.{filter_true, filter_false}
 use Rattle.ta_words.specs.declared.element.Element.{Element}
 use Rattle.ta_words.specs.declared.element.Element.TheVariants.{Event, Rise, Fall}
 use Rattle.ta_words.specs.Words.{allowed_rules}
 use Rattle.ta_encode.specs.declared.meaning.Meaning.{Meaning}
 use Rattle.ta_encode.specs.declared.meaning.Meaning.TheVariants.{Parameter, Start, Count, Single}
 use Rattle.ta_encode.specs.Unknowns.{meanings, counts_after, singles_after}
-use Rattle.ta_encode.specs.System.{combine}
+use Rattle.ta_encode.specs.System.{sum_of_products}
 use Rattle.ta_encode.proofs.Singles.{NumberBelow, numbers_below}
 use Rattle.ta_witness.specs.Values.{same_meaning, unknown_value}
 
 -- no unknown of a list stands for this
 abbrev pub Lacks : Meaning → List Meaning → Type 0
-Lacks m ms = Each (λ n. same_meaning n m ≡ false) ms
+Lacks m ms = AllByRecursion (λ n. same_meaning n m ≡ false) ms
 
 pub none : (ms : List Meaning) (vs : List ℤ) (m : Meaning) → Lacks m ms → unknown_value ms vs m ≡ pos 0
 unfolding unknown_value
@@ -53,9 +55,6 @@ pub lacks_map : (m : Meaning) (f : ℕ → Meaning) (xs : List ℕ) → ((x : �
 lacks_map m f [] h = tt
 lacks_map m f (x ∷ xs) h = (h x, lacks_map m f xs h)
 
-other_number : (j k q r : ℕ) → j ≢ k → (eqb j k && eqb q r) ≡ false
-other_number j k q r ne = let s : eqb j k ≡ false = grind (arith, nat_tests) in rw s refl
-
 below_count : (k r : ℕ) (n : Meaning) → NumberBelow k n → same_meaning n (Count k r) ≡ false
 below_count k r (Parameter i) h = refl
 below_count k r (Start l) h = refl
@@ -68,7 +67,7 @@ below_single k r (Start l) h = refl
 below_single k r (Count j q) h = refl
 below_single k r (Single j q) h = other_number j k q r (λ e. omega arith)
 
-each_lacks : (k : ℕ) (m : Meaning) (ms : List Meaning) → ((n : Meaning) → NumberBelow k n → same_meaning n m ≡ false) → Each (NumberBelow k) ms → Lacks m ms
+each_lacks : (k : ℕ) (m : Meaning) (ms : List Meaning) → ((n : Meaning) → NumberBelow k n → same_meaning n m ≡ false) → AllByRecursion (NumberBelow k) ms → Lacks m ms
 each_lacks k m [] h b = tt
 each_lacks k m (n ∷ ms) h b = (h n b.0, each_lacks k m ms h b.1)
 
@@ -105,18 +104,6 @@ unfoldable pub value_for : List ℕ → List ℕ → ℕ → ℕ
 value_for [] ws r = 0
 value_for (q ∷ rs) [] r = 0
 value_for (q ∷ rs) (w ∷ ws) r = cond (eqb q r) w (value_for rs ws r)
-
-drop_map : (n : ℕ) (vs : List ℕ) → drop n (map pos vs) ≡ map pos (drop n vs)
-drop_map zero vs = refl
-drop_map (suc n) [] = refl
-drop_map (suc n) (v ∷ vs) = drop_map n vs
-
-pos_cond : (b : Bool) (x y : ℕ) → cond b (pos x) (pos y) ≡ pos (cond b x y)
-pos_cond true x y = refl
-pos_cond false x y = refl
-
-same_number : (k q r : ℕ) → (eqb k k && eqb q r) ≡ eqb q r
-same_number k q r = let s : eqb k k ≡ true = grind (arith, nat_tests) in rw s refl
 
 counts_found : (k r : ℕ) (rs ws : List ℕ) → unknown_value (map (Count k) rs) (map pos ws) (Count k r) ≡ pos (value_for rs ws r)
 unfolding unknown_value value_for
@@ -220,10 +207,10 @@ none_low test low (suc n) ws r b = elim (cases_Bool (test low)) [
 
 -- what the rules add, each as often as the value that stands with it
 abbrev Adds : (ℕ → ℤ) → ℕ → ℕ → List ℕ → List ℕ → Type 0
-Adds g low n rs ws = total (λ r. g r *ℤ pos (value_for rs ws r)) (numbers_from low n) ≡ combine (map g rs) ws
+Adds g low n rs ws = total (λ r. g r *ℤ pos (value_for rs ws r)) (numbers_from low n) ≡ sum_of_products (map g rs) ws
 
 first_adds : (g : ℕ → ℤ) (low n : ℕ) (rs ws : List ℕ) → ((vs : List ℕ) → Adds g (low + 1) n rs vs) → Adds g low (suc n) (low ∷ rs) ws
-unfolding total combine value_for
+unfolding total sum_of_products value_for
 first_adds g low n rs [] h = total-zero (λ r. g r *ℤ pos 0) (low ∷ numbers_from (low + 1) n) (λ r. *ℤ-zero (g r))
 first_adds g low n rs (w ∷ ws) h =
     let here : cond (eqb low low) w (value_for rs ws low) ≡ w = (let s : eqb low low ≡ true = grind (arith, nat_tests) in rw s refl) in
@@ -234,28 +221,10 @@ other_adds : (g : ℕ → ℤ) (low n : ℕ) (rs ws : List ℕ) → value_for rs
 unfolding total
 other_adds g low n rs ws none h = omega (arith, ints, ap (λ (k : ℕ). g low *ℤ pos k) none, *ℤ-zero (g low), h)
 
-pub value_sum : (g : ℕ → ℤ) (test : ℕ → Bool) (low n : ℕ) (ws : List ℕ) → total (λ r. g r *ℤ pos (value_for (filter test (numbers_from low n)) ws r)) (numbers_from low n) ≡ combine (map g (filter test (numbers_from low n))) ws
-unfolding total combine
+pub value_sum : (g : ℕ → ℤ) (test : ℕ → Bool) (low n : ℕ) (ws : List ℕ) → total (λ r. g r *ℤ pos (value_for (filter test (numbers_from low n)) ws r)) (numbers_from low n) ≡ sum_of_products (map g (filter test (numbers_from low n))) ws
+unfolding total sum_of_products
 value_sum g test low zero ws = refl
 value_sum g test low (suc n) ws = elim (cases_Bool (test low)) [
   | inl e ↦ subst (λ (rs : List ℕ). Adds g low (suc n) rs ws) (sym (filter_true test low (numbers_from (low + 1) n) e)) (first_adds g low n (filter test (numbers_from (low + 1) n)) ws (λ vs. value_sum g test (low + 1) n vs))
   | inr e ↦ subst (λ (rs : List ℕ). Adds g low (suc n) rs ws) (sym (filter_false test low (numbers_from (low + 1) n) e)) (other_adds g low n (filter test (numbers_from (low + 1) n)) ws (none_low test (low + 1) n ws low (omega arith)) (value_sum g test (low + 1) n ws))
 ]
-
--- an item of a list made from numbers
-item_from : (f : ℕ → ℤ) (k n i : ℕ) → i < n → slice_index_or (map f (numbers_from k n)) i (pos 0) ≡ f (k + i)
-item_from f k zero i b = absurd (omega arith)
-item_from f k (suc n) zero b = ap f (let e : k ≡ k + 0 = omega arith in e)
-item_from f k (suc n) (suc i) b = item_from f (k + 1) n i (omega arith) ∙ ap f (let e : k + 1 + i ≡ k + suc i = omega arith in e)
-
-pub item_at : (f : ℕ → ℤ) (n i : ℕ) → i < n → slice_index_or (map f (numbers_from 0 n)) i (pos 0) ≡ f i
-item_at f n i b = item_from f 0 n i b ∙ ap f (let e : 0 + i ≡ i = omega arith in e)
-
-pub no_item : (f : ℕ → ℤ) (k n i : ℕ) → n ≤ i → slice_index_or (map f (numbers_from k n)) i (pos 0) ≡ pos 0
-no_item f k zero i b = refl
-no_item f k (suc n) zero b = absurd (omega arith)
-no_item f k (suc n) (suc i) b = no_item f (k + 1) n i (omega arith)
-
-pub same_items : {X : Type 0} (f g : ℕ → X) (xs : List ℕ) → ((x : ℕ) → f x ≡ g x) → map f xs ≡ map g xs
-same_items f g [] h = refl
-same_items f g (x ∷ xs) h = let first = h x in let rest = same_items f g xs h in cc

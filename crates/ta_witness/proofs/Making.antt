@@ -4,16 +4,19 @@ use Rattle.std.proofs.lemmas.Int.{ints}
 use Rattle.std.specs.Prelude.{slice_index_or}
 use Rattle.std.proofs.lemmas.List.{drop_all, take_more, map-append, length-map, length-take, length-reverse}
 use Rattle.std.proofs.lemmas.Option.{slice_get_within}
+use Rattle.std.specs.List.{AllByRecursion}
+use Rattle.ta_base.proofs.Each.{each_append, each_push, known_naturals}
+use Rattle.ta_base.proofs.Lists.{get_parts, last_item}
+use Rattle.ta_base.proofs.Ranges.{length_numbers, numbers_suc}
+use Rattle.ta_encode.proofs.Moments.{AllHold-left}
 use Rattle.ta_linear.specs.Numbers.{InRange}
 use Rattle.ta_automaton.specs.declared.automaton.Automaton.{Automaton}
 use Rattle.ta_automaton.specs.declared.pattern.Pattern.{Pattern}
 use Rattle.ta_automaton.specs.declared.file.File.{File}
-use Rattle.ta_automaton.specs.Lists.{Each}
-use Rattle.ta_automaton.specs.Masks.{numbers_from}
+use Rattle.ta_base.specs.Masks.{numbers_from}
 use Rattle.ta_automaton.specs.Runs.{InScope}
-use Rattle.ta_automaton.proofs.Fire.{length_numbers}
 use Rattle.ta_automaton.proofs.Thresholds.{pattern_within}
-use Rattle.ta_scope.specs.Arranged.{Counts, ArrangedOf, count_at}
+use Rattle.ta_scope.specs.Arranged.{AreRuleCounts, ArrangedOf, count_at}
 use Rattle.ta_scope.proofs.Arranging.{arranged_within}
 use Rattle.ta_counter.specs.Values.{Value}
 use Rattle.ta_words.specs.declared.element.Element.{Element}
@@ -24,16 +27,14 @@ use Rattle.ta_words.proofs.Counts.{legal_length}
 use Rattle.ta_encode.specs.declared.encoded.Solution.{Solution}
 use Rattle.ta_encode.specs.Unknowns.{meanings}
 use Rattle.ta_encode.specs.System.{word_rows}
-use Rattle.ta_encode.proofs.Values.{left_part}
 use Rattle.ta_replay.specs.declared.run.Run.{Run}
 use Rattle.ta_replay.specs.declared.run.RunLine.{RunLine}
 use Rattle.ta_replay.specs.declared.run.RunLine.TheVariants.{Step, Mark}
 use Rattle.ta_replay.specs.Fits.{LineFits, Fits}
 use Rattle.ta_replay.specs.Pieces.{Piece, step_line, last_lines, piece_lines, pieces_lines}
-use Rattle.ta_encode.proofs.Appending.{get_parts}
 use Rattle.ta_witness.specs.Values.{same_meaning, unknown_value}
-use Rattle.ta_witness.specs.Witness.{IsSolution, PieceOf, PiecesOf, WitnessOf, counts_before}
-use Rattle.ta_witness.specs.Inside.Making.{Known, AreValues, IsSingle, EachMayEnd, Ended, Added, Lined, Asked, RunOf}
+use Rattle.ta_witness.specs.Witness.{PieceOf, PiecesOf, WitnessOf, counts_before}
+use Rattle.ta_witness.specs.Inside.Making.{AreNaturals, AreValues, IsSingle, EachMayEnd, AddsPieceEnd, AddsPiece, AddsPieces, IsMadeFrom, RunOf}
 use Rattle.ta_witness.proofs.Endings.{each_ends}
 
 -- looking for an unknown
@@ -54,28 +55,19 @@ pub look_end : (ms : List Meaning) (vs : List ℤ) (m : Meaning) (i : ℕ) (u : 
 unfolding unknown_value
 look_end ms vs m i u b is = sym (ap (λ (ns : List Meaning). unknown_value ns (drop i vs) m) (drop_all i ms b)) ∙ is
 
--- one value more
-each_push : {X : Type 0} (P : X → Type 0) (xs : List X) (x : X) → Each P xs → P x → Each P (xs ++ x ∷ [])
-each_push P [] x h g = (g, tt)
-each_push P (y ∷ xs) x h g = (h.0, each_push P xs x h.1 g)
-
-numbers_more : (k n : ℕ) → numbers_from k (suc n) ≡ numbers_from k n ++ (k + n) ∷ []
-numbers_more k zero = ap (λ (x : ℕ). x ∷ []) (let e : k ≡ k + 0 = omega arith in e)
-numbers_more k (suc n) = ap (λ (xs : List ℕ). k ∷ xs) (numbers_more (k + 1) n ∙ ap (λ (x : ℕ). numbers_from (k + 1) n ++ x ∷ []) (let e : k + 1 + n ≡ k + suc n = omega arith in e))
-
 pub values_more : (f : ℕ → ℤ) (i : ℕ) (xs : List ℤ) (z : ℤ) → AreValues (map f (numbers_from 0 i)) xs → z ≡ f i → Value z → AreValues (map f (numbers_from 0 (i + 1))) (xs ++ z ∷ [])
 values_more f i xs z h e v =
-    let more : numbers_from 0 (i + 1) ≡ numbers_from 0 i ++ i ∷ [] = ap (numbers_from 0) (let q : i + 1 ≡ suc i = omega arith in q) ∙ numbers_more 0 i ∙ ap (λ (x : ℕ). numbers_from 0 i ++ x ∷ []) (let q : 0 + i ≡ i = omega arith in q) in
+    let more : numbers_from 0 (i + 1) ≡ numbers_from 0 i ++ i ∷ [] = ap (numbers_from 0) (let q : i + 1 ≡ suc i = omega arith in q) ∙ numbers_suc 0 i ∙ ap (λ (x : ℕ). numbers_from 0 i ++ x ∷ []) (let q : 0 + i ≡ i = omega arith in q) in
     record {
       are = ap (λ (ys : List ℤ). ys ++ z ∷ []) h.are ∙ ap (λ (y : ℤ). map f (numbers_from 0 i) ++ y ∷ []) e ∙ sym (map-append f (numbers_from 0 i) (i ∷ [])) ∙ ap (map f) (sym more);
       natural = each_push Value xs z h.natural v;
     }
 
 -- the ends of elements
-pub ended_event : (a : Automaton) (p : Pattern) (value : Meaning → ℤ) (k e : ℕ) (before after : List RunLine) → e < length p.events → after ≡ before ++ Mark e ∷ [] → Ended a p value k (Event e) before after
+pub ended_event : (a : Automaton) (p : Pattern) (value : Meaning → ℤ) (k e : ℕ) (before after : List RunLine) → e < length p.events → after ≡ before ++ Mark e ∷ [] → AddsPieceEnd a p value k (Event e) before after
 ended_event a p value k e before after b added = record { last = None; marks = e ∷ []; ends = λ steps. (refl, refl); added = added; fit = (b, tt) }
 
-pub ended_fall : (a : Automaton) (p : Pattern) (value : Meaning → ℤ) (k mask r : ℕ) (before after : List RunLine) → IsSingle a value k r → after ≡ before ++ Step r (pos 1) ∷ [] → Ended a p value k (Fall mask) before after
+pub ended_fall : (a : Automaton) (p : Pattern) (value : Meaning → ℤ) (k mask r : ℕ) (before after : List RunLine) → IsSingle a value k r → after ≡ before ++ Step r (pos 1) ∷ [] → AddsPieceEnd a p value k (Fall mask) before after
 ended_fall a p value k mask r before after single added = record {
   last = Some r;
   marks = [];
@@ -86,7 +78,7 @@ ended_fall a p value k mask r before after single added = record {
 
 -- one step more
 abbrev pub StepsPushed : List (ℕ × ℤ) → List RunLine → List RunLine → Type 0
-StepsPushed steps before lines = (lines ≡ before ++ map step_line steps) × Each (λ (step : ℕ × ℤ). step.1 <ℤ pos (2 ^ 127)) steps
+StepsPushed steps before lines = (lines ≡ before ++ map step_line steps) × AllByRecursion (λ (step : ℕ × ℤ). step.1 <ℤ pos (2 ^ 127)) steps
 
 pub steps_push : (steps : List (ℕ × ℤ)) (i : ℕ) (d : ℕ × ℤ) (before lines after : List RunLine) → i < length steps → StepsPushed (take i steps) before lines → after ≡ lines ++ Step (get_or steps i d).0 (get_or steps i d).1 ∷ [] → (get_or steps i d).1 <ℤ pos (2 ^ 127) → StepsPushed (take (i + 1) steps) before after
 steps_push steps i d before lines after b h added below =
@@ -98,12 +90,12 @@ steps_push steps i d before lines after b h added below =
     subst (λ (xs : List (ℕ × ℤ)). StepsPushed xs before after) (sym (take_more steps i d b)) more
 
 -- lists of Counts
-natural_at : (xs : List ℤ) (r : ℕ) → Each Value xs → pos 0 ≤ℤ slice_index_or xs r (pos 0)
+natural_at : (xs : List ℤ) (r : ℕ) → AllByRecursion Value xs → pos 0 ≤ℤ slice_index_or xs r (pos 0)
 natural_at [] r h = omega (arith, ints)
 natural_at (x ∷ xs) zero h = h.0.natural
 natural_at (x ∷ xs) (suc r) h = natural_at xs r h.1
 
-pub counts_from : (a : Automaton) (f : ℕ → ℤ) (n : ℕ) (xs : List ℤ) → n ≡ length a.rules → AreValues (map f (numbers_from 0 n)) xs → Counts a xs
+pub counts_from : (a : Automaton) (f : ℕ → ℤ) (n : ℕ) (xs : List ℤ) → n ≡ length a.rules → AreValues (map f (numbers_from 0 n)) xs → AreRuleCounts a xs
 counts_from a f n xs size h = record {
   each_rule = ap (λ (ys : List ℤ). length ys) h.are ∙ length-map (numbers_from 0 n) f ∙ length_numbers 0 n ∙ size;
   natural = λ r. natural_at xs r h.natural;
@@ -113,16 +105,12 @@ counts_from a f n xs size h = record {
 in_range : (z : ℤ) → pos 1 ≤ℤ z → z <ℤ pos (2 ^ 127) → InRange z
 in_range z low high = grind (arith, ints)
 
-steps_fit : (a : Automaton) (p : Pattern) (counts : List ℤ) (steps : List (ℕ × ℤ)) → Each (λ (step : ℕ × ℤ). step.0 < length a.rules) steps → Each (λ (step : ℕ × ℤ). (pos 1 ≤ℤ step.1) × (step.1 ≤ℤ count_at counts step.0)) steps → Each (λ (step : ℕ × ℤ). step.1 <ℤ pos (2 ^ 127)) steps → Each (LineFits a p) (map step_line steps)
+steps_fit : (a : Automaton) (p : Pattern) (counts : List ℤ) (steps : List (ℕ × ℤ)) → AllByRecursion (λ (step : ℕ × ℤ). step.0 < length a.rules) steps → AllByRecursion (λ (step : ℕ × ℤ). (pos 1 ≤ℤ step.1) × (step.1 ≤ℤ count_at counts step.0)) steps → AllByRecursion (λ (step : ℕ × ℤ). step.1 <ℤ pos (2 ^ 127)) steps → AllByRecursion (LineFits a p) (map step_line steps)
 steps_fit a p counts [] e f g = tt
 steps_fit a p counts (step ∷ steps) e f g = ((e.0, f.0.0, in_range step.1 f.0.0 g.0), steps_fit a p counts steps e.1 f.1 g.1)
 
-each_append : {X : Type 0} (P : X → Type 0) (xs ys : List X) → Each P xs → Each P ys → Each P (xs ++ ys)
-each_append P [] ys h g = g
-each_append P (x ∷ xs) ys h g = (h.0, each_append P xs ys h.1 g)
-
 -- the piece of an element: its arranged steps are added, and then its end
-pub piece_added : (a : Automaton) → InScope a → (p : Pattern) (value : Meaning → ℤ) (k : ℕ) (element : Element) (counts : List ℤ) (steps : List (ℕ × ℤ)) (before middle after : List RunLine) → counts ≡ counts_before a value k → Counts a counts → ArrangedOf a counts steps → StepsPushed steps before middle → Ended a p value k element middle after → Added a p value k element before after
+pub piece_added : (a : Automaton) → InScope a → (p : Pattern) (value : Meaning → ℤ) (k : ℕ) (element : Element) (counts : List ℤ) (steps : List (ℕ × ℤ)) (before middle after : List RunLine) → counts ≡ counts_before a value k → AreRuleCounts a counts → ArrangedOf a counts steps → StepsPushed steps before middle → AddsPieceEnd a p value k element middle after → AddsPiece a p value k element before after
 piece_added a scope p value k element counts steps before middle after are natural arranged pushed ended =
     let within = arranged_within a scope counts natural steps arranged in
     let fit = steps_fit a p counts steps within.exist within.factors pushed.1 in
@@ -132,11 +120,6 @@ piece_added a scope p value k element counts steps before middle after are natur
       added = ended.added ∙ ap (λ (ls : List RunLine). ls ++ (last_lines ended.last ++ map Mark ended.marks)) pushed.0 ∙ append_assoc before (map step_line steps) (last_lines ended.last ++ map Mark ended.marks);
       fit = each_append (LineFits a p) (map step_line steps) (last_lines ended.last ++ map Mark ended.marks) fit ended.fit;
     }
-
--- the pieces of one more element
-last_item : {X : Type 0} (x y : X) (k : ℕ) → slice_get (x ∷ []) k ≡ Some y → (k ≡ 0) × (x ≡ y)
-last_item x y zero e = (refl, (let q : x ≡ y = cc in q))
-last_item x y (suc k) e = absurd (cc)
 
 pieces_more : (a : Automaton) (value : Meaning → ℤ) (word : List Element) (pieces : List Piece) (x : Element) (piece : Piece) → PiecesOf a value word pieces → PieceOf a value (length word) x piece → PiecesOf a value (word ++ x ∷ []) (pieces ++ piece ∷ [])
 pieces_more a value word pieces x piece h is = record {
@@ -157,46 +140,38 @@ pieces_more a value word pieces x piece h is = record {
   ];
 }
 
-pieces_lines-append : (ps qs : List Piece) → pieces_lines (ps ++ qs) ≡ pieces_lines ps ++ pieces_lines qs
+pub pieces_lines-append : (ps qs : List Piece) → pieces_lines (ps ++ qs) ≡ pieces_lines ps ++ pieces_lines qs
 pieces_lines-append [] qs = refl
 pieces_lines-append (p ∷ ps) qs = ap (λ (ls : List RunLine). piece_lines p ++ ls) (pieces_lines-append ps qs) ∙ sym (append_assoc (piece_lines p) (pieces_lines ps) (pieces_lines qs))
 
-pub lined_more : (a : Automaton) (p : Pattern) (value : Meaning → ℤ) (word : List Element) (i : ℕ) (d : Element) (lines after : List RunLine) → i < length word → Lined a p value (take i word) lines → Added a p value i (get_or word i d) lines after → Lined a p value (take (i + 1) word) after
+pub lined_more : (a : Automaton) (p : Pattern) (value : Meaning → ℤ) (word : List Element) (i : ℕ) (d : Element) (lines after : List RunLine) → i < length word → AddsPieces a p value (take i word) lines → AddsPiece a p value i (get_or word i d) lines after → AddsPieces a p value (take (i + 1) word) after
 lined_more a p value word i d lines after b h added =
     let x = get_or word i d in
     let size : length (take i word) ≡ i = grind (arith, length-take) in
-    let more : Lined a p value (take i word ++ x ∷ []) after = record {
+    let more : AddsPieces a p value (take i word ++ x ∷ []) after = record {
       pieces = h.pieces ++ added.piece ∷ [];
       are = pieces_more a value (take i word) h.pieces x added.piece h.are (subst (λ (j : ℕ). PieceOf a value j x added.piece) (sym size) added.is);
       made = added.added ∙ ap (λ (ls : List RunLine). ls ++ piece_lines added.piece) h.made ∙ ap (λ (ls : List RunLine). pieces_lines h.pieces ++ ls) (sym (append-nil (piece_lines added.piece))) ∙ sym (pieces_lines-append h.pieces (added.piece ∷ []));
-      fit = subst (Each (LineFits a p)) (sym added.added) (each_append (LineFits a p) lines (piece_lines added.piece) h.fit added.fit);
+      fit = subst (AllByRecursion (LineFits a p)) (sym added.added) (each_append (LineFits a p) lines (piece_lines added.piece) h.fit added.fit);
     } in
-    subst (λ (xs : List Element). Lined a p value xs after) (sym (take_more word i d b)) more
+    subst (λ (xs : List Element). AddsPieces a p value xs after) (sym (take_more word i d b)) more
 
-pub lined_none : (a : Automaton) (p : Pattern) (value : Meaning → ℤ) → Lined a p value [] []
-lined_none a p value = record { pieces = []; are = record { count = refl; each = λ k element piece at there. absurd (cc) }; made = refl; fit = tt }
-
--- what is known where a run is asked for
-known_naturals : (vs : List ℕ) → Each (λ v. pos 0 ≤ℤ v) (map pos vs)
-known_naturals [] = tt
-known_naturals (v ∷ vs) = (omega (arith, ints), known_naturals vs)
-
-pub known_from : (file : File) (p : Pattern) (ms : List Meaning) (solution : Solution) → Asked file p ms solution → Known ms solution.values
+pub known_from : (file : File) (p : Pattern) (ms : List Meaning) (solution : Solution) → IsMadeFrom file p ms solution → AreNaturals ms solution.values
 known_from file p ms solution h = record {
   count = ap (λ (vs : List ℤ). length vs) h.are ∙ length-map h.values pos ∙ h.solved.solves.count ∙ ap (λ (ns : List Meaning). length ns) (sym h.unknowns);
-  natural = subst (Each (λ v. pos 0 ≤ℤ v)) (sym h.are) (known_naturals h.values);
+  natural = subst (AllByRecursion (λ v. pos 0 ≤ℤ v)) (sym h.are) (known_naturals h.values);
 }
 
-pub ends_from : (file : File) (p : Pattern) (ms : List Meaning) (solution : Solution) → Asked file p ms solution → EachMayEnd file.automaton p (unknown_value ms solution.values) solution.word
+pub ends_from : (file : File) (p : Pattern) (ms : List Meaning) (solution : Solution) → IsMadeFrom file p ms solution → EachMayEnd file.automaton p (unknown_value ms solution.values) solution.word
 ends_from file p ms solution h =
     let a = file.automaton in
     let past = reverse solution.word in
     let start = solution.start_mask in
-    let ends = each_ends a p start solution.word h.values h.solved.legal (left_part h.values (word_rows a p start past) [] h.solved.solves.rows_hold) in
+    let ends = each_ends a p start solution.word h.values h.solved.legal (AllHold-left h.values (word_rows a p start past) [] h.solved.solves.rows_hold) in
     subst (λ (ns : List Meaning). EachMayEnd a p (unknown_value ns solution.values) solution.word) (sym h.unknowns)
     (subst (λ (vs : List ℤ). EachMayEnd a p (unknown_value (meanings a p start past) vs) solution.word) (sym h.are) ends)
 
-pub few_elements : (file : File) (p : Pattern) (ms : List Meaning) (solution : Solution) → Asked file p ms solution → length solution.word ≤ 30
+pub few_elements : (file : File) (p : Pattern) (ms : List Meaning) (solution : Solution) → IsMadeFrom file p ms solution → length solution.word ≤ 30
 few_elements file p ms solution h =
     let a = file.automaton in
     omega (arith, legal_length a p solution.start_mask (reverse solution.word) (pattern_within file solution.pattern p h.named).events_limit h.solved.legal, length-reverse solution.word)
@@ -228,6 +203,3 @@ run_fits file p ms solution run r = record {
   counts_natural = r.counts.natural;
   lines = r.lined.fit;
 }
-
-pub solution_of : (file : File) (p : Pattern) (ms : List Meaning) (solution : Solution) → Asked file p ms solution → IsSolution file solution
-solution_of file p ms solution h = record { pattern = p; named = h.named; values = h.values; are = h.are; solved = h.solved }

@@ -1,22 +1,23 @@
 -- the marks of a word's pieces: where they stand, and in which order
-use Rattle.std.proofs.Common.{◌≡◌, inl, inr, ℕ, zero, suc, ◌+◌, ◌<◌, ℤ, List, [], ◌∷◌, ◌++◌, map, length, take, replicate, reverse, unsigned_abs, eqb, cond, Bool, true, false, not, ◌||◌, Option, Some, None, slice_get, IsBitSet, arith, refl, sym, ap, ◌∙◌, subst, append_assoc, append-nil}
-use Rattle.std.proofs.lemmas.Bool.{false≢true, true≢false, and_parts}
+use Rattle.std.proofs.Common.{◌≡◌, inl, inr, ℕ, zero, suc, ◌+◌, ◌<◌, ℤ, List, [], ◌∷◌, ◌++◌, map, length, take, replicate, reverse, unsigned_abs, eqb, cond, true, false, not, Option, Some, None, slice_get, IsBitSet, arith, refl, sym, ap, ◌∙◌, subst, append_assoc, append-nil}
+use Rattle.std.proofs.lemmas.Bool.{false≢true, and_parts, not-true, or_parts, or_right}
 use Rattle.std.proofs.lemmas.Bool.Decides.{nat_tests, eqb_tells}
 use Rattle.std.proofs.lemmas.List.{map-append, length-reverse, length-map}
 use Rattle.std.proofs.lemmas.Option.{slice_get_within}
+use Rattle.ta_base.proofs.Bits.{all_below-at, bit_true}
+use Rattle.ta_base.proofs.Booleans.{implies-at}
+use Rattle.ta_base.proofs.Lists.{get_parts, only_one, reverse_onto, slice_get_left}
+use Rattle.ta_scope.proofs.Arranging.{times-append}
 use Rattle.ta_automaton.specs.declared.automaton.Automaton.{Automaton}
 use Rattle.ta_automaton.specs.declared.pattern.Event.{Event as PatternEvent}
 use Rattle.ta_automaton.specs.declared.pattern.Pattern.{Pattern}
-use Rattle.ta_automaton.specs.Masks.{has_bit, all_below, implies, In}
+use Rattle.ta_base.specs.Masks.{has_bit, all_below, implies, In}
 use Rattle.ta_automaton.specs.Sums.{times_in}
-use Rattle.ta_automaton.proofs.MaskTests.{all_below-at, implies-at, true_not, or_right, bit_true}
-use Rattle.ta_automaton.proofs.Trails.{get_left}
 use Rattle.ta_words.specs.declared.element.Element.{Element}
 use Rattle.ta_words.specs.declared.element.Element.TheVariants.{Event, Rise, Fall}
-use Rattle.ta_words.specs.Words.{has_event, follows, children, Legal}
+use Rattle.ta_words.specs.Words.{has_event, follows, children, LegalWord}
 use Rattle.ta_encode.specs.declared.meaning.Meaning.{Meaning}
 use Rattle.ta_encode.specs.Laws.{position_in, steps_of}
-use Rattle.ta_encode.proofs.Appending.{get_parts}
 use Rattle.ta_encode.proofs.Values.{event_ready}
 use Rattle.ta_scope.specs.Legal as scope
 use Rattle.ta_replay.specs.declared.run.RunLine.TheVariants.{Mark}
@@ -24,11 +25,7 @@ use Rattle.ta_replay.specs.Shows.{unit_steps}
 use Rattle.ta_replay.specs.Pieces.{Piece, MarksInOrder, pieces_lines, pieces_marks, piece_lines, step_line, last_lines, steps_until}
 use Rattle.ta_replay.proofs.Lines.{unit_steps-append}
 use Rattle.ta_replay.proofs.PieceLines.{some_index, no_steps}
-use Rattle.ta_witness.proofs.Backward.{PiecesBack, piece_rules, last_rules, reverse_onto}
-
-or_parts : (x y : Bool) → (x || y) ≡ false → (x ≡ false) × (y ≡ false)
-or_parts true y e = absurd (true≢false e)
-or_parts false y e = (refl, e)
+use Rattle.ta_witness.proofs.Backward.{PiecesBack, piece_rules, last_rules}
 
 -- newer elements without an event leave its position
 keep_position : (newer : List Element) (fs : List (List ℕ)) (past : List Element) (firings : List (List ℕ)) (e : ℕ) → length fs ≡ length newer → has_event newer e ≡ false → position_in (newer ++ past) (fs ++ firings) e ≡ position_in past firings e
@@ -52,9 +49,9 @@ has_there (Fall mask ∷ newer) e past = has_there newer e past
 
 -- an event that is a child is new
 new_event : (a : Automaton) (p : Pattern) (start : ℕ) (past : List Element) (e : ℕ) → In (Event e) (children a p [] start past) → has_event past e ≡ false
-new_event a p start past e child = true_not (has_event past e) (and_parts (not (has_event past e)) (follows p past (slice_get p.events e)) (event_ready a p [] start past e child)).0
+new_event a p start past e child = not-true (has_event past e) (and_parts (not (has_event past e)) (follows p past (slice_get p.events e)) (event_ready a p [] start past e child)).0
 
-no_repeat : (a : Automaton) (p : Pattern) (start : ℕ) (newer : List Element) (e : ℕ) (past : List Element) → Legal a p start (newer ++ (Event e ∷ past)) → has_event newer e ≡ false
+no_repeat : (a : Automaton) (p : Pattern) (start : ℕ) (newer : List Element) (e : ℕ) (past : List Element) → LegalWord a p start (newer ++ (Event e ∷ past)) → has_event newer e ≡ false
 unfolding has_event
 no_repeat a p start [] e past legal = refl
 no_repeat a p start (Event g ∷ newer) e past legal = elim (eqb_tells g e) [
@@ -65,7 +62,7 @@ no_repeat a p start (Rise i ∷ newer) e past legal = no_repeat a p start newer 
 no_repeat a p start (Fall mask ∷ newer) e past legal = no_repeat a p start newer e past legal.1
 
 -- the unit steps of pieces
-steps_lines : (steps : List (ℕ × ℤ)) → unit_steps (map step_line steps) ≡ scope.unit_steps steps
+steps_lines : (steps : List (ℕ × ℤ)) → unit_steps (map step_line steps) ≡ scope.arranged_steps steps
 steps_lines [] = refl
 steps_lines (step ∷ steps) = ap (λ (xs : List ℕ). replicate (unsigned_abs step.1) step.0 ++ xs) (steps_lines steps)
 
@@ -77,7 +74,7 @@ lines_rules : (piece : Piece) → unit_steps (piece_lines piece) ≡ piece_rules
 lines_rules piece =
     unit_steps-append (map step_line piece.steps) (last_lines piece.last ++ map Mark piece.marks)
     ∙ ap (λ (xs : List ℕ). xs ++ unit_steps (last_lines piece.last ++ map Mark piece.marks)) (steps_lines piece.steps)
-    ∙ ap (λ (xs : List ℕ). scope.unit_steps piece.steps ++ xs) (unit_steps-append (last_lines piece.last) (map Mark piece.marks) ∙ ap (λ (xs : List ℕ). unit_steps (last_lines piece.last) ++ xs) (no_steps piece.marks) ∙ append-nil (unit_steps (last_lines piece.last)) ∙ last_steps piece.last)
+    ∙ ap (λ (xs : List ℕ). scope.arranged_steps piece.steps ++ xs) (unit_steps-append (last_lines piece.last) (map Mark piece.marks) ∙ ap (λ (xs : List ℕ). unit_steps (last_lines piece.last) ++ xs) (no_steps piece.marks) ∙ append-nil (unit_steps (last_lines piece.last)) ∙ last_steps piece.last)
 
 back_steps : (pieces back : List Piece) → steps_of (map piece_rules (reverse pieces ++ back)) ≡ steps_of (map piece_rules back) ++ unit_steps (pieces_lines pieces)
 back_steps [] back = sym (append-nil (steps_of (map piece_rules back)))
@@ -91,7 +88,7 @@ pub all_steps : (pieces : List Piece) → steps_of (map piece_rules (reverse pie
 all_steps pieces = ap (λ (ps : List Piece). steps_of (map piece_rules ps)) (sym (append-nil (reverse pieces))) ∙ back_steps pieces []
 
 -- an event's position is the end of its piece
-position_onto : (a : Automaton) (p : Pattern) (start : ℕ) (word : List Element) (pieces : List Piece) (past : List Element) (back : List Piece) (k e : ℕ) → length pieces ≡ length word → Legal a p start (reverse word ++ past) → slice_get word k ≡ Some (Event e) → position_in (reverse word ++ past) (map piece_rules (reverse pieces ++ back)) e ≡ length (steps_of (map piece_rules (reverse (take (k + 1) pieces) ++ back)))
+position_onto : (a : Automaton) (p : Pattern) (start : ℕ) (word : List Element) (pieces : List Piece) (past : List Element) (back : List Piece) (k e : ℕ) → length pieces ≡ length word → LegalWord a p start (reverse word ++ past) → slice_get word k ≡ Some (Event e) → position_in (reverse word ++ past) (map piece_rules (reverse pieces ++ back)) e ≡ length (steps_of (map piece_rules (reverse (take (k + 1) pieces) ++ back)))
 position_onto a p start [] pieces past back k e size legal at = absurd (cc)
 position_onto a p start (x ∷ word) [] past back k e size legal at = absurd (omega arith)
 position_onto a p start (x ∷ word) (q ∷ pieces) past back zero e size legal at =
@@ -101,21 +98,21 @@ position_onto a p start (x ∷ word) (q ∷ pieces) past back zero e size legal 
     let many : length (map piece_rules (reverse pieces)) ≡ length (reverse word) = omega (arith, length-map (reverse pieces) piece_rules, length-reverse pieces, length-reverse word) in
     ap (λ (ys : List Element). position_in ys (map piece_rules (reverse (q ∷ pieces) ++ back)) e) onto
     ∙ ap (λ (fs : List (List ℕ)). position_in (reverse word ++ (Event e ∷ past)) fs e) fires
-    ∙ keep_position (reverse word) (map piece_rules (reverse pieces)) (Event e ∷ past) (map piece_rules (q ∷ back)) e many (no_repeat a p start (reverse word) e past (subst (Legal a p start) onto legal))
+    ∙ keep_position (reverse word) (map piece_rules (reverse pieces)) (Event e ∷ past) (map piece_rules (q ∷ back)) e many (no_repeat a p start (reverse word) e past (subst (LegalWord a p start) onto legal))
     ∙ (let s : eqb e e ≡ true = grind (arith, nat_tests) in rw s refl)
 position_onto a p start (x ∷ word) (q ∷ pieces) past back (suc k) e size legal at =
     let next : suc k + 1 ≡ suc (k + 1) = omega arith in
     ap (λ (ys : List Element). position_in ys (map piece_rules (reverse (q ∷ pieces) ++ back)) e) (reverse_onto x word past)
     ∙ ap (λ (ps : List Piece). position_in (reverse word ++ (x ∷ past)) (map piece_rules ps) e) (reverse_onto q pieces back)
-    ∙ position_onto a p start word pieces (x ∷ past) (q ∷ back) k e (omega arith) (subst (Legal a p start) (reverse_onto x word past) legal) at
+    ∙ position_onto a p start word pieces (x ∷ past) (q ∷ back) k e (omega arith) (subst (LegalWord a p start) (reverse_onto x word past) legal) at
     ∙ ap (λ (ps : List Piece). length (steps_of (map piece_rules ps))) (sym (reverse_onto q (take (k + 1) pieces) back))
     ∙ ap (λ (n : ℕ). length (steps_of (map piece_rules (reverse (take n (q ∷ pieces)) ++ back)))) (sym next)
 
-pub position_at : (a : Automaton) (p : Pattern) (start : ℕ) (word : List Element) (pieces : List Piece) (k e : ℕ) → length pieces ≡ length word → Legal a p start (reverse word) → slice_get word k ≡ Some (Event e) → position_in (reverse word) (map piece_rules (reverse pieces)) e ≡ steps_until pieces k
+pub position_at : (a : Automaton) (p : Pattern) (start : ℕ) (word : List Element) (pieces : List Piece) (k e : ℕ) → length pieces ≡ length word → LegalWord a p start (reverse word) → slice_get word k ≡ Some (Event e) → position_in (reverse word) (map piece_rules (reverse pieces)) e ≡ steps_until pieces k
 position_at a p start word pieces k e size legal at =
     ap (λ (ys : List Element). position_in ys (map piece_rules (reverse pieces)) e) (sym (append-nil (reverse word)))
     ∙ ap (λ (ps : List Piece). position_in (reverse word ++ []) (map piece_rules ps) e) (sym (append-nil (reverse pieces)))
-    ∙ position_onto a p start word pieces [] [] k e size (subst (Legal a p start) (sym (append-nil (reverse word))) legal) at
+    ∙ position_onto a p start word pieces [] [] k e size (subst (LegalWord a p start) (sym (append-nil (reverse word))) legal) at
     ∙ ap (λ (xs : List ℕ). length xs) (back_steps (take (k + 1) pieces) [])
 
 -- the marks, from the oldest piece on
@@ -132,17 +129,12 @@ all_marks : (pieces : List Piece) → back_marks (reverse pieces) ≡ pieces_mar
 unfolding back_marks
 all_marks pieces = ap back_marks (sym (append-nil (reverse pieces))) ∙ marks_onto pieces []
 
-times-append : (r : ℕ) (xs ys : List ℕ) → times_in r (xs ++ ys) ≡ times_in r xs + times_in r ys
-unfolding times_in
-times-append r [] ys = omega arith
-times-append r (x ∷ xs) ys = omega (arith, times-append r xs ys)
-
 no_marks : (e : ℕ) (back : List Piece) (piece : Piece) → piece.marks ≡ [] → back_marks (piece ∷ back) ≡ back_marks back
 unfolding back_marks
 no_marks e back piece none = ap (λ (es : List ℕ). back_marks back ++ es) none ∙ append-nil (back_marks back)
 
 -- each event of a legal word has one mark
-marks_once : (a : Automaton) (p : Pattern) (start : ℕ) (value : Meaning → ℤ) (past : List Element) (back : List Piece) (e : ℕ) → Legal a p start past → PiecesBack a value past back → times_in e (back_marks back) ≡ cond (has_event past e) 1 0
+marks_once : (a : Automaton) (p : Pattern) (start : ℕ) (value : Meaning → ℤ) (past : List Element) (back : List Piece) (e : ℕ) → LegalWord a p start past → PiecesBack a value past back → times_in e (back_marks back) ≡ cond (has_event past e) 1 0
 unfolding back_marks has_event times_in
 marks_once a p start value [] [] e legal h = refl
 marks_once a p start value [] (piece ∷ back) e legal h = absurd h
@@ -165,11 +157,7 @@ marks_once a p start value (Fall mask ∷ past) (piece ∷ back) e legal h = ap 
 Before : Pattern → List ℕ → Type 0
 Before p marks = (e f i : ℕ) (event : PatternEvent) → slice_get p.events e ≡ Some event → IsBitSet event.after f → slice_get marks i ≡ Some e → (j : ℕ) × (j < i) × (slice_get marks j ≡ Some f)
 
-only_one : (g e k : ℕ) → slice_get (g ∷ []) k ≡ Some e → g ≡ e
-only_one g e zero at = cc
-only_one g e (suc k) at = absurd (cc)
-
-marks_before : (a : Automaton) (p : Pattern) (start : ℕ) (value : Meaning → ℤ) → ((e : ℕ) (event : PatternEvent) → slice_get p.events e ≡ Some event → (f : ℕ) → IsBitSet event.after f → f < e) → (past : List Element) (back : List Piece) → Legal a p start past → PiecesBack a value past back → Before p (back_marks back)
+marks_before : (a : Automaton) (p : Pattern) (start : ℕ) (value : Meaning → ℤ) → ((e : ℕ) (event : PatternEvent) → slice_get p.events e ≡ Some event → (f : ℕ) → IsBitSet event.after f → f < e) → (past : List Element) (back : List Piece) → LegalWord a p start past → PiecesBack a value past back → Before p (back_marks back)
 unfolding back_marks Before
 marks_before a p start value earlier [] [] legal h e f i event at bit there = absurd (cc)
 marks_before a p start value earlier [] (piece ∷ back) legal h e f i event at bit there = absurd h
@@ -178,7 +166,7 @@ marks_before a p start value earlier (Event g ∷ past) (piece ∷ back) legal h
     let old = back_marks back in
     let here : slice_get (old ++ (g ∷ [])) i ≡ Some e = ap (λ (es : List ℕ). slice_get (old ++ es) i) (sym h.0.ends.1) ∙ there in
     elim (get_parts old (g ∷ []) i e here) [
-      | inl w ↦ (let v = marks_before a p start value earlier past back legal.1 h.1 e f i event at bit w in (v.0, v.1, get_left old piece.marks v.0 f v.2))
+      | inl w ↦ (let v = marks_before a p start value earlier past back legal.1 h.1 e f i event at bit w in (v.0, v.1, slice_get_left old piece.marks v.0 f v.2))
       | inr w ↦ (
           let same : g ≡ e = only_one g e w.0 w.2 in
           let ready = and_parts (not (has_event past g)) (follows p past (slice_get p.events g)) (event_ready a p [] start past g legal.0) in
@@ -188,18 +176,18 @@ marks_before a p start value earlier (Event g ∷ past) (piece ∷ back) legal h
           let one : times_in f old ≡ 1 = marks_once a p start value past back f legal.1 h.1 ∙ ap (λ t. cond t 1 0) done in
           let v = some_index old f (omega (arith, one)) in
           let within = slice_get_within old v.0 f v.1 in
-          (v.0, (let q = w.1 in omega arith), get_left old piece.marks v.0 f v.1))
+          (v.0, (let q = w.1 in omega arith), slice_get_left old piece.marks v.0 f v.1))
     ]
 marks_before a p start value earlier (Rise g ∷ past) (piece ∷ back) legal h e f i event at bit there =
     let none : back_marks back ++ piece.marks ≡ back_marks back = no_marks e back piece h.0.ends.1 in
     let v = marks_before a p start value earlier past back legal.1 h.1 e f i event at bit (ap (λ (es : List ℕ). slice_get es i) (sym none) ∙ there) in
-    (v.0, v.1, get_left (back_marks back) piece.marks v.0 f v.2)
+    (v.0, v.1, slice_get_left (back_marks back) piece.marks v.0 f v.2)
 marks_before a p start value earlier (Fall mask ∷ past) (piece ∷ back) legal h e f i event at bit there =
     let none : back_marks back ++ piece.marks ≡ back_marks back = no_marks e back piece h.0.ends.1 in
     let v = marks_before a p start value earlier past back legal.1 h.1 e f i event at bit (ap (λ (es : List ℕ). slice_get es i) (sym none) ∙ there) in
-    (v.0, v.1, get_left (back_marks back) piece.marks v.0 f v.2)
+    (v.0, v.1, slice_get_left (back_marks back) piece.marks v.0 f v.2)
 
-pub marks_in_order : (a : Automaton) (p : Pattern) (start : ℕ) (value : Meaning → ℤ) → ((e : ℕ) (event : PatternEvent) → slice_get p.events e ≡ Some event → (f : ℕ) → IsBitSet event.after f → f < e) → (past : List Element) (pieces : List Piece) → Legal a p start past → all_below (length p.events) (has_event past) ≡ true → PiecesBack a value past (reverse pieces) → MarksInOrder p (pieces_marks pieces)
+pub marks_in_order : (a : Automaton) (p : Pattern) (start : ℕ) (value : Meaning → ℤ) → ((e : ℕ) (event : PatternEvent) → slice_get p.events e ≡ Some event → (f : ℕ) → IsBitSet event.after f → f < e) → (past : List Element) (pieces : List Piece) → LegalWord a p start past → all_below (length p.events) (has_event past) ≡ true → PiecesBack a value past (reverse pieces) → MarksInOrder p (pieces_marks pieces)
 unfolding Before
 marks_in_order a p start value earlier past pieces legal complete h =
     let same = all_marks pieces in

@@ -1,22 +1,23 @@
 -- the parameters and start counts of a solution's run are those of the configuration that it begins with
-use Rattle.std.proofs.Common.{◌≡◌, inl, inr, ℕ, zero, suc, ◌+◌, ◌≤◌, ℤ, pos, List, [], ◌∷◌, ◌++◌, map, length, take, drop, eqb, cond, true, false, not, Some, slice_get, arith, refl, sym, ap, ◌∙◌, subst, unsigned_abs}
+use Rattle.std.proofs.Common.{◌≡◌, inl, inr, ℕ, ◌+◌, ℤ, pos, List, [], ◌∷◌, ◌++◌, map, length, take, drop, eqb, cond, true, false, not, Some, slice_get, arith, refl, sym, ap, ◌∙◌, subst, unsigned_abs}
 use Rattle.std.specs.Prelude.{slice_index}
-use Rattle.std.proofs.lemmas.Bool.{cases_Bool}
+use Rattle.std.proofs.lemmas.Bool.{cases_Bool, not_from_false}
 use Rattle.std.proofs.lemmas.Bool.Decides.{nat_tests, eqb_tells}
 use Rattle.std.proofs.lemmas.List.{length-map}
+use Rattle.ta_base.proofs.Lists.{drop_front, map_append, natural_at, naturals_back, same_items, take_map}
+use Rattle.ta_base.proofs.Members.{In-filter, in_at}
+use Rattle.ta_base.proofs.Ranges.{length_numbers, map_from}
 use Rattle.ta_automaton.specs.declared.automaton.Automaton.{Automaton}
 use Rattle.ta_automaton.specs.declared.pattern.Pattern.{Pattern}
-use Rattle.ta_automaton.specs.Masks.{has_bit, numbers_from, In}
+use Rattle.ta_base.specs.Masks.{has_bit, numbers_from, In}
 use Rattle.ta_automaton.specs.Runs.{Config}
-use Rattle.ta_automaton.proofs.Fire.{length_numbers}
-use Rattle.ta_automaton.proofs.MaskTests.{In-filter, not_true}
 use Rattle.ta_words.specs.declared.element.Element.{Element}
 use Rattle.ta_encode.specs.declared.meaning.Meaning.{Meaning}
 use Rattle.ta_encode.specs.declared.meaning.Meaning.TheVariants.{Parameter, Start}
 use Rattle.ta_encode.specs.Unknowns.{meanings, start_locations, start_meanings}
 use Rattle.ta_encode.specs.Laws.{start_values}
 use Rattle.ta_witness.specs.Values.{same_meaning, unknown_value}
-use Rattle.ta_witness.proofs.Lookups.{OtherElement, newer, skip, lacks_map, same_items}
+use Rattle.ta_witness.proofs.Lookups.{OtherElement, newer, skip, lacks_map}
 
 -- unknowns that aren't of an element have their values at the start
 at_start : (a : Automaton) (p : Pattern) (start : ℕ) (past : List Element) (vs : List ℤ) (m : Meaning) → ((n : ℕ) → OtherElement n m) → unknown_value (meanings a p start past) vs m ≡ unknown_value (start_meanings a p) vs m
@@ -30,20 +31,11 @@ front_values [] vs m = refl
 front_values (n ∷ ms) [] m = refl
 front_values (n ∷ ms) (v ∷ vs) m = ap (λ z. cond (same_meaning n m) v z) (front_values ms vs m)
 
-take_map : (n : ℕ) (vs : List ℕ) → take n (map pos vs) ≡ map pos (take n vs)
-take_map zero vs = refl
-take_map (suc n) [] = refl
-take_map (suc n) (v ∷ vs) = ap (λ (ws : List ℤ). pos v ∷ ws) (take_map n vs)
-
 value_at_start : (a : Automaton) (p : Pattern) (start : ℕ) (past : List Element) (vs sv : List ℕ) (m : Meaning) → ((n : ℕ) → OtherElement n m) → sv ≡ take (length (start_meanings a p)) vs → unknown_value (meanings a p start past) (map pos vs) m ≡ unknown_value (start_meanings a p) (map pos sv) m
 value_at_start a p start past vs sv m h e =
     at_start a p start past (map pos vs) m h
     ∙ front_values (start_meanings a p) (map pos vs) m
     ∙ ap (λ (ws : List ℤ). unknown_value (start_meanings a p) ws m) (take_map (length (start_meanings a p)) vs ∙ ap (map pos) (sym e))
-
-map_from : (f g : ℕ → ℤ) (low n : ℕ) → ((x : ℕ) → low ≤ x → f x ≡ g x) → map f (numbers_from low n) ≡ map g (numbers_from low n)
-map_from f g low zero h = refl
-map_from f g low (suc n) h = let first = h low (omega arith) in let rest = map_from f g (low + 1) n (λ x b. h x (omega arith)) in cc
 
 parameters_found : (low : ℕ) (xs ys : List ℕ) (more : List Meaning) → map (λ i. unknown_value (map Parameter (numbers_from low (length xs)) ++ more) (map pos (xs ++ ys)) (Parameter i)) (numbers_from low (length xs)) ≡ map pos xs
 unfolding unknown_value
@@ -53,10 +45,6 @@ parameters_found low (x ∷ xs) ys more =
     let head : cond (eqb low low) (pos x) (rest low) ≡ pos x = (let s : eqb low low ≡ true = grind (arith, nat_tests) in rw s refl) in
     let tail = map_from (λ i. cond (eqb low i) (pos x) (rest i)) rest (low + 1) (length xs) (λ i b. (let s : eqb low i ≡ false = grind (arith, nat_tests) in rw s refl)) ∙ parameters_found (low + 1) xs ys more in
     cc
-
-naturals_back : (xs : List ℕ) → map unsigned_abs (map pos xs) ≡ xs
-naturals_back [] = refl
-naturals_back (x ∷ xs) = ap (λ (ys : List ℕ). x ∷ ys) (naturals_back xs)
 
 -- the run's parameters
 pub parameters_are : (a : Automaton) (p : Pattern) (start : ℕ) (past : List Element) (vs : List ℕ) (first : Config) → length first.parameters ≡ length a.parameters → start_values a p first ≡ take (length (start_meanings a p)) vs → map unsigned_abs (map (λ i. unknown_value (meanings a p start past) (map pos vs) (Parameter i)) (numbers_from 0 (length a.parameters))) ≡ first.parameters
@@ -85,16 +73,6 @@ start_zero f (k ∷ ls) l e = elim (eqb_tells k l) [
   | inr ne ↦ rw ne.0 (start_zero f ls l e)
 ]
 
-drop_front : (n : ℕ) (xs ys : List ℤ) → length xs ≡ n → drop n (xs ++ ys) ≡ ys
-drop_front zero [] ys e = refl
-drop_front zero (x ∷ xs) ys e = absurd (omega arith)
-drop_front (suc n) [] ys e = absurd (omega arith)
-drop_front (suc n) (x ∷ xs) ys e = drop_front n xs ys (omega arith)
-
-map_append : (xs ys : List ℕ) → map pos (xs ++ ys) ≡ map pos xs ++ map pos ys
-map_append [] ys = refl
-map_append (x ∷ xs) ys = ap (λ (zs : List ℤ). pos x ∷ zs) (map_append xs ys)
-
 start_value : (a : Automaton) (p : Pattern) (start : ℕ) (past : List Element) (vs : List ℕ) (first : Config) → length first.parameters ≡ length a.parameters → start_values a p first ≡ take (length (start_meanings a p)) vs → (l : ℕ) → unknown_value (meanings a p start past) (map pos vs) (Start l) ≡ unknown_value (map Start (start_locations a p)) (map pos (map (slice_index first.counters) (start_locations a p))) (Start l)
 unfolding start_meanings
 start_value a p start past vs first count begins l =
@@ -106,25 +84,15 @@ start_value a p start past vs first count begins l =
     ∙ skip ps (map Start (start_locations a p)) (map pos (first.parameters ++ cs)) (Start l) (lacks_map (Start l) Parameter (numbers_from 0 n) (λ i. refl))
     ∙ ap (λ (ws : List ℤ). unknown_value (map Start (start_locations a p)) ws (Start l)) (ap (drop (length ps)) (map_append first.parameters cs) ∙ drop_front (length ps) (map pos first.parameters) (map pos cs) size)
 
-get_in : (xs : List ℕ) (j l : ℕ) → slice_get xs j ≡ Some l → In l xs
-get_in [] j l at = absurd (cc)
-get_in (x ∷ xs) zero l at = inl (let e : l ≡ x = cc in e)
-get_in (x ∷ xs) (suc j) l at = inr (get_in xs j l at)
-
 -- the run's start counts
 start_count : (a : Automaton) (p : Pattern) (start : ℕ) (past : List Element) (vs : List ℕ) (first : Config) → length first.parameters ≡ length a.parameters → start_values a p first ≡ take (length (start_meanings a p)) vs → ((l : ℕ) → has_bit p.empty l ≡ true → slice_index first.counters l ≡ 0) → (l : ℕ) → In l a.initial → unknown_value (meanings a p start past) (map pos vs) (Start l) ≡ pos (slice_index first.counters l)
 start_count a p start past vs first count begins empty l i =
     start_value a p start past vs first count begins l
     ∙ elim (cases_Bool (has_bit p.empty l)) [
       | inl e ↦ start_zero (slice_index first.counters) (start_locations a p) l (empty l e) ∙ ap pos (sym (empty l e))
-      | inr e ↦ start_in (slice_index first.counters) (start_locations a p) l (In-filter (λ k. not (has_bit p.empty k)) l a.initial (not_true (has_bit p.empty l) e) i)
+      | inr e ↦ start_in (slice_index first.counters) (start_locations a p) l (In-filter (λ k. not (has_bit p.empty k)) l a.initial (not_from_false (has_bit p.empty l) e) i)
     ]
-
-natural_at : (f : ℕ → ℤ) (xs : List ℕ) (j l n : ℕ) → slice_get xs j ≡ Some l → f l ≡ pos n → slice_index (map unsigned_abs (map f xs)) j ≡ n
-natural_at f [] j l n at e = absurd (cc)
-natural_at f (x ∷ xs) zero l n at e = let same : x ≡ l = cc in ap unsigned_abs (ap f same ∙ e)
-natural_at f (x ∷ xs) (suc j) l n at e = natural_at f xs j l n at e
 
 pub counts_are : (a : Automaton) (p : Pattern) (start : ℕ) (past : List Element) (vs : List ℕ) (first : Config) → length first.parameters ≡ length a.parameters → start_values a p first ≡ take (length (start_meanings a p)) vs → ((l : ℕ) → has_bit p.empty l ≡ true → slice_index first.counters l ≡ 0) → (j l : ℕ) → slice_get a.initial j ≡ Some l → slice_index first.counters l ≡ slice_index (map unsigned_abs (map (λ k. unknown_value (meanings a p start past) (map pos vs) (Start k)) a.initial)) j
 counts_are a p start past vs first count begins empty j l at =
-    sym (natural_at (λ k. unknown_value (meanings a p start past) (map pos vs) (Start k)) a.initial j l (slice_index first.counters l) at (start_count a p start past vs first count begins empty l (get_in a.initial j l at)))
+    sym (natural_at (λ k. unknown_value (meanings a p start past) (map pos vs) (Start k)) a.initial j l (slice_index first.counters l) at (start_count a p start past vs first count begins empty l (in_at a.initial j l at)))

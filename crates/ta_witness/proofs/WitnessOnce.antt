@@ -1,10 +1,13 @@
 -- A solution has one run.
 use Rattle.std.proofs.Common.{◌≡◌, ℕ, ℤ, pos, List, [], ◌∷◌, ◌++◌, map, length, reverse, Some, slice_get, sym, ap, ◌∙◌, refl, subst}
 use Rattle.std.proofs.lemmas.List.{reverse-reverse}
+use Rattle.ta_encode.proofs.Moments.{AllHold-left}
+use Rattle.ta_encode.proofs.Safety.{first_rows}
+use Rattle.ta_replay.proofs.OneRun.{run_same}
 use Rattle.ta_automaton.specs.declared.automaton.Automaton.{Automaton}
 use Rattle.ta_automaton.specs.declared.pattern.Pattern.{Pattern}
 use Rattle.ta_automaton.specs.declared.file.File.{File}
-use Rattle.ta_automaton.specs.Masks.{numbers_from}
+use Rattle.ta_base.specs.Masks.{numbers_from}
 use Rattle.ta_scope.proofs.ArrangedOnce.{arranged_once}
 use Rattle.ta_words.specs.declared.element.Element.{Element}
 use Rattle.ta_words.specs.declared.element.Element.TheVariants.{Event, Rise, Fall}
@@ -14,11 +17,11 @@ use Rattle.ta_encode.specs.declared.meaning.Meaning.TheVariants.{Parameter, Star
 use Rattle.ta_encode.specs.System.{AllHold, word_rows}
 use Rattle.ta_encode.specs.Unknowns.{counts_after, meanings}
 use Rattle.ta_encode.proofs.Singles.{one_single, only_single, singles_hold}
-use Rattle.ta_encode.proofs.Values.{AllHold-right, left_part}
+use Rattle.ta_encode.proofs.Values.{AllHold-right}
 use Rattle.ta_replay.specs.declared.run.Run.{Run}
 use Rattle.ta_replay.specs.Pieces.{Piece, pieces_lines}
 use Rattle.ta_witness.specs.Values.{unknown_value}
-use Rattle.ta_witness.specs.Witness.{EndsPiece, PieceOf, PiecesOf, WitnessOf, WitnessesAreDetermined, counts_before, value_in}
+use Rattle.ta_witness.specs.Witness.{EndsPiece, PieceOf, PiecesOf, WitnessOf, WitnessesAreDetermined, counts_before, solution_value}
 use Rattle.ta_witness.proofs.Backward.{PiecesBack, older, pieces_back, values_of}
 use Rattle.ta_witness.proofs.Lookups.{one_found}
 
@@ -51,13 +54,6 @@ piece_once a p start past x vs u v rows first second =
     let ends = ends_same a p start past x vs u v rows first.ends second.ends in
     piece_same u v (arranged_once a (counts_before a (values_of a p start (x ∷ past) vs) (length past)) u.steps v.steps first.steps second.steps) ends.0 ends.1
 
--- the rows of a word are among those of a longer one
-rows_before : (a : Automaton) (p : Pattern) (start : ℕ) (x : Element) (past : List Element) (vs : List ℕ) → AllHold vs (word_rows a p start (x ∷ past)) → AllHold vs (word_rows a p start past)
-unfolding word_rows
-rows_before a p start (Event e) past vs rows = left_part vs (word_rows a p start past) _ rows
-rows_before a p start (Rise i) past vs rows = left_part vs (word_rows a p start past) _ rows
-rows_before a p start (Fall mask) past vs rows = left_part vs (word_rows a p start past) _ rows
-
 back_once : (a : Automaton) (p : Pattern) (start : ℕ) (past : List Element) (vs : List ℕ) (us ws : List Piece) → AllHold vs (word_rows a p start past) → PiecesBack a (values_of a p start past vs) past us → PiecesBack a (values_of a p start past vs) past ws → us ≡ ws
 back_once a p start [] vs [] [] rows first second = refl
 back_once a p start [] vs [] (w ∷ ws) rows first second = absurd second
@@ -66,23 +62,23 @@ back_once a p start (x ∷ past) vs [] ws rows first second = absurd first
 back_once a p start (x ∷ past) vs (u ∷ us) [] rows first second = absurd second
 back_once a p start (x ∷ past) vs (u ∷ us) (w ∷ ws) rows first second =
     let head = piece_once a p start past x vs u w rows first.0 second.0 in
-    let tail = back_once a p start past vs us ws (rows_before a p start x past vs rows) (older a p start x past vs us first.1) (older a p start x past vs ws second.1) in
+    let tail = back_once a p start past vs us ws (first_rows a p start x past vs rows) (older a p start x past vs us first.1) (older a p start x past vs ws second.1) in
     ap (λ (z : Piece). z ∷ us) head ∙ ap (λ (zs : List Piece). w ∷ zs) tail
 
 -- the run of a solution, for the pattern that it names
 record WitnessAt (a : Automaton) (p : Pattern) (solution : Solution) (run : Run) : Type 0 where
-  parameters : run.parameters ≡ map (λ i. value_in a p solution (Parameter i)) (numbers_from 0 (length a.parameters))
-  counts : run.counts ≡ map (λ l. value_in a p solution (Start l)) a.initial
+  parameters : run.parameters ≡ map (λ i. solution_value a p solution (Parameter i)) (numbers_from 0 (length a.parameters))
+  counts : run.counts ≡ map (λ l. solution_value a p solution (Start l)) a.initial
   pieces : List Piece
-  are : PiecesOf a (value_in a p solution) solution.word pieces
+  are : PiecesOf a (solution_value a p solution) solution.word pieces
   lines : run.lines ≡ pieces_lines pieces
 
 at_pattern : (file : File) (solution : Solution) (run : Run) (p : Pattern) (w : WitnessOf file solution run) → w.pattern ≡ p → WitnessAt file.automaton p solution run
 at_pattern file solution run p w same = record {
-  parameters = subst (λ (q : Pattern). run.parameters ≡ map (λ i. value_in file.automaton q solution (Parameter i)) (numbers_from 0 (length file.automaton.parameters))) same w.parameters;
-  counts = subst (λ (q : Pattern). run.counts ≡ map (λ l. value_in file.automaton q solution (Start l)) file.automaton.initial) same w.counts;
+  parameters = subst (λ (q : Pattern). run.parameters ≡ map (λ i. solution_value file.automaton q solution (Parameter i)) (numbers_from 0 (length file.automaton.parameters))) same w.parameters;
+  counts = subst (λ (q : Pattern). run.counts ≡ map (λ l. solution_value file.automaton q solution (Start l)) file.automaton.initial) same w.counts;
   pieces = w.pieces;
-  are = subst (λ (q : Pattern). PiecesOf file.automaton (value_in file.automaton q solution) solution.word w.pieces) same w.are;
+  are = subst (λ (q : Pattern). PiecesOf file.automaton (solution_value file.automaton q solution) solution.word w.pieces) same w.are;
   lines = w.lines;
 }
 
@@ -90,13 +86,9 @@ named_same : (file : File) (solution : Solution) (run : Run) (p : Pattern) → s
 named_same file solution run p named w = let both : Some w.pattern ≡ Some p = sym w.named ∙ named in cc
 
 -- the pieces of a solution are those of its natural values
-natural_back : (a : Automaton) (p : Pattern) (solution : Solution) (vs : List ℕ) (pieces : List Piece) → solution.values ≡ map pos vs → PiecesOf a (value_in a p solution) solution.word pieces → PiecesBack a (values_of a p solution.start_mask (reverse solution.word) vs) (reverse solution.word) (reverse pieces)
+natural_back : (a : Automaton) (p : Pattern) (solution : Solution) (vs : List ℕ) (pieces : List Piece) → solution.values ≡ map pos vs → PiecesOf a (solution_value a p solution) solution.word pieces → PiecesBack a (values_of a p solution.start_mask (reverse solution.word) vs) (reverse solution.word) (reverse pieces)
 natural_back a p solution vs pieces are of =
-    subst (λ (zs : List ℤ). PiecesBack a (unknown_value (meanings a p solution.start_mask (reverse solution.word)) zs) (reverse solution.word) (reverse pieces)) are (pieces_back a (value_in a p solution) solution.word pieces of)
-
-pub run_same : (r s : Run) → r.pattern ≡ s.pattern → r.parameters ≡ s.parameters → r.counts ≡ s.counts → r.lines ≡ s.lines → r ≡ s
-run_same r s pattern parameters counts lines =
-    ap (λ k. record r { pattern = k }) pattern ∙ ap (λ vs. record r { pattern = s.pattern; parameters = vs }) parameters ∙ ap (λ vs. record r { pattern = s.pattern; parameters = s.parameters; counts = vs }) counts ∙ ap (λ ls. record s { lines = ls }) lines
+    subst (λ (zs : List ℤ). PiecesBack a (unknown_value (meanings a p solution.start_mask (reverse solution.word)) zs) (reverse solution.word) (reverse pieces)) are (pieces_back a (solution_value a p solution) solution.word pieces of)
 
 pub one_witness : WitnessesAreDetermined
 one_witness file solution r s is first second =
@@ -105,7 +97,7 @@ one_witness file solution r s is first second =
     let word = solution.word in
     let here = at_pattern file solution r p first (named_same file solution r p is.named first) in
     let there = at_pattern file solution s p second (named_same file solution s p is.named second) in
-    let rows = left_part is.values (word_rows a p solution.start_mask (reverse word)) [] is.solved.solves.rows_hold in
+    let rows = AllHold-left is.values (word_rows a p solution.start_mask (reverse word)) [] is.solved.solves.rows_hold in
     let back = back_once a p solution.start_mask (reverse word) is.values (reverse here.pieces) (reverse there.pieces) rows (natural_back a p solution is.values here.pieces is.are here.are) (natural_back a p solution is.values there.pieces is.are there.are) in
     let pieces : here.pieces ≡ there.pieces = sym (reverse-reverse here.pieces) ∙ ap (λ (xs : List Piece). reverse xs) back ∙ reverse-reverse there.pieces in
     run_same r s (first.same_pattern ∙ sym second.same_pattern) (here.parameters ∙ sym there.parameters) (here.counts ∙ sym there.counts) (here.lines ∙ ap pieces_lines pieces ∙ sym there.lines)

@@ -1,36 +1,37 @@
 -- the run of a solution shows the pattern, and is short
-use Rattle.std.proofs.Common.{◌≡◌, inl, inr, ℕ, zero, suc, ◌+◌, ◌*◌, ◌<◌, ◌≤◌, ℤ, List, [], ◌∷◌, map, length, reverse, true, Some, slice_get, unsigned_abs, arith, refl, sym, ap, ◌∙◌, subst}
+use Rattle.std.proofs.Common.{◌≡◌, inl, inr, ℕ, ◌+◌, ◌*◌, ◌≤◌, ℤ, List, ◌∷◌, map, length, reverse, true, Some, slice_get, unsigned_abs, arith, sym, ap, ◌∙◌, subst}
 use Rattle.std.specs.Prelude.{slice_index}
 use Rattle.std.proofs.lemmas.List.{length-reverse}
 use Rattle.std.proofs.lemmas.Option.{slice_get_within, get_or_from_slice_get}
+use Rattle.ta_base.proofs.Bits.{bit_set}
+use Rattle.ta_base.proofs.Each.{each_from}
+use Rattle.ta_base.proofs.Lists.{get_map, some_at}
+use Rattle.ta_base.proofs.Naturals.{count_most, times_le_right}
+use Rattle.ta_base.proofs.Ranges.{number_here}
 use Rattle.ta_automaton.specs.declared.automaton.Automaton.{Automaton}
 use Rattle.ta_automaton.specs.declared.pattern.Pattern.{Pattern}
 use Rattle.ta_automaton.specs.declared.file.File.{File}
-use Rattle.ta_automaton.specs.Lists.{Each}
-use Rattle.ta_automaton.specs.Masks.{has_bit, numbers_from, In}
+use Rattle.ta_base.specs.Masks.{has_bit, numbers_from, In}
 use Rattle.ta_automaton.specs.Runs.{Config, HappensAt, InScope}
 use Rattle.ta_automaton.specs.Runs as runs
-use Rattle.ta_automaton.proofs.MaskTests.{bit_set}
 use Rattle.ta_automaton.proofs.Thresholds.{pattern_within, after_earlier}
 use Rattle.ta_scope.proofs.Arranging.{arranged_within}
 use Rattle.ta_words.specs.declared.element.Element.{Element}
 use Rattle.ta_words.specs.declared.element.Element.TheVariants.{Event, Rise, Fall}
 use Rattle.ta_words.specs.Words.{has_event, has_rise, has_fallen}
-use Rattle.ta_words.proofs.Counts.{legal_weight, count_most}
+use Rattle.ta_words.proofs.Counts.{legal_weight}
 use Rattle.ta_encode.specs.declared.encoded.Solution.{Solution}
 use Rattle.ta_encode.specs.declared.meaning.Meaning.{Meaning}
 use Rattle.ta_encode.specs.declared.meaning.Meaning.TheVariants.{Parameter, Start}
 use Rattle.ta_encode.specs.Unknowns.{meanings}
 use Rattle.ta_encode.specs.Laws.{SolvedWord, position_in, steps_of}
-use Rattle.ta_encode.proofs.Singles.{map_get}
 use Rattle.ta_encode.proofs.Theorems.{these_run}
 use Rattle.ta_replay.specs.declared.run.Run.{Run}
 use Rattle.ta_replay.specs.Shows.{unit_steps, ShowsPattern}
-use Rattle.ta_replay.specs.Pieces.{Piece, OncePerRule, IsShort, PiecesHappen, pieces_lines, steps_count}
-use Rattle.ta_replay.proofs.Lines.{some_at}
+use Rattle.ta_replay.specs.Pieces.{Piece, OncePerRule, HasFewSteps, PiecesHappen, pieces_lines, steps_count}
 use Rattle.ta_replay.proofs.PieceLines.{are_short, show}
 use Rattle.ta_witness.specs.Values.{unknown_value}
-use Rattle.ta_witness.specs.Witness.{IsSolution, PiecesOf, EndsPiece, WitnessOf, WitnessesShow, value_in}
+use Rattle.ta_witness.specs.Witness.{IsSolution, PiecesOf, EndsPiece, WitnessOf, WitnessesShow, solution_value}
 use Rattle.ta_witness.proofs.Backward.{pieces_back, pieces_fire, piece_rules, values_of, are_counts}
 use Rattle.ta_witness.proofs.Marks.{all_steps, position_at, marks_in_order}
 use Rattle.ta_witness.proofs.Starts.{parameters_are, counts_are}
@@ -48,14 +49,6 @@ marked_event : (value : Meaning → ℤ) (k : ℕ) (element : Element) (piece : 
 marked_event value k (Event g) piece e ends i = elim (subst (In e) ends.1 i) [ inl q ↦ ap Event (sym q) | inr j ↦ absurd j ]
 marked_event value k (Rise g) piece e ends i = absurd (subst (In e) ends.1 i)
 marked_event value k (Fall mask) piece e ends i = absurd (subst (In e) ends.1 i)
-
-number_at : (k n low : ℕ) → k < n → slice_get (numbers_from low n) k ≡ Some (low + k)
-number_at k zero low b = absurd (omega arith)
-number_at zero (suc n) low b = ap Some (let e : low ≡ low + 0 = omega arith in e)
-number_at (suc k) (suc n) low b = number_at k n (low + 1) (omega arith) ∙ ap Some (let e : low + 1 + k ≡ low + suc k = omega arith in e)
-
-number_here : (k n : ℕ) → k < n → slice_get (numbers_from 0 n) k ≡ Some k
-number_here k n b = number_at k n 0 b ∙ ap Some (let e : 0 + k ≡ k = omega arith in e)
 
 shows_parts : (file : File) (n : ℕ) (p : Pattern) → slice_get file.patterns n ≡ Some p → InScope file.automaton → (start : ℕ) (word : List Element) (vs : List ℕ) → SolvedWord file.automaton p start word vs → (run : Run) → Parts file.automaton p start word vs run → ShowsPattern file.automaton p run
 shows_parts file n p at scope start word vs solved run h =
@@ -87,29 +80,16 @@ shows_parts file n p at scope start word vs solved run h =
           let is = marked_event value k x.0 piece e (h.are.each k x.0 piece x.1 there).ends i in
           let here = position_at a p start word h.pieces k e h.are.count solved.legal (x.1 ∙ ap Some is) in
           let b = slice_get_within p.events e event named in
-          let place : slice_get o.positions e ≡ Some (position_in past firings e) = ap (λ (ps : List ℕ). slice_get ps e) r.there ∙ map_get (position_in past firings) (numbers_from 0 (length p.events)) e e (number_here e (length p.events) b) in
+          let place : slice_get o.positions e ≡ Some (position_in past firings e) = ap (λ (ps : List ℕ). slice_get ps e) r.there ∙ get_map (position_in past firings) (numbers_from 0 (length p.events)) e e (number_here e (length p.events) b) in
           subst (HappensAt r.first o.later event) here (o.happens e event (position_in past firings e) named place);
     } in
     show a p run h.pieces happen (marks_in_order a p start value earlier past h.pieces solved.legal solved.complete back)
 
-pub each_item : {X : Type 0} (P : X → Type 0) (xs : List X) → ((k : ℕ) (x : X) → slice_get xs k ≡ Some x → P x) → Each P xs
-each_item P [] h = tt
-each_item P (x ∷ xs) h = (h 0 x refl, each_item P xs (λ k y at. h (suc k) y at))
-
-times_more : (m n k : ℕ) → m ≤ n → m * k ≤ n * k
-times_more zero n k b = omega arith
-times_more (suc m) zero k b = absurd (omega arith)
-times_more (suc m) (suc n) k b =
-    let left : suc m * k ≡ k + m * k = omega arith in
-    let right : suc n * k ≡ k + n * k = omega arith in
-    let rest = times_more m n k (omega arith) in
-    omega arith
-
-short_parts : (file : File) (n : ℕ) (p : Pattern) → InScope file.automaton → (start : ℕ) (word : List Element) (vs : List ℕ) → SolvedWord file.automaton p start word vs → (run : Run) → Parts file.automaton p start word vs run → IsShort file.automaton p run.lines
+short_parts : (file : File) (n : ℕ) (p : Pattern) → InScope file.automaton → (start : ℕ) (word : List Element) (vs : List ℕ) → SolvedWord file.automaton p start word vs → (run : Run) → Parts file.automaton p start word vs run → HasFewSteps file.automaton p run.lines
 short_parts file n p scope start word vs solved run h =
     let a = file.automaton in
     let past = reverse word in
-    let once = each_item (OncePerRule a) h.pieces (λ k piece at.
+    let once = each_from (OncePerRule a) h.pieces (λ k piece at.
     let within = slice_get_within h.pieces k piece at in
     let x = some_at word k (let c = h.are.count in omega arith) in
     let w = arranged_within a scope _ (are_counts a p start past vs k) piece.steps (h.are.each k x.0 piece x.1 at).steps in
@@ -120,7 +100,7 @@ short_parts file n p scope start word vs solved run h =
     let lines = ap steps_count h.lines in
     fewer (length h.pieces) (length a.rise + length a.fall + length p.events) (length a.rules + 1) (steps_count run.lines) few (omega (arith, lines, short)) where
       fewer : (m n k s : ℕ) → m ≤ n → s ≤ m * k → s ≤ n * k
-      fewer m n k s b c = let d = times_more m n k b in omega arith
+      fewer m n k s b c = let d = times_le_right m n k b in omega arith
 
 -- the parts of a solution's run
 pub parts_of : (file : File) (solution : Solution) (s : IsSolution file solution) (run : Run) (w : WitnessOf file solution run) → Parts file.automaton s.pattern solution.start_mask solution.word s.values run
@@ -128,7 +108,7 @@ parts_of file solution s run w =
     let a = file.automaton in
     let same : w.pattern ≡ s.pattern = same_pattern w.pattern s.pattern (sym w.named ∙ s.named) in
     let values : Pattern → List ℤ → Meaning → ℤ = λ p vs m. unknown_value (meanings a p solution.start_mask (reverse solution.word)) vs m in
-    let one : value_in a w.pattern solution ≡ values s.pattern solution.values = ap (λ (p : Pattern). values p solution.values) same in
+    let one : solution_value a w.pattern solution ≡ values s.pattern solution.values = ap (λ (p : Pattern). values p solution.values) same in
     let two : values s.pattern solution.values ≡ values_of a s.pattern solution.start_mask (reverse solution.word) s.values = ap (λ (vs : List ℤ). values s.pattern vs) s.are in
     let both = one ∙ two in
     record {
@@ -150,7 +130,7 @@ witnesses_show file scope solution s run w =
         named = named;
         shows = shows_parts file solution.pattern s.pattern s.named scope solution.start_mask solution.word s.values s.solved run h;
       },
-      (λ p at. subst (λ (q : Pattern). IsShort file.automaton q run.lines) (same_pattern s.pattern p (sym named ∙ at)) (short_parts file solution.pattern s.pattern scope solution.start_mask solution.word s.values s.solved run h)),
+      (λ p at. subst (λ (q : Pattern). HasFewSteps file.automaton q run.lines) (same_pattern s.pattern p (sym named ∙ at)) (short_parts file solution.pattern s.pattern scope solution.start_mask solution.word s.values s.solved run h)),
     ) where
       same_pattern : (x y : Pattern) → Some x ≡ Some y → x ≡ y
       same_pattern x y e = cc

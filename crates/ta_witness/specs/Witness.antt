@@ -3,7 +3,7 @@ use Rattle.std.specs.Prelude.{ℕ, ℤ, pos, ◌≡◌, List, [], ◌∷◌, len
 use Rattle.ta_automaton.specs.declared.automaton.Automaton.{Automaton}
 use Rattle.ta_automaton.specs.declared.pattern.Pattern.{Pattern}
 use Rattle.ta_automaton.specs.declared.file.File.{File}
-use Rattle.ta_automaton.specs.Masks.{numbers_from}
+use Rattle.ta_base.specs.Masks.{numbers_from}
 use Rattle.ta_automaton.specs.Runs.{InScope}
 use Rattle.ta_scope.specs.Arranged.{ArrangedOf}
 use Rattle.ta_words.specs.declared.element.Element.{Element}
@@ -18,7 +18,7 @@ use Rattle.ta_replay.specs.declared.run.Run.{Run}
 use Rattle.ta_replay.specs.Fits.{Fits}
 use Rattle.ta_replay.specs.Shows.{Shows}
 use Rattle.ta_replay.specs.Replays.{ReplayStays}
-use Rattle.ta_replay.specs.Pieces.{Piece, IsShort, pieces_lines}
+use Rattle.ta_replay.specs.Pieces.{Piece, HasFewSteps, pieces_lines}
 use Rattle.ta_witness.specs.declared.fault.WitnessFault.{WitnessFault}
 use Rattle.ta_witness.specs.declared.fault.WitnessFault.TheVariants.{Overflow, Memory}
 
@@ -32,8 +32,8 @@ pub record IsSolution (file : File) (solution : Solution) : Type 0 where
   pub solved : SolvedWord file.automaton pattern solution.start_mask solution.word values
 
 -- the value that a solution gives the unknown that stands for something, 0 where there is no such unknown
-abbrev pub value_in : Automaton → Pattern → Solution → Meaning → ℤ
-value_in a p solution m = unknown_value (meanings a p solution.start_mask (reverse solution.word)) solution.values m
+abbrev pub solution_value : Automaton → Pattern → Solution → Meaning → ℤ
+solution_value a p solution m = unknown_value (meanings a p solution.start_mask (reverse solution.word)) solution.values m
 
 -- how often each rule fires before element k, where unknowns have these values
 abbrev pub counts_before : Automaton → (Meaning → ℤ) → ℕ → List ℤ
@@ -61,15 +61,15 @@ pub record WitnessOf (file : File) (solution : Solution) (run : Run) : Type 0 wh
   pub pattern : Pattern
   pub named : slice_get file.patterns solution.pattern ≡ Some pattern
   pub same_pattern : run.pattern ≡ solution.pattern
-  pub parameters : run.parameters ≡ map (λ i. value_in file.automaton pattern solution (Parameter i)) (numbers_from 0 (length file.automaton.parameters))
-  pub counts : run.counts ≡ map (λ l. value_in file.automaton pattern solution (Start l)) file.automaton.initial
+  pub parameters : run.parameters ≡ map (λ i. solution_value file.automaton pattern solution (Parameter i)) (numbers_from 0 (length file.automaton.parameters))
+  pub counts : run.counts ≡ map (λ l. solution_value file.automaton pattern solution (Start l)) file.automaton.initial
   pub pieces : List Piece
-  pub are : PiecesOf file.automaton (value_in file.automaton pattern solution) solution.word pieces
+  pub are : PiecesOf file.automaton (solution_value file.automaton pattern solution) solution.word pieces
   pub lines : run.lines ≡ pieces_lines pieces
 
 -- a run whose number of steps is at most (guards + events) * (rules + 1), for the pattern that it names
 abbrev pub IsShortRun : File → Run → Type 0
-IsShortRun file run = (p : Pattern) → slice_get file.patterns run.pattern ≡ Some p → IsShort file.automaton p run.lines
+IsShortRun file run = (p : Pattern) → slice_get file.patterns run.pattern ≡ Some p → HasFewSteps file.automaton p run.lines
 
 -- the run of a solution shows the pattern, and is short
 abbrev pub WitnessesShow : Type 0
@@ -87,7 +87,7 @@ WitnessesAreDetermined =
     → r ≡ s
 
 -- a number of the replay of the solution's run leaves the range
-pub record WitnessLeaves (file : File) (solution : Solution) : Type 0 where
+pub record WitnessOutOfRange (file : File) (solution : Solution) : Type 0 where
   pub run : Run
   pub is : WitnessOf file solution run
   pub fits : Fits file run
@@ -95,5 +95,5 @@ pub record WitnessLeaves (file : File) (solution : Solution) : Type 0 where
 
 -- why there is no run; want of memory is free
 abbrev pub WitnessFaultOf : File → Solution → WitnessFault → Type 0
-WitnessFaultOf file solution Overflow = WitnessLeaves file solution
+WitnessFaultOf file solution Overflow = WitnessOutOfRange file solution
 WitnessFaultOf file solution Memory = Unit {0}

@@ -2,18 +2,18 @@
 #![tactic(auto)]
 
 ghost use Rattle.std.specs.Prelude.{ℕ, pos, ◌<◌, ◌≤◌, ◌≡◌, IfOk, map};
-ghost use Rattle.ta_automaton.specs.Masks.{numbers_from};
+ghost use Rattle.ta_base.specs.Masks.{numbers_from};
 ghost use Rattle.ta_counter.specs.Values.{Value};
 ghost use Rattle.ta_encode.specs.declared.meaning.Meaning.TheVariants.{Parameter, Start, Count, Single};
 ghost use Rattle.ta_witness.specs.Values.{same_meaning, unknown_value};
-ghost use Rattle.ta_witness.specs.Inside.Making.{AreValues, Known};
+ghost use Rattle.ta_witness.specs.Inside.Making.{AreValues, AreNaturals};
 
 use std::alloc::{AllocError, Global};
 use ta_encode::Meaning;
 
 /// The value of the unknown that stands for something, 0 where there is no such unknown.
 pub(crate) fn value_of(meanings: &[Meaning], values: &[i128], meaning: Meaning) -> i128
-    requires { Known meanings.now values.now }
+    requires { AreNaturals meanings.now values.now }
     ensures is { result ≡ unknown_value meanings.now values.now meaning }
     ensures natural { Value result }
 {
@@ -40,7 +40,7 @@ pub(crate) fn parameters_of(
     values: &[i128],
 ) -> Result<Vec<i128>, AllocError>
     requires few { count ≤ 16 }
-    requires known { Known meanings.now values.now }
+    requires known { AreNaturals meanings.now values.now }
     ensures { IfOk result (λ numbers. AreValues (map (λ i. unknown_value meanings.now values.now (Parameter i)) (numbers_from 0 count)) numbers.items) }
 {
     let mut numbers = Vec::new(alloc);
@@ -58,7 +58,7 @@ pub(crate) fn starts_of(
     meanings: &[Meaning],
     values: &[i128],
 ) -> Result<Vec<i128>, AllocError>
-    requires { Known meanings.now values.now }
+    requires { AreNaturals meanings.now values.now }
     ensures { IfOk result (λ numbers. AreValues (map (λ l. unknown_value meanings.now values.now (Start l)) locations.now) numbers.items) }
 {
     let mut numbers = Vec::new(alloc);
@@ -78,7 +78,7 @@ pub(crate) fn counts_of(
     element: u32,
 ) -> Result<Vec<i128>, AllocError>
     requires few { rules ≤ 128 }
-    requires known { Known meanings.now values.now }
+    requires known { AreNaturals meanings.now values.now }
     ensures { IfOk result (λ numbers. AreValues (map (λ r. unknown_value meanings.now values.now (Count element r)) (numbers_from 0 rules)) numbers.items) }
 {
     let mut numbers = Vec::new(alloc);
@@ -95,7 +95,7 @@ pub(crate) fn counts_of(
 /// The first rule whose Single is 1.
 pub(crate) fn single_of(rules: usize, meanings: &[Meaning], values: &[i128], element: u32) -> u32
     requires few { rules ≤ 128 }
-    requires known { Known meanings.now values.now }
+    requires known { AreNaturals meanings.now values.now }
     requires some { (r : ℕ) × (r < rules) × (unknown_value meanings.now values.now (Single element r) ≡ pos 1) }
     ensures exists { result < rules }
     ensures one { unknown_value meanings.now values.now (Single element result) ≡ pos 1 }

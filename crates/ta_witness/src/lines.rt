@@ -2,10 +2,10 @@
 #![tactic(auto)]
 
 ghost use Rattle.std.specs.Prelude.{pos, ◌≡◌, ◌≤◌, ◌<ℤ◌, ◌^◌, ◌++◌, IfOk, OnOk, length, map};
-ghost use Rattle.ta_automaton.specs.Lists.{Each};
+ghost use Rattle.std.specs.List.{AllByRecursion};
 ghost use Rattle.ta_replay.specs.Pieces.{step_line};
 ghost use Rattle.ta_witness.specs.Values.{unknown_value};
-ghost use Rattle.ta_witness.specs.Inside.Making.{Added, EachMayEnd, Ended, Known, Lined, MayEnd};
+ghost use Rattle.ta_witness.specs.Inside.Making.{AddsPiece, EachMayEnd, AddsPieceEnd, AreNaturals, AddsPieces, MayEnd};
 
 use crate::known::{counts_of, single_of};
 use std::alloc::{AllocError, Global};
@@ -25,9 +25,9 @@ pub(crate) fn lines_of(
     elements: &[Element],
 ) -> Result<Vec<RunLine>, AllocError>
     requires few { length elements.now ≤ 30 }
-    requires known { Known meanings.now values.now }
+    requires known { AreNaturals meanings.now values.now }
     requires ends { EachMayEnd scoped.now.file.automaton pattern.now (unknown_value meanings.now values.now) elements.now }
-    ensures { IfOk result (λ lines. Lined scoped.now.file.automaton pattern.now (unknown_value meanings.now values.now) elements.now lines.items) }
+    ensures { IfOk result (λ lines. AddsPieces scoped.now.file.automaton pattern.now (unknown_value meanings.now values.now) elements.now lines.items) }
 {
     let mut lines = Vec::new(alloc);
     for (number, element) in elements.iter().enumerate() {
@@ -56,9 +56,9 @@ fn push_piece(
     element: Element,
     lines: &mut Vec<RunLine>,
 ) -> Result<(), AllocError>
-    requires known { Known meanings.now values.now }
+    requires known { AreNaturals meanings.now values.now }
     requires ends { MayEnd scoped.now.file.automaton pattern.now (unknown_value meanings.now values.now) number element }
-    ensures { OnOk result (Added scoped.now.file.automaton pattern.now (unknown_value meanings.now values.now) number element lines.old.items lines.new.items) }
+    ensures { OnOk result (AddsPiece scoped.now.file.automaton pattern.now (unknown_value meanings.now values.now) number element lines.old.items lines.new.items) }
 {
     let automaton = &scoped.file.automaton;
     let rules = automaton.rules.as_slice().len();
@@ -72,7 +72,7 @@ fn push_piece(
 /// Adds steps, each a rule with its factor.
 fn push_steps(steps: &[(u32, i128)], lines: &mut Vec<RunLine>) -> Result<(), AllocError>
     ensures added { OnOk result (lines.new.items ≡ lines.old.items ++ map step_line steps.now) }
-    ensures fit { OnOk result (Each (λ step. step.1 <ℤ pos (2 ^ 127)) steps.now) }
+    ensures fit { OnOk result (AllByRecursion (λ step. step.1 <ℤ pos (2 ^ 127)) steps.now) }
 {
     for step in steps {
         lines.push(RunLine::Step {
@@ -93,9 +93,9 @@ fn push_end(
     element: Element,
     lines: &mut Vec<RunLine>,
 ) -> Result<(), AllocError>
-    requires known { Known meanings.now values.now }
+    requires known { AreNaturals meanings.now values.now }
     requires ends { MayEnd automaton.now pattern.now (unknown_value meanings.now values.now) number element }
-    ensures { OnOk result (Ended automaton.now pattern.now (unknown_value meanings.now values.now) number element lines.old.items lines.new.items) }
+    ensures { OnOk result (AddsPieceEnd automaton.now pattern.now (unknown_value meanings.now values.now) number element lines.old.items lines.new.items) }
 {
     match element {
         Element::Event(event) => lines.push(RunLine::Mark { event })?,

@@ -6,13 +6,14 @@ ghost use Rattle.ta_replay.specs.Fits.{Fits};
 ghost use Rattle.ta_replay.specs.Replays.{ReplayStays};
 ghost use Rattle.ta_replay.specs.Shows.{Shows};
 ghost use Rattle.ta_witness.specs.Witness.{IsShortRun, IsSolution, WitnessFaultOf, WitnessOf};
-ghost use Rattle.ta_witness.specs.Inside.Making.{Asked, RunOf};
+ghost use Rattle.ta_witness.specs.Inside.Making.{IsMadeFrom, RunOf};
 
 use crate::fault::WitnessFault;
 use crate::known::{parameters_of, starts_of};
 use crate::lines::lines_of;
 use std::alloc::{AllocError, Global};
-use ta_automaton::{List, Pattern};
+use ta_automaton::Pattern;
+use ta_base::List;
 use ta_encode::{Meaning, Solution, encode};
 use ta_replay::{Run, RunFault, replay};
 use ta_scope::ScopedFile;
@@ -72,7 +73,7 @@ fn run_for(
     meanings: &[Meaning],
     solution: &Solution,
 ) -> Result<Run, AllocError>
-    requires { Asked scoped.now.file pattern.now meanings.now solution.now }
+    requires { IsMadeFrom scoped.now.file pattern.now meanings.now solution.now }
     ensures { IfOk result (λ run. RunOf scoped.now.file pattern.now meanings.now solution.now run) }
 {
     let automaton = &scoped.file.automaton;

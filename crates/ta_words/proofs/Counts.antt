@@ -1,65 +1,23 @@
 -- a legal word has at most as many elements as there are events and guards
-use Rattle.std.proofs.Common.{◌≡◌, ◌⊎◌, inl, inr, ℕ, zero, suc, ◌+◌, ◌-◌, ◌^◌, ◌<◌, ◌≤◌, List, [], ◌∷◌, ◌++◌, length, map, cond, Bool, true, false, not, slice_get, Some, arith, sym, ap, ◌∙◌, refl, subst, reverse}
+use Rattle.std.proofs.Common.{◌≡◌, ◌⊎◌, inl, inr, ℕ, ◌+◌, ◌-◌, ◌^◌, ◌<◌, ◌≤◌, List, [], ◌∷◌, ◌++◌, length, map, Bool, true, not, slice_get, Some, arith, sym, ap, refl, subst, reverse}
 use Rattle.std.specs.Prelude.{filter, ◌==◌}
 use Rattle.std.proofs.lemmas.List.{length-reverse}
 use Rattle.std.proofs.lemmas.Option.{slice_get_cases}
-use Rattle.std.proofs.lemmas.Bool.{false≢true, true≢false, and_parts, eq-eqb}
-use Rattle.std.proofs.lemmas.Bool.Decides.{eqb_tells}
-use Rattle.ta_automaton.specs.Masks.{has_bit, implies, numbers_from, In}
-use Rattle.ta_automaton.proofs.MaskTests.{all_below-at, implies-at, true_not, or_left, or_right, In-left, In-right, In-map, In-filter, In-numbers}
+use Rattle.std.proofs.lemmas.Bool.{and_parts, eq-eqb, not-true, or_left, or_right}
+use Rattle.ta_base.specs.Masks.{has_bit, implies, numbers_from, In}
+use Rattle.ta_base.proofs.Bits.{all_below-at, some_bit}
+use Rattle.ta_base.proofs.Booleans.{implies-at}
+use Rattle.ta_base.proofs.Members.{In-filter, In-left, In-map, In-right, cond_more, in_append, in_filter, in_map, in_more}
+use Rattle.ta_base.proofs.Naturals.{count, count_most, count_new}
+use Rattle.ta_base.proofs.Ranges.{In-numbers, in_numbers}
 use Rattle.ta_automaton.specs.declared.automaton.Automaton.{Automaton}
 use Rattle.ta_automaton.specs.declared.pattern.Pattern.{Pattern}
 use Rattle.ta_automaton.specs.declared.file.File.{File}
 use Rattle.ta_words.specs.Calls.{OfPattern}
-use Rattle.ta_words.specs.Words.{has_event, has_rise, has_fallen, is_complete, is_due, is_ready, is_standing, may_rise, children, Legal, LegalUnder}
+use Rattle.ta_words.specs.Words.{has_event, has_rise, has_fallen, is_complete, is_due, is_ready, is_standing, may_rise, children, LegalWord, LegalUnder}
 use Rattle.ta_words.specs.declared.element.Element.{Element}
 use Rattle.ta_words.specs.declared.element.Element.TheVariants.{Event, Rise, Fall}
-use Rattle.ta_implied.proofs.Bits.{some_bit}
-use Rattle.ta_implied.proofs.Members.{in_append, in_map, in_filter, in_numbers}
 use Rattle.ta_words.proofs.Lists.{events_named}
-
--- how many numbers below another pass
-unfoldable pub count : (ℕ → Bool) → ℕ → ℕ
-count test zero = 0
-count test (suc n) = count test n + cond (test n) 1 0
-
-one_most : (b : Bool) → cond b 1 0 ≤ 1
-one_most true = omega arith
-one_most false = omega arith
-
-pub count_most : (test : ℕ → Bool) (n : ℕ) → count test n ≤ n
-unfolding count
-count_most test zero = omega arith
-count_most test (suc n) = omega (arith, count_most test n, one_most (test n))
-
-both : (x y : Bool) → (x ≡ true → y ≡ true) → cond x 1 0 ≤ cond y 1 0
-both true true h = omega arith
-both true false h = absurd (false≢true (h refl))
-both false true h = omega arith
-both false false h = omega arith
-
-strictly : (x y : Bool) → x ≡ false → y ≡ true → cond x 1 0 + 1 ≤ cond y 1 0
-strictly false true e f = omega arith
-strictly true y e f = absurd (true≢false e)
-strictly false false e f = absurd (false≢true f)
-
-pub count_more : (f g : ℕ → Bool) (n : ℕ) → ((k : ℕ) → f k ≡ true → g k ≡ true) → count f n ≤ count g n
-unfolding count
-count_more f g zero h = omega arith
-count_more f g (suc n) h = omega (arith, count_more f g n h, both (f n) (g n) (h n))
-
-pub count_new : (f g : ℕ → Bool) (n k : ℕ) → ((j : ℕ) → f j ≡ true → g j ≡ true) → k < n → f k ≡ false → g k ≡ true → count f n + 1 ≤ count g n
-unfolding count
-count_new f g zero k h b e t = absurd (omega arith)
-count_new f g (suc n) k h b e t = elim (eqb_tells k n) [
-  | inl q ↦ omega (arith, count_more f g n h, strictly (f n) (g n) (ap f (sym q.1) ∙ e) (ap g (sym q.1) ∙ t))
-  | inr ne ↦ (let q = ne.1 in omega (arith, count_new f g n k h (omega arith) e t, both (f n) (g n) (h n)))
-]
-
--- what a child is
-in_more : {X : Type 0} (x : X) (b : Bool) (xs : List X) → In x (cond b [] xs) → In x xs
-in_more x true xs h = absurd h
-in_more x false xs h = h
 
 -- a number that passes, among n numbers from k on
 in_passed : (f : ℕ → Element) (test : ℕ → Bool) (k n : ℕ) (e : Element) → In e (map f (filter test (numbers_from k n))) → (x : ℕ) × (e ≡ f x) × (test x ≡ true) × (k ≤ x) × (x < k + n)
@@ -92,10 +50,6 @@ passed_more f test other k n e more h =
     let c = in_passed f test k n e h in
     subst (λ x. In x (map f (filter other (numbers_from k n)))) (sym c.1) (In-map f c.0 _ (In-filter other c.0 _ (more c.0 c.2) (In-numbers c.0 k n c.3 c.4)))
 
-cond_more : {X : Type 0} (x : X) (b : Bool) (xs ys : List X) → (In x xs → In x ys) → In x (cond b [] xs) → In x (cond b [] ys)
-cond_more x true xs ys more h = absurd h
-cond_more x false xs ys more h = more h
-
 -- a child under pairs is one under none
 pub under_none : (a : Automaton) (p : Pattern) (pairs : List (ℕ × ℕ)) (start : ℕ) (past : List Element) (e : Element) → In e (children a p pairs start past) → In e (children a p [] start past)
 unfolding children
@@ -113,7 +67,7 @@ under_none a p pairs start past e h =
     ]) h
 
 -- a word that is legal under pairs is legal
-pub legal_under : (a : Automaton) (p : Pattern) (pairs : List (ℕ × ℕ)) (start : ℕ) (past : List Element) → LegalUnder a p pairs start past → Legal a p start past
+pub legal_under : (a : Automaton) (p : Pattern) (pairs : List (ℕ × ℕ)) (start : ℕ) (past : List Element) → LegalUnder a p pairs start past → LegalWord a p start past
 legal_under a p pairs start [] h = tt
 legal_under a p pairs start (e ∷ past) h = (under_none a p pairs start past e h.0, legal_under a p pairs start past h.1)
 
@@ -125,19 +79,19 @@ weight a p start past = count (has_event past) (length p.events) + (count (has_r
 pub event_new : (p : Pattern) (past : List Element) (x : ℕ) → is_ready p past x ≡ true → x < length p.events → count (has_event past) (length p.events) + 1 ≤ count (has_event (Event x ∷ past)) (length p.events)
 unfolding has_event
 event_new p past x ready b =
-    count_new (has_event past) (has_event (Event x ∷ past)) (length p.events) x (λ j t. or_right (x == j) (has_event past j) t) b (true_not (has_event past x) (and_parts _ _ ready).0) (or_left (x == x) (has_event past x) (eq-eqb x x refl))
+    count_new (has_event past) (has_event (Event x ∷ past)) (length p.events) x (λ j t. or_right (x == j) (has_event past j) t) b (not-true (has_event past x) (and_parts _ _ ready).0) (or_left (x == x) (has_event past x) (eq-eqb x x refl))
 
 pub rise_new : (a : Automaton) (past : List Element) (x : ℕ) → not (has_rise past x) ≡ true → x < length a.rise → count (has_rise past) (length a.rise) + 1 ≤ count (has_rise (Rise x ∷ past)) (length a.rise)
 unfolding has_rise
 rise_new a past x new b =
-    count_new (has_rise past) (has_rise (Rise x ∷ past)) (length a.rise) x (λ j t. or_right (x == j) (has_rise past j) t) b (true_not (has_rise past x) new) (or_left (x == x) (has_rise past x) (eq-eqb x x refl))
+    count_new (has_rise past) (has_rise (Rise x ∷ past)) (length a.rise) x (λ j t. or_right (x == j) (has_rise past j) t) b (not-true (has_rise past x) new) (or_left (x == x) (has_rise past x) (eq-eqb x x refl))
 
 pub fall_new : (a : Automaton) (start : ℕ) (past : List Element) (x : ℕ) → is_standing a start past x ≡ true → 1 ≤ x → x < 2 ^ length a.fall → count (has_fallen start past) (length a.fall) + 1 ≤ count (has_fallen start (Fall x ∷ past)) (length a.fall)
 unfolding has_fallen
 fall_new a start past x standing least most =
     let bit = some_bit x (length a.fall) least most in
     let left = implies-at (has_bit x bit.0) (not (has_fallen start past bit.0)) (all_below-at (length a.fall) (λ j. implies (has_bit x j) (not (has_fallen start past j))) standing bit.0 bit.1) bit.2 in
-    count_new (has_fallen start past) (has_fallen start (Fall x ∷ past)) (length a.fall) bit.0 (λ j t. or_right (has_bit x j) (has_fallen start past j) t) bit.1 (true_not (has_fallen start past bit.0) left) (or_left (has_bit x bit.0) (has_fallen start past bit.0) bit.2)
+    count_new (has_fallen start past) (has_fallen start (Fall x ∷ past)) (length a.fall) bit.0 (λ j t. or_right (has_bit x j) (has_fallen start past j) t) bit.1 (not-true (has_fallen start past bit.0) left) (or_left (has_bit x bit.0) (has_fallen start past bit.0) bit.2)
 
 event_weighs : (a : Automaton) (p : Pattern) (start : ℕ) (past : List Element) (x : ℕ) → is_ready p past x ≡ true → x < length p.events → weight a p start past + 1 ≤ weight a p start (Event x ∷ past)
 unfolding has_rise has_fallen
@@ -151,7 +105,7 @@ fall_weighs : (a : Automaton) (p : Pattern) (start : ℕ) (past : List Element) 
 unfolding has_event has_rise
 fall_weighs a p start past x standing least most = omega (arith, fall_new a start past x standing least most)
 
-pub legal_weight : (a : Automaton) (p : Pattern) (start : ℕ) (past : List Element) → Legal a p start past → length past ≤ weight a p start past
+pub legal_weight : (a : Automaton) (p : Pattern) (start : ℕ) (past : List Element) → LegalWord a p start past → length past ≤ weight a p start past
 legal_weight a p start [] h = omega arith
 legal_weight a p start (e ∷ past) h =
     let rest = legal_weight a p start past h.1 in
@@ -162,7 +116,7 @@ legal_weight a p start (e ∷ past) h =
     ]
 
 -- at most 8 events, 16 rise guards and 6 fall guards: 30 elements
-pub legal_length : (a : Automaton) (p : Pattern) (start : ℕ) (past : List Element) → length p.events ≤ 8 → Legal a p start past → length past ≤ 30
+pub legal_length : (a : Automaton) (p : Pattern) (start : ℕ) (past : List Element) → length p.events ≤ 8 → LegalWord a p start past → length past ≤ 30
 legal_length a p start past few h =
     omega (arith, legal_weight a p start past h, few, a.shape.limits.rise_limit, a.shape.limits.fall_limit, count_most (has_event past) (length p.events), count_most (has_rise past) (length a.rise), count_most (has_fallen start past) (length a.fall))
 
@@ -170,7 +124,7 @@ pattern_exists : (file : File) (k : ℕ) → k < length file.patterns → (p : P
 pattern_exists file k b = elim ((slice_get_cases file.patterns k).1) [ inl found ↦ (found.0, found.2) | inr past ↦ absurd (let q = past.0 in omega arith) ]
 
 -- there is room for a child of a legal word
-pub room : (file : File) (k start : ℕ) (pairs : List (ℕ × ℕ)) (word listed : List Element) (e : Element) → k < length file.patterns → OfPattern file k (λ p. Legal file.automaton p start (reverse word)) → OfPattern file k (λ p. listed ≡ children file.automaton p pairs start (reverse word)) → In e listed → length word < 30
+pub room : (file : File) (k start : ℕ) (pairs : List (ℕ × ℕ)) (word listed : List Element) (e : Element) → k < length file.patterns → OfPattern file k (λ p. LegalWord file.automaton p start (reverse word)) → OfPattern file k (λ p. listed ≡ children file.automaton p pairs start (reverse word)) → In e listed → length word < 30
 room file k start pairs word listed e b legal is h =
     let found = pattern_exists file k b in
     let p = found.0 in

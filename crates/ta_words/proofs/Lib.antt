@@ -5,4 +5,3 @@ pub mod Pushes
 pub mod Lists
 pub mod Pairs
 pub mod Counts
-mod Items

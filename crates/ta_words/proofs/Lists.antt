@@ -1,16 +1,19 @@
 -- what follows a word, and how long words and lists of children get
-use Rattle.std.proofs.Common.{◌≡◌, ℕ, zero, suc, ◌+◌, ◌-◌, ◌^◌, ◌<◌, ◌≤◌, List, [], ◌∷◌, ◌++◌, length, map, cond, Bool, true, false, get_or, slice_get, Some, arith, sym, ap, ◌∙◌, refl, subst, append_assoc, length-append}
+use Rattle.std.proofs.Common.{◌≡◌, ℕ, ◌+◌, ◌-◌, ◌^◌, ◌<◌, ◌≤◌, List, [], ◌++◌, length, map, Bool, true, false, get_or, slice_get, Some, arith, sym, ap, ◌∙◌, refl, subst, append_assoc, length-append}
 use Rattle.std.specs.Prelude.{filter}
 use Rattle.std.proofs.Math.Nat.{pow-le-pow_right}
-use Rattle.std.proofs.lemmas.Bool.{false≢true, true≢false}
 use Rattle.std.proofs.lemmas.List.{length-map}
 use Rattle.std.proofs.lemmas.Option.{slice_get_read, slice_get_within, get_or_from_slice_get}
-use Rattle.ta_automaton.specs.Masks.{numbers_from}
+use Rattle.ta_base.specs.Masks.{numbers_from}
+use Rattle.ta_base.proofs.Booleans.{cond_false, cond_true}
+use Rattle.ta_base.proofs.Each.{each_from_at}
+use Rattle.ta_base.proofs.Lists.{filter_shorter}
+use Rattle.ta_base.proofs.Ranges.{length_numbers}
 use Rattle.ta_automaton.specs.Patterns.{EventWithin}
 use Rattle.ta_automaton.specs.declared.automaton.Automaton.{Automaton}
 use Rattle.ta_automaton.specs.declared.file.File.{File}
 use Rattle.ta_automaton.specs.declared.pattern.Pattern.{Pattern}
-use Rattle.ta_automaton.proofs.Thresholds.{pattern_within, each_from_at}
+use Rattle.ta_automaton.proofs.Thresholds.{pattern_within}
 use Rattle.ta_words.specs.Calls.{OfPattern}
 use Rattle.ta_words.specs.Seen.{EventsNamed}
 use Rattle.ta_words.specs.Words.{is_complete, is_ready, is_standing, may_rise, children}
@@ -43,31 +46,11 @@ events_named file k p at =
           omega arith;
     }
 
-filter_shorter : (test : ℕ → Bool) (xs : List ℕ) → length (filter test xs) ≤ length xs
-filter_shorter test [] = omega arith
-filter_shorter test (x ∷ xs) = kept_shorter (test x) x (filter test xs) (length xs) (filter_shorter test xs)
-  where
-    kept_shorter : (b : Bool) (y : ℕ) (ys : List ℕ) (n : ℕ) → length ys ≤ n → length (cond b (y ∷ ys) ys) ≤ suc n
-    kept_shorter true y ys n h = omega arith
-    kept_shorter false y ys n h = omega arith
-
-length_numbers : (k n : ℕ) → length (numbers_from k n) ≡ n
-length_numbers k zero = refl
-length_numbers k (suc n) = omega (arith, length_numbers (k + 1) n)
-
 pub passed_length : (f : ℕ → Element) (test : ℕ → Bool) (k n : ℕ) → length (map f (filter test (numbers_from k n))) ≤ n
 passed_length f test k n = omega (arith, length-map (filter test (numbers_from k n)) f, filter_shorter test (numbers_from k n), length_numbers k n)
 
 pub passed_most : (f : ℕ → Element) (test : ℕ → Bool) (before now : List Element) (k n : ℕ) → now ≡ before ++ map f (filter test (numbers_from k n)) → length now ≤ length before + n
 passed_most f test before now k n e = omega (arith, ap length e, length-append before (map f (filter test (numbers_from k n))), passed_length f test k n)
-
-cond_true : {X : Type 0} (b : Bool) (x y : X) → b ≡ true → cond b x y ≡ x
-cond_true true x y e = refl
-cond_true false x y e = absurd (false≢true e)
-
-cond_false : {X : Type 0} (b : Bool) (x y : X) → b ≡ false → cond b x y ≡ y
-cond_false true x y e = absurd (true≢false e)
-cond_false false x y e = refl
 
 abbrev event_children : Pattern → List Element → List Element
 event_children p past = map Event (filter (is_ready p past) (numbers_from 0 (length p.events)))

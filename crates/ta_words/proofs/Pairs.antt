@@ -3,8 +3,10 @@ use Rattle.std.proofs.Common.{◌≡◌, ◌↔◌, inl, inr, ℕ, ◌-◌, ◌^
 use Rattle.std.specs.Prelude.{filter, ◌==◌}
 use Rattle.std.proofs.Math.Path.{fun_ext}
 use Rattle.std.proofs.lemmas.Bool.{true≢false, and_from, and_parts, eq-eqb, eqb-true}
-use Rattle.ta_automaton.specs.Masks.{all_below, has_bit, implies, numbers_from, In}
-use Rattle.ta_automaton.proofs.MaskTests.{all_below-at, all_below-from, implies-at, implies-from}
+use Rattle.ta_base.specs.Masks.{all_below, has_bit, implies, numbers_from, In}
+use Rattle.ta_base.proofs.Bits.{all_below-at, all_below-from, has_above}
+use Rattle.ta_base.proofs.Booleans.{and_right, both_ways, implies-at, implies-from}
+use Rattle.ta_base.proofs.Naturals.{in_or_above}
 use Rattle.ta_automaton.specs.declared.automaton.Automaton.{Automaton}
 use Rattle.ta_automaton.specs.declared.pattern.Pattern.{Pattern}
 use Rattle.ta_words.specs.Seen.{IsSeen, NamesBefore}
@@ -12,7 +14,6 @@ use Rattle.ta_words.specs.Words.{has_rise, is_complete, is_due, is_ready, is_sta
 use Rattle.ta_words.specs.declared.element.Element.{Element}
 use Rattle.ta_words.specs.declared.element.Element.TheVariants.{Event, Rise, Fall}
 use Rattle.ta_words.specs.declared.seen.Seen.{Seen}
-use Rattle.ta_implied.proofs.Bits.{has_above, in_or_above, same_bool}
 
 -- a guard that is due has those before it in the word
 pub due_at : (pairs : List (ℕ × ℕ)) (past : List Element) (i j : ℕ) → is_due pairs past i ≡ true → In (j, i) pairs → has_rise past j ≡ true
@@ -35,7 +36,7 @@ SameMembers xs ys = (pair : ℕ × ℕ) → In pair xs ↔ In pair ys
 
 pub same_due : (xs ys : List (ℕ × ℕ)) (past : List Element) (i : ℕ) → SameMembers xs ys → is_due xs past i ≡ is_due ys past i
 same_due xs ys past i same =
-    same_bool (is_due xs past i) (is_due ys past i)
+    both_ways (is_due xs past i) (is_due ys past i)
     (λ t. due_from ys past i (λ j m. due_at xs past i j t ((same (j, i)).1 m)))
     (λ t. due_from xs past i (λ j m. due_at ys past i j t ((same (j, i)).0 m)))
 
@@ -49,7 +50,7 @@ same_children a p xs ys start past same =
 pub due_by_mask : (pairs : List (ℕ × ℕ)) (rise mask n : ℕ) (seen : Seen) (start : ℕ) (past : List Element) → mask < 2 ^ n → n ≤ 32 → NamesBefore pairs rise mask → IsSeen seen start past
     → all_below n (λ j. implies (has_bit mask j) (has_bit seen.rises j)) ≡ is_due pairs past rise
 due_by_mask pairs rise mask n seen start past within few names is =
-    same_bool _ _
+    both_ways _ _
     (λ t. due_from pairs past rise (λ j m.
     let bit = (names j).1 m in
     elim (in_or_above n j) [
@@ -57,10 +58,6 @@ due_by_mask pairs rise mask n seen start past within few names is =
       | inr b ↦ absurd (true≢false (sym bit ∙ has_above mask n j within b))
     ]))
     (λ t. all_below-from n (λ j. implies (has_bit mask j) (has_bit seen.rises j)) (λ j b. implies-from (has_bit mask j) (has_bit seen.rises j) (λ bit. is.rises j (omega arith) ∙ due_at pairs past rise j t ((names j).0 bit))))
-
-and_right : (x y : Bool) → y ≡ true → (x && y) ≡ x
-and_right true y e = e
-and_right false y e = refl
 
 -- so it tells whether a guard may come that isn't in the word
 pub may_by_mask : (pairs : List (ℕ × ℕ)) (rise mask from n : ℕ) (seen : Seen) (start : ℕ) (past : List Element) (r : Bool) → from ≡ mask → mask < 2 ^ n → n ≤ 32 → rise < 32 → has_bit seen.rises rise ≡ false

@@ -1,22 +1,18 @@
 -- the masks of a word, element by element
-use Rattle.std.proofs.Common.{◌≡◌, ℕ, ◌+◌, ◌-◌, ◌*◌, ◌%◌, ◌<◌, ◌≤◌, ◌^◌, List, [], ◌∷◌, length, take, reverse, get_or, Bool, true, false, not, ◌&&◌, ◌||◌, Some, arith, sym, ap, ◌∙◌, refl}
+use Rattle.std.proofs.Common.{◌≡◌, ℕ, ◌-◌, ◌*◌, ◌%◌, ◌<◌, ◌≤◌, ◌^◌, List, [], ◌∷◌, length, Bool, true, false, not, ◌&&◌, ◌||◌, Some, arith, sym, ap, ◌∙◌, refl}
 use Rattle.std.specs.Prelude.{◌==◌}
-use Rattle.std.proofs.lemmas.Bool.{false≢true, true≢false}
-use Rattle.std.proofs.lemmas.List.{reverse-append, take_more}
+use Rattle.ta_base.proofs.Bits.{all_below-same, first_numbers, has_none}
+use Rattle.ta_base.proofs.Booleans.{and_else, and_group, and_then}
+use Rattle.ta_base.proofs.Naturals.{first_bits_below}
 use Rattle.ta_automaton.specs.declared.automaton.Automaton.{Automaton}
 use Rattle.ta_automaton.specs.declared.pattern.Pattern.{Pattern}
 use Rattle.ta_automaton.specs.declared.rule.Rule.{Rule}
-use Rattle.ta_automaton.specs.Masks.{has_bit, all_below, implies}
+use Rattle.ta_base.specs.Masks.{has_bit, all_below, implies}
 use Rattle.ta_words.specs.Seen.{IsSeen}
 use Rattle.ta_words.specs.Words.{has_event, has_rise, has_fallen, is_complete, may_fire}
 use Rattle.ta_words.specs.declared.element.Element.{Element}
 use Rattle.ta_words.specs.declared.element.Element.TheVariants.{Event, Rise, Fall}
 use Rattle.ta_words.specs.declared.seen.Seen.{Seen}
-use Rattle.ta_implied.proofs.Bits.{has_none, all_below-same, first_numbers, first_below}
-
--- the first elements of a word, the newest first
-pub reverse_more : {X : Type 0} (xs : List X) (i : ℕ) (d : X) → i < length xs → reverse (take (i + 1) xs) ≡ get_or xs i d ∷ reverse (take i xs)
-reverse_more xs i d b = ap reverse (take_more xs i d b) ∙ reverse-append (take i xs) (get_or xs i d ∷ [])
 
 pub none_seen : (start : ℕ) → IsSeen (record { events = 0; rises = 0; fallen = start }) start []
 unfolding has_event has_rise has_fallen
@@ -56,11 +52,6 @@ named_rises n mask seen start past h is = all_below-same n _ _ (λ f b. ap (impl
 pub named_falls : (n mask : ℕ) (seen : Seen) (start : ℕ) (past : List Element) → IsSeen seen start past → all_below n (λ f. implies (has_bit mask f) (not (has_bit seen.fallen f))) ≡ all_below n (λ f. implies (has_bit mask f) (not (has_fallen start past f)))
 named_falls n mask seen start past is = all_below-same n _ _ (λ f b. ap (λ x. implies (has_bit mask f) (not x)) (is.fallen f))
 
-and_group : (a b c d : Bool) → ((a && (b && c)) && d) ≡ (a && (b && (c && d)))
-and_group false b c d = refl
-and_group true false c d = refl
-and_group true true c d = refl
-
 -- a rule is allowed if it moves outside the empty locations and is unlocked
 pub allowed : (a : Automaton) (p : Pattern) (start : ℕ) (past : List Element) (rule : Rule) (x y : Bool)
     → x ≡ (not (rule.from == rule.to) && (not (has_bit p.empty rule.from) && not (has_bit p.empty rule.to)))
@@ -73,15 +64,6 @@ allowed a p start past rule x y e f =
     let risen = all_below (length a.rise) (λ i. implies (has_bit rule.rise i) (has_rise past i)) in
     let standing = all_below (length a.fall) (λ j. implies (has_bit rule.fall j) (not (has_fallen start past j))) in
     ap (λ b. b && y) e ∙ ap (λ b. (moves && (from_outside && to_outside)) && b) f ∙ and_group moves from_outside to_outside (risen && standing)
-
--- what `x && y` gives where the code branches on x
-pub and_then : (x y z : Bool) → x ≡ true → y ≡ z → y ≡ (x && z)
-and_then true y z e f = f
-and_then false y z e f = absurd (false≢true e)
-
-pub and_else : (x z : Bool) → x ≡ false → false ≡ (x && z)
-and_else true z e = absurd (true≢false e)
-and_else false z e = refl
 
 pub ready : (seen : Seen) (event after from n start : ℕ) (past : List Element) (r : Bool) → IsSeen seen start past → event < 32 → from ≡ after → after < 2 ^ n → n ≤ 32 → has_bit seen.events event ≡ false
     → ((k : ℕ) → from < 2 ^ k → r ≡ all_below k (λ f. implies (has_bit from f) (has_bit seen.events f)))
@@ -114,4 +96,4 @@ pub complete : (seen : Seen) (p : Pattern) (n start : ℕ) (past : List Element)
     → r ≡ is_complete p past
 complete seen p n start past r is same few told =
     let small : n < 32 = omega arith in
-    told n (first_below n small) ∙ first_numbers n (has_bit seen.events) small ∙ all_below-same n (has_bit seen.events) (has_event past) (λ e b. is.events e (omega arith)) ∙ ap (λ k. all_below k (has_event past)) same
+    told n (first_bits_below n small) ∙ first_numbers n (has_bit seen.events) small ∙ all_below-same n (has_bit seen.events) (has_event past) (λ e b. is.events e (omega arith)) ∙ ap (λ k. all_below k (has_event past)) same

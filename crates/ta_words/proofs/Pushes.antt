@@ -1,42 +1,22 @@
 -- numbers that pass a test, one after another
-use Rattle.std.proofs.Common.{◌≡◌, ℕ, zero, suc, ◌+◌, ◌*◌, ◌%◌, ◌^◌, ◌<◌, ◌≤◌, List, [], ◌∷◌, ◌++◌, length, map, get_or, Bool, true, false, not, ◌&&◌, cond, Some, slice_get, arith, sym, ap, ◌∙◌, refl, subst, append_assoc, length-append}
+use Rattle.std.proofs.Common.{◌≡◌, ℕ, ◌+◌, ◌<◌, ◌≤◌, List, [], ◌∷◌, ◌++◌, length, map, get_or, Bool, true, false, not, ◌&&◌, Some, slice_get, arith, sym, ap, ◌∙◌, refl, subst, append_assoc}
 use Rattle.std.specs.Prelude.{filter}
-use Rattle.std.proofs.lemmas.Bool.{false≢true, true≢false}
-use Rattle.std.proofs.lemmas.Nat.{one_shl, pow_pos}
-use Rattle.std.proofs.Math.Nat.{pow-le-pow_right}
 use Rattle.std.proofs.lemmas.List.{map-append}
-use Rattle.std.proofs.lemmas.List.Elements.{filter-append}
 use Rattle.std.proofs.lemmas.Option.{slice_get_read}
+use Rattle.ta_base.proofs.Booleans.{cond_false, cond_true}
+use Rattle.ta_base.proofs.Lists.{append_nil, one_longer}
+use Rattle.ta_base.proofs.Ranges.{filter_more}
 use Rattle.ta_automaton.specs.declared.pattern.Event.{Event as PatternEvent}
 use Rattle.ta_automaton.specs.declared.pattern.Pattern.{Pattern}
-use Rattle.ta_automaton.specs.Masks.{has_bit, all_below, implies, numbers_from}
+use Rattle.ta_base.specs.Masks.{has_bit, all_below, implies, numbers_from}
 use Rattle.ta_words.specs.Seen.{IsSeen}
 use Rattle.ta_words.specs.declared.seen.Seen.{Seen}
 use Rattle.ta_words.specs.Words.{has_event, is_ready}
 use Rattle.ta_words.specs.declared.element.Element.{Element}
 
-pub numbers_more : (k n : ℕ) → numbers_from k (n + 1) ≡ numbers_from k n ++ (k + n) ∷ []
-numbers_more k zero = ap (λ m. m ∷ []) (let e : k ≡ k + 0 = omega arith in e)
-numbers_more k (suc n) = ap (numbers_from k) (let e : suc n + 1 ≡ suc (n + 1) = omega arith in e) ∙ ap (λ ms. k ∷ ms) (numbers_more (k + 1) n ∙ ap (λ m. numbers_from (k + 1) n ++ m ∷ []) (let e : k + 1 + n ≡ k + suc n = omega arith in e))
-
-cond_true : {X : Type 0} (b : Bool) (x y : X) → b ≡ true → cond b x y ≡ x
-cond_true true x y e = refl
-cond_true false x y e = absurd (false≢true e)
-
-cond_false : {X : Type 0} (b : Bool) (x y : X) → b ≡ false → cond b x y ≡ y
-cond_false true x y e = absurd (true≢false e)
-cond_false false x y e = refl
-
-pub filter_more : (test : ℕ → Bool) (k n : ℕ) → filter test (numbers_from k (n + 1)) ≡ filter test (numbers_from k n) ++ cond (test (k + n)) ((k + n) ∷ []) []
-filter_more test k n = ap (filter test) (numbers_more k n) ∙ filter-append test (numbers_from k n) ((k + n) ∷ [])
-
 -- a list with what passes among n numbers from k on
 abbrev pub with_passed : (ℕ → Element) → (ℕ → Bool) → List Element → ℕ → ℕ → List Element
 with_passed f test before k n = before ++ map f (filter test (numbers_from k n))
-
-append_nil : {X : Type 0} (xs : List X) → xs ++ [] ≡ xs
-append_nil [] = refl
-append_nil (x ∷ xs) = ap (λ ys. x ∷ ys) (append_nil xs)
 
 pub pushed_more : (f : ℕ → Element) (test : ℕ → Bool) (before now after : List Element) (k n : ℕ) → test (k + n) ≡ true → now ≡ with_passed f test before k n → after ≡ now ++ f (k + n) ∷ [] → after ≡ with_passed f test before k (n + 1)
 pushed_more f test before now after k n t e g =
@@ -48,9 +28,6 @@ pub left_out : (f : ℕ → Element) (test : ℕ → Bool) (before now after : L
 left_out f test before now after k n t e g =
     let more : filter test (numbers_from k (n + 1)) ≡ filter test (numbers_from k n) = filter_more test k n ∙ ap (λ ms. filter test (numbers_from k n) ++ ms) (cond_false (test (k + n)) ((k + n) ∷ []) [] t) ∙ append_nil (filter test (numbers_from k n)) in
     g ∙ e ∙ ap (λ ms. before ++ map f ms) (sym more)
-
-one_longer : {X : Type 0} (xs ys : List X) (x : X) → ys ≡ xs ++ x ∷ [] → length ys ≡ length xs + 1
-one_longer xs ys x e = ap length e ∙ length-append xs (x ∷ [])
 
 -- a list that is longer by what passes among n numbers from k on, whatever word has these masks
 pub record Pushed (f : ℕ → Element) (test : ℕ → List Element → ℕ → Bool) (seen : Seen) (before now : List Element) (k n : ℕ) : Type 0 where
@@ -82,10 +59,3 @@ pub ready_at : (p : Pattern) (past : List Element) (items : List PatternEvent) (
     → r ≡ (not (has_event past e) && all_below (length p.events) (λ f. implies (has_bit event.after f) (has_event past f)))
     → r ≡ is_ready p past e
 ready_at p past items e event r same within is told = rw (event_at p items e event same within is) told
-
-power_most : (n : ℕ) → n ≤ 6 → 2 ^ n ≤ 64
-power_most n h = let two : 0 < 2 = omega arith in pow-le-pow_right two h
-
--- the masks of fall guards end below 64
-pub end_of_masks : (n : ℕ) → n ≤ 6 → ((1 * 2 ^ n) % 256 ≡ 2 ^ n) × ((1 * 2 ^ n) % 256 ≤ 64) × (1 ≤ (1 * 2 ^ n) % 256)
-end_of_masks n h = let e = one_shl n 8 (omega arith) in (e, omega (arith, e, power_most n h), omega (arith, e, pow_pos n))

@@ -2,7 +2,7 @@
 use Rattle.std.specs.Prelude.{ℕ, ◌<◌, ◌≤◌, ◌^◌, ◌≡◌, ◌↔◌, IsTrue, List, length, slice_get, Some}
 use Rattle.ta_automaton.specs.declared.pattern.Event.{Event as PatternEvent}
 use Rattle.ta_automaton.specs.declared.pattern.Pattern.{Pattern}
-use Rattle.ta_automaton.specs.Masks.{has_bit, In}
+use Rattle.ta_base.specs.Masks.{has_bit, In}
 use Rattle.ta_words.specs.Words.{has_event, has_rise, has_fallen}
 use Rattle.ta_words.specs.declared.element.Element.{Element}
 use Rattle.ta_words.specs.declared.seen.Seen.{Seen}

@@ -4,7 +4,7 @@ use Rattle.ta_automaton.specs.declared.rule.Rule.{Rule}
 use Rattle.ta_automaton.specs.declared.automaton.Automaton.{Automaton}
 use Rattle.ta_automaton.specs.declared.pattern.Event.{Event as PatternEvent}
 use Rattle.ta_automaton.specs.declared.pattern.Pattern.{Pattern}
-use Rattle.ta_automaton.specs.Masks.{has_bit, all_below, implies, numbers_from, In}
+use Rattle.ta_base.specs.Masks.{has_bit, all_below, implies, numbers_from, In}
 use Rattle.ta_words.specs.declared.element.Element.{Element}
 use Rattle.ta_words.specs.declared.element.Element.TheVariants.{Event, Rise, Fall}
 
@@ -68,8 +68,8 @@ LegalUnder a p pairs start [] = Unit {0}
 LegalUnder a p pairs start (e ∷ past) = In e (children a p pairs start past) × LegalUnder a p pairs start past
 
 -- the same under no pairs
-abbrev pub Legal : Automaton → Pattern → ℕ → List Element → Type 0
-Legal a p start past = LegalUnder a p [] start past
+abbrev pub LegalWord : Automaton → Pattern → ℕ → List Element → Type 0
+LegalWord a p start past = LegalUnder a p [] start past
 
 -- whether a rule leads to another location, touches no location that is kept empty, has its rise guards in the word, and has no fall guard that is in the start set or has fallen
 abbrev pub may_fire : Automaton → Pattern → ℕ → List Element → Option Rule → Bool

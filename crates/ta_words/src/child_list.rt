@@ -3,7 +3,7 @@
 
 ghost use Rattle.std.specs.Prelude.{ℕ, ◌+◌, ◌-◌, ◌≡◌, ◌≤◌, ◌<◌, ◌^◌, ◌++◌, ◌∷◌, ◌↔◌, IsTrue, List, [], filter, length, map};
 ghost use Rattle.ta_words.specs.declared.element.Element.TheVariants.{Event, Fall, Rise};
-ghost use Rattle.ta_automaton.specs.Masks.{In, numbers_from};
+ghost use Rattle.ta_base.specs.Masks.{In, numbers_from};
 ghost use Rattle.ta_words.specs.Seen.{EventsNamed, IsSeen};
 ghost use Rattle.ta_words.specs.Words.{is_ready, is_standing, may_rise};
 

@@ -2,7 +2,7 @@
 #![tactic(auto)]
 
 ghost use Rattle.std.specs.Prelude.{ℕ, ◌≡◌, ◌<◌, ◌&&◌, length, not, reverse, slice_get};
-ghost use Rattle.ta_automaton.specs.Masks.{all_below, has_bit, implies};
+ghost use Rattle.ta_base.specs.Masks.{all_below, has_bit, implies};
 ghost use Rattle.ta_automaton.specs.Shape.{RuleWithin};
 ghost use Rattle.ta_words.specs.Calls.{OfPattern};
 ghost use Rattle.ta_words.specs.Words.{children, has_fallen, has_rise, is_complete, may_fire};

@@ -4,7 +4,6 @@
 mod child_list;
 mod element;
 mod following;
-mod mask;
 mod seen;
 mod word;
 

@@ -3,13 +3,13 @@
 
 ghost use Rattle.std.specs.Prelude.{ℕ, ◌<◌, ◌≤◌, ◌^◌, ◌≡◌, ◌∷◌, ◌==◌, ◌&&◌, List, Some, length, not, reverse};
 ghost use Rattle.ta_automaton.specs.Shape.{RuleWithin};
-ghost use Rattle.ta_automaton.specs.Masks.{all_below, has_bit, implies};
+ghost use Rattle.ta_base.specs.Masks.{all_below, has_bit, implies};
 ghost use Rattle.ta_words.specs.Seen.{EventsNamed, IsSeen, NamesBefore};
 ghost use Rattle.ta_words.specs.Words.{has_event, has_fallen, has_rise, is_complete, is_standing, may_fire, may_rise};
 
 use crate::element::Element;
-use crate::mask;
 use ta_automaton::{Automaton, Pattern, Rule};
+use ta_base::masks;
 
 /// The masks of a word's events and rise guards, and of the fall guards that are in the start set or have fallen.
 #[derive(Clone, Copy)]
@@ -40,15 +40,15 @@ impl Seen {
     {
         match element {
             Element::Event(event) => Seen {
-                events: mask::with(self.events, event),
+                events: masks::with(self.events, event),
                 ..self
             },
             Element::Rise(rise) => Seen {
-                rises: mask::with(self.rises, rise),
+                rises: masks::with(self.rises, rise),
                 ..self
             },
             Element::Fall(fall) => Seen {
-                fallen: mask::union(self.fallen, u32::from(fall)),
+                fallen: masks::union(self.fallen, u32::from(fall)),
                 ..self
             },
         }
@@ -60,7 +60,7 @@ impl Seen {
         ensures { (start : ℕ) (past : List Element) → IsSeen self start past → result ≡ is_complete pattern.now past }
     {
         let all = (1u32 << pattern.events.as_slice().len()) - 1;
-        mask::is_subset(all, self.events)
+        masks::is_subset(all, self.events)
     }
 
     /// Whether an event is not in the word, and those that it comes after are.
@@ -69,7 +69,7 @@ impl Seen {
         ensures { (start : ℕ) (past : List Element) (n : ℕ) → IsSeen self start past → after < 2 ^ n → n ≤ 32
             → result ≡ (not (has_event past event) && all_below n (λ f. implies (has_bit after f) (has_event past f))) }
     {
-        !mask::contains(self.events, event) && mask::is_subset(u32::from(after), self.events)
+        !masks::contains(self.events, event) && masks::is_subset(u32::from(after), self.events)
     }
 
     /// Whether a rise guard is not in the word, and the set of those that come before it is.
@@ -78,7 +78,7 @@ impl Seen {
         ensures { (start : ℕ) (past : List Element) (pairs : List (ℕ × ℕ)) → IsSeen self start past → NamesBefore pairs rise before
             → result ≡ may_rise pairs past rise }
     {
-        !mask::contains(self.rises, rise) && mask::is_subset(u32::from(before), self.rises)
+        !masks::contains(self.rises, rise) && masks::is_subset(u32::from(before), self.rises)
     }
 
     /// Whether no fall guard of a set is in the start set or has fallen.
@@ -86,7 +86,7 @@ impl Seen {
         requires { falls < 2 ^ length automaton.now.fall }
         ensures { (start : ℕ) (past : List Element) → IsSeen self start past → result ≡ is_standing automaton.now start past falls }
     {
-        mask::is_disjoint(u32::from(falls), self.fallen)
+        masks::is_disjoint(u32::from(falls), self.fallen)
     }
 
     /// Whether a rule is allowed after the word.
@@ -104,8 +104,8 @@ impl Seen {
             → result ≡ (all_below (length automaton.now.rise) (λ i. implies (has_bit rule.now.rise i) (has_rise past i))
             && all_below (length automaton.now.fall) (λ j. implies (has_bit rule.now.fall j) (not (has_fallen start past j)))) }
     {
-        mask::is_subset(u32::from(rule.rise), self.rises)
-            && mask::is_disjoint(u32::from(rule.fall), self.fallen)
+        masks::is_subset(u32::from(rule.rise), self.rises)
+            && masks::is_disjoint(u32::from(rule.fall), self.fallen)
     }
 }
 
@@ -118,5 +118,5 @@ fn moves_outside(rule: &Rule, locations: u32) -> bool
     if rule.from == rule.to {
         return false;
     }
-    !mask::contains(locations, rule.from) && !mask::contains(locations, rule.to)
+    !masks::contains(locations, rule.from) && !masks::contains(locations, rule.to)
 }

@@ -3,8 +3,8 @@
 
 ghost use Rattle.std.specs.Prelude.{◌≡◌, ◌≤◌, ◌<◌, ◌++◌, ◌∷◌, ◌↔◌, IsTrue, [], if◌then◌else◌, length as list_length, reverse, take};
 ghost use Rattle.ta_words.specs.Calls.{OfPattern};
-ghost use Rattle.ta_automaton.specs.Masks.{In};
-ghost use Rattle.ta_words.specs.Words.{Legal, children};
+ghost use Rattle.ta_base.specs.Masks.{In};
+ghost use Rattle.ta_words.specs.Words.{LegalWord, children};
 
 use crate::element::Element;
 use crate::following::children;
@@ -79,7 +79,7 @@ impl Word {
         element: Element,
     ) -> bool
         requires exists { pattern < list_length file.now.patterns }
-        requires legal { OfPattern file.now pattern (λ p. Legal file.now.automaton p start_mask (reverse self.old)) }
+        requires legal { OfPattern file.now pattern (λ p. LegalWord file.now.automaton p start_mask (reverse self.old)) }
         ensures child { OfPattern file.now pattern (λ p. IsTrue result ↔ In element (children file.now.automaton p orders.now start_mask (reverse self.old))) }
         ensures word { self.new ≡ (if result then self.old ++ element ∷ [] else self.old) }
     {

@@ -5,6 +5,8 @@
 mod judging;
 mod pivots;
 mod reading;
+mod seconds;
+mod visiting;
 mod walking;
 
 use std::{env, io};

@@ -8,8 +8,9 @@ ghost use Rattle.ta_linear.specs.Terms.{IsNormal};
 use std::alloc::{AllocError, Global};
 use std::io;
 use std::time::Instant;
+use ta_base::List;
 use ta_dense::{DenseDictionary, Dictionary, NarrowDictionary};
-use ta_linear::{Form, List, Row, System};
+use ta_linear::{Form, Row, System};
 
 const ROWS: u32 = 200;
 

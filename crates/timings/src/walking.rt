@@ -1,7 +1,9 @@
 //! How long the walk of a file's pattern takes.
 #![tactic(auto)]
 
-use std::alloc::{AllocError, Global};
+use crate::seconds::Seconds;
+use crate::visiting;
+use std::alloc::Global;
 use std::rt::Clock;
 use std::thread::Threads;
 use std::time::Instant;
@@ -63,7 +65,8 @@ pub(crate) fn print<R: Threads + Sync>(
     }
 }
 
-/// Walks the tree of a pattern and prints how it ends, and the time.
+/// Walks the tree of a pattern and prints how it ends, and the time; then by one thread, and what that
+/// took.
 fn time<R: Threads + Sync, C: Clock + Print, D: Dictionary>(
     threads: &R,
     rt: &C,
@@ -80,12 +83,24 @@ fn time<R: Threads + Sync, C: Clock + Print, D: Dictionary>(
     };
     let start = Instant::now(rt)?;
     let end = walk::<D, R>(threads, alloc, scoped, pattern, &found.orders, nodes);
-    let taken = start.elapsed(rt)?.as_micros();
+    let taken = Seconds {
+        micros: start.elapsed(rt)?.as_micros(),
+    };
+    let Ok(end) = end else {
+        return println!(rt; "memory ran out");
+    };
+    let (said, count) = told(&end);
+    let rate = taken.rate(count);
+    println!(rt; "{said}: {count} nodes in {taken}, {rate} a second")?;
+    visiting::print::<C, D>(rt, alloc, scoped, pattern, &found.orders, nodes)
+}
+
+/// How a walk ended, and how many nodes were visited.
+fn told(end: &WalkEnd) -> (&'static str, u64) {
     match end {
-        Ok(WalkEnd::Refuted { count, .. }) => println!(rt; "refuted: {count} nodes in {taken} us"),
-        Ok(WalkEnd::Found { count, .. }) => println!(rt; "found: {count} nodes in {taken} us"),
-        Ok(WalkEnd::Spent { count }) => println!(rt; "spent: {count} nodes in {taken} us"),
-        Ok(WalkEnd::Overflow { node, .. }) => println!(rt; "overflow: {node} nodes in {taken} us"),
-        Err(AllocError) => println!(rt; "memory ran out"),
+        WalkEnd::Refuted { count, .. } => ("refuted", *count),
+        WalkEnd::Found { count, .. } => ("found", *count),
+        WalkEnd::Spent { count } => ("spent", *count),
+        WalkEnd::Overflow { node, .. } => ("overflow", *node),
     }
 }

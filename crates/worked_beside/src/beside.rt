@@ -157,6 +157,10 @@ impl Dictionary for Beside {
         self.first.bytes()
     }
 
+    fn is_wide(&self) -> bool {
+        self.first.is_wide()
+    }
+
     fn leaving(&self) -> Option<u32> {
         self.first.leaving()
     }

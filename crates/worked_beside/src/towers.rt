@@ -8,8 +8,9 @@ ghost use Rattle.ta_dense.specs.Slack.{variables};
 
 use crate::beside::{Beside, are_same};
 use std::alloc::{AllocError, Global};
+use ta_base::List;
 use ta_dense::{Dictionary, NarrowDictionary, PivotFault};
-use ta_linear::{Form, List, Row, System};
+use ta_linear::{Form, Row, System};
 
 #[derive(Clone, Copy, Debug, PartialEq, Eq)]
 enum End {

@@ -2,7 +2,8 @@
 
 use std::alloc::{AllocError, Global};
 use std::test::Fail;
-use ta_cert::{CertFault, Line, List, Node, Order, Proof, Reader, read_again, write_cert};
+use ta_base::List;
+use ta_cert::{CertFault, Line, Node, Order, Proof, Reader, read_again, write_cert};
 
 const CERTIFICATE: &str = "threshold-certificate 1\npattern 0\ne\nf 1:1 5:1\nend\n";
 

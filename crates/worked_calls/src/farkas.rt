@@ -5,8 +5,9 @@ ghost use Rattle.ta_linear.specs.Terms.{IsNormal};
 
 use std::alloc::{AllocError, Global};
 use std::test::Fail;
+use ta_base::List;
 use ta_farkas::{LeafFault, check_leaf};
-use ta_linear::{Form, List, Row, System};
+use ta_linear::{Form, Row, System};
 
 const M: i128 = i128::MAX;
 

@@ -7,7 +7,8 @@ ghost use Rattle.ta_linear.specs.Terms.{IsNormal};
 use std::alloc::Global;
 use std::process::Abort;
 use std::test::Fail;
-use ta_linear::{Form, LinearFault, List, Row, floor_div, gcd, minus, multiply, plus};
+use ta_base::List;
+use ta_linear::{Form, LinearFault, Row, floor_div, gcd, minus, multiply, plus};
 
 type Terms<'a> = &'a [(u32, i128)];
 

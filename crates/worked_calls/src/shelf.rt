@@ -5,9 +5,10 @@ use std::io::{ErrorKind, Write};
 use std::os::fd::AsRawFd;
 use std::test::Fail;
 use std::{fs, io};
+use ta_base::{List, Text};
 use ta_shelf::{
-    DiskShelf, List, MemoryShelf, MemorySink, PutFault, QuietShelf, QuietSink, Shelf, SinkFault,
-    StdSink, Text, WholeFault, are_distinct, read_whole, write_whole,
+    DiskShelf, MemoryShelf, MemorySink, PutFault, QuietShelf, QuietSink, Shelf, SinkFault, StdSink,
+    WholeFault, are_distinct, read_whole, write_whole,
 };
 
 const TEXT: &[u8] = b"automaton first\n";

@@ -7,7 +7,8 @@ ghost use Rattle.ta_linear.specs.Rows.{AllBelow};
 use crate::farkas::row;
 use std::alloc::{AllocError, Global};
 use std::test::Fail;
-use ta_linear::{Form, List, Row, System};
+use ta_base::List;
+use ta_linear::{Form, Row, System};
 use ta_smt::smt_text;
 
 /// The first number above those of 64 bits.

@@ -71,6 +71,10 @@ impl Dictionary for NoRoom {
         self.dense.bytes()
     }
 
+    fn is_wide(&self) -> bool {
+        self.dense.is_wide()
+    }
+
     fn leaving(&self) -> Option<u32> {
         self.dense.leaving()
     }

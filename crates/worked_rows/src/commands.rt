@@ -6,8 +6,9 @@ use crate::growing::Growing;
 use crate::noting::Noting;
 use std::alloc::{AllocError, Global};
 use std::thread::Threads;
+use ta_base::{List, Text};
 use ta_program::run;
-use ta_shelf::{List, MemoryShelf, MemorySink, Text, are_distinct};
+use ta_shelf::{MemoryShelf, MemorySink, are_distinct};
 
 /// What fails in a run: the calls of the shelf and of the output with these numbers, where 0 is
 /// none; how many bytes the output has room for, and how many it takes at once.

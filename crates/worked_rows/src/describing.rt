@@ -3,7 +3,8 @@
 
 use crate::forms::{write_form, write_number, write_rows};
 use std::alloc::{AllocError, Global};
-use ta_automaton::{Automaton, Condition, Event, File, Pattern, Rule, Text};
+use ta_automaton::{Automaton, Condition, Event, File, Pattern, Rule};
+use ta_base::Text;
 
 /// What a file means: its places by kind, its forms (a constant and then place:coefficient), its
 /// guards, its rules (source, target, masks, updates) and its patterns.

@@ -4,7 +4,7 @@
 ghost use Rattle.std.specs.Prelude.{◌<◌, ◌^◌, IfOk, IfSome, length, reverse};
 ghost use Rattle.ta_dense.specs.Slack.{variables};
 ghost use Rattle.ta_words.specs.Calls.{OfPattern};
-ghost use Rattle.ta_words.specs.Words.{Legal};
+ghost use Rattle.ta_words.specs.Words.{LegalWord};
 
 use crate::forms::{write_number, write_rows};
 use std::alloc::{AllocError, Global};
@@ -48,7 +48,7 @@ fn element_of(word: &str) -> Option<Element> {
 /// The word of these elements, where each is a child of those before it.
 fn word_of(file: &File, start_mask: u8, elements: &[Element]) -> Option<Word>
     requires { 0 < length file.now.patterns }
-    ensures { IfSome result (λ word. OfPattern file.now 0 (λ p. Legal file.now.automaton p start_mask (reverse word))) }
+    ensures { IfSome result (λ word. OfPattern file.now 0 (λ p. LegalWord file.now.automaton p start_mask (reverse word))) }
 {
     let orders = Orders::new();
     let mut word = Word::new();

@@ -1,38 +1,16 @@
 -- Numbers and pairs at the front of a text.
-use Rattle.std.specs.Prelude.{ℕ, ℤ, ◌<◌, ◌≡◌, ◌==◌, ◌^◌, Bool, true, false, List, [], ◌∷◌, ◌++◌, length, decimal}
-use Rattle.std.specs.Str.Parse.{AllDigits}
-use Rattle.ta_cert.specs.Lines.{IsPair, ArePairs, IsSplit, pair_text, pairs_text, split_text, guards_text}
-use Rattle.ta_cert.specs.Numbers.{BeginsNoDigit}
-
--- the bytes don't begin so
-abbrev pub BeginsOtherwise : List ℕ → List ℕ → Type 0
-BeginsOtherwise front bytes = (rest : List ℕ) → bytes ≡ front ++ rest → ⊥
-
--- the digits that stand first, and what stands behind them
-pub record IsRun (bytes ds rest : List ℕ) : Type 0 where
-  pub split : bytes ≡ ds ++ rest
-  pub digits : AllDigits 10 ds
-  pub ends : BeginsNoDigit rest
-
--- the bytes are a number below the limit
-pub record IsNumber (limit : ℕ) (bytes : List ℕ) (n : ℕ) : Type 0 where
-  pub text : bytes ≡ decimal n
-  pub below : n < limit
+use Rattle.std.specs.Prelude.{ℕ, ℤ, ◌<◌, ◌≡◌, ◌^◌, List, ◌++◌, length}
+use Rattle.ta_cert.specs.Lines.{IsMultiplierPair, ArePairs, IsSplit, pair_text, pairs_text, split_text, guards_text}
+use Rattle.ta_base.specs.Decimals.{BeginsNoDigit}
 
 -- a pair stands first
 pub record PairAt (bytes : List ℕ) (t : ℕ × ℤ) (rest : List ℕ) : Type 0 where
   pub split : bytes ≡ pair_text t ++ rest
-  pub is : IsPair t
+  pub is : IsMultiplierPair t
   pub ends : BeginsNoDigit rest
 
 abbrev pub NoPairAt : List ℕ → Type 0
 NoPairAt bytes = (t : ℕ × ℤ) (rest : List ℕ) → PairAt bytes t rest → ⊥
-
--- no digits, or a zero in front of others
-abbrev pub is_padded : List ℕ → Bool
-is_padded [] = true
-is_padded (c ∷ []) = false
-is_padded (c ∷ d ∷ ds) = c == 48
 
 -- the bytes are an unknown and a floor
 pub record IsSplitText (bytes : List ℕ) (unknown : ℕ) (floor : ℤ) : Type 0 where

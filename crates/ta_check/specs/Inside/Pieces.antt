@@ -5,22 +5,22 @@ use Rattle.ta_cert.specs.declared.fault.CertFault.TheVariants as fault
 use Rattle.ta_cert.specs.declared.reader.Reader.{Reader}
 use Rattle.ta_check.specs.declared.position.Position.{Position}
 use Rattle.ta_check.specs.Subjects.{Subject}
-use Rattle.ta_check.specs.Checkers.{Stand}
+use Rattle.ta_check.specs.Checkers.{StandBehind}
 use Rattle.ta_check.specs.Faults.{IsLastingFor}
 
 -- a reader and a position stand behind some text
 abbrev pub StandSomewhere : Subject → Reader → Position → Type 0
-StandSomewhere subject reader position = (text : List ℕ) × Stand subject reader position text
+StandSomewhere subject reader position = (text : List ℕ) × StandBehind subject reader position text
 
 -- where they stand behind a piece that makes the text this one; want of memory is free
 abbrev pub TakenTo : Subject → List ℕ → Reader → Position → Result (Unit {0}) CertFault → Type 0
-TakenTo subject text reader position (Ok _) = Stand subject reader position text
+TakenTo subject text reader position (Ok _) = StandBehind subject reader position text
 TakenTo subject text reader position (Err fault.Memory) = Unit {0}
 TakenTo subject text reader position (Err f) = IsLastingFor subject text f
 
 -- where they stand behind the bytes up to the next line feed, so many, or behind all where there is none
 abbrev pub NextTaken : Subject → List ℕ → List ℕ → Reader → Position → Result (Option ℕ) CertFault → Type 0
-NextTaken subject text bytes reader position (Ok None) = Stand subject reader position (text ++ bytes)
-NextTaken subject text bytes reader position (Ok (Some taken)) = (0 < taken) × (taken ≤ length bytes) × Stand subject reader position (text ++ take taken bytes)
+NextTaken subject text bytes reader position (Ok None) = StandBehind subject reader position (text ++ bytes)
+NextTaken subject text bytes reader position (Ok (Some taken)) = (0 < taken) × (taken ≤ length bytes) × StandBehind subject reader position (text ++ take taken bytes)
 NextTaken subject text bytes reader position (Err fault.Memory) = Unit {0}
 NextTaken subject text bytes reader position (Err f) = IsLastingFor subject (text ++ bytes) f

@@ -11,7 +11,7 @@ use Rattle.ta_counter.specs.declared.config.Config.{Config}
 use Rattle.ta_counter.specs.Configs.{IsOf}
 use Rattle.ta_counter.specs.Holding.{GuardsAre, GuardsStay}
 use Rattle.ta_counter.specs.Steps.{StepFails}
-use Rattle.ta_scope.specs.Arranged.{ArrangedOf, Counts, count_at}
+use Rattle.ta_scope.specs.Arranged.{ArrangedOf, AreRuleCounts, count_at}
 use Rattle.ta_replay.specs.declared.fault.RunFault.TheVariants as runs
 use Rattle.ta_replay.specs.declared.run.RunLine.{RunLine}
 use Rattle.ta_replay.specs.declared.run.RunLine.TheVariants.{Step, Mark}
@@ -22,7 +22,7 @@ use Rattle.ta_replay.specs.declared.run.Run.{Run}
 use Rattle.ta_counter.specs.Starts.{StartsAt}
 use Rattle.ta_compress.specs.Units.{unit, value_after, Switches, Drops}
 use Rattle.ta_replay.specs.Pieces.{step_line}
-use Rattle.ta_compress.specs.Pieces.{Piece, Cut, Still, units}
+use Rattle.ta_compress.specs.Pieces.{CutPiece, AreCut, Still, units}
 
 -- no check of a unit step refuses at some values
 abbrev pub MayStep : Automaton → ℕ → List ℤ → Type 0
@@ -33,19 +33,19 @@ abbrev pub repeated : Automaton → ℕ → List ℤ → ℕ → ℕ → ℤ
 repeated a r values times place = point_of values place +ℤ (pos times *ℤ rule_change a (slice_get a.rules r) place)
 
 -- the second values are those after some firings
-abbrev pub Repeated : Automaton → ℕ → List ℤ → ℕ → List ℤ → Type 0
-Repeated a r values times after = (place : ℕ) → point_of after place ≡ repeated a r values times place
+abbrev pub RepeatsRule : Automaton → ℕ → List ℤ → ℕ → List ℤ → Type 0
+RepeatsRule a r values times after = (place : ℕ) → point_of after place ≡ repeated a r values times place
 
 -- no check of so many unit steps in a row refuses, where all guards stay in range
 abbrev pub MayRepeat : Automaton → ℕ → ℕ → List ℤ → Type 0
 MayRepeat a r count values =
-    (times : ℕ) (now : Config) → times < count → IsOf a now → Repeated a r values times now.values.items → GuardsStay a (point_of now.values.items) → MayStep a r now.values.items
+    (times : ℕ) (now : Config) → times < count → IsOf a now → RepeatsRule a r values times now.values.items → GuardsStay a (point_of now.values.items) → MayStep a r now.values.items
 
 -- the draft's configuration is one of the automaton, its guards are those that hold there, and it has a count for each rule
-pub record Ready (a : Automaton) (draft : Draft) : Type 0 where
+pub record DraftIsReady (a : Automaton) (draft : Draft) : Type 0 where
   pub is_of : IsOf a draft.config
   pub guards : GuardsAre a (point_of draft.config.values.items) draft.guards
-  pub counts : Counts a draft.counts.items
+  pub counts : AreRuleCounts a draft.counts.items
 
 -- each count can grow so far without passing 1,000,000
 abbrev pub Room : ℕ → List ℤ → Type 0
@@ -68,7 +68,7 @@ pub record Closes (a : Automaton) (counts : List ℤ) (kept : List RunLine) (old
   pub none_left : new.counts.items ≡ zeros a
 
 -- a unit step that changes no guard is counted
-pub record GoesOn (a : Automaton) (r : ℕ) (before after : ℕ → ℤ) (old new : Draft) : Type 0 where
+pub record CountsOn (a : Automaton) (r : ℕ) (before after : ℕ → ℤ) (old new : Draft) : Type 0 where
   pub still : ¬ Switches a before after
   pub counted : OneMore r old.counts.items new.counts.items
   pub lines : new.lines.items ≡ old.lines.items
@@ -79,7 +79,7 @@ pub record Falls (a : Automaton) (r : ℕ) (before after : ℕ → ℤ) (old new
   pub closes : Closes a old.counts.items (unit r ∷ []) old new
 
 -- one that changes guards otherwise is counted, and ends the piece
-pub record Rises (a : Automaton) (r : ℕ) (before after : ℕ → ℤ) (old new : Draft) : Type 0 where
+pub record CountsAndCloses (a : Automaton) (r : ℕ) (before after : ℕ → ℤ) (old new : Draft) : Type 0 where
   pub switches : Switches a before after
   pub drops_none : ¬ Drops a before after
   pub counts : List ℤ
@@ -87,30 +87,30 @@ pub record Rises (a : Automaton) (r : ℕ) (before after : ℕ → ℤ) (old new
   pub closes : Closes a counts [] old new
 
 -- what a unit step between two points does to a draft
-abbrev pub Counted : Automaton → ℕ → (ℕ → ℤ) → (ℕ → ℤ) → Draft → Draft → Type 0
-Counted a r before after old new = GoesOn a r before after old new ⊎ (Falls a r before after old new ⊎ Rises a r before after old new)
+abbrev pub CountsStep : Automaton → ℕ → (ℕ → ℤ) → (ℕ → ℤ) → Draft → Draft → Type 0
+CountsStep a r before after old new = CountsOn a r before after old new ⊎ (Falls a r before after old new ⊎ CountsAndCloses a r before after old new)
 
 -- one unit step of a rule
 pub record Advances (a : Automaton) (r : ℕ) (old new : Draft) : Type 0 where
-  pub moved : Repeated a r old.config.values.items 1 new.config.values.items
-  pub ready : Ready a new
-  pub counted : Counted a r (point_of old.config.values.items) (point_of new.config.values.items) old new
+  pub moved : RepeatsRule a r old.config.values.items 1 new.config.values.items
+  pub ready : DraftIsReady a new
+  pub counted : CountsStep a r (point_of old.config.values.items) (point_of new.config.values.items) old new
 
 -- the draft has these unfolded lines behind it: pieces that are cut off and written, and the steps since the last cut, which
 -- are counted
 pub record DraftAt (a : Automaton) (first : List ℤ) (done : List RunLine) (draft : Draft) : Type 0 where
-  pub ready : Ready a draft
+  pub ready : DraftIsReady a draft
   pub reached : (place : ℕ) → point_of draft.config.values.items place ≡ value_after a first done place
-  pub pieces : List Piece
+  pub pieces : List CutPiece
   pub written : List RunLine
   pub open_ : List ℕ
   pub done_is : done ≡ written ++ units open_
-  pub cut : Cut a first [] written pieces draft.lines.items
+  pub cut : AreCut a first [] written pieces draft.lines.items
   pub still : Still a first written open_
   pub counted : (r : ℕ) → r < length a.rules → count_at draft.counts.items r ≡ pos (times_in r open_)
 
 -- some of the firings in a row makes a guard leave the range
-pub record LeavesWithin (a : Automaton) (r count : ℕ) (values : List ℤ) : Type 0 where
+pub record GuardsOutOfRangeWithin (a : Automaton) (r count : ℕ) (values : List ℤ) : Type 0 where
   pub times : ℕ
   pub some : 1 ≤ times
   pub most : times ≤ count
@@ -118,7 +118,7 @@ pub record LeavesWithin (a : Automaton) (r count : ℕ) (values : List ℤ) : Ty
 
 -- why firings in a row stop
 abbrev pub RepeatStops : Automaton → ℕ → ℕ → List ℤ → ℕ → CompressFault → Type 0
-RepeatStops a r count values line (Replay (runs.Overflow l)) = (l ≡ line) × LeavesWithin a r count values
+RepeatStops a r count values line (Replay (runs.Overflow l)) = (l ≡ line) × GuardsOutOfRangeWithin a r count values
 RepeatStops a r count values line (Replay _) = ⊥
 RepeatStops a r count values line (TooManySteps n) = ⊥
 RepeatStops a r count values line Memory = Unit {0}
@@ -144,12 +144,12 @@ LineKeeps a values (Step r factor) = (times : ℕ) → 1 ≤ times → times ≤
 LineKeeps a values (Mark e) = Unit {0}
 
 -- why a line with a number stops
-abbrev pub LineStops : Automaton → List ℤ → RunLine → ℕ → CompressFault → Type 0
-LineStops a values (Step r factor) number fault = RepeatStops a r (unsigned_abs factor) values number fault
-LineStops a values (Mark e) number fault = fault ≡ Memory
+abbrev pub DraftStops : Automaton → List ℤ → RunLine → ℕ → CompressFault → Type 0
+DraftStops a values (Step r factor) number fault = RepeatStops a r (unsigned_abs factor) values number fault
+DraftStops a values (Mark e) number fault = fault ≡ Memory
 
 -- the draft that a run begins with
-pub record Begun (a : Automaton) (run : Run) (draft : Draft) : Type 0 where
+pub record IsFirstDraft (a : Automaton) (run : Run) (draft : Draft) : Type 0 where
   pub starts : StartsAt a run.parameters run.counts draft.config.values.items
   pub stay : GuardsStay a (point_of draft.config.values.items)
   pub at : DraftAt a draft.config.values.items [] draft

@@ -1,15 +1,15 @@
 -- The values of a first configuration while its counts are written (this project's profile)
 use Rattle.std.specs.Prelude.{ℕ, ℤ, pos, ◌+◌, ◌<◌, ◌≡◌, List, length, take, slice_get, Some}
+use Rattle.std.specs.List.{AllByRecursion}
 use Rattle.ta_linear.specs.Values.{point_of}
 use Rattle.ta_automaton.specs.declared.automaton.Automaton.{Automaton}
-use Rattle.ta_automaton.specs.Lists.{Each}
 use Rattle.ta_automaton.specs.Places.{location_place}
 use Rattle.ta_counter.specs.Values.{Value}
 use Rattle.ta_counter.specs.Configs.{places_of}
 
 -- the first i counts stand at their places
 pub record Filling (a : Automaton) (parameters counts values : List ℤ) (i : ℕ) : Type 0 where
-  pub natural : Each Value values
+  pub natural : AllByRecursion Value values
   pub places : length values ≡ places_of a
   pub parameters_first : take (length a.parameters) values ≡ parameters
   pub shared_zero : (x : ℕ) → x < length a.shared → point_of values (length a.parameters + x) ≡ pos 0

@@ -6,9 +6,9 @@ use Rattle.ta_automaton.specs.declared.pattern.Pattern.{Pattern}
 use Rattle.ta_words.specs.declared.element.Element.{Element}
 use Rattle.ta_encode.specs.Unknowns.{Meaning, meanings}
 use Rattle.ta_encode.specs.System.{word_rows}
-use Rattle.ta_encode.specs.Inside.Lines.{Written}
+use Rattle.ta_encode.specs.Inside.Lines.{AreWritten}
 
 -- the unknowns and rows of a word
-pub record Drafted (a : Automaton) (p : Pattern) (start : ℕ) (past : List Element) (unknowns : List Meaning) (rows : List Row) : Type 0 where
+pub record IsDraftOf (a : Automaton) (p : Pattern) (start : ℕ) (past : List Element) (unknowns : List Meaning) (rows : List Row) : Type 0 where
   pub unknowns_are : unknowns ≡ meanings a p start past
-  pub rows_are : Written (word_rows a p start past) (length unknowns) rows
+  pub rows_are : AreWritten (word_rows a p start past) (length unknowns) rows

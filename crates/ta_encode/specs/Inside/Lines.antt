@@ -1,26 +1,25 @@
 -- Rows written from terms over places
-use Rattle.std.specs.Prelude.{ℕ, ℤ, pos, ◌-◌, ◌^◌, ◌<◌, ◌≤◌, ◌≤ℤ◌, ◌<ℤ◌, ◌-ℤ◌, unsigned_abs, if◌then◌else◌, Bool, true, false, List, ◌++◌, length, map, filter, not, slice_get, Some, ◌≡◌}
+use Rattle.std.specs.Prelude.{ℕ, ℤ, pos, ◌-◌, ◌≤◌, ◌-ℤ◌, unsigned_abs, Bool, true, false, List, ◌++◌, length, map, filter, not, slice_get, Some, ◌≡◌}
+use Rattle.std.specs.List.{AllByRecursion}
 use Rattle.ta_linear.specs.Rows.{AllBelow}
-use Rattle.ta_linear.specs.Values.{terms_value}
 use Rattle.ta_linear.specs.declared.form.Form.{Form}
 use Rattle.ta_linear.specs.declared.row.Row.{Row}
-use Rattle.ta_automaton.specs.Lists.{Each}
-use Rattle.ta_automaton.specs.Masks.{has_bit, numbers_from}
+use Rattle.ta_base.specs.Masks.{has_bit, numbers_from}
 use Rattle.ta_automaton.specs.declared.pattern.Event.{Event}
 use Rattle.ta_automaton.specs.declared.pattern.Pattern.{Pattern}
 use Rattle.ta_automaton.specs.declared.automaton.Automaton.{Automaton}
 use Rattle.ta_automaton.specs.declared.condition.Comparison.{Comparison}
 use Rattle.ta_automaton.specs.declared.condition.Condition.{Condition}
-use Rattle.ta_encode.specs.Unknowns.{Meaning, place_coefficient}
-use Rattle.ta_encode.specs.System.{LinearRow, Bound, Side, Low, High, counter_row, negated, opposite, start_coefficient}
-use Rattle.ta_encode.specs.Code.{RowsOf}
+use Rattle.ta_encode.specs.Unknowns.{Meaning}
+use Rattle.ta_encode.specs.System.{LinearRow, Side, Low, High, counter_row, negated, opposite}
+use Rattle.ta_encode.specs.Code.{AreRowsOf}
 use Rattle.ta_encode.specs.declared.line.Sense.{Sense}
-use Rattle.ta_encode.specs.declared.line.Sense.TheVariants.{Same, Opposite}
-use Rattle.ta_encode.specs.Lines.{SmallTerms, turned}
+use Rattle.ta_encode.specs.declared.line.Sense.TheVariants.{Plain, Opposite, Negated}
+use Rattle.ta_encode.specs.Lines.{SmallTerms, coefficient_in_sense}
 
 -- code rows of the first n unknowns
-pub record Written (ls : List LinearRow) (n : ℕ) (rows : List Row) : Type 0 where
-  pub rows_of : RowsOf ls rows
+pub record AreWritten (ls : List LinearRow) (n : ℕ) (rows : List Row) : Type 0 where
+  pub rows_of : AreRowsOf ls rows
   pub below : AllBelow n rows
 
 -- a list that begins with another
@@ -29,8 +28,8 @@ pub record IsBehind {X : Type 0} (before after : List X) : Type 0 where
   pub is : after ≡ before ++ more
 
 -- writing these rows of the first n unknowns after others
-pub record Adds (ls : List LinearRow) (n : ℕ) (before after : List Row) : Type 0 where
-  pub rows : (done : List LinearRow) → Written done n before → Written (done ++ ls) n after
+pub record AddsRows (ls : List LinearRow) (n : ℕ) (before after : List Row) : Type 0 where
+  pub rows : (done : List LinearRow) → AreWritten done n before → AreWritten (done ++ ls) n after
   pub behind : IsBehind before after
 
 -- a form whose numbers are at most 1,000,000,000 in absolute value
@@ -39,34 +38,31 @@ pub record SmallForm (form : Form) : Type 0 where
   pub constant : unsigned_abs form.constant ≤ 1000000000
 
 abbrev pub SmallRows : List Row → Type 0
-SmallRows rows = Each (λ (r : Row). SmallForm r.form) rows
+SmallRows rows = AllByRecursion (λ (r : Row). SmallForm r.form) rows
 
 abbrev pub SmallCondition : Condition → Type 0
-SmallCondition condition = Each (λ (k : Comparison). SmallRows k.rows) condition.comparisons
+SmallCondition condition = AllByRecursion (λ (k : Comparison). SmallRows k.rows) condition.comparisons
 
--- rows as they are, or negated
+-- a row as it is, its opposite, or its negation
 abbrev pub in_sense : Sense → LinearRow → LinearRow
-in_sense Same row = row
-in_sense Opposite row = negated row
+in_sense Plain row = row
+in_sense Opposite row = opposite row
+in_sense Negated row = negated row
 
--- the constant of a row or of its negation
+-- the constant of a row that is written so
 abbrev pub constant_in_sense : Sense → ℤ → ℤ
-constant_in_sense Same z = z
-constant_in_sense Opposite z = (pos 0 -ℤ z) -ℤ pos 1
-
--- a row or its opposite
-abbrev pub turned_row : Sense → LinearRow → LinearRow
-turned_row Same row = row
-turned_row Opposite row = opposite row
+constant_in_sense Plain z = z
+constant_in_sense Opposite z = pos 0 -ℤ z
+constant_in_sense Negated z = (pos 0 -ℤ z) -ℤ pos 1
 
 -- the fall guards of the start set are negated
 abbrev pub start_sense : Bool → Sense
-start_sense true = Opposite
-start_sense false = Same
+start_sense true = Negated
+start_sense false = Plain
 
--- a constant and the sum of the unknowns from one number to another, or its opposite
+-- a constant, and the sum of the unknowns from one number to another, written in a sense
 abbrev pub block_row : ℤ → ℕ → ℕ → Sense → LinearRow
-block_row constant from to sense = record { constant = constant; coefficients = map (λ k. pos 0) (numbers_from 0 from) ++ map (λ k. turned sense (pos 1)) (numbers_from from (to - from)) }
+block_row constant from to sense = record { constant = constant; coefficients = map (λ k. pos 0) (numbers_from 0 from) ++ map (λ k. coefficient_in_sense sense (pos 1)) (numbers_from from (to - from)) }
 
 -- the row of a bound, as a block of one unknown
 abbrev pub bound_constant : Side → ℤ → ℤ
@@ -75,7 +71,7 @@ bound_constant High floor = (pos 0 -ℤ floor) -ℤ pos 1
 
 abbrev pub bound_sense : Side → Sense
 bound_sense Low = Opposite
-bound_sense High = Same
+bound_sense High = Plain
 
 -- the counters of the locations outside a set
 abbrev pub counters_outside : Automaton → List Meaning → ℕ → List LinearRow

@@ -2,7 +2,7 @@ use Rattle.std.proofs.Common.{◌≡◌, ◌<ℤ◌, arith, rules, pos, subst, r
 use Rattle.std.proofs.lemmas.Int.{ints, to_z-of_z}
 use mir.Val.{SFits}
 use mir.Syntax.{w128}
-use Rattle.ta_farkas.specs.Faults.{FineBefore, IsFirstFault}
+use Rattle.ta_farkas.specs.Faults.{FineBefore, IsFirstFaultOfLeaf}
 use Rattle.ta_farkas.specs.declared.LeafFault.TheVariants.{RowNumber, Positive, NotNegative}
 use Rattle.ta_farkas.proofs.Judging.{leaf_of, no_fault}
 use Rattle.ta_farkas.proofs.check_leaf.Goals as goal
@@ -12,12 +12,12 @@ returns-in-Some-clause-ok c = (λ e. cc, λ w. absurd (no_fault _ _ (RowNumber c
 
 pub returns-then-sum-gt0-clause-ok : goal.returns-then-sum-gt0-clause-ok
 returns-then-sum-gt0-clause-ok c =
-    let fault : IsFirstFault c.args.system.now c.args.multipliers.now (Positive c.loop-unknown.unknown) = search rules in
+    let fault : IsFirstFaultOfLeaf c.args.system.now c.args.multipliers.now (Positive c.loop-unknown.unknown) = search rules in
     (λ e. cc, λ w. absurd (no_fault _ _ (Positive c.loop-unknown.unknown) fault w))
 
 pub returns-then-sum-ge0-clause-ok : goal.returns-then-sum-ge0-clause-ok
 returns-then-sum-ge0-clause-ok c =
-    let fault : IsFirstFault c.args.system.now c.args.multipliers.now NotNegative = search rules in
+    let fault : IsFirstFaultOfLeaf c.args.system.now c.args.multipliers.now NotNegative = search rules in
     (λ e. cc, λ w. absurd (no_fault _ _ NotNegative fault w))
 
 pub returns-else-sum-ge0-clause-ok : goal.returns-else-sum-ge0-clause-ok

@@ -14,7 +14,7 @@ linked_of d = record {
 }
 
 -- what they keep
-pub record IsSound (d : Inside) : Type 0 where
+pub record IsSoundLinks (d : Inside) : Type 0 where
   pub linked : AreSound d.links
   pub rows_long : length d.links.row_heads.items ≡ length d.rows.items
   pub columns_long : length d.links.column_heads.items ≡ length d.non_basic.items

@@ -1,12 +1,13 @@
 -- Rules and guards while they are read: the guards so far, and what a comparison and a rule add to them (this project's profile)
 use Rattle.std.specs.Prelude.{ℕ, ℤ, ◌<◌, ◌≤◌, ◌≡◌, ◌⊎◌, ◌↔◌, ◌&&◌, ◌||◌, Bool, true, false, nat_le, List, [], ◌∷◌, ◌++◌, length, map, slice_get, Some, Result, Ok, Err, IsBitSet, IsTrue, if◌then◌else◌}
+use Rattle.std.specs.List.{AllByRecursion}
 use Rattle.ta_linear.specs.Terms.{coefficient}
 use Rattle.ta_linear.specs.declared.row.Row.{Row}
 use Rattle.ta_syntax.specs.Grammar.{PlainComparison}
 use Rattle.ta_syntax.specs.declared.fault.FileFault.{FileFault}
 use Rattle.ta_syntax.specs.declared.fault.FileFault.TheVariants as fault
-use Rattle.ta_automaton.specs.Lists.{Each, Distinct}
-use Rattle.ta_automaton.specs.Masks.{numbers_from}
+use Rattle.ta_base.specs.Lists.{Distinct}
+use Rattle.ta_base.specs.Masks.{numbers_from}
 use Rattle.ta_automaton.specs.Forms.{RiseRow, FallRow}
 use Rattle.ta_meaning.specs.Names.{Names, guard_names}
 use Rattle.ta_meaning.specs.Linear.{Linear, comparison_rows, UsesNames}
@@ -38,7 +39,7 @@ GuardOf parameters rows (guard.Fall row) =
     (rows ≡ row ∷ []) × (any_shared is_negative parameters row.form.terms ≡ true) × (any_shared is_positive parameters row.form.terms ≡ false)
 
 -- the same constant and the same terms
-pub record SameRow (left right : Row) : Type 0 where
+pub record HasSameTerms (left right : Row) : Type 0 where
   pub constant : left.form.constant ≡ right.form.constant
   pub terms : left.form.terms ≡ right.form.terms
 
@@ -46,7 +47,7 @@ pub record SameRow (left right : Row) : Type 0 where
 pub record SameAt (rows : List Row) (row : Row) (number : ℕ) : Type 0 where
   pub other : Row
   pub named : slice_get rows number ≡ Some other
-  pub same : SameRow other row
+  pub same : HasSameTerms other row
 
 -- some row is the same as another
 abbrev pub Has : List Row → Row → Type 0
@@ -76,17 +77,17 @@ guards_so_far ns guards = record {
 pub record GuardsKept (ns : Names) (guards : GuardList) : Type 0 where
   pub rise_limit : length guards.rise.items ≤ 16
   pub fall_limit : length guards.fall.items ≤ 6
-  pub rise_rows : Each (RiseRow (length ns.parameters) (length ns.shared)) guards.rise.items
-  pub fall_rows : Each (FallRow (length ns.parameters) (length ns.shared)) guards.fall.items
+  pub rise_rows : AllByRecursion (RiseRow (length ns.parameters) (length ns.shared)) guards.rise.items
+  pub fall_rows : AllByRecursion (FallRow (length ns.parameters) (length ns.shared)) guards.fall.items
   pub rise_distinct : Distinct (guards_so_far ns guards).rise
   pub fall_distinct : Distinct (guards_so_far ns guards).fall
-  pub rise_kind : Each (λ (r : Linear). falls (length ns.parameters) r ≡ false) (guards_so_far ns guards).rise
-  pub fall_kind : Each (λ (r : Linear). falls (length ns.parameters) r ≡ true) (guards_so_far ns guards).fall
+  pub rise_kind : AllByRecursion (λ (r : Linear). falls (length ns.parameters) r ≡ false) (guards_so_far ns guards).rise
+  pub fall_kind : AllByRecursion (λ (r : Linear). falls (length ns.parameters) r ≡ true) (guards_so_far ns guards).fall
 
 -- the number of a row among the guards of its kind
-abbrev pub IsNumber : ℕ → Guards → Linear → GuardNumber → Type 0
-IsNumber parameters g row (number.Rise n) = (falls parameters row ≡ false) × (slice_get g.rise n ≡ Some row)
-IsNumber parameters g row (number.Fall n) = (falls parameters row ≡ true) × (slice_get g.fall n ≡ Some row)
+abbrev pub IsGuardNumber : ℕ → Guards → Linear → GuardNumber → Type 0
+IsGuardNumber parameters g row (number.Rise n) = (falls parameters row ≡ false) × (slice_get g.rise n ≡ Some row)
+IsGuardNumber parameters g row (number.Fall n) = (falls parameters row ≡ true) × (slice_get g.fall n ≡ Some row)
 
 -- a comparison of one row, which is among the guards afterwards
 pub record GuardNumbered (ns : Names) (before : GuardList) (c : PlainComparison) (after : GuardList) (n : GuardNumber) : Type 0 where
@@ -95,7 +96,7 @@ pub record GuardNumbered (ns : Names) (before : GuardList) (c : PlainComparison)
   pub known : UsesNames (guard_names ns) c
   pub kept : GuardsKept ns after
   pub guards : guards_so_far ns after ≡ with_guard (length ns.parameters) (guards_so_far ns before) row
-  pub numbered : IsNumber (length ns.parameters) (guards_so_far ns after) row n
+  pub numbered : IsGuardNumber (length ns.parameters) (guards_so_far ns after) row n
 
 -- a row is among the guards of its kind
 abbrev pub AmongGuards : ℕ → Guards → Linear → Type 0
@@ -105,10 +106,10 @@ AmongGuards parameters g row = IsTrue (if falls parameters row then has_row g.fa
 pub record GuardsNumbered (ns : Names) (before : GuardList) (cs : List PlainComparison) (after : GuardList) (masks : GuardMasks) : Type 0 where
   pub kept : GuardsKept ns after
   pub guards : guards_so_far ns after ≡ with_guards (length ns.parameters) (guards_so_far ns before) (rows_of (guard_names ns) cs)
-  pub known : Each (UsesNames (guard_names ns)) cs
+  pub known : AllByRecursion (UsesNames (guard_names ns)) cs
   pub rise : NamesGuards (guards_so_far ns after).rise (rows_of (guard_names ns) cs) masks.rise
   pub fall : NamesGuards (guards_so_far ns after).fall (rows_of (guard_names ns) cs) masks.fall
-  pub among : Each (AmongGuards (length ns.parameters) (guards_so_far ns after)) (rows_of (guard_names ns) cs)
+  pub among : AllByRecursion (AmongGuards (length ns.parameters) (guards_so_far ns after)) (rows_of (guard_names ns) cs)
 
 -- ---- masks
 

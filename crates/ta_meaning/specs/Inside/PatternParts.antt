@@ -3,7 +3,7 @@ use Rattle.std.specs.Prelude.{ℕ, ◌≡◌, ◌≤◌, List, [], ◌∷◌, �
 use Rattle.ta_syntax.specs.Grammar.{PlainEvent, PlainPattern}
 use Rattle.ta_automaton.specs.declared.pattern.Event.{Event}
 use Rattle.ta_automaton.specs.declared.pattern.Pattern.{Pattern}
-use Rattle.ta_automaton.specs.Lists.{EachFrom, Distinct}
+use Rattle.ta_base.specs.Lists.{EachFrom, Distinct}
 use Rattle.ta_automaton.specs.Patterns.{EventWithin, event_name, PatternWithin}
 use Rattle.ta_meaning.specs.Names.{Names, all_names}
 use Rattle.ta_meaning.specs.Meaning.{MeansEvent, MeansEvents, MeansPattern}

@@ -1,5 +1,6 @@
 -- What the parts of the resolver give: values that mean their part of the tree and keep the limits of a file (this project's profile)
 use Rattle.std.specs.Prelude.{ℕ, ◌+◌, ◌≤◌, List, length, take, drop, map}
+use Rattle.std.specs.List.{AllByRecursion}
 use Rattle.ta_linear.specs.declared.form.Form.{Form}
 use Rattle.ta_linear.specs.declared.row.Row.{Row}
 use Rattle.ta_syntax.specs.Grammar.{Terms, PlainComparison, PlainRule, PlainPattern}
@@ -7,7 +8,7 @@ use Rattle.ta_automaton.specs.declared.condition.Comparison.{Comparison}
 use Rattle.ta_automaton.specs.declared.condition.Condition.{Condition}
 use Rattle.ta_automaton.specs.declared.rule.Rule.{Rule}
 use Rattle.ta_automaton.specs.declared.pattern.Pattern.{Pattern}
-use Rattle.ta_automaton.specs.Lists.{Each, Distinct}
+use Rattle.ta_base.specs.Lists.{Distinct}
 use Rattle.ta_automaton.specs.Forms.{FormOver, RowOver, ConditionOver, RiseRow, FallRow}
 use Rattle.ta_automaton.specs.Shape.{RuleWithin, name_of}
 use Rattle.ta_automaton.specs.Patterns.{PatternsShape}
@@ -38,7 +39,7 @@ pub record ResolvedForm (names : List (List ℕ)) (sum : Terms) (form : Form) : 
 -- the rows that a comparison over some names means
 pub record ResolvedComparison (names : List (List ℕ)) (c : PlainComparison) (comparison : Comparison) : Type 0 where
   pub means : MeansComparison names c comparison
-  pub over : Each (RowOver (length names)) comparison.rows
+  pub over : AllByRecursion (RowOver (length names)) comparison.rows
 
 -- a condition that comparisons over some names mean
 pub record ResolvedCondition (names : List (List ℕ)) (cs : List PlainComparison) (condition : Condition) : Type 0 where
@@ -51,8 +52,8 @@ pub record ResolvedGuards (ns : Names) (guards : Guards) (rise fall : List Row) 
   pub fall_of : Pairwise RowOf guards.fall fall
   pub rise_limit : length rise ≤ 16
   pub fall_limit : length fall ≤ 6
-  pub rise_rows : Each (RiseRow (length ns.parameters) (length ns.shared)) rise
-  pub fall_rows : Each (FallRow (length ns.parameters) (length ns.shared)) fall
+  pub rise_rows : AllByRecursion (RiseRow (length ns.parameters) (length ns.shared)) rise
+  pub fall_rows : AllByRecursion (FallRow (length ns.parameters) (length ns.shared)) fall
   pub rise_distinct : Distinct rise
   pub fall_distinct : Distinct fall
 
@@ -60,7 +61,7 @@ pub record ResolvedGuards (ns : Names) (guards : Guards) (rise fall : List Row) 
 pub record ResolvedRules (ns : Names) (plain : List PlainRule) (rise fall : List Row) (rules : List Rule) : Type 0 where
   pub guards : ResolvedGuards ns (guards_of ns plain) rise fall
   pub means : Pairwise (MeansRule ns (guards_of ns plain)) plain rules
-  pub within : Each (RuleWithin (length ns.shared) (length ns.locations) (length rise) (length fall)) rules
+  pub within : AllByRecursion (RuleWithin (length ns.shared) (length ns.locations) (length rise) (length fall)) rules
   pub distinct : Distinct (map name_of rules)
 
 -- patterns

@@ -1,9 +1,9 @@
 -- Rules while they are read, one after another (this project's profile)
 use Rattle.std.specs.Prelude.{ℕ, ◌≡◌, List, ◌∷◌, [], ◌++◌, length}
+use Rattle.std.specs.List.{AllByRecursion}
 use Rattle.ta_syntax.specs.Grammar.{PlainRule}
 use Rattle.ta_syntax.specs.PlainTrees.{plain_rule}
 use Rattle.ta_syntax.specs.declared.tree.TreeRule.{TreeRule}
-use Rattle.ta_automaton.specs.Lists.{Each}
 use Rattle.ta_automaton.specs.Shape.{RuleWithin}
 use Rattle.ta_automaton.specs.declared.rule.Rule.{Rule}
 use Rattle.ta_meaning.specs.Names.{Names, guard_names}
@@ -15,7 +15,7 @@ use Rattle.ta_meaning.specs.declared.guards.GuardList.{GuardList}
 -- a rule that is meant, each row of whose guards is among the guards so far
 pub record RuleSoFar (ns : Names) (guards : GuardList) (r : PlainRule) (rule : Rule) : Type 0 where
   pub means : MeansRule ns (guards_so_far ns guards) r rule
-  pub among : Each (AmongGuards (length ns.parameters) (guards_so_far ns guards)) (rows_of (guard_names ns) r.guards)
+  pub among : AllByRecursion (AmongGuards (length ns.parameters) (guards_so_far ns guards)) (rows_of (guard_names ns) r.guards)
   pub within : RuleWithin (length ns.shared) (length ns.locations) (length guards.rise.items) (length guards.fall.items) rule
 
 -- one more rule: its name is declared, and its guards are among those afterwards

@@ -1,5 +1,5 @@
 -- The parts of a sum: their faults, and the forms with their numbers (this project's profile)
-use Rattle.std.specs.Prelude.{ℕ, ℤ, pos, ◌≤◌, ◌≡◌, ◌+ℤ◌, ◌-ℤ◌, Bool, false, ◌||◌, unsigned_abs, List, [], ◌∷◌, map, IsTrue, Option, Some, None}
+use Rattle.std.specs.Prelude.{ℕ, ℤ, pos, ◌≡◌, ◌+ℤ◌, Bool, false, ◌||◌, List, [], ◌∷◌, map, IsTrue, Option, Some, None}
 use Rattle.ta_linear.specs.Terms.{coefficient}
 use Rattle.ta_linear.specs.declared.form.Form.{Form}
 use Rattle.ta_linear.specs.declared.row.Row.{Row}
@@ -13,16 +13,16 @@ use Rattle.ta_syntax.specs.declared.sums.TreeFactor.{TreeFactor}
 use Rattle.ta_syntax.specs.declared.sums.TreeFactor.TheFolds.{fold-TreeTerm, fold-TreeFactor}
 use Rattle.ta_meaning.specs.Sums.{number_of, signed, factor_coefficient, factor_constant}
 use Rattle.ta_meaning.specs.Linear.{Linear, FormOf, is_large}
-use Rattle.ta_meaning.specs.Faults.{Scope, Judged, factor_judged, sum_judged, term_judged}
-use Rattle.ta_meaning.specs.SumParts.{IsDifference, Within}
+use Rattle.ta_meaning.specs.Faults.{Scope, WithFaults, factor_judged, sum_judged, term_judged}
+use Rattle.ta_meaning.specs.SumParts.{IsDifference, FormWithin}
 
 -- a term with its faults
-abbrev pub judged_term : Scope → TreeTerm → Judged Term
-judged_term s = fold-TreeTerm (Judged Factor) (Judged Terms) (Judged Term) (factor_judged s) (sum_judged s) (term_judged s)
+abbrev pub judged_term : Scope → TreeTerm → WithFaults Term
+judged_term s = fold-TreeTerm (WithFaults Factor) (WithFaults Terms) (WithFaults Term) (factor_judged s) (sum_judged s) (term_judged s)
 
 -- a factor with its faults
-abbrev pub judged_factor : Scope → TreeFactor → Judged Factor
-judged_factor s = fold-TreeFactor (Judged Factor) (Judged Terms) (Judged Term) (factor_judged s) (sum_judged s) (term_judged s)
+abbrev pub judged_factor : Scope → TreeFactor → WithFaults Factor
+judged_factor s = fold-TreeFactor (WithFaults Factor) (WithFaults Terms) (WithFaults Term) (factor_judged s) (sum_judged s) (term_judged s)
 
 -- the numbers of a factor
 abbrev pub linear_factor : List (List ℕ) → Factor → Linear
@@ -37,7 +37,7 @@ number_or other (Some d) = number_of d.text
 pub record PartOf (is_known : Bool) (linear : Linear) (bound : ℕ) (form : Form) : Type 0 where
   pub known : IsTrue is_known
   pub numbers : FormOf linear form
-  pub within : Within bound form
+  pub within : FormWithin bound form
 
 -- some coefficient is above 1,000,000,000 in absolute value
 abbrev pub any_large_term : List (ℕ × ℤ) → Bool

@@ -1,10 +1,11 @@
 -- The updates of a rule while they are read (this project's profile)
 use Rattle.std.specs.Prelude.{ℕ, ℤ, pos, ◌≡◌, ◌≤◌, ◌==◌, List, [], ◌∷◌, ◌++◌, length, map, slice_get, slice_index_or, Contains, Some, Result, Ok, Err, if◌then◌else◌}
+use Rattle.std.specs.List.{AllByRecursion}
 use Rattle.ta_syntax.specs.Grammar.{PlainUpdate}
 use Rattle.ta_syntax.specs.declared.names.Spelled.{Spelled}
 use Rattle.ta_syntax.specs.declared.fault.FileFault.{FileFault}
 use Rattle.ta_syntax.specs.declared.fault.FileFault.TheVariants as fault
-use Rattle.ta_automaton.specs.Lists.{Each, Distinct}
+use Rattle.ta_base.specs.Lists.{Distinct}
 use Rattle.ta_automaton.specs.Shape.{Update, variable_of}
 use Rattle.ta_meaning.specs.Names.{Names, all_names}
 use Rattle.ta_meaning.specs.Sums.{has_name}
@@ -32,6 +33,6 @@ WithUpdate updates variable amount after (Err e) = e ≡ fault.Memory
 -- the updates that a rule's updates mean, of distinct shared variables
 pub record UpdatesRead (ns : Names) (us : List PlainUpdate) (updates : List (ℕ × ℤ)) : Type 0 where
   pub means : MeansUpdates ns.shared us updates
-  pub each : Each (Update (length ns.shared)) updates
+  pub each : AllByRecursion (Update (length ns.shared)) updates
   pub distinct : Distinct (map variable_of updates)
   pub few : length updates ≤ length us

@@ -10,7 +10,7 @@ use Rattle.ta_program.specs.declared.limits.TheConstants.{CERTIFICATE}
 use Rattle.ta_program.specs.Certified.{long_line}
 
 -- the report is written with its number, and the text is put in the file of a name
-pub record PutsText (number : ℕ) (report name text : List ℕ) (answer : Answer) : Type 0 where
+pub record ReportsAndPuts (number : ℕ) (report name text : List ℕ) (answer : Answer) : Type 0 where
   pub numbered : answer.number ≡ number
   pub written : answer.text ≡ report
   pub put : Put
@@ -28,7 +28,7 @@ SaysLong name Memory = ⊥
 
 -- the text is put, or it is too long
 abbrev pub Certifies : ℕ → List ℕ → List ℕ → List ℕ → Result Answer Refusal → Type 0
-Certifies number report name text (Ok answer) = PutsText number report name text answer
+Certifies number report name text (Ok answer) = ReportsAndPuts number report name text answer
 Certifies number report name text (Err (Refused n who why)) = (n ≡ CERTIFICATE.number) × (file_line who.now (phrase_text why) ≡ long_line name) × (CERTIFICATE.bytes < length text)
 Certifies number report name text (Err (ReadFailed who)) = ⊥
 Certifies number report name text (Err (PutFailed who)) = ⊥

@@ -8,7 +8,7 @@ use Rattle.ta_search.specs.Searching.{IsSearchEnd, LastIsFound}
 use Rattle.ta_search.specs.SearchText.{search_text}
 
 -- a template's search for a budget ended so, values were found, and this is its text
-pub record Ends (template : Template) (budget : ℕ) (end : SearchEnd) (text : List ℕ) : Type 0 where
+pub record IsFoundEnd (template : Template) (budget : ℕ) (end : SearchEnd) (text : List ℕ) : Type 0 where
   pub is_end : IsSearchEnd template budget end
   pub found : end.found ≡ true
   pub last : LastIsFound template end
@@ -22,5 +22,5 @@ pub record LastGives (end : SearchEnd) (values certificate : List ℕ) : Type 0 
 -- the search ended with these values and this certificate, and this is its text
 pub record FoundBy (template : Template) (budget : ℕ) (values certificate text : List ℕ) : Type 0 where
   pub end : SearchEnd
-  pub ends : Ends template budget end text
+  pub ends : IsFoundEnd template budget end text
   pub gives : LastGives end values certificate

@@ -4,7 +4,7 @@ use Rattle.ta_cert.specs.declared.fault.CertFault.{CertFault}
 use Rattle.ta_cert.specs.declared.fault.CertFault.TheVariants as fault
 use Rattle.ta_check.specs.declared.accepted.Accepted.{Accepted}
 use Rattle.ta_check.specs.declared.checker.Checker.{Checker}
-use Rattle.ta_check.specs.Checkers.{StandsFor, subject_of}
+use Rattle.ta_check.specs.Checkers.{CheckerStandsFor, subject_of}
 use Rattle.ta_check.specs.Faults.{IsLastingFor}
 use Rattle.ta_check.specs.Subjects.{Subject}
 use Rattle.ta_report.specs.Faults.{cert_fault_text}
@@ -15,7 +15,7 @@ use Rattle.ta_shell.specs.declared.answer.Refusal.TheVariants.{Memory}
 use Rattle.ta_shell.specs.Lines.{longer_than}
 use Rattle.ta_shell.specs.Reading.{SaysOfFile}
 use Rattle.ta_shell.specs.Sights.{Begins, HasBytes, seen, where_told}
-use Rattle.ta_shell.specs.Stages.{GoesOn, Stage}
+use Rattle.ta_shell.specs.Stages.{ReadingGoesOn, Stage}
 use Rattle.ta_program.specs.declared.limits.TheConstants.{CERTIFICATE}
 use Rattle.ta_program.specs.Kinds.{certificate_kind}
 
@@ -28,7 +28,7 @@ RefusedBy name f refusal = SaysOfFile CERTIFICATE name (cert_fault_text f) refus
 pub record JudgedTo (files : Option Told) (name : List ℕ) (first now : List Call) (checker : Checker) (text : List ℕ) : Type 0 where
   pub calls : Grew (λ read. ReadsFirst name read text) first now
   pub there : 0 < length text → where_told files name (Begins text)
-  pub stands : StandsFor checker text
+  pub stands : CheckerStandsFor checker text
   pub within : length text ≤ CERTIFICATE.bytes
 
 -- the calls spell this text, which the file holds, and the checker stands for it
@@ -36,32 +36,32 @@ pub record JudgedWhole (files : Option Told) (name : List ℕ) (checker : Checke
   pub text : List ℕ
   pub spells : Spells name calls text
   pub had : HasBytes (seen files calls) name CERTIFICATE.bytes text
-  pub stands : StandsFor checker text
+  pub stands : CheckerStandsFor checker text
 
 -- the certificate is no use
-abbrev pub Unproved : Subject → Option Told → List ℕ → Refusal → List Call → Type 0
-Unproved subject files name refusal calls = Stage {T = Accepted} (certificate_kind subject) (λ accepted. accepted.patterns) files name (Err refusal) calls
+abbrev pub IsUnproved : Subject → Option Told → List ℕ → Refusal → List Call → Type 0
+IsUnproved subject files name refusal calls = Stage {T = Accepted} (certificate_kind subject) (λ accepted. accepted.patterns) files name (Err refusal) calls
 
 -- what judging all pieces gives
-abbrev pub Judged : Subject → Option Told → List ℕ → Result Checker Refusal → List Call → Type 0
-Judged subject files name (Ok checker) calls = JudgedWhole files name checker calls × (subject_of checker ≡ subject)
-Judged subject files name (Err refusal) calls = Unproved subject files name refusal calls
+abbrev pub JudgingGives : Subject → Option Told → List ℕ → Result Checker Refusal → List Call → Type 0
+JudgingGives subject files name (Ok checker) calls = JudgedWhole files name checker calls × (subject_of checker ≡ subject)
+JudgingGives subject files name (Err refusal) calls = IsUnproved subject files name refusal calls
 
 -- what judging one piece gives, which begins at an offset: the offset behind it, or that the file ended
 abbrev pub Turn : Subject → Option Told → List ℕ → ℕ → List Call → List Call → Checker → Result (Option ℕ) Refusal → Type 0
 Turn subject files name at first now checker (Ok (Some next)) = (at < next) × (text : List ℕ) × (next ≡ length text) × JudgedTo files name first now checker text
 Turn subject files name at first now checker (Ok None) = Grew (JudgedWhole files name checker) first now
-Turn subject files name at first now checker (Err refusal) = Grew (Unproved subject files name refusal) first now
+Turn subject files name at first now checker (Err refusal) = Grew (IsUnproved subject files name refusal) first now
 
 -- the checker stands for a text, which a certificate's limit allows
-pub record Allowed (checker : Checker) (text : List ℕ) : Type 0 where
-  pub stands : StandsFor checker text
+pub record IsAllowed (checker : Checker) (text : List ℕ) : Type 0 where
+  pub stands : CheckerStandsFor checker text
   pub within : length text ≤ CERTIFICATE.bytes
 
 -- a text is longer than a certificate, and what is allowed of it has no fault that lasts
 pub record PassesLimit (subject : Subject) (name text : List ℕ) (refusal : Refusal) : Type 0 where
   pub longer : CERTIFICATE.bytes < length text
-  pub goes_on : GoesOn (certificate_kind subject) (take CERTIFICATE.bytes text)
+  pub goes_on : ReadingGoesOn (certificate_kind subject) (take CERTIFICATE.bytes text)
   pub says : SaysOfFile CERTIFICATE name (longer_than CERTIFICATE.bytes) refusal
 
 -- the first bytes of a text, which the limit allows, have this fault, and it lasts
@@ -76,6 +76,6 @@ pub record Breaks (subject : Subject) (name text : List ℕ) (refusal : Refusal)
 
 -- what a piece behind a text gives, which may end the file: the offset behind it, or that the file ended
 abbrev pub PieceFed : Subject → List ℕ → List ℕ → List ℕ → Bool → Checker → Result (Option ℕ) Refusal → Type 0
-PieceFed subject name text piece ended checker (Ok (Some next)) = (ended ≡ false) × (next ≡ length (text ++ piece)) × Allowed checker (text ++ piece)
-PieceFed subject name text piece ended checker (Ok None) = (ended ≡ true) × Allowed checker (text ++ piece)
+PieceFed subject name text piece ended checker (Ok (Some next)) = (ended ≡ false) × (next ≡ length (text ++ piece)) × IsAllowed checker (text ++ piece)
+PieceFed subject name text piece ended checker (Ok None) = (ended ≡ true) × IsAllowed checker (text ++ piece)
 PieceFed subject name text piece ended checker (Err refusal) = (refusal ≡ Memory) ⊎ (PassesLimit subject name (text ++ piece) refusal ⊎ Breaks subject name (text ++ piece) refusal)

@@ -1,9 +1,9 @@
 -- How far a replay has come (this project's profile)
 use Rattle.std.specs.Prelude.{ℕ, ◌<◌, ◌≡◌, ◌↔◌, ◌⊎◌, List, length, take, slice_get, Some, IsBitSet}
+use Rattle.std.specs.List.{AllByRecursion}
 use Rattle.ta_automaton.specs.declared.automaton.Automaton.{Automaton}
 use Rattle.ta_automaton.specs.declared.pattern.Event.{Event}
 use Rattle.ta_automaton.specs.declared.pattern.Pattern.{Pattern}
-use Rattle.ta_automaton.specs.Lists.{Each}
 use Rattle.ta_automaton.specs.Patterns.{PatternWithin}
 use Rattle.ta_automaton.specs.Runs as runs
 use Rattle.ta_automaton.specs.Runs.{At, HappensAt, Holds, Initial, Steps}
@@ -17,8 +17,8 @@ use Rattle.ta_replay.specs.declared.run.Run.{Run}
 use Rattle.ta_replay.specs.declared.run.RunLine.{RunLine}
 use Rattle.ta_replay.specs.declared.run.RunLine.TheVariants.{Mark}
 use Rattle.ta_replay.specs.Fits.{LineFits}
-use Rattle.ta_replay.specs.Shows.{unit_steps, steps_before, MarksAt, IsMarked, BeginsWith}
-use Rattle.ta_replay.specs.Replays.{ValuesAfter, LinePasses, MayFollow}
+use Rattle.ta_replay.specs.Shows.{unit_steps, steps_before, MarksAt, IsMarked, IsFirstConfig}
+use Rattle.ta_replay.specs.Replays.{ValuesAfter, LinePasses, MayTakeLines}
 
 -- a pattern over an automaton's places and locations
 abbrev pub PatternOf : Automaton → Pattern → Type 0
@@ -49,28 +49,28 @@ pub record Path (a : Automaton) (p : Pattern) (lines : List RunLine) (i : ℕ) (
 
 -- the first i lines pass and lead to a configuration and marks
 pub record Following (a : Automaton) (p : Pattern) (run : Run) (i : ℕ) (config : Config) (marks : ℕ) : Type 0 where
-  pub may_follow : MayFollow a p run
+  pub may_follow : MayTakeLines a p run
   pub before : (j : ℕ) (line : RunLine) → j < i → slice_get run.lines j ≡ Some line → LinePasses a p run j line
   pub is_of : IsOf a config
   pub reached : ValuesAfter a run (take i run.lines) config.values.items
   pub marked : (e : ℕ) → IsBitSet marks e ↔ IsMarked (take i run.lines) e
   pub first : runs.Config
-  pub begins : BeginsWith a run first
+  pub begins : IsFirstConfig a run first
   pub initial : Initial a first
   pub start : Holds p.start first
   pub path : Path a p run.lines i first (config_of a config)
 
 -- all lines pass and lead to marks
-abbrev pub Followed : Automaton → Pattern → Run → ℕ → Type 0
-Followed a p run marks = (config : Config) × Following a p run (length run.lines) config marks
+abbrev pub AreFollowed : Automaton → Pattern → Run → ℕ → Type 0
+AreFollowed a p run marks = (config : Config) × Following a p run (length run.lines) config marks
 
 -- a run's values and lines fit an automaton and a pattern
 pub record FitsPattern (a : Automaton) (p : Pattern) (run : Run) : Type 0 where
   pub parameters : length run.parameters ≡ length a.parameters
-  pub parameters_natural : Each Value run.parameters
+  pub parameters_natural : AllByRecursion Value run.parameters
   pub counts : length run.counts ≡ length a.initial
-  pub counts_natural : Each Value run.counts
-  pub lines : Each (LineFits a p) run.lines
+  pub counts_natural : AllByRecursion Value run.counts
+  pub lines : AllByRecursion (LineFits a p) run.lines
 
 -- the first event that a mask doesn't name
 pub record FirstUnmarked (p : Pattern) (marks e : ℕ) : Type 0 where

@@ -1,26 +1,17 @@
 -- What the parts of a text's reader find
 use Rattle.std.specs.Prelude.{ℕ, ℤ, ◌+◌, ◌<◌, ◌≡◌, ◌≢◌, ◌⊎◌, List, [], ◌∷◌, ◌++◌, length, map, codes, slice_get, Option, None, Some}
-use Rattle.std.specs.Fmt.{signed_decimal}
+use Rattle.std.specs.List.{AllByRecursion}
 use Rattle.ta_automaton.specs.declared.automaton.Automaton.{Automaton}
 use Rattle.ta_automaton.specs.declared.pattern.Pattern.{Pattern}
 use Rattle.ta_automaton.specs.declared.file.File.{File}
-use Rattle.ta_automaton.specs.Lists.{Each}
 use Rattle.ta_counter.specs.Values.{Value}
 use Rattle.ta_replay.specs.declared.run.RunLine.{RunLine}
 use Rattle.ta_replay.specs.declared.fault.RunFault.{RunFault}
 use Rattle.ta_replay.specs.declared.fault.RunFault.TheVariants as fault
 use Rattle.ta_replay.specs.Fits.{LineFits}
 use Rattle.ta_replay.specs.RunText.{Slot, name_at, valued_line, value_lines, line_of, head_line, lines_text}
-use Rattle.ta_replay.specs.TextFaults.{Avoids, HasValue, IsValued, FormFor}
-
--- the bytes before the first such byte, and those after it
-pub record SplitAt (byte : ℕ) (bytes front behind : List ℕ) : Type 0 where
-  pub split : bytes ≡ front ++ (byte ∷ behind)
-  pub first : Avoids byte front
-
--- the bytes don't begin so
-abbrev pub BeginsOtherwise : List ℕ → List ℕ → Type 0
-BeginsOtherwise front bytes = (rest : List ℕ) → bytes ≡ front ++ rest → ⊥
+use Rattle.ta_replay.specs.TextFaults.{HasValue, IsValued, FormFor}
+use Rattle.ta_base.specs.Bytes.{Avoids, SplitAt}
 
 -- the item with this number has this name
 pub record IsNameOf (names : List (List ℕ)) (name : List ℕ) (number : ℕ) : Type 0 where
@@ -66,7 +57,7 @@ ValueRefused word expected bytes number _ = ⊥
 
 -- the first lines give these values
 pub record ValuesBegun (asked : List Slot) (bytes : List ℕ) (values : List ℤ) (behind : List ℕ) : Type 0 where
-  pub numbers : Each Value values
+  pub numbers : AllByRecursion Value values
   pub read : bytes ≡ lines_text (value_lines asked values) ++ behind
 
 -- the first lines give all values that are asked for
@@ -112,7 +103,7 @@ pub data StepRefused (a : Automaton) (p : Pattern) (bytes : List ℕ) (number : 
 
 -- the first lines are these steps and marks
 pub record StepsBegun (a : Automaton) (p : Pattern) (bytes : List ℕ) (lines : List RunLine) (behind : List ℕ) : Type 0 where
-  pub fit : Each (LineFits a p) lines
+  pub fit : AllByRecursion (LineFits a p) lines
   pub read : bytes ≡ lines_text (map (line_of a p) lines) ++ behind
 
 -- the bytes are these steps and marks, and the end

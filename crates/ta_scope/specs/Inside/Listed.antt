@@ -1,7 +1,7 @@
 -- The steps from a location, as far as the rules have been listed (this project's profile)
 use Rattle.std.specs.Prelude.{ℕ, ℤ, List, map, filter}
 use Rattle.ta_automaton.specs.declared.automaton.Automaton.{Automaton}
-use Rattle.ta_automaton.specs.Masks.{numbers_from}
+use Rattle.ta_base.specs.Masks.{numbers_from}
 use Rattle.ta_scope.specs.Arranged.{count_at, is_step_from}
 
 -- of the first n rules those that leave a location and have a count above 0, each with its count

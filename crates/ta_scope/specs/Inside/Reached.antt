@@ -10,7 +10,7 @@ pub record LeadsOut (rules mask number : ℕ) (rule : Rule) : Type 0 where
   pub to : ¬ IsBitSet mask rule.to
 
 -- the second mask has one more location, to which a rule leads out of the first mask
-pub record Grown (a : Automaton) (rules mask more : ℕ) : Type 0 where
+pub record AddsLocation (a : Automaton) (rules mask more : ℕ) : Type 0 where
   pub number : ℕ
   pub rule : Rule
   pub named : slice_get a.rules number ≡ Some rule
@@ -19,5 +19,5 @@ pub record Grown (a : Automaton) (rules mask more : ℕ) : Type 0 where
   pub added : (l : ℕ) → IsBitSet more l → IsBitSet mask l ⊎ (l ≡ rule.to)
 
 -- no rule leads out of a mask
-abbrev pub Closed : Automaton → ℕ → ℕ → Type 0
-Closed a rules mask = (r : ℕ) (rule : Rule) → slice_get a.rules r ≡ Some rule → ¬ LeadsOut rules mask r rule
+abbrev pub IsClosed : Automaton → ℕ → ℕ → Type 0
+IsClosed a rules mask = (r : ℕ) (rule : Rule) → slice_get a.rules r ≡ Some rule → ¬ LeadsOut rules mask r rule

@@ -3,7 +3,7 @@ use Rattle.std.specs.Prelude.{ℕ, ℤ, ◌≡◌, List, ◌∷◌, IsBitSet}
 use Rattle.ta_automaton.specs.declared.rule.Rule.{Rule}
 use Rattle.ta_automaton.specs.declared.automaton.Automaton.{Automaton}
 use Rattle.ta_scope.specs.Cycles.{NoCycle}
-use Rattle.ta_scope.specs.Arranged.{Counts, Support, FirstPath, LeastCycle, AllTakenOut}
+use Rattle.ta_scope.specs.Arranged.{AreRuleCounts, Support, FirstPath, LeastCycle, AllTakenOut}
 
 -- a list is the least cycle of a mask's rules
 pub record IsLeastCycle (a : Automaton) (rules : ℕ) (cycle : List ℕ) : Type 0 where
@@ -23,5 +23,5 @@ pub record IsCycleOf (a : Automaton) (rules number : ℕ) (rule : Rule) (cycle :
 pub record FullyTakenOut (a : Automaton) (counts rest : List ℤ) : Type 0 where
   pub later : List (List ℤ)
   pub taken_out : AllTakenOut a counts later rest
-  pub left : Counts a rest
+  pub left : AreRuleCounts a rest
   pub no_cycle : (rules : ℕ) → Support rest rules → NoCycle a rules

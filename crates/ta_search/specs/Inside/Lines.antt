@@ -1,15 +1,10 @@
 -- What the parts of a template's reader find
-use Rattle.std.specs.Prelude.{ℕ, ◌+◌, ◌^◌, ◌<◌, ◌≤◌, ◌≡◌, ◌⊎◌, ◌++◌, List, [], ◌∷◌, length, decimal, true, false, Some}
+use Rattle.std.specs.Prelude.{ℕ, ◌+◌, ◌<◌, ◌≤◌, ◌≡◌, ◌⊎◌, ◌++◌, List, [], ◌∷◌, length, true, false, Some}
 use Rattle.ta_smt.specs.WordText.{is_name}
 use Rattle.ta_search.specs.declared.template.Hole.{Hole}
 use Rattle.ta_search.specs.declared.fault.TemplateFault.{TemplateFault}
 use Rattle.ta_search.specs.declared.fault.TemplateFault.TheVariants as fault
-use Rattle.ta_search.specs.Holes.{IsSpelled, InRange, AreTooMany, vector_count, is_among, unknown_place, hole_line}
-
--- bytes that are a number of at most 10 digits
-pub record IsShortNumber (bytes : List ℕ) (n : ℕ) : Type 0 where
-  pub text : bytes ≡ decimal n
-  pub short : n < 10 ^ 10
+use Rattle.ta_search.specs.Holes.{IsSpelledHole, HoleInRange, AreTooMany, vector_count, is_among, unknown_place, hole_line}
 
 -- bytes that are a name of a hole
 pub record IsHoleName (bytes : List ℕ) : Type 0 where
@@ -19,18 +14,18 @@ pub record IsHoleName (bytes : List ℕ) : Type 0 where
 -- a line that declares a hole of this name, with these numbers
 pub record Declares (line name : List ℕ) (low high : ℕ) : Type 0 where
   pub h : Hole
-  pub spelled : IsSpelled h
+  pub spelled : IsSpelledHole h
   pub text : line ≡ hole_line h
   pub name_is : name ≡ h.name
   pub low_is : low ≡ h.low
   pub high_is : high ≡ h.high
 
 -- a line that declares a hole which may stand behind these
-pub record Adds (hs : List Hole) (line : List ℕ) (h : Hole) : Type 0 where
-  pub spelled : IsSpelled h
+pub record AddsHole (hs : List Hole) (line : List ℕ) (h : Hole) : Type 0 where
+  pub spelled : IsSpelledHole h
   pub text : line ≡ hole_line h
   pub fresh : is_among hs h.name ≡ false
-  pub range : InRange h
+  pub range : HoleInRange h
   pub few : length (hs ++ (h ∷ [])) ≤ 4
   pub vectors : vector_count (hs ++ (h ∷ [])) ≤ 10000
 
@@ -39,14 +34,14 @@ abbrev pub HoleRefused : List Hole → Hole → TemplateFault → ℕ → Type 0
 HoleRefused hs h (fault.Repeated k) number = (k ≡ number) × (is_among hs h.name ≡ true)
 HoleRefused hs h (fault.Range k) number = (k ≡ number) × (is_among hs h.name ≡ false) × ((h.high < h.low) ⊎ (1000000000 < h.high))
 HoleRefused hs h (fault.TooMany k) number =
-    (k ≡ number) × (is_among hs h.name ≡ false) × InRange h × AreTooMany (hs ++ (h ∷ []))
+    (k ≡ number) × (is_among hs h.name ≡ false) × HoleInRange h × AreTooMany (hs ++ (h ∷ []))
 HoleRefused hs h _ number = ⊥
 
 -- why a line may not stand behind these holes; of memory nothing is said
 abbrev pub LineRefused : List Hole → List ℕ → ℕ → TemplateFault → Type 0
-LineRefused hs line number (fault.Line k) = (k ≡ number) × ((h : Hole) → IsSpelled h → line ≡ hole_line h → ⊥)
+LineRefused hs line number (fault.Line k) = (k ≡ number) × ((h : Hole) → IsSpelledHole h → line ≡ hole_line h → ⊥)
 LineRefused hs line number fault.Memory = Unit {0}
-LineRefused hs line number e = (h : Hole) × IsSpelled h × (line ≡ hole_line h) × HoleRefused hs h e number
+LineRefused hs line number e = (h : Hole) × IsSpelledHole h × (line ≡ hole_line h) × HoleRefused hs h e number
 
 -- why a body is refused that stands at this offset, behind these holes; of memory nothing is said
 abbrev pub BodyRefused : List Hole → ℕ → List ℕ → TemplateFault → Type 0

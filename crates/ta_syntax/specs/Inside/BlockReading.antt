@@ -3,10 +3,10 @@ use Rattle.std.specs.Prelude.{ℕ, ◌≡◌, ◌≤◌, List, [], ◌∷◌, �
 use Rattle.ta_syntax.specs.Grammar.{listed, led, ended, each}
 use Rattle.ta_syntax.specs.Stated.{Offsets, unplaced}
 use Rattle.ta_syntax.specs.Limits.{Counts}
-use Rattle.ta_syntax.specs.Parts.{Part, Text, a_name, a_mark, both, maybe, many, upto}
+use Rattle.ta_syntax.specs.Parts.{GrammarPart, Text, a_name, a_mark, both, maybe, many, upto}
 use Rattle.ta_syntax.specs.Inside.Parts.{list_part}
-use Rattle.ta_syntax.specs.Faults.{Stopped, offset_of}
-use Rattle.ta_syntax.specs.Reading.{Reads, Avoids, HasRoom, BeginsWith}
+use Rattle.ta_syntax.specs.Faults.{IsStopped, offset_of}
+use Rattle.ta_syntax.specs.Reading.{ReadsPart, NeverBegins, HasRoom, BeginsWithKind}
 use Rattle.ta_syntax.specs.ListReading.{IsReady}
 use Rattle.ta_syntax.specs.Inside.ListReading.{extends_list, IsFresh}
 use Rattle.ta_syntax.specs.declared.tokens.Kind.{Kind}
@@ -18,15 +18,15 @@ use Rattle.ta_syntax.specs.declared.placed.Token.{Token}
 use Rattle.ta_syntax.specs.declared.fault.FileFault.{FileFault}
 
 -- no text of the part begins by the mark
-abbrev pub AvoidsMark : Mark → Part → Type 0
+abbrev pub AvoidsMark : Mark → GrammarPart → Type 0
 AvoidsMark m K = (w : List Kind) → Text K (kind.Fixed m ∷ w) → ⊥
 
 -- no text of the part is empty or begins by the mark
-abbrev pub StartsOther : Mark → Part → Type 0
+abbrev pub StartsOther : Mark → GrammarPart → Type 0
 StartsOther m p = (a b w : List Kind) → Text p a → a ++ b ≡ kind.Fixed m ∷ w → ⊥
 
 -- between parts: no parenthesis is open, a token may come, and no block began
-pub record Kept (c d : Counts) : Type 0 where
+pub record IsBetweenParts (c d : Counts) : Type 0 where
   pub closed : d.open_now ≡ 0
   pub room : HasRoom d
   pub rules : d.rules ≡ c.rules
@@ -34,88 +34,88 @@ pub record Kept (c d : Counts) : Type 0 where
   pub events : d.events ≡ c.events
 
 -- the tokens were read, and the counts that blocks need were kept
-pub record ReadsKept (L : Part) (c : Counts) (tokens rest : List Token) (M : Part) (text : List Kind) (stated : List Offsets) : Type 0 where
+pub record ReadsKept (L : GrammarPart) (c : Counts) (tokens rest : List Token) (M : GrammarPart) (text : List Kind) (stated : List Offsets) : Type 0 where
   pub counts : Counts
-  pub kept : Kept c counts
-  pub reads : Reads L c tokens rest M counts text stated
+  pub kept : IsBetweenParts c counts
+  pub reads : ReadsPart L c tokens rest M counts text stated
 
 -- the keyword begins a list that may have so many items
-abbrev pub Leads : Mark → ℕ → Type 0
-Leads mark.Parameters n = n ≡ 16
-Leads mark.Shared n = n ≡ 16
-Leads mark.Locations n = n ≡ 32
-Leads mark.Resilience n = n ≡ 16
-Leads mark.When n = n ≡ 16
-Leads mark.Do n = n ≡ 16
-Leads mark.Start n = n ≡ 16
-Leads mark.Empty n = n ≡ 32
-Leads mark.After n = n ≡ 8
-Leads _ n = ⊥
+abbrev pub BeginsListOf : Mark → ℕ → Type 0
+BeginsListOf mark.Parameters n = n ≡ 16
+BeginsListOf mark.Shared n = n ≡ 16
+BeginsListOf mark.Locations n = n ≡ 32
+BeginsListOf mark.Resilience n = n ≡ 16
+BeginsListOf mark.When n = n ≡ 16
+BeginsListOf mark.Do n = n ≡ 16
+BeginsListOf mark.Start n = n ≡ 16
+BeginsListOf mark.Empty n = n ≡ 32
+BeginsListOf mark.After n = n ≡ 8
+BeginsListOf _ n = ⊥
 
 -- ---- a name and a mark
 
 -- a name and a mark were read
 pub record TookNameThen (m : Mark) (end : ℕ) (name : Spelled) (tokens rest : List Token) : Type 0 where
   pub mid : List Token
-  pub named : BeginsWith tokens (kind.Name name.name) mid
-  pub marked : BeginsWith mid (kind.Fixed m) rest
+  pub named : BeginsWithKind tokens (kind.Name name.name) mid
+  pub marked : BeginsWithKind mid (kind.Fixed m) rest
   pub placed : name.at ≡ offset_of end tokens
 
 -- there is no name with this mark behind it
 abbrev pub NameThenStops : Mark → ℕ → List Token → FileFault → Type 0
-NameThenStops m end tokens e = (K : Part) (c : Counts) → HasRoom c → Stopped (Text (both a_name (both (a_mark m) K))) c end tokens e
+NameThenStops m end tokens e = (K : GrammarPart) (c : Counts) → HasRoom c → IsStopped (Text (both a_name (both (a_mark m) K))) c end tokens e
 
 -- ---- a list and a semicolon
 
 -- a list and the semicolon behind it were read
-pub record TookEnd {A : Type 0} (p : Part) (spelled : A → List Kind) (stated : A → List Offsets) (limit : ℕ) (items : List A) (tokens rest : List Token) : Type 0 where
+pub record TookEnd {A : Type 0} (p : GrammarPart) (spelled : A → List Kind) (stated : A → List Offsets) (limit : ℕ) (items : List A) (tokens rest : List Token) : Type 0 where
   pub some : 1 ≤ length items
   pub few : length items ≤ limit
   pub shorter : length rest ≤ length tokens
-  pub reads : (K : Part) (c : Counts) → IsFresh limit c → ReadsKept (both (list_part p) (both (a_mark mark.Semicolon) K)) c tokens rest K (listed kind.Fixed spelled items ++ kind.Fixed mark.Semicolon ∷ []) (listed unplaced stated items ++ [] ∷ [])
+  pub reads : (K : GrammarPart) (c : Counts) → IsFresh limit c → ReadsKept (both (list_part p) (both (a_mark mark.Semicolon) K)) c tokens rest K (listed kind.Fixed spelled items ++ kind.Fixed mark.Semicolon ∷ []) (listed unplaced stated items ++ [] ∷ [])
 
 -- a list with its semicolon could not be read
-abbrev pub EndStops : Part → ℕ → ℕ → List Token → FileFault → Type 0
-EndStops p limit end tokens e = (K : Part) (c : Counts) → IsFresh limit c → Stopped (Text (both (list_part p) (both (a_mark mark.Semicolon) K))) c end tokens e
+abbrev pub EndStops : GrammarPart → ℕ → ℕ → List Token → FileFault → Type 0
+EndStops p limit end tokens e = (K : GrammarPart) (c : Counts) → IsFresh limit c → IsStopped (Text (both (list_part p) (both (a_mark mark.Semicolon) K))) c end tokens e
 
 -- ---- [ keyword list ]
 
 -- an optional list behind its keyword was read
-pub record TookLed {A : Type 0} (m : Mark) (p : Part) (spelled : A → List Kind) (stated : A → List Offsets) (limit : ℕ) (items : List A) (tokens rest : List Token) : Type 0 where
+pub record TookLed {A : Type 0} (m : Mark) (p : GrammarPart) (spelled : A → List Kind) (stated : A → List Offsets) (limit : ℕ) (items : List A) (tokens rest : List Token) : Type 0 where
   pub few : length items ≤ limit
   pub shorter : length rest ≤ length tokens
-  pub reads : (K : Part) (c : Counts) → Avoids extends_list K → AvoidsMark m K → IsReady c → ReadsKept (both (maybe m (list_part p)) K) c tokens rest K (led kind.Fixed m spelled items) (led unplaced m stated items)
+  pub reads : (K : GrammarPart) (c : Counts) → NeverBegins extends_list K → AvoidsMark m K → IsReady c → ReadsKept (both (maybe m (list_part p)) K) c tokens rest K (led kind.Fixed m spelled items) (led unplaced m stated items)
 
 -- an optional list could not be read
-abbrev pub LedStops : Mark → Part → ℕ → List Token → FileFault → Type 0
-LedStops m p end tokens e = (K : Part) (c : Counts) → Avoids extends_list K → AvoidsMark m K → IsReady c → Stopped (Text (both (maybe m (list_part p)) K)) c end tokens e
+abbrev pub LedStops : Mark → GrammarPart → ℕ → List Token → FileFault → Type 0
+LedStops m p end tokens e = (K : GrammarPart) (c : Counts) → NeverBegins extends_list K → AvoidsMark m K → IsReady c → IsStopped (Text (both (maybe m (list_part p)) K)) c end tokens e
 
 -- ---- [ keyword list ";" ]
 
 -- an optional list between its keyword and a semicolon was read
-pub record TookEnded {A : Type 0} (m : Mark) (p : Part) (spelled : A → List Kind) (stated : A → List Offsets) (limit : ℕ) (items : List A) (tokens rest : List Token) : Type 0 where
+pub record TookEnded {A : Type 0} (m : Mark) (p : GrammarPart) (spelled : A → List Kind) (stated : A → List Offsets) (limit : ℕ) (items : List A) (tokens rest : List Token) : Type 0 where
   pub few : length items ≤ limit
   pub shorter : length rest ≤ length tokens
-  pub reads : (K : Part) (c : Counts) → AvoidsMark m K → IsReady c → ReadsKept (both (maybe m (both (list_part p) (a_mark mark.Semicolon))) K) c tokens rest K (ended kind.Fixed m spelled items) (ended unplaced m stated items)
+  pub reads : (K : GrammarPart) (c : Counts) → AvoidsMark m K → IsReady c → ReadsKept (both (maybe m (both (list_part p) (a_mark mark.Semicolon))) K) c tokens rest K (ended kind.Fixed m spelled items) (ended unplaced m stated items)
 
 -- an optional list with its semicolon could not be read
-abbrev pub EndedStops : Mark → Part → ℕ → List Token → FileFault → Type 0
-EndedStops m p end tokens e = (K : Part) (c : Counts) → AvoidsMark m K → IsReady c → Stopped (Text (both (maybe m (both (list_part p) (a_mark mark.Semicolon))) K)) c end tokens e
+abbrev pub EndedStops : Mark → GrammarPart → ℕ → List Token → FileFault → Type 0
+EndedStops m p end tokens e = (K : GrammarPart) (c : Counts) → AvoidsMark m K → IsReady c → IsStopped (Text (both (maybe m (both (list_part p) (a_mark mark.Semicolon))) K)) c end tokens e
 
 -- ---- keyword [ list ] ";"
 
 -- a keyword, a list that may be empty, and a semicolon
-abbrev pub declared_part : Mark → Part → Part → Part
+abbrev pub declared_part : Mark → GrammarPart → GrammarPart → GrammarPart
 declared_part m p K = both (a_mark m) (both (upto mark.Semicolon (list_part p)) K)
 
 -- a keyword, a list and a semicolon were read
-pub record TookDeclared {A : Type 0} (m : Mark) (p : Part) (spelled : A → List Kind) (stated : A → List Offsets) (limit : ℕ) (items : List A) (tokens rest : List Token) : Type 0 where
+pub record TookDeclared {A : Type 0} (m : Mark) (p : GrammarPart) (spelled : A → List Kind) (stated : A → List Offsets) (limit : ℕ) (items : List A) (tokens rest : List Token) : Type 0 where
   pub few : length items ≤ limit
-  pub reads : (K : Part) (c : Counts) → IsReady c → ReadsKept (declared_part m p K) c tokens rest K (kind.Fixed m ∷ (listed kind.Fixed spelled items ++ kind.Fixed mark.Semicolon ∷ [])) ([] ∷ (listed unplaced stated items ++ [] ∷ []))
+  pub reads : (K : GrammarPart) (c : Counts) → IsReady c → ReadsKept (declared_part m p K) c tokens rest K (kind.Fixed m ∷ (listed kind.Fixed spelled items ++ kind.Fixed mark.Semicolon ∷ [])) ([] ∷ (listed unplaced stated items ++ [] ∷ []))
 
 -- a keyword, a list and a semicolon could not be read
-abbrev pub DeclaredStops : Mark → Part → ℕ → List Token → FileFault → Type 0
-DeclaredStops m p end tokens e = (K : Part) (c : Counts) → IsReady c → Stopped (Text (declared_part m p K)) c end tokens e
+abbrev pub DeclaredStops : Mark → GrammarPart → ℕ → List Token → FileFault → Type 0
+DeclaredStops m p end tokens e = (K : GrammarPart) (c : Counts) → IsReady c → IsStopped (Text (declared_part m p K)) c end tokens e
 
 -- ---- blocks: rules, patterns and events
 
@@ -145,12 +145,12 @@ abbrev pub with_mark : {A B : Type 0} → B → (A → List B) → A → List B
 with_mark first body x = first ∷ body x
 
 -- all blocks of a kind that stand here were read
-pub record TookBlocks {A : Type 0} (m : Mark) (p : Part) (body : A → List Kind) (stated : A → List Offsets) (limit : ℕ) (items : List A) (tokens rest : List Token) : Type 0 where
+pub record TookBlocks {A : Type 0} (m : Mark) (p : GrammarPart) (body : A → List Kind) (stated : A → List Offsets) (limit : ℕ) (items : List A) (tokens rest : List Token) : Type 0 where
   pub few : length items ≤ limit
   pub shorter : length rest ≤ length tokens
-  pub reads : (K : Part) (c : Counts) → AvoidsMark m K → IsReady c → block_count m c ≡ 0
-      → (d : Counts) × KeptOthers m c d × Reads (both (many m p) K) c tokens rest K d (each (with_mark (kind.Fixed m) body) items) (each (with_mark [] stated) items)
+  pub reads : (K : GrammarPart) (c : Counts) → AvoidsMark m K → IsReady c → block_count m c ≡ 0
+      → (d : Counts) × KeptOthers m c d × ReadsPart (both (many m p) K) c tokens rest K d (each (with_mark (kind.Fixed m) body) items) (each (with_mark [] stated) items)
 
 -- some block could not be read
-abbrev pub BlocksStop : Mark → Part → ℕ → List Token → FileFault → Type 0
-BlocksStop m p end tokens e = (K : Part) (c : Counts) → AvoidsMark m K → IsReady c → block_count m c ≡ 0 → Stopped (Text (both (many m p) K)) c end tokens e
+abbrev pub BlocksStop : Mark → GrammarPart → ℕ → List Token → FileFault → Type 0
+BlocksStop m p end tokens e = (K : GrammarPart) (c : Counts) → AvoidsMark m K → IsReady c → block_count m c ≡ 0 → IsStopped (Text (both (many m p) K)) c end tokens e

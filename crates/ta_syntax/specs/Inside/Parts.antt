@@ -1,49 +1,41 @@
 -- The grammar cut into parts, so that what may still come after some tokens is a part too (this project's profile). The readers' own contracts speak of parts; that the part of a file has the texts of the grammar's trees is proved.
-use Rattle.std.specs.Prelude.{ℕ, ◌≡◌, ◌⊎◌, List, [], ◌∷◌, ◌++◌}
-use Rattle.std.specs.List.{AllByRecursion}
-use Rattle.ta_syntax.specs.Kinds.{IsNameText, IsDigits}
-use Rattle.ta_syntax.specs.Grammar.{Terms, Term, Factor, sum_kinds, more_kinds, term_kinds, factor_kinds, IsSum, AreTerms, IsTerm, IsFactor, relation_kind}
-use Rattle.ta_syntax.specs.declared.tokens.Kind.{Kind}
-use Rattle.ta_syntax.specs.declared.tokens.Kind.TheVariants as kind
-use Rattle.ta_syntax.specs.declared.tokens.Mark.{Mark}
 use Rattle.ta_syntax.specs.declared.tokens.Mark.TheVariants as mark
-use Rattle.ta_syntax.specs.declared.tokens.Relation.{Relation}
-use Rattle.ta_syntax.specs.Parts.{Part, a_mark, a_name, a_number, a_relation, a_sum, both, many, maybe, nothing, upto}
+use Rattle.ta_syntax.specs.Parts.{GrammarPart, a_mark, a_name, a_number, a_relation, a_sum, both, many, maybe, nothing, upto}
 
 -- Item { "," Item }
-abbrev pub list_part : Part → Part
+abbrev pub list_part : GrammarPart → GrammarPart
 list_part p = both p (many mark.Comma p)
 
 -- Location = Name [ "initial" ]
-abbrev pub location_part : Part
+abbrev pub location_part : GrammarPart
 location_part = both a_name (maybe mark.Initial nothing)
 
 -- Update = Name "+=" Number
-abbrev pub update_part : Part
+abbrev pub update_part : GrammarPart
 update_part = both a_name (both (a_mark mark.PlusEquals) a_number)
 
 -- Comparison = Sum Relation Sum
-abbrev pub comparison_part : Part
+abbrev pub comparison_part : GrammarPart
 comparison_part = both a_sum (both a_relation a_sum)
 
 -- a rule behind its keyword
-abbrev pub rule_part : Part
+abbrev pub rule_part : GrammarPart
 rule_part = both a_name (both (a_mark mark.Colon) (both a_name (both (a_mark mark.Arrow) (both a_name (both (maybe mark.When (list_part comparison_part)) (both (maybe mark.Do (list_part update_part)) (a_mark mark.Semicolon)))))))
 
 -- an event behind its keyword
-abbrev pub event_part : Part
+abbrev pub event_part : GrammarPart
 event_part = both a_name (both (maybe mark.After (list_part a_name)) (both (a_mark mark.Colon) (both (list_part comparison_part) (a_mark mark.Semicolon))))
 
 -- a pattern behind its keyword
-abbrev pub pattern_part : Part
+abbrev pub pattern_part : GrammarPart
 pattern_part = both a_name (both (a_mark mark.OpenBrace) (both (maybe mark.Start (both (list_part comparison_part) (a_mark mark.Semicolon))) (both (maybe mark.Empty (both (list_part a_name) (a_mark mark.Semicolon))) (both (many mark.Event event_part) (a_mark mark.CloseBrace)))))
 
 -- rules and patterns
-abbrev pub blocks_part : Part
+abbrev pub blocks_part : GrammarPart
 blocks_part = both (many mark.Rule rule_part) (many mark.Pattern pattern_part)
 
 -- a whole file
-abbrev pub file_part : Part
+abbrev pub file_part : GrammarPart
 file_part =
     both (a_mark mark.Automaton) (both a_name (both (a_mark mark.Semicolon)
     (both (a_mark mark.Parameters) (both (upto mark.Semicolon (list_part a_name))

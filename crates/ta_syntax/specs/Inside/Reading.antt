@@ -1,14 +1,13 @@
 -- What the readers of parts say (this project's profile). Each reader takes the tokens that are left, and its clause holds whatever part may come after.
-use Rattle.std.specs.Prelude.{ℕ, ◌≡◌, ◌+◌, ◌<◌, ◌≤◌, Bool, true, false, List, [], ◌∷◌, ◌++◌, length}
+use Rattle.std.specs.Prelude.{ℕ, ◌≡◌, ◌+◌, ◌≤◌, Bool, true, false, List, ◌∷◌, length}
 use Rattle.ta_syntax.specs.Grammar.{IsSum, IsTerm, IsFactor, sum_kinds, term_kinds, factor_kinds, relation_kind}
 use Rattle.ta_syntax.specs.PlainSums.{plain_sum, plain_term, plain_factor, sum_depth, term_depth, factor_depth}
-use Rattle.ta_syntax.specs.Stated.{Offsets, IsPlaced, sum_stated, sum_term_stated, sum_factor_stated}
-use Rattle.ta_syntax.specs.Limits.{Counts, run, Within}
-use Rattle.ta_syntax.specs.Parts.{Part, Text, both, a_sum, a_term, a_factor}
-use Rattle.ta_syntax.specs.Faults.{kinds, SameStart, Stopped, offset_of}
+use Rattle.ta_syntax.specs.Stated.{sum_stated, sum_term_stated, sum_factor_stated}
+use Rattle.ta_syntax.specs.Limits.{Counts}
+use Rattle.ta_syntax.specs.Parts.{GrammarPart, Text, both, a_sum, a_term, a_factor}
+use Rattle.ta_syntax.specs.Faults.{kinds, SameStart, IsStopped, offset_of}
 use Rattle.ta_syntax.specs.declared.tokens.Kind.{Kind}
 use Rattle.ta_syntax.specs.declared.tokens.Kind.TheVariants as kind
-use Rattle.ta_syntax.specs.declared.tokens.Mark.{Mark}
 use Rattle.ta_syntax.specs.declared.tokens.Mark.TheVariants as mark
 use Rattle.ta_syntax.specs.declared.tokens.Relation.{Relation}
 use Rattle.ta_syntax.specs.declared.sums.Sign.{Sign}
@@ -19,7 +18,7 @@ use Rattle.ta_syntax.specs.declared.fault.FileFault.TheVariants as fault
 use Rattle.ta_syntax.specs.declared.sums.TreeSum.{TreeSum}
 use Rattle.ta_syntax.specs.declared.sums.TreeTerm.{TreeTerm}
 use Rattle.ta_syntax.specs.declared.sums.TreeFactor.{TreeFactor}
-use Rattle.ta_syntax.specs.Reading.{Avoids, BeginsWith, HasRoom, IsOther, Reads}
+use Rattle.ta_syntax.specs.Reading.{NeverBegins, BeginsWithKind, HasRoom, IsOther, ReadsPart}
 
 -- a token that would go on with a number
 abbrev pub is_star : Kind → Bool
@@ -53,7 +52,7 @@ pub record MayOpen (left : ℕ) (c : Counts) : Type 0 where
 
 -- the sign before the first term: minus where a minus stands, else plus with nothing taken
 abbrev pub LeadingSign : List Token → Sign → List Token → Type 0
-LeadingSign tokens sign.Minus rest = BeginsWith tokens (kind.Fixed mark.Minus) rest
+LeadingSign tokens sign.Minus rest = BeginsWithKind tokens (kind.Fixed mark.Minus) rest
 LeadingSign tokens sign.Plus rest = IsOther tokens mark.Minus × (tokens ≡ rest)
 
 -- the first token isn't a name
@@ -91,30 +90,30 @@ pub record TookFactor (left : ℕ) (f : TreeFactor) (tokens rest : List Token) :
   pub is : IsFactor (plain_factor f)
   pub shallow : factor_depth (plain_factor f) ≤ left
   pub shorter : length rest ≤ length tokens
-  pub reads : (K : Part) (c : Counts) → MayOpen left c → Reads (both a_factor K) c tokens rest K c (factor_kinds (plain_factor f)) (sum_factor_stated f)
+  pub reads : (K : GrammarPart) (c : Counts) → MayOpen left c → ReadsPart (both a_factor K) c tokens rest K c (factor_kinds (plain_factor f)) (sum_factor_stated f)
 
 -- a term was read, whatever part may come after that does not go on with it
 pub record TookTerm (left : ℕ) (t : TreeTerm) (tokens rest : List Token) : Type 0 where
   pub is : IsTerm (plain_term t)
   pub shallow : term_depth (plain_term t) ≤ left
   pub shorter : length rest ≤ length tokens
-  pub reads : (K : Part) (c : Counts) → Avoids is_star K → MayOpen left c → Reads (both a_term K) c tokens rest K c (term_kinds (plain_term t)) (sum_term_stated t)
+  pub reads : (K : GrammarPart) (c : Counts) → NeverBegins is_star K → MayOpen left c → ReadsPart (both a_term K) c tokens rest K c (term_kinds (plain_term t)) (sum_term_stated t)
 
 -- a sum was read, whatever part may come after that does not go on with it
 pub record TookSum (left : ℕ) (s : TreeSum) (tokens rest : List Token) : Type 0 where
   pub is : IsSum (plain_sum s)
   pub shallow : sum_depth (plain_sum s) ≤ left
   pub shorter : length rest ≤ length tokens
-  pub reads : (K : Part) (c : Counts) → Avoids is_operator K → MayOpen left c → Reads (both a_sum K) c tokens rest K c (sum_kinds (plain_sum s)) (sum_stated s)
+  pub reads : (K : GrammarPart) (c : Counts) → NeverBegins is_operator K → MayOpen left c → ReadsPart (both a_sum K) c tokens rest K c (sum_kinds (plain_sum s)) (sum_stated s)
 
 -- a factor could not be read
 abbrev pub FactorStops : ℕ → ℕ → List Token → FileFault → Type 0
-FactorStops left end tokens e = (K : Part) (c : Counts) → MayOpen left c → Stopped (Text (both a_factor K)) c end tokens e
+FactorStops left end tokens e = (K : GrammarPart) (c : Counts) → MayOpen left c → IsStopped (Text (both a_factor K)) c end tokens e
 
 -- a term could not be read
 abbrev pub TermStops : ℕ → ℕ → List Token → FileFault → Type 0
-TermStops left end tokens e = (K : Part) (c : Counts) → Avoids is_star K → MayOpen left c → Stopped (Text (both a_term K)) c end tokens e
+TermStops left end tokens e = (K : GrammarPart) (c : Counts) → NeverBegins is_star K → MayOpen left c → IsStopped (Text (both a_term K)) c end tokens e
 
 -- a sum could not be read
 abbrev pub SumStops : ℕ → ℕ → List Token → FileFault → Type 0
-SumStops left end tokens e = (K : Part) (c : Counts) → Avoids is_operator K → MayOpen left c → Stopped (Text (both a_sum K)) c end tokens e
+SumStops left end tokens e = (K : GrammarPart) (c : Counts) → NeverBegins is_operator K → MayOpen left c → IsStopped (Text (both a_sum K)) c end tokens e

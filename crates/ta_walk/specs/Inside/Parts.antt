@@ -1,6 +1,6 @@
 -- Parts of a visit: the words of a list, each with its tree
 use Rattle.std.specs.Prelude.{ℕ, ◌+◌, ◌-◌, ◌≤◌, ◌<◌, ◌≡◌, List, [], ◌++◌, length, reverse, nat_lt, if◌then◌else◌}
-use Rattle.ta_automaton.specs.Lists.{Each}
+use Rattle.std.specs.List.{AllByRecursion}
 use Rattle.ta_cert.specs.declared.line.Node.{Node}
 use Rattle.ta_encode.specs.Search.{Comes, Pending, Search}
 use Rattle.ta_encode.specs.PatternSearch.{pattern_search}
@@ -9,15 +9,15 @@ use Rattle.ta_cursor.specs.declared.cursor.Cursor.{Cursor}
 use Rattle.ta_cursor.specs.declared.pattern_tree.PatternTree.{PatternTree}
 use Rattle.ta_cursor.specs.declared.root.Root.{Root}
 use Rattle.ta_walk.specs.Visit.{Visits}
-use Rattle.ta_walk.specs.Ends.{IsSpent, IsTreeEnd, leaf_count}
+use Rattle.ta_walk.specs.Ends.{IsSpent, IsTreeEnd, leaf_count, node_count}
 use Rattle.ta_walk.specs.declared.end.TreeEnd.{TreeEnd}
 use Rattle.ta_walk.specs.declared.end.TreeEnd.TheVariants as tree
 use Rattle.ta_walk.specs.declared.visiting.Stretch.{Stretch}
 use Rattle.ta_walk.specs.declared.visiting.Stretch.TheVariants as stretch
 
 -- the search of a pattern's tree
-abbrev pub search_of : PatternTree → Search
-search_of tree = pattern_search tree.file.now.automaton tree.pattern.now tree.orders.now
+abbrev pub search_of_tree : PatternTree → Search
+search_of_tree tree = pattern_search tree.file.now.automaton tree.pattern.now tree.orders.now
 
 -- the word with which a tree begins
 abbrev pub root_word : Root → Pending
@@ -42,13 +42,17 @@ PartEnds s budget Keeps (tree.Overflow node kind) = IsTreeEnd s budget Keeps (tr
 abbrev pub PartVisited : {K : Type 0} → (K → K → List Node → Type 0) → Search → ℕ → K → K → TreeEnd → Type 0
 PartVisited {K} Keeps s budget begun kept end = (first : K) (before : List Node) → Keeps first begun before → PartEnds s budget (λ nodes. Keeps first kept (before ++ nodes)) end
 
+-- the same end, of a visit that had so many nodes more before, so many of them leaves
+abbrev pub shifted : ℕ → ℕ → TreeEnd → TreeEnd
+shifted count leaves (tree.Refuted more others) = tree.Refuted (count + more) (leaves + others)
+shifted count leaves (tree.Found more start word values) = tree.Found (count + more) start word values
+shifted count leaves (tree.Spent more) = tree.Spent (count + more)
+shifted count leaves (tree.Overflow more kind) = tree.Overflow (count + more) kind
+
 -- a visit came to some words behind so many nodes and leaves. Where the part of these words ended so, the whole one ended so: the numbers
 -- are added, and the budget is spent where they pass it
 abbrev pub behind : ℕ → ℕ → ℕ → TreeEnd → TreeEnd
-behind budget count leaves (tree.Refuted more others) = if nat_lt (budget - count) more then tree.Spent budget else tree.Refuted (count + more) (leaves + others)
-behind budget count leaves (tree.Found more start word values) = if nat_lt (budget - count) more then tree.Spent budget else tree.Found (count + more) start word values
-behind budget count leaves (tree.Spent more) = if nat_lt (budget - count) more then tree.Spent budget else tree.Spent (count + more)
-behind budget count leaves (tree.Overflow more kind) = if nat_lt (budget - count) more then tree.Spent budget else tree.Overflow (count + more) kind
+behind budget count leaves end = if nat_lt (budget - count) (node_count end) then tree.Spent budget else shifted count leaves end
 
 -- no more leaves than nodes, and these within the budget
 abbrev pub IsSmallEnd : ℕ → TreeEnd → Type 0
@@ -76,11 +80,11 @@ abbrev pub HasFewBounds : ℕ → Pending → Type 0
 HasFewBounds most w = length w.bounds ≤ most
 
 -- a cursor is before the first of the words that it leaves; these have so few bounds that so many nodes may follow
-pub record Stands (s : Search) (nodes : ℕ) (c : Cursor) : Type 0 where
+pub record HasFewLeft (s : Search) (nodes : ℕ) (c : Cursor) : Type 0 where
   pub within : Within s c (left_at s c)
   pub most : ℕ
   pub room : most + nodes ≤ 1000000000
-  pub few : Each (HasFewBounds most) (left_at s c)
+  pub few : AllByRecursion (HasFewBounds most) (left_at s c)
 
 -- behind some nodes, so many of them leaves, the words are those of a cursor, and then those of another one
 pub record LeadsToBoth (s : Search) (words : List Pending) (Keeps : List Node → Type 0) (first later : Cursor) (count leaves : ℕ) : Type 0 where
@@ -100,8 +104,8 @@ pub record SharesBudget (s : Search) (budget count leaves : ℕ) (first later : 
   pub some : 0 < count
   pub within : count ≤ budget
   pub leaves_few : leaves ≤ count
-  pub here : Stands s (budget - count) first
-  pub there : Stands s (budget - count) later
+  pub here : HasFewLeft s (budget - count) first
+  pub there : HasFewLeft s (budget - count) later
 
 abbrev pub IsSmallStretch : Search → ℕ → Cursor → Stretch → Type 0
 IsSmallStretch s budget first (stretch.Ended end) = IsSmallEnd budget end
@@ -117,5 +121,5 @@ OnShared fact (stretch.Ended end) = Unit {0}
 OnShared fact (stretch.Shared count leaves later) = fact
 
 -- a keeper of a later part, which has no node yet
-abbrev pub Begins : {K : Type 0} → (K → K → Type 0) → (K → K → List Node → Type 0) → K → K → Type 0
-Begins {K} begins Keeps begun late = ((first : K) (before : List Node) → Keeps first begun before → begins first late) × Keeps late late []
+abbrev pub IsLaterKeeper : {K : Type 0} → (K → K → Type 0) → (K → K → List Node → Type 0) → K → K → Type 0
+IsLaterKeeper {K} begins Keeps begun late = ((first : K) (before : List Node) → Keeps first begun before → begins first late) × Keeps late late []

@@ -1,10 +1,10 @@
 -- How far the making of a run has come
 use Rattle.std.specs.Prelude.{ℕ, ℤ, pos, ◌<◌, ◌≤ℤ◌, ◌≡◌, List, ◌++◌, length, map, reverse, slice_get, Option, Some}
+use Rattle.std.specs.List.{AllByRecursion}
 use Rattle.ta_automaton.specs.declared.automaton.Automaton.{Automaton}
 use Rattle.ta_automaton.specs.declared.pattern.Pattern.{Pattern}
 use Rattle.ta_automaton.specs.declared.file.File.{File}
-use Rattle.ta_automaton.specs.Lists.{Each}
-use Rattle.ta_automaton.specs.Masks.{numbers_from}
+use Rattle.ta_base.specs.Masks.{numbers_from}
 use Rattle.ta_counter.specs.Values.{Value}
 use Rattle.ta_words.specs.declared.element.Element.{Element}
 use Rattle.ta_words.specs.declared.element.Element.TheVariants.{Event, Rise, Fall}
@@ -22,14 +22,14 @@ use Rattle.ta_witness.specs.Values.{unknown_value}
 use Rattle.ta_witness.specs.Witness.{EndsPiece, PieceOf, PiecesOf}
 
 -- one natural number for each unknown
-pub record Known (ms : List Meaning) (values : List ℤ) : Type 0 where
+pub record AreNaturals (ms : List Meaning) (values : List ℤ) : Type 0 where
   pub count : length values ≡ length ms
-  pub natural : Each (λ v. pos 0 ≤ℤ v) values
+  pub natural : AllByRecursion (λ v. pos 0 ≤ℤ v) values
 
 -- numbers that are these values, each natural and in range
 pub record AreValues (expected numbers : List ℤ) : Type 0 where
   pub are : numbers ≡ expected
-  pub natural : Each Value numbers
+  pub natural : AllByRecursion Value numbers
 
 -- an existing rule is the single step of element k
 pub record IsSingle (a : Automaton) (value : Meaning → ℤ) (k r : ℕ) : Type 0 where
@@ -47,29 +47,29 @@ abbrev pub EachMayEnd : Automaton → Pattern → (Meaning → ℤ) → List Ele
 EachMayEnd a p value word = (k : ℕ) (element : Element) → slice_get word k ≡ Some element → MayEnd a p value k element
 
 -- lines that end the piece of element k are added
-pub record Ended (a : Automaton) (p : Pattern) (value : Meaning → ℤ) (k : ℕ) (element : Element) (before after : List RunLine) : Type 0 where
+pub record AddsPieceEnd (a : Automaton) (p : Pattern) (value : Meaning → ℤ) (k : ℕ) (element : Element) (before after : List RunLine) : Type 0 where
   pub last : Option ℕ
   pub marks : List ℕ
   pub ends : (steps : List (ℕ × ℤ)) → EndsPiece value k element (record { steps = steps; last = last; marks = marks })
   pub added : after ≡ before ++ (last_lines last ++ map Mark marks)
-  pub fit : Each (LineFits a p) (last_lines last ++ map Mark marks)
+  pub fit : AllByRecursion (LineFits a p) (last_lines last ++ map Mark marks)
 
 -- the lines of the piece of element k are added
-pub record Added (a : Automaton) (p : Pattern) (value : Meaning → ℤ) (k : ℕ) (element : Element) (before after : List RunLine) : Type 0 where
+pub record AddsPiece (a : Automaton) (p : Pattern) (value : Meaning → ℤ) (k : ℕ) (element : Element) (before after : List RunLine) : Type 0 where
   pub piece : Piece
   pub is : PieceOf a value k element piece
   pub added : after ≡ before ++ piece_lines piece
-  pub fit : Each (LineFits a p) (piece_lines piece)
+  pub fit : AllByRecursion (LineFits a p) (piece_lines piece)
 
 -- the lines of the pieces of a word
-pub record Lined (a : Automaton) (p : Pattern) (value : Meaning → ℤ) (word : List Element) (lines : List RunLine) : Type 0 where
+pub record AddsPieces (a : Automaton) (p : Pattern) (value : Meaning → ℤ) (word : List Element) (lines : List RunLine) : Type 0 where
   pub pieces : List Piece
   pub are : PiecesOf a value word pieces
   pub made : lines ≡ pieces_lines pieces
-  pub fit : Each (LineFits a p) lines
+  pub fit : AllByRecursion (LineFits a p) lines
 
 -- what a run is made from: the pattern of a solution, what its unknowns stand for, and its values, which solve the word
-pub record Asked (file : File) (p : Pattern) (ms : List Meaning) (solution : Solution) : Type 0 where
+pub record IsMadeFrom (file : File) (p : Pattern) (ms : List Meaning) (solution : Solution) : Type 0 where
   pub named : slice_get file.patterns solution.pattern ≡ Some p
   pub unknowns : ms ≡ meanings file.automaton p solution.start_mask (reverse solution.word)
   pub values : List ℕ
@@ -78,8 +78,8 @@ pub record Asked (file : File) (p : Pattern) (ms : List Meaning) (solution : Sol
 
 -- the run that is made from it
 pub record RunOf (file : File) (p : Pattern) (ms : List Meaning) (solution : Solution) (run : Run) : Type 0 where
-  pub asked : Asked file p ms solution
+  pub asked : IsMadeFrom file p ms solution
   pub same_pattern : run.pattern ≡ solution.pattern
   pub parameters : AreValues (map (λ i. unknown_value ms solution.values (Parameter i)) (numbers_from 0 (length file.automaton.parameters))) run.parameters
   pub counts : AreValues (map (λ l. unknown_value ms solution.values (Start l)) file.automaton.initial) run.counts
-  pub lined : Lined file.automaton p (unknown_value ms solution.values) solution.word run.lines
+  pub lined : AddsPieces file.automaton p (unknown_value ms solution.values) solution.word run.lines

@@ -2,7 +2,7 @@ use Rattle.std.proofs.Common.{◌≡◌, ◌++◌, [], List, ℕ, length, take, 
 use Rattle.std.proofs.lemmas.List.{nil_from_length}
 use Rattle.std.proofs.lemmas.Result.{err_from_is_err_and}
 use Rattle.ta_cert.proofs.Reading.{ReadSoFar, goes_on_reading, stops_reading, ends_reading, cut_reading}
-use Rattle.ta_cert.specs.Streams.{Fed}
+use Rattle.ta_cert.specs.Streams.{FeedAnswers}
 use Rattle.ta_cert.specs.declared.line.Line.{Line}
 use Rattle.ta_cert.specs.declared.reader.Reader.{Reader}
 use Rattle.ta_cert.proofs.law.read_text.Goals as goal
@@ -23,7 +23,7 @@ pub pieces-preserved : goal.pieces-preserved
 pieces-preserved c =
     let cut = halves c.pieces.rest.now c.split_at.result.0.now c.split_at.result.1.now c.min.result c.split_at.ensures.front c.split_at.ensures.back in
     let found = c.into_vec-found.ensures in
-    rw c.in_ok-append.ensures.items (goes_on_reading c.args.text.now c.pieces.rest.now c.split_at.result.0.now c.split_at.result.1.now c.pieces.reader c.feed.new.self c.pieces.lines.items c.into_vec-found.result.items c.pieces.invariant cut (λ h stands. subst (λ ls. Fed h c.split_at.result.0.now c.feed.new.self (Ok ls)) (sym found) (c.in_ok-feed.ensures.answer h stands)))
+    rw c.in_ok-append.ensures.items (goes_on_reading c.args.text.now c.pieces.rest.now c.split_at.result.0.now c.split_at.result.1.now c.pieces.reader c.feed.new.self c.pieces.lines.items c.into_vec-found.result.items c.pieces.invariant cut (λ h stands. subst (λ ls. FeedAnswers h c.split_at.result.0.now c.feed.new.self (Ok ls)) (sym found) (c.in_ok-feed.ensures.answer h stands)))
 
 pub returns-in_err-finish : goal.returns-in_err-finish
 returns-in_err-finish c =

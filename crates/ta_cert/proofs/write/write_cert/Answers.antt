@@ -1,9 +1,10 @@
 use Rattle.std.proofs.Common.{◌++◌, ◌∷◌, [], ap, sym, subst, ◌∙◌, arith, codes, drop, string_bytes}
 use Rattle.std.proofs.lemmas.List.{at_drop_all}
+use Rattle.ta_base.proofs.Lists.{append_last}
 use Rattle.ta_cert.specs.Certificates.{cert_lines, head_text, proofs_text}
 use Rattle.ta_cert.specs.Streams.{IsComplete}
 use Rattle.ta_cert.proofs.CertLines.{cert_complete}
-use Rattle.ta_cert.proofs.Writing.{cert_parts, all_written}
+use Rattle.ta_cert.proofs.Writing.{cert_parts}
 use Rattle.ta_cert.proofs.write.write_cert.Goals as goal
 
 pub returns-clause-text : goal.returns-clause-text
@@ -11,7 +12,7 @@ returns-clause-text c =
     let os = c.args.orders.now in
     let ps = c.args.proofs.now in
     let all = at_drop_all proofs_text ps c.loop-proof.proof-index (omega arith) in
-    let written = all_written (string_bytes c.loop-proof.text) (string_bytes c.write_head.new.text) (proofs_text ps) (proofs_text (drop c.loop-proof.proof-index ps)) (codes "end" ++ (10 ∷ [])) c.loop-proof.invariant all in
+    let written = append_last (string_bytes c.loop-proof.text) (string_bytes c.write_head.new.text) (proofs_text ps) (proofs_text (drop c.loop-proof.proof-index ps)) (codes "end" ++ (10 ∷ [])) c.loop-proof.invariant all in
     c.from_string.ensures
     ∙ c.in_ok-write_line.ensures
     ∙ written

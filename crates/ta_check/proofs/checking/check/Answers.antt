@@ -1,14 +1,11 @@
-use Rattle.std.proofs.Common.{◌≡◌, List, ℕ, Ok, Err, Result, IfOk, IfErr, subst}
+use Rattle.std.proofs.Common.{List, ℕ, IfErr, subst}
 use Rattle.std.specs.Prelude.{◌≢◌}
-use Rattle.ta_automaton.specs.declared.file.File.{File}
 use Rattle.ta_cert.specs.Laws.{IsErrOrMemory}
 use Rattle.ta_cert.specs.declared.fault.CertFault.{CertFault}
 use Rattle.ta_cert.specs.declared.fault.CertFault.TheVariants as fault
-use Rattle.ta_rest.specs.Faults.{EndingsOf}
-use Rattle.ta_check.specs.Certificate.{AllHold, AllRestSafe, CertificateFor}
+use Rattle.ta_check.specs.Certificate.{CertificateFor}
 use Rattle.ta_check.specs.Faults.{IsFirstFaultFor}
-use Rattle.ta_check.specs.Subjects.{Subject, claiming}
-use Rattle.ta_check.specs.declared.accepted.Accepted.{Accepted}
+use Rattle.ta_check.specs.Subjects.{Subject}
 use Rattle.ta_check.proofs.checking.check.Goals as goal
 
 pub returns-clause-refused : goal.returns-clause-refused

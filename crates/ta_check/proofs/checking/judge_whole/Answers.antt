@@ -1,6 +1,6 @@
 use Rattle.std.proofs.Common.{[], subst}
 use Rattle.std.proofs.lemmas.Result.{err_from_is_err_and}
-use Rattle.ta_check.specs.Checkers.{Finished, subject_of}
+use Rattle.ta_check.specs.Checkers.{CheckerFinishAnswers, subject_of}
 use Rattle.ta_check.specs.Subjects.{Subject}
 use Rattle.ta_check.proofs.Answering.{exact_answer, refused_answer, finished_accepts, finished_faults, fed_faults}
 use Rattle.ta_check.proofs.checking.judge_whole.Goals as goal
@@ -23,13 +23,13 @@ pub returns-clause-accepted : goal.returns-clause-accepted
 returns-clause-accepted c =
     let same = c.feed.ensures.subject in
     let answer = c.finish.ensures.answer c.args.text.now (c.in_ok-feed.ensures.answer [] c.requires) in
-    finished_accepts (subject_of c.args.checker) c.args.text.now c.finish.result (subst (λ (f : Subject). Finished f c.args.text.now c.finish.result) same answer)
+    finished_accepts (subject_of c.args.checker) c.args.text.now c.finish.result (subst (λ (f : Subject). CheckerFinishAnswers f c.args.text.now c.finish.result) same answer)
 
 pub returns-clause-fault : goal.returns-clause-fault
 returns-clause-fault c =
     let same = c.feed.ensures.subject in
     let answer = c.finish.ensures.answer c.args.text.now (c.in_ok-feed.ensures.answer [] c.requires) in
-    finished_faults (subject_of c.args.checker) c.args.text.now c.finish.result (subst (λ (f : Subject). Finished f c.args.text.now c.finish.result) same answer)
+    finished_faults (subject_of c.args.checker) c.args.text.now c.finish.result (subst (λ (f : Subject). CheckerFinishAnswers f c.args.text.now c.finish.result) same answer)
 
 pub returns-clause-refused : goal.returns-clause-refused
 returns-clause-refused c = refused_answer (subject_of c.args.checker) c.args.text.now c.finish.result (returns-clause-fault c)

@@ -1,15 +1,14 @@
-use Rattle.std.proofs.Common.{◌≡◌, List, ℕ, Ok, Err, Result, IfOk, IfErr, subst}
+use Rattle.std.proofs.Common.{List, ℕ, Ok, Err, Result, IfOk, IfErr, subst}
 use Rattle.std.specs.Prelude.{◌≢◌}
 use Rattle.ta_automaton.specs.declared.file.File.{File}
 use Rattle.ta_cert.specs.Laws.{IsErrOrMemory}
 use Rattle.ta_cert.specs.declared.fault.CertFault.{CertFault}
 use Rattle.ta_cert.specs.declared.fault.CertFault.TheVariants as fault
 use Rattle.ta_rest.specs.Faults.{EndingsOf}
-use Rattle.ta_check.specs.Certificate.{AllHold, AllRestSafe, CertificateFor}
+use Rattle.ta_check.specs.Certificate.{AllClaimsHold, AllRestSafe, CertificateFor}
 use Rattle.ta_check.specs.Faults.{IsFirstFaultFor}
-use Rattle.ta_check.specs.Subjects.{Subject, claiming}
+use Rattle.ta_check.specs.Subjects.{Subject}
 use Rattle.ta_check.specs.declared.accepted.Accepted.{Accepted}
-use Rattle.ta_claim.specs.declared.claim.Claim.TheVariants.{RestSafe}
 use Rattle.ta_check.proofs.OwnPatterns.{all_own}
 use Rattle.ta_check.proofs.checking.rest_check.Goals as goal
 
@@ -20,7 +19,7 @@ pub returns-clause-exact : goal.returns-clause-exact
 returns-clause-exact c = subst (λ (s : Subject). (f : CertFault) → IsFirstFaultFor s c.args.text.now f → IsErrOrMemory c.judge_whole.result f) c.resting.ensures.subject c.judge_whole.ensures.exact
 
 pub returns-clause-own : goal.returns-clause-own
-returns-clause-own c = own c.judge_whole.result (subst (λ (s : Subject). IfOk c.judge_whole.result (λ accepted. AllHold s accepted.patterns)) c.resting.ensures.subject c.judge_whole.ensures.holds)
+returns-clause-own c = own c.judge_whole.result (subst (λ (s : Subject). IfOk c.judge_whole.result (λ accepted. AllClaimsHold s accepted.patterns)) c.resting.ensures.subject c.judge_whole.ensures.holds)
   where
     own : (answer : Result Accepted CertFault) → IfOk answer (λ accepted. AllRestSafe c.args.rest.now.ending.file accepted.patterns) → IfOk answer (λ accepted. (file : File) → EndingsOf file c.args.rest.now.ending.file c.args.rest.now.added → AllRestSafe file accepted.patterns)
     own (Ok accepted) safe = λ file of. all_own file c.args.rest.now.ending.file c.args.rest.now.added accepted.patterns of safe

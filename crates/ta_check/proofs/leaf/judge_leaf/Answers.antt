@@ -1,10 +1,10 @@
-use Rattle.std.proofs.Common.{◌≤◌, ◌^◌, ℕ, inr, List, [], reverse, sym, ap, ◌∙◌, subst, refl, arith}
+use Rattle.std.proofs.Common.{◌≤◌, ◌^◌, ℕ, inr, reverse, sym, ◌∙◌, subst, refl, arith}
 use Rattle.ta_linear.specs.Leaf.{AreMultipliers, LeafOf}
 use Rattle.ta_linear.specs.declared.row.System.{System}
 use Rattle.ta_encode.specs.Lines.{BoundsWithin}
 use Rattle.ta_encode.proofs.Whole.{unbounded_rows}
 use Rattle.ta_farkas.specs.Columns.{CheckStays}
-use Rattle.ta_farkas.specs.Faults.{IsFirstFault}
+use Rattle.ta_farkas.specs.Faults.{IsFirstFaultOfLeaf}
 use Rattle.ta_farkas.specs.declared.LeafFault.TheVariants.{RowNumber}
 use Rattle.ta_cursor.specs.Cursors.{here}
 use Rattle.ta_check.specs.Inside.Leaves.{WithoutBounds}
@@ -67,5 +67,5 @@ returns-clause-taken g c =
     let told = rw c.in-Rows.is at (c.in_ok-row.ensures (search.rows d.start_mask (reverse d.word)) (unbounded_rows search d.start_mask (reverse d.word) z is)) in
     let named = named_here search d z rows c.bounds.result.now ts c.requires.word small is c.bounds.ensures told in
     let same = c.as_slice.ensures.value ∙ c.in_ok-again-in-Rows.ensures in
-    let first = subst (λ us. IsFirstFault rows us c.in-Err.fault) same c.in-Err.ensures.fault in
+    let first = subst (λ us. IsFirstFaultOfLeaf rows us c.in-Err.fault) same c.in-Err.ensures.fault in
     inr (record { fault = c.in-Err.fault; is = c.fault_in.ensures; first = fault_picked search (here d) ts rows c.in-Err.fault named first })

@@ -1,5 +1,5 @@
 use Rattle.std.proofs.Common.{◌≡◌, ℕ, reverse, slice_get}
-use Rattle.ta_automaton.specs.Masks.{has_bit}
+use Rattle.ta_base.specs.Masks.{has_bit}
 use Rattle.ta_rest.specs.RestSearch.{leads_out, some_below}
 use Rattle.ta_claim.proofs.rest_end.left_after.Given as goal
 

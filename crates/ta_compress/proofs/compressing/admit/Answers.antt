@@ -1,4 +1,4 @@
-use Rattle.std.proofs.Common.{◌≡◌, ◌≢◌, inl, subst}
+use Rattle.std.proofs.Common.{◌≢◌, inl, subst}
 use Rattle.ta_automaton.specs.declared.file.File.{File}
 use Rattle.ta_replay.specs.Fits.{Fits}
 use Rattle.ta_replay.specs.ReplayFaults.{FirstRefusal, ReplayFault}

@@ -1,7 +1,7 @@
 use Rattle.std.proofs.Common.{sym, subst, List}
 use Rattle.ta_automaton.specs.declared.file.File.{File}
 use Rattle.ta_replay.specs.declared.run.RunLine.{RunLine}
-use Rattle.ta_compress.specs.Faults.{Admitted}
+use Rattle.ta_compress.specs.Faults.{IsSmallReplay}
 use Rattle.ta_compress.specs.Pieces.{CompressOf, CutOf}
 use Rattle.ta_compress.proofs.Finishing.{same_tale, short_shows, is_short, short_fits}
 use Rattle.ta_compress.proofs.compressing.shortened.Goals as goal
@@ -15,8 +15,8 @@ exactly c = record {
   lines = subst (λ (ls : List RunLine). CutOf c.args.scoped.now.file.automaton c.args.run.now ls) (sym c.in_ok-short.ensures.lines) c.in_ok-lines.ensures.cut;
 }
 
-admitted : (c : goal.In_ok-short) → Admitted c.args.scoped.now.file c.args.run.now
-admitted c = subst (λ (f : File). Admitted f c.args.run.now) c.file.ensures c.in_ok-admit.ensures.admitted
+admitted : (c : goal.In_ok-short) → IsSmallReplay c.args.scoped.now.file c.args.run.now
+admitted c = subst (λ (f : File). IsSmallReplay f c.args.run.now) c.file.ensures c.in_ok-admit.ensures.admitted
 
 pub returns-clause-exact : goal.returns-clause-exact
 returns-clause-exact c = exactly c

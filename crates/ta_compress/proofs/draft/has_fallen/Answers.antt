@@ -1,6 +1,6 @@
 use Rattle.std.proofs.Common.{◌<◌, ◌^◌, arith}
 use Rattle.std.proofs.lemmas.Bool.{false≢true}
-use Rattle.ta_automaton.proofs.Thresholds.{bit_below}
+use Rattle.ta_base.proofs.Bits.{bit_below}
 use Rattle.ta_compress.proofs.draft.has_fallen.Goals as goal
 
 pub returns : goal.returns

@@ -1,4 +1,4 @@
-use Rattle.ta_replay.proofs.Lines.{some_at}
+use Rattle.ta_base.proofs.Lists.{some_at}
 use Rattle.ta_compress.proofs.draft.next_guards.Goals as goal
 
 pub returns-in-Err-clause-answer : goal.returns-in-Err-clause-answer

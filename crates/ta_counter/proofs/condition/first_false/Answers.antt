@@ -1,31 +1,31 @@
 use Rattle.std.proofs.Common.{◌≤◌, ap, arith, length, subst, List}
 use Rattle.std.proofs.lemmas.Result.{err_from_is_err_and}
+use Rattle.ta_base.proofs.Lists.{all_passed, one_passed, read_same}
 use Rattle.ta_linear.specs.Values.{point_of}
 use Rattle.ta_automaton.specs.declared.condition.Comparison.{Comparison}
-use Rattle.ta_counter.specs.Checks.{RowFails, RowLeaves, RowsPass, RowsStop}
-use Rattle.ta_counter.proofs.Passing.{read_at, one_passed, all_passed}
+use Rattle.ta_counter.specs.Checks.{RowFails, RowOutOfRange, RowsPass, RowsStop}
 use Rattle.ta_counter.proofs.Rows.{rows_pass, rows_fail, holds_from, fails_from}
 use Rattle.ta_counter.proofs.condition.first_false.Goals as goal
 
 pub loop-number-preserved : goal.loop-number-preserved
 loop-number-preserved c =
     let point = point_of c.args.values.now in
-    let named = read_at c.args.condition.now.comparisons c.as_slice-comparison-items.result.now c.loop-number.number c.comparison-item.result c.as_slice-comparison-items.ensures c.loop-number-test.true c.comparison-item.is in
+    let named = read_same c.args.condition.now.comparisons c.as_slice-comparison-items.result.now c.loop-number.number c.comparison-item.result c.as_slice-comparison-items.ensures c.loop-number-test.true c.comparison-item.is in
     let passes = subst (RowsPass point) c.as_slice.ensures (rows_pass _ _ _ c.in_ok-rows_hold.ensures c.if-not-branch.false) in
     one_passed (λ j (comparison : Comparison). RowsPass point comparison.rows) c.args.condition.now.comparisons c.loop-number.number c.comparison-item.result named passes c.loop-number.invariant
 
 pub returns-in_err-rows_hold-clause-answer : goal.returns-in_err-rows_hold-clause-answer
 returns-in_err-rows_hold-clause-answer c =
     let point = point_of c.args.values.now in
-    let named = read_at c.args.condition.now.comparisons c.as_slice-comparison-items.result.now c.loop-number.number c.comparison-item.result c.as_slice-comparison-items.ensures c.loop-number-test.true c.comparison-item.is in
+    let named = read_same c.args.condition.now.comparisons c.as_slice-comparison-items.result.now c.loop-number.number c.comparison-item.result c.as_slice-comparison-items.ensures c.loop-number-test.true c.comparison-item.is in
     let p = err_from_is_err_and c.from_residual.result c.from_residual.ensures.1 in
-    let stops : RowsStop point (RowLeaves point) c.comparison-item.result.rows = subst (RowsStop point (RowLeaves point)) c.as_slice.ensures c.in_err-rows_hold.ensures in
+    let stops : RowsStop point (RowOutOfRange point) c.comparison-item.result.rows = subst (RowsStop point (RowOutOfRange point)) c.as_slice.ensures c.in_err-rows_hold.ensures in
     rw p.1 (c.loop-number.number, record { item = c.comparison-item.result; at = named; before = c.loop-number.invariant; bad = stops })
 
 pub returns-then-not-branch-clause-answer : goal.returns-then-not-branch-clause-answer
 returns-then-not-branch-clause-answer c =
     let point = point_of c.args.values.now in
-    let named = read_at c.args.condition.now.comparisons c.as_slice-comparison-items.result.now c.loop-number.number c.comparison-item.result c.as_slice-comparison-items.ensures c.loop-number-test.true c.comparison-item.is in
+    let named = read_same c.args.condition.now.comparisons c.as_slice-comparison-items.result.now c.loop-number.number c.comparison-item.result c.as_slice-comparison-items.ensures c.loop-number-test.true c.comparison-item.is in
     let stops = subst (RowsStop point (RowFails point)) c.as_slice.ensures (rows_fail _ _ _ c.in_ok-rows_hold.ensures c.if-not-branch.true) in
     record { item = c.comparison-item.result; at = named; before = c.loop-number.invariant; bad = stops }
 

@@ -1,38 +1,38 @@
 use Rattle.std.proofs.Common.{refl}
 use Rattle.std.proofs.lemmas.Result.{err_from_is_err_and}
+use Rattle.ta_base.proofs.Each.{each_at}
+use Rattle.ta_base.proofs.Lists.{all_passed, one_passed, read_same}
 use Rattle.ta_linear.specs.Terms.{IsNormal}
 use Rattle.ta_linear.specs.Values.{point_of}
 use Rattle.ta_linear.specs.declared.row.Row.{Row}
-use Rattle.ta_automaton.proofs.Thresholds.{each_at}
 use Rattle.std.proofs.Common.{length}
 use Rattle.ta_counter.specs.Checks.{RowPasses}
-use Rattle.ta_counter.proofs.Passing.{read_at, one_passed, all_passed}
 use Rattle.ta_counter.proofs.Rows.{row_passes, row_fails}
 use Rattle.ta_counter.proofs.condition.rows_hold.Goals as goal
 
 pub loop-row-preserved : goal.loop-row-preserved
 loop-row-preserved c =
     let rows = c.args.rows.now in
-    let named = read_at rows rows c.loop-row.row-index c.row-item.result refl c.loop-row-test.true c.row-item.is in
+    let named = read_same rows rows c.loop-row.row-index c.row-item.result refl c.loop-row-test.true c.row-item.is in
     one_passed (λ j (row : Row). RowPasses (point_of c.args.values.now) row) rows c.loop-row.row-index c.row-item.result named (row_passes _ _ _ c.in_ok-row_holds.ensures c.if-not-branch.false) c.loop-row.invariant
 
 pub row_holds-requires : goal.row_holds-requires
 row_holds-requires c =
     let rows = c.args.rows.now in
-    let named = read_at rows rows c.loop-row.row-index c.row-item.result refl c.loop-row-test.true c.row-item.is in
+    let named = read_same rows rows c.loop-row.row-index c.row-item.result refl c.loop-row-test.true c.row-item.is in
     each_at (λ (row : Row). IsNormal 0 (length c.args.values.now) row.form.terms) rows c.loop-row.row-index c.row-item.result c.requires named
 
 pub returns-in_err-row_holds : goal.returns-in_err-row_holds
 returns-in_err-row_holds c =
     let rows = c.args.rows.now in
-    let named = read_at rows rows c.loop-row.row-index c.row-item.result refl c.loop-row-test.true c.row-item.is in
+    let named = read_same rows rows c.loop-row.row-index c.row-item.result refl c.loop-row-test.true c.row-item.is in
     let p = err_from_is_err_and c.from_residual.result c.from_residual.ensures.1 in
     rw p.1 (c.loop-row.row-index, record { item = c.row-item.result; at = named; before = c.loop-row.invariant; bad = c.in_err-row_holds.ensures })
 
 pub returns-then-not-branch : goal.returns-then-not-branch
 returns-then-not-branch c =
     let rows = c.args.rows.now in
-    let named = read_at rows rows c.loop-row.row-index c.row-item.result refl c.loop-row-test.true c.row-item.is in
+    let named = read_same rows rows c.loop-row.row-index c.row-item.result refl c.loop-row-test.true c.row-item.is in
     (c.loop-row.row-index, record { item = c.row-item.result; at = named; before = c.loop-row.invariant; bad = row_fails _ _ _ c.in_ok-row_holds.ensures c.if-not-branch.true })
 
 pub returns : goal.returns

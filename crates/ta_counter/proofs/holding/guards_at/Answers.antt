@@ -1,10 +1,5 @@
-use Rattle.std.proofs.Common.{◌≡◌, length, ap, sym, subst, ◌∙◌, ℤ, List}
-use Rattle.std.proofs.lemmas.Result.{err_from_is_err_and}
-use Rattle.ta_linear.specs.Values.{point_of}
-use Rattle.ta_linear.specs.declared.row.Row.{Row}
+use Rattle.std.proofs.Common.{length, ap, sym, subst, ◌∙◌, ℤ, List}
 use Rattle.ta_counter.specs.Checks.{RowsOver}
-use Rattle.ta_counter.specs.Configs.{places_of}
-use Rattle.ta_counter.specs.Holding.{MaskAt, RowsStay}
 use Rattle.ta_counter.proofs.Guarding.{rise_rows_over, fall_rows_over}
 use Rattle.ta_counter.proofs.holding.guards_at.Goals as goal
 

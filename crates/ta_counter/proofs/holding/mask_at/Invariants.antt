@@ -1,8 +1,8 @@
+use Rattle.ta_base.proofs.Lists.{PassedTo}
 use Rattle.ta_linear.specs.Sums.{StaysInRange}
 use Rattle.ta_linear.specs.Values.{point_of}
 use Rattle.ta_linear.specs.declared.row.Row.{Row}
 use Rattle.ta_counter.proofs.Holdings.{MaskBefore}
-use Rattle.ta_counter.proofs.Passing.{PassedTo}
 use Rattle.ta_counter.proofs.holding.mask_at.Given as goal
 
 -- the mask names those of the earlier rows that hold, and the earlier rows stay in range

@@ -1,8 +1,8 @@
-use Rattle.std.proofs.Common.{◌≡◌, arith, ℕ, ℤ, pos, ◌+◌, ◌≤◌, ◌++◌, List, length, take, replicate, ap, ◌∙◌, sym, subst}
+use Rattle.std.proofs.Common.{◌≡◌, arith, ℕ, ℤ, pos, ◌+◌, ◌≤◌, ◌++◌, List, length, replicate, ap, ◌∙◌, sym, subst}
 use Rattle.std.proofs.lemmas.List.{take-replicate}
+use Rattle.ta_base.proofs.Lists.{front_back}
 use Rattle.ta_counter.specs.Inside.Filling.{Filling}
 use Rattle.ta_counter.proofs.Filling.{fill_start}
-use Rattle.ta_counter.proofs.Stepping.{front_back}
 use Rattle.ta_counter.proofs.start.start_values.Goals as goal
 
 pub returns : goal.returns

@@ -4,11 +4,13 @@ use Rattle.std.proofs.lemmas.Result.{err_from_is_err_and}
 use Rattle.std.specs.Int.{w128}
 use mathlib.Core.Path.{fun_ext}
 use Rattle.std.specs.List.{refill}
+use Rattle.ta_base.proofs.Integers.{less_fits}
+use Rattle.ta_base.proofs.Lists.{front_back, twice_back}
 use Rattle.ta_linear.specs.Numbers.{InRange}
 use Rattle.ta_linear.specs.Values.{point_of}
 use Rattle.ta_counter.specs.Configs.{sum_of}
-use Rattle.ta_counter.specs.Steps.{AllGrow, LeavesAt, shifted, before_last}
-use Rattle.ta_counter.proofs.Stepping.{front_back, twice_back, no_leave, updates_fail, guards_fail, enough_after, counters_after, taken, of_after, less_fits}
+use Rattle.ta_counter.specs.Steps.{AllGrow, UpdateOutOfRange, shifted, before_last}
+use Rattle.ta_counter.proofs.Stepping.{no_leave, updates_fail, guards_fail, enough_after, counters_after, taken, of_after}
 use Rattle.ta_counter.proofs.updates.values_after.Goals as goal
 
 pub returns-in_err-add_updates-clause-fails : goal.returns-in_err-add_updates-clause-fails
@@ -22,7 +24,7 @@ returns-in_err-add_updates-clause-fails c =
     let leaves = simp to_z-of_z at c.in_err-add_updates.ensures.leaves in
     let p = err_from_is_err_and c.from_residual.result c.from_residual.ensures.1 in
     rw (p.1, p.2)
-    (updates_fail a rule c.args.factor c.args.values.now _ enough (leaves.0, leaves.1, subst (λ vs. LeavesAt a rule c.args.factor vs leaves.0) old leaves.2))
+    (updates_fail a rule c.args.factor c.args.values.now _ enough (leaves.0, leaves.1, subst (λ vs. UpdateOutOfRange a rule c.args.factor vs leaves.0) old leaves.2))
 
 pub returns-in_err-add_updates-2-clause-fails : goal.returns-in_err-add_updates-2-clause-fails
 returns-in_err-add_updates-2-clause-fails c =
@@ -35,7 +37,7 @@ returns-in_err-add_updates-2-clause-fails c =
     let told = simp to_z-of_z at c.in_ok-add_updates.ensures.grow in
     let grow = subst (AllGrow a rule c.args.factor) old told in
     let leaves = simp to_z-of_z at c.in_err-add_updates-2.ensures.leaves in
-    absurd (no_leave a rule c.args.factor c.args.values.now leaves.0 c.requires.within c.requires.factor c.requires.is_of.places c.requires.natural grow (subst (λ vs. LeavesAt a rule (c.args.factor -ℤ pos 1) vs leaves.0) also leaves.2))
+    absurd (no_leave a rule c.args.factor c.args.values.now leaves.0 c.requires.within c.requires.factor c.requires.is_of.places c.requires.natural grow (subst (λ vs. UpdateOutOfRange a rule (c.args.factor -ℤ pos 1) vs leaves.0) also leaves.2))
 
 pub returns-in_err-check_guards-clause-fails : goal.returns-in_err-check_guards-clause-fails
 returns-in_err-check_guards-clause-fails c =

@@ -3,10 +3,10 @@ use Rattle.std.proofs.lemmas.Int.{to_z-of_z}
 use Rattle.std.proofs.lemmas.List.{ext_get_or, length-map}
 use mir.Val.{SFits}
 use mir.Syntax.{w128}
+use Rattle.ta_base.proofs.Integers.{zero_minus}
+use Rattle.ta_base.proofs.Lists.{done_more, get_or-neg, rest_more}
 use Rattle.ta_linear.specs.Numbers.{InRange}
-use Rattle.ta_dense.proofs.ListSteps.{done_more, rest_more}
-use Rattle.ta_dense.proofs.PivotLaws.{get_or-neg}
-use Rattle.ta_dense.proofs.ReduceFacts.{zero_minus, fits_minus}
+use Rattle.ta_dense.proofs.ReduceFacts.{fits_minus}
 use Rattle.ta_dense.proofs.cells.negate_cells.Goals as goal
 
 pub loop-j-preserved : goal.loop-j-preserved

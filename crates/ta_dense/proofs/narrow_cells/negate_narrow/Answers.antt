@@ -3,9 +3,8 @@ use Rattle.std.proofs.lemmas.Int.{to_z-of_z}
 use Rattle.std.proofs.lemmas.List.{ext_get_or, length-map}
 use mir.Val.{SFits}
 use mir.Syntax.{w32}
-use Rattle.ta_dense.proofs.ListSteps.{done_more, rest_more}
-use Rattle.ta_dense.proofs.PivotLaws.{get_or-neg}
-use Rattle.ta_dense.proofs.ReduceFacts.{zero_minus}
+use Rattle.ta_base.proofs.Integers.{zero_minus}
+use Rattle.ta_base.proofs.Lists.{done_more, get_or-neg, rest_more}
 use Rattle.ta_dense.proofs.Bounded.{IsSmall, fits_minus32}
 use Rattle.ta_dense.proofs.narrow_cells.negate_narrow.Goals as goal
 

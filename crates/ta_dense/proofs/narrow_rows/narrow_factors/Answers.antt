@@ -3,10 +3,10 @@ use Rattle.std.specs.Prelude.{int_div}
 use Rattle.std.proofs.lemmas.Int.{to_z-of_z, to_z_pos, quot_fits, ints, fits_signed_from_abs}
 use mir.Val.{SFits, to_z}
 use mir.Syntax.{w32}
+use Rattle.ta_base.proofs.Integers.{div-one}
 use Rattle.ta_linear.proofs.GcdLemmas.{gcd_of_is}
 use Rattle.ta_dense.specs.Tableau.{factor_divisor}
 use Rattle.ta_dense.proofs.Bounded.{factor_small, first_one, second_one}
-use Rattle.ta_dense.proofs.ReduceFacts.{div-one}
 use Rattle.ta_dense.proofs.narrow_rows.narrow_factors.Goals as goal
 
 pub returns-then-c-eq1-clause-first : goal.returns-then-c-eq1-clause-first

@@ -3,8 +3,8 @@ use Rattle.std.proofs.lemmas.Int.{to_z-of_z}
 use Rattle.std.proofs.lemmas.List.{with_items_is, get_or_read}
 use mir.Val.{SFits}
 use mir.Syntax.{w32}
+use Rattle.ta_base.proofs.Integers.{zero_minus}
 use Rattle.ta_dense.proofs.RowFacts.{row_same}
-use Rattle.ta_dense.proofs.ReduceFacts.{zero_minus}
 use Rattle.ta_dense.proofs.Bounded.{fits_minus32}
 use Rattle.ta_dense.proofs.narrow_rows.turn_narrow.Goals as goal
 

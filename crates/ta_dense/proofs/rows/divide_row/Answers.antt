@@ -4,8 +4,8 @@ use Rattle.std.proofs.lemmas.Int.{to_z-of_z, quot_fits}
 use Rattle.std.proofs.lemmas.List.{with_items_is}
 use mir.Val.{SFits}
 use mir.Syntax.{w128}
+use Rattle.ta_base.proofs.Integers.{pos_abs}
 use Rattle.ta_dense.proofs.RowFacts.{row_same}
-use Rattle.ta_dense.proofs.ReduceFacts.{pos_abs}
 use Rattle.ta_dense.proofs.rows.divide_row.Goals as goal
 
 pub returns : goal.returns

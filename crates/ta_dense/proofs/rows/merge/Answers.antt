@@ -1,4 +1,4 @@
-use Rattle.std.proofs.Common.{◌<ℤ◌, ◌≡◌, arith, ap, ◌∙◌, sym, refl, pos, rules, length, subst, true, false}
+use Rattle.std.proofs.Common.{◌≡◌, arith, ap, ◌∙◌, sym, refl, pos, rules, length, subst, true, false}
 use Rattle.std.proofs.lemmas.Int.{to_z-of_z}
 use Rattle.std.proofs.lemmas.List.{get_or_read}
 use mir.Val.{SFits, of_z}

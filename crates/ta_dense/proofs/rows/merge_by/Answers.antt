@@ -1,6 +1,7 @@
 use Rattle.std.proofs.Common.{ap, ◌∙◌, rules, length, set}
+use Rattle.ta_base.proofs.Booleans.{OnTrue-weaker}
 use Rattle.ta_dense.specs.Tableau.{combine}
-use Rattle.ta_dense.proofs.RowFacts.{OnTrue-weaker, row_same}
+use Rattle.ta_dense.proofs.RowFacts.{row_same}
 use Rattle.std.proofs.lemmas.Int.{to_z-of_z}
 use Rattle.std.proofs.lemmas.List.{with_items_is}
 use mir.Val.{SFits}

@@ -3,8 +3,9 @@ use Rattle.std.proofs.lemmas.Int.{to_z-of_z}
 use Rattle.std.proofs.lemmas.List.{with_items_is, get_or_read}
 use mir.Val.{SFits}
 use mir.Syntax.{w128}
+use Rattle.ta_base.proofs.Integers.{zero_minus}
 use Rattle.ta_dense.proofs.RowFacts.{row_same}
-use Rattle.ta_dense.proofs.ReduceFacts.{zero_minus, fits_minus}
+use Rattle.ta_dense.proofs.ReduceFacts.{fits_minus}
 use Rattle.ta_dense.proofs.rows.turn.Goals as goal
 
 pub returns : goal.returns

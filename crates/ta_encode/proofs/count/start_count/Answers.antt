@@ -2,10 +2,12 @@ use Rattle.std.proofs.Common.{◌≡◌, ℕ, Bool, List, ◌+◌, ◌<◌, ◌^
 use Rattle.std.specs.Prelude.{filter}
 use Rattle.std.proofs.Math.Seq.{take-length}
 use Rattle.std.proofs.lemmas.List.{length-take-le}
-use Rattle.ta_automaton.specs.Masks.{has_bit}
-use Rattle.ta_encode.proofs.Masked.{bit_on, bit_off, initial_within}
-use Rattle.ta_encode.proofs.Counting.{items_one, items_none, start_length}
-use Rattle.ta_encode.proofs.Drafts.{filter_shorter, initial_few}
+use Rattle.ta_base.specs.Masks.{has_bit}
+use Rattle.ta_base.proofs.Bits.{bit_off, bit_on}
+use Rattle.ta_base.proofs.Lists.{filter_shorter, items_none, items_one}
+use Rattle.ta_encode.proofs.Masked.{initial_within}
+use Rattle.ta_encode.proofs.Counting.{start_length}
+use Rattle.ta_encode.proofs.Drafts.{initial_few}
 use Rattle.ta_encode.proofs.count.start_count.Goals as goal
 use Rattle.ta_encode.proofs.count.start_count.Goals.{then-pattern-location-eq0, else-pattern-location-eq0}
 

@@ -4,16 +4,16 @@ use Rattle.ta_words.specs.declared.element.Element.{Element}
 use Rattle.ta_words.specs.declared.element.Element.TheVariants.{Event, Rise, Fall}
 use Rattle.ta_words.proofs.Lists.{pattern_at, of_pattern}
 use Rattle.ta_encode.specs.Unknowns.{Meaning, counts_after, singles_after}
-use Rattle.ta_encode.specs.Inside.Lines.{Adds, block_row}
-use Rattle.ta_encode.specs.Inside.Draft.{Drafted}
-use Rattle.ta_encode.specs.declared.line.Sense.TheVariants.{Same, Opposite}
+use Rattle.ta_encode.specs.Inside.Lines.{AddsRows, block_row}
+use Rattle.ta_encode.specs.Inside.Draft.{IsDraftOf}
+use Rattle.ta_encode.specs.declared.line.Sense.TheVariants.{Plain, Opposite}
 use Rattle.ta_encode.proofs.Drafts.{counted, singled, step_few, fall_few, fallen_more, events_small, rise_drafted, event_drafted, fall_drafted}
 use Rattle.ta_encode.proofs.Adding.{behind_join}
 use Rattle.ta_encode.proofs.draft.push_element.Goals as goal
 use Rattle.ta_encode.proofs.draft.push_element.Goals.{In_ok-push_firings, In_ok-push_firings-in-Fall}
 
 -- the rows so far are those of the word before
-drafted : (c : In_ok-push_firings) → Drafted c.args.file.now.automaton c.index-as_slice-pattern.result c.args.start_mask (reverse c.args.before.now) c.args.meanings.now.items c.args.rows.now.items
+drafted : (c : In_ok-push_firings) → IsDraftOf c.args.file.now.automaton c.index-as_slice-pattern.result c.args.start_mask (reverse c.args.before.now) c.args.meanings.now.items c.args.rows.now.items
 drafted c = c.requires.drafted c.index-as_slice-pattern.result (pattern_at c.args.file.now c.as_slice.result.now c.args.pattern c.index-as_slice-pattern.result c.as_slice.ensures c.requires.exists c.index-as_slice-pattern.is)
 
 -- the unknowns with the firings of the element
@@ -91,8 +91,8 @@ returns-in_ok-push_rise-in-Rise-clause-drafted c =
     let grown : ns ≡ ms ++ counts_after a p start past = c.as_slice-unknowns.ensures.value ∙ counts places.In_ok-push_firings in
     let last = c.push_rise.new.rows.items in
     let done = rise_drafted a p start past c.in-Rise.rise c.fallen_after-fallen.result ms ns rows last (drafted places.In_ok-push_firings) grown c.fallen_after-fallen.ensures c.in_ok-push_rise-in-Rise.ensures in
-    of_pattern file c.args.pattern p (λ q. Drafted a q start (c.args.element ∷ past) c.push_firings.new.meanings.items last) at
-    (subst (λ (e : Element). Drafted a p start (e ∷ past) c.push_firings.new.meanings.items last) (sym c.in-Rise.is) (subst (λ (us : List Meaning). Drafted a p start (Rise c.in-Rise.rise ∷ past) us last) c.as_slice-unknowns.ensures.value done))
+    of_pattern file c.args.pattern p (λ q. IsDraftOf a q start (c.args.element ∷ past) c.push_firings.new.meanings.items last) at
+    (subst (λ (e : Element). IsDraftOf a p start (e ∷ past) c.push_firings.new.meanings.items last) (sym c.in-Rise.is) (subst (λ (us : List Meaning). IsDraftOf a p start (Rise c.in-Rise.rise ∷ past) us last) c.as_slice-unknowns.ensures.value done))
 
 pub returns-in_ok-push_event-in-Event-clause-drafted : goal.returns-in_ok-push_event-in-Event-clause-drafted
 returns-in_ok-push_event-in-Event-clause-drafted c =
@@ -109,8 +109,8 @@ returns-in_ok-push_event-in-Event-clause-drafted c =
     let grown : ns ≡ ms ++ counts_after a p start past = c.as_slice-unknowns-in-Event.ensures.value ∙ counts places.In_ok-push_firings in
     let last = c.push_event.new.rows.items in
     let done = event_drafted a p start past c.in-Event.event c.fallen_after-fallen.result ms ns rows last (drafted places.In_ok-push_firings) grown c.fallen_after-fallen.ensures c.in_ok-push_event-in-Event.ensures in
-    of_pattern file c.args.pattern p (λ q. Drafted a q start (c.args.element ∷ past) c.push_firings.new.meanings.items last) at
-    (subst (λ (e : Element). Drafted a p start (e ∷ past) c.push_firings.new.meanings.items last) (sym c.in-Event.is) (subst (λ (us : List Meaning). Drafted a p start (Event c.in-Event.event ∷ past) us last) c.as_slice-unknowns-in-Event.ensures.value done))
+    of_pattern file c.args.pattern p (λ q. IsDraftOf a q start (c.args.element ∷ past) c.push_firings.new.meanings.items last) at
+    (subst (λ (e : Element). IsDraftOf a p start (e ∷ past) c.push_firings.new.meanings.items last) (sym c.in-Event.is) (subst (λ (us : List Meaning). IsDraftOf a p start (Event c.in-Event.event ∷ past) us last) c.as_slice-unknowns-in-Event.ensures.value done))
 
 pub returns-in_ok-push_fallen-in-Fall-clause-drafted : goal.returns-in_ok-push_fallen-in-Fall-clause-drafted
 returns-in_ok-push_fallen-in-Fall-clause-drafted c =
@@ -133,12 +133,12 @@ returns-in_ok-push_fallen-in-Fall-clause-drafted c =
     let last = c.push_fallen.new.rows.items in
     let from : c.len-from.result ≡ length ns = c.len-from.ensures ∙ c.push_firings.new.meanings.ok.0 ∙ ap length (sym c.as_slice-in-Fall.ensures.value) in
     let to : c.len.result ≡ length us = c.len.ensures ∙ c.push_firings-in-Fall.new.meanings.ok.0 ∙ ap length (sym c.as_slice-in-Fall-2.ensures.value) in
-    let block : Adds (block_row (negsuc 0) (length ns) (length us) Same ∷ block_row (pos 1) (length ns) (length us) Opposite ∷ []) (length us) first second =
-    subst (λ t. Adds (block_row (negsuc 0) (length ns) t Same ∷ block_row (pos 1) (length ns) t Opposite ∷ []) t first second) to
-    (subst (λ s. Adds (block_row (negsuc 0) s c.len.result Same ∷ block_row (pos 1) s c.len.result Opposite ∷ []) c.len.result first second) from c.in_ok-push_singles-in-Fall.ensures) in
+    let block : AddsRows (block_row (negsuc 0) (length ns) (length us) Plain ∷ block_row (pos 1) (length ns) (length us) Opposite ∷ []) (length us) first second =
+    subst (λ t. AddsRows (block_row (negsuc 0) (length ns) t Plain ∷ block_row (pos 1) (length ns) t Opposite ∷ []) t first second) to
+    (subst (λ s. AddsRows (block_row (negsuc 0) s c.len.result Plain ∷ block_row (pos 1) s c.len.result Opposite ∷ []) c.len.result first second) from c.in_ok-push_singles-in-Fall.ensures) in
     let done = fall_drafted a p start past falls _ ms ns us rows first second last (drafted places.In_ok-push_firings) grown all (fallen_more start past c.fallen_after-fallen.result falls c.from.result c.from.ensures c.fallen_after-fallen.ensures) c.in_ok-push_falling-in-Fall.ensures block c.in_ok-push_fallen-in-Fall.ensures in
-    of_pattern file c.args.pattern p (λ q. Drafted a q start (c.args.element ∷ past) c.push_firings-in-Fall.new.meanings.items last) at
-    (subst (λ (e : Element). Drafted a p start (e ∷ past) c.push_firings-in-Fall.new.meanings.items last) (sym c.in-Fall.is) (subst (λ (xs : List Meaning). Drafted a p start (Fall falls ∷ past) xs last) c.as_slice-in-Fall-2.ensures.value done))
+    of_pattern file c.args.pattern p (λ q. IsDraftOf a q start (c.args.element ∷ past) c.push_firings-in-Fall.new.meanings.items last) at
+    (subst (λ (e : Element). IsDraftOf a p start (e ∷ past) c.push_firings-in-Fall.new.meanings.items last) (sym c.in-Fall.is) (subst (λ (xs : List Meaning). IsDraftOf a p start (Fall falls ∷ past) xs last) c.as_slice-in-Fall-2.ensures.value done))
 
 pub returns-in_ok-push_rise-in-Rise-clause-unknowns : goal.returns-in_ok-push_rise-in-Rise-clause-unknowns
 returns-in_ok-push_rise-in-Rise-clause-unknowns c = record { more = _; is = c.in_ok-push_firings.ensures }

@@ -1,6 +1,6 @@
 use Rattle.std.proofs.Common.{◌++◌, List, length, map, not, sym, ap, ◌∙◌, subst}
 use Rattle.ta_linear.specs.declared.row.Row.{Row}
-use Rattle.ta_automaton.specs.Masks.{has_bit}
+use Rattle.ta_base.specs.Masks.{has_bit}
 use Rattle.ta_encode.specs.System.{guard_rows, negated}
 use Rattle.ta_encode.specs.Inside.Lines.{SmallRows, counters_outside}
 use Rattle.ta_encode.proofs.Adding.{adds_join, adds_same}

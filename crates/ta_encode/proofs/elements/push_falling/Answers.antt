@@ -1,5 +1,5 @@
 use Rattle.std.proofs.Common.{length, sym, ap, ◌∙◌, subst}
-use Rattle.ta_automaton.specs.Masks.{has_bit}
+use Rattle.ta_base.specs.Masks.{has_bit}
 use Rattle.ta_encode.specs.System.{guard_rows}
 use Rattle.ta_encode.specs.Inside.Lines.{SmallRows, counters_outside}
 use Rattle.ta_encode.proofs.Adding.{adds_join, adds_same, as_they_are}

@@ -1,10 +1,10 @@
 use Rattle.std.proofs.Common.{◌+◌, ◌≤◌, length, not, arith, sym, ap, ◌∙◌, subst}
 use Rattle.std.specs.Int.{bit_not, w32}
-use Rattle.ta_automaton.specs.Masks.{has_bit}
+use Rattle.ta_base.specs.Masks.{has_bit}
+use Rattle.ta_base.proofs.Bits.{standing_bit}
 use Rattle.ta_encode.specs.System.{guard_rows}
 use Rattle.ta_encode.specs.Inside.Lines.{SmallRows}
 use Rattle.ta_encode.proofs.Adding.{adds_same, guards_same, as_they_are}
-use Rattle.ta_encode.proofs.Masked.{standing_bit}
 use Rattle.ta_encode.proofs.Smallness.{fall_rows_small}
 use Rattle.ta_encode.proofs.elements.push_standing.Goals as goal
 

@@ -8,9 +8,9 @@ use Rattle.ta_words.proofs.Counts.{legal_length}
 use Rattle.ta_words.proofs.Lists.{pattern_at, of_pattern, same_pattern, events_named}
 use Rattle.ta_encode.specs.Unknowns.{Meaning, meanings}
 use Rattle.ta_encode.specs.System.{system_rows}
-use Rattle.ta_encode.specs.Code.{RowsOf}
+use Rattle.ta_encode.specs.Code.{AreRowsOf}
 use Rattle.ta_encode.specs.Lines.{BoundsWithin}
-use Rattle.ta_encode.specs.Inside.Draft.{Drafted}
+use Rattle.ta_encode.specs.Inside.Draft.{IsDraftOf}
 use Rattle.ta_encode.proofs.Drafts.{start_few, drafted_few, with_bounds}
 use Rattle.ta_encode.proofs.Smallness.{small_condition, places_most}
 use Rattle.ta_encode.proofs.encoded.encode.Goals as goal
@@ -54,8 +54,8 @@ push_elements-requires-clause-drafted c =
     let p = c.index-as_slice-pattern.result in
     let start = c.args.start_mask in
     let at = pattern_at file c.as_slice.result.now c.args.pattern p c.as_slice.ensures c.requires.exists c.index-as_slice-pattern.is in
-    of_pattern file c.args.pattern p (λ q. Drafted a q start [] c.in_ok-meanings.meanings.items c.push_start.new.rows.items) at
-    (subst (λ (us : List Meaning). Drafted a p start [] us c.push_start.new.rows.items) c.as_slice-2.ensures.value c.in_ok-push_start.ensures)
+    of_pattern file c.args.pattern p (λ q. IsDraftOf a q start [] c.in_ok-meanings.meanings.items c.push_start.new.rows.items) at
+    (subst (λ (us : List Meaning). IsDraftOf a p start [] us c.push_start.new.rows.items) c.as_slice-2.ensures.value c.in_ok-push_start.ensures)
 
 pub push_bounds-requires-clause-numbers : goal.push_bounds-requires-clause-numbers
 push_bounds-requires-clause-numbers c =
@@ -68,7 +68,7 @@ push_bounds-requires-clause-numbers c =
     let past = reverse c.args.word.now in
     let ms = c.push_elements.new.meanings.items in
     let rows = c.push_elements.new.rows.items in
-    let drafted : Drafted a p start past ms rows = subst (λ (w : List Element). Drafted a p start (reverse w) ms rows) c.elements-elements.ensures (c.in_ok-push_elements.ensures p at) in
+    let drafted : IsDraftOf a p start past ms rows = subst (λ (w : List Element). IsDraftOf a p start (reverse w) ms rows) c.elements-elements.ensures (c.in_ok-push_elements.ensures p at) in
     let unknowns : length c.as_slice-unknowns.result.now ≡ length ms = ap length c.as_slice-unknowns.ensures.value in
     let most = drafted_few a p start past ms rows drafted in
     omega arith
@@ -83,7 +83,7 @@ push_bounds-requires-clause-bounds c =
     let past = reverse c.args.word.now in
     let ms = c.push_elements.new.meanings.items in
     let rows = c.push_elements.new.rows.items in
-    let drafted : Drafted a p start past ms rows = subst (λ (w : List Element). Drafted a p start (reverse w) ms rows) c.elements-elements.ensures (c.in_ok-push_elements.ensures p at) in
+    let drafted : IsDraftOf a p start past ms rows = subst (λ (w : List Element). IsDraftOf a p start (reverse w) ms rows) c.elements-elements.ensures (c.in_ok-push_elements.ensures p at) in
     let unknowns : length c.as_slice-unknowns.result.now ≡ length ms = ap length c.as_slice-unknowns.ensures.value in
     subst (λ n. BoundsWithin n c.args.bounds.now) (sym (unknowns ∙ ap length drafted.unknowns_are)) (c.requires.bounds p at)
 
@@ -98,7 +98,7 @@ overflow_cast-result c =
     let past = reverse c.args.word.now in
     let ms = c.push_elements.new.meanings.items in
     let rows = c.push_elements.new.rows.items in
-    let drafted : Drafted a p start past ms rows = subst (λ (w : List Element). Drafted a p start (reverse w) ms rows) c.elements-elements.ensures (c.in_ok-push_elements.ensures p at) in
+    let drafted : IsDraftOf a p start past ms rows = subst (λ (w : List Element). IsDraftOf a p start (reverse w) ms rows) c.elements-elements.ensures (c.in_ok-push_elements.ensures p at) in
     let unknowns : length c.as_slice-unknowns.result.now ≡ length ms = ap length c.as_slice-unknowns.ensures.value in
     let most = drafted_few a p start past ms rows drafted in
     let few : length c.as_slice-unknowns.result.now < 2 ^ 32 = omega arith in
@@ -114,7 +114,7 @@ invariant_of-result c =
     let past = reverse c.args.word.now in
     let ms = c.push_elements.new.meanings.items in
     let rows = c.push_elements.new.rows.items in
-    let drafted : Drafted a p start past ms rows = subst (λ (w : List Element). Drafted a p start (reverse w) ms rows) c.elements-elements.ensures (c.in_ok-push_elements.ensures p at) in
+    let drafted : IsDraftOf a p start past ms rows = subst (λ (w : List Element). IsDraftOf a p start (reverse w) ms rows) c.elements-elements.ensures (c.in_ok-push_elements.ensures p at) in
     let unknowns : length c.as_slice-unknowns.result.now ≡ length ms = ap length c.as_slice-unknowns.ensures.value in
     let after = c.push_bounds.new.rows.items in
     let whole = with_bounds a p start past c.args.bounds.now ms (length c.as_slice-unknowns.result.now) rows after drafted unknowns c.in_ok-push_bounds.ensures in
@@ -130,13 +130,13 @@ returns-clause-system c =
     let past = reverse c.args.word.now in
     let ms = c.push_elements.new.meanings.items in
     let rows = c.push_elements.new.rows.items in
-    let drafted : Drafted a p start past ms rows = subst (λ (w : List Element). Drafted a p start (reverse w) ms rows) c.elements-elements.ensures (c.in_ok-push_elements.ensures p at) in
+    let drafted : IsDraftOf a p start past ms rows = subst (λ (w : List Element). IsDraftOf a p start (reverse w) ms rows) c.elements-elements.ensures (c.in_ok-push_elements.ensures p at) in
     let unknowns : length c.as_slice-unknowns.result.now ≡ length ms = ap length c.as_slice-unknowns.ensures.value in
     let after = c.push_bounds.new.rows.items in
     let whole = with_bounds a p start past c.args.bounds.now ms (length c.as_slice-unknowns.result.now) rows after drafted unknowns c.in_ok-push_bounds.ensures in
     λ q named. (let same = same_pattern file c.args.pattern p q at named in record {
       unknowns = unknowns ∙ ap length drafted.unknowns_are ∙ ap (λ r. length (meanings a r start past)) same;
-      rows = subst (λ (rs : List Row). RowsOf (system_rows a q start past c.args.bounds.now) rs) (sym c.from_vec.ensures) (subst (λ r. RowsOf (system_rows a r start past c.args.bounds.now) after) same whole.rows_of);
+      rows = subst (λ (rs : List Row). AreRowsOf (system_rows a q start past c.args.bounds.now) rs) (sym c.from_vec.ensures) (subst (λ r. AreRowsOf (system_rows a r start past c.args.bounds.now) after) same whole.rows_of);
     })
 
 pub returns-clause-meanings : goal.returns-clause-meanings
@@ -149,7 +149,7 @@ returns-clause-meanings c =
     let past = reverse c.args.word.now in
     let ms = c.push_elements.new.meanings.items in
     let rows = c.push_elements.new.rows.items in
-    let drafted : Drafted a p start past ms rows = subst (λ (w : List Element). Drafted a p start (reverse w) ms rows) c.elements-elements.ensures (c.in_ok-push_elements.ensures p at) in
+    let drafted : IsDraftOf a p start past ms rows = subst (λ (w : List Element). IsDraftOf a p start (reverse w) ms rows) c.elements-elements.ensures (c.in_ok-push_elements.ensures p at) in
     let unknowns : length c.as_slice-unknowns.result.now ≡ length ms = ap length c.as_slice-unknowns.ensures.value in
     let after = c.push_bounds.new.rows.items in
     let whole = with_bounds a p start past c.args.bounds.now ms (length c.as_slice-unknowns.result.now) rows after drafted unknowns c.in_ok-push_bounds.ensures in

@@ -2,7 +2,7 @@ use Rattle.std.proofs.Common.{◌+◌, [], ◌∷◌, ◌++◌, List, refl, leng
 use Rattle.ta_automaton.proofs.Thresholds.{pattern_within}
 use Rattle.ta_words.proofs.Lists.{pattern_at, same_pattern}
 use Rattle.ta_encode.specs.Unknowns.{Meaning}
-use Rattle.ta_encode.specs.Inside.Draft.{Drafted}
+use Rattle.ta_encode.specs.Inside.Draft.{IsDraftOf}
 use Rattle.ta_encode.proofs.Drafts.{start_few}
 use Rattle.ta_encode.proofs.Smallness.{small_condition, places_most}
 use Rattle.ta_encode.specs.declared.growing.Mark.{Mark}
@@ -38,8 +38,8 @@ returns c = λ q named elements before.
     let at = pattern_at file c.as_slice.result.now c.args.pattern p c.as_slice.ensures c.requires c.index-as_slice-pattern.is in
     let ms = c.in_ok-meanings.meanings.items in
     let rows = c.push_start.new.rows.items in
-    let drafted : Drafted a p start [] ms rows = subst (λ (us : List Meaning). Drafted a p start [] us rows) c.as_slice-2.ensures.value c.in_ok-push_start.ensures in
-    let here = subst (λ r. Drafted a r start [] ms rows) (same_pattern file c.args.pattern p q at named) drafted in
+    let drafted : IsDraftOf a p start [] ms rows = subst (λ (us : List Meaning). IsDraftOf a p start [] us rows) c.as_slice-2.ensures.value c.in_ok-push_start.ensures in
+    let here = subst (λ r. IsDraftOf a r start [] ms rows) (same_pattern file c.args.pattern p q at named) drafted in
     let mark : Mark = record { unknowns = c.len.result; rows = c.len-2.result } in
     let items = c.in_ok-push.ensures.items in
     let empty = c.new-marks.ensures.items in

@@ -1,9 +1,10 @@
 use Rattle.std.proofs.Common.{ℕ, List, subst, take, ◌≡◌, ◌<◌, length, arith}
+use Rattle.std.proofs.lemmas.Result.{IfOk-weaker}
 use Rattle.ta_linear.specs.declared.row.Row.{Row}
 use Rattle.ta_words.specs.declared.element.Element.{Element}
 use Rattle.ta_words.specs.Calls.{OfPattern}
 use Rattle.ta_encode.specs.Marks.{AreMarks, IsPart, mark_at}
-use Rattle.ta_encode.proofs.Marking.{part_kept, on_ok}
+use Rattle.ta_encode.proofs.Marking.{part_kept}
 use Rattle.ta_encode.proofs.growing.part_of.Goals as goal
 
 pub returns-then-shared-len : goal.returns-then-shared-len
@@ -24,5 +25,5 @@ returns-then-shared-len c = λ p named.
 
 pub returns : goal.returns
 returns c =
-    on_ok c.begin.result _ (λ part. OfPattern c.args.file.now c.args.pattern (λ p. IsPart c.args.file.now.automaton p c.args.start_mask c.args.elements.now c.args.encoding.system.rows part))
+    IfOk-weaker c.begin.result _ (λ part. OfPattern c.args.file.now c.args.pattern (λ p. IsPart c.args.file.now.automaton p c.args.start_mask c.args.elements.now c.args.encoding.system.rows part))
     (λ part h p named. h p named c.args.elements.now c.args.encoding.system.rows) c.begin.ensures

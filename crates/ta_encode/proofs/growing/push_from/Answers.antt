@@ -1,9 +1,9 @@
 use Rattle.std.proofs.Common.{◌≡◌, ℕ, ◌<◌, List, length, reverse, take, ap, arith, sym, ◌∙◌, subst}
 use Rattle.std.proofs.Math.Seq.{take-length}
 use Rattle.std.proofs.lemmas.List.{length-append}
+use Rattle.ta_base.proofs.Lists.{reverse_more}
 use Rattle.ta_words.specs.declared.element.Element.{Element}
-use Rattle.ta_words.proofs.Past.{reverse_more}
-use Rattle.ta_encode.specs.Inside.Draft.{Drafted}
+use Rattle.ta_encode.specs.Inside.Draft.{IsDraftOf}
 use Rattle.ta_encode.specs.declared.growing.Mark.{Mark}
 use Rattle.ta_encode.proofs.Adding.{behind_join}
 use Rattle.ta_encode.proofs.Marking.{marks_push}
@@ -29,11 +29,11 @@ loop-number-preserved c =
       marked = omega arith;
       within = omega arith;
       marks = λ p named.
-          let drafted = subst (λ (w : List Element). Drafted a p start w ns qs) (sym (reverse_more xs number _ inside)) (step.drafted p named) in
+          let drafted = subst (λ (w : List Element). IsDraftOf a p start w ns qs) (sym (reverse_more xs number _ inside)) (step.drafted p named) in
           marks_push a p start xs c.loop-number.meanings.items ns c.loop-number.rows.items qs marks c.push.new.self.items mark (inv.marks p named) step.unknowns step.rows items
           (c.len.ensures ∙ c.push_element.new.meanings.ok.0) (c.len-in-loop-number.ensures ∙ c.push_element.new.rows.ok.0)
-          (subst (λ (i : ℕ). Drafted a p start (reverse (take i xs)) ns qs) (sym count) drafted);
-      drafted = λ p named. subst (λ (w : List Element). Drafted a p start w ns qs) (sym (reverse_more xs number _ inside)) (step.drafted p named);
+          (subst (λ (i : ℕ). IsDraftOf a p start (reverse (take i xs)) ns qs) (sym count) drafted);
+      drafted = λ p named. subst (λ (w : List Element). IsDraftOf a p start w ns qs) (sym (reverse_more xs number _ inside)) (step.drafted p named);
       rows = behind_join c.args.rows.now.items c.loop-number.rows.items qs inv.rows step.rows;
     }
 
@@ -43,4 +43,4 @@ returns-clause-drafted c = λ p named.
     let low = c.loop-number-test.false in
     let high = inv.within in
     let end : c.loop-number.number ≡ length c.args.elements.now = omega arith in
-    subst (λ (w : List Element). Drafted c.args.file.now.automaton p c.args.start_mask (reverse w) c.loop-number.meanings.items c.loop-number.rows.items) (ap (λ (n : ℕ). take n c.args.elements.now) end ∙ take-length c.args.elements.now) (inv.drafted p named)
+    subst (λ (w : List Element). IsDraftOf c.args.file.now.automaton p c.args.start_mask (reverse w) c.loop-number.meanings.items c.loop-number.rows.items) (ap (λ (n : ℕ). take n c.args.elements.now) end ∙ take-length c.args.elements.now) (inv.drafted p named)

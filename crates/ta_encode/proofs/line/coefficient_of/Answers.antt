@@ -1,13 +1,13 @@
 use Rattle.std.proofs.Common.{◌≡◌, ap, ◌∙◌, sym, refl, subst, ℕ, ℤ, pos, ◌+ℤ◌, ◌-ℤ◌, ◌*ℤ◌, List, [], ◌∷◌, get_or, Bool, inl, inr, ◌⊎◌}
 use Rattle.std.specs.Prelude.{if◌then◌else◌, slice_get}
+use Rattle.ta_base.proofs.Integers.{to_z_range}
 use Rattle.ta_linear.specs.Numbers.{InRange}
 use Rattle.ta_linear.specs.Values.{terms_value}
 use Rattle.ta_automaton.specs.Places.{rule_change}
 use Rattle.ta_automaton.specs.declared.automaton.Automaton.{Automaton}
 use Rattle.ta_encode.specs.Unknowns.{Meaning, Count, Single, place_coefficient}
-use Rattle.ta_encode.specs.Lines.{line_coefficient, turned}
+use Rattle.ta_encode.specs.Lines.{line_coefficient, coefficient_in_sense}
 use Rattle.ta_encode.specs.declared.line.Sense.{Sense}
-use Rattle.ta_encode.proofs.Running.{clean_range}
 use Rattle.ta_encode.proofs.line.coefficient_of.Goals as goal
 
 -- the firings of a rule change a place alike, whenever they come
@@ -21,8 +21,8 @@ single_same a k r (t ∷ ts) = ap (λ (z : ℤ). (t.1 *ℤ rule_change a (slice_
 
 firing_same : (a : Automaton) (ts : List (ℕ × ℤ)) (less : Bool) (sense : Sense) (m : Meaning) (r : ℕ) → ((k : ℕ) × m ≡ Count k r) ⊎ ((k : ℕ) × m ≡ Single k r) → line_coefficient a ts less sense (Count 0 r) ≡ line_coefficient a ts less sense m
 firing_same a ts less sense m r is = elim is [
-  | inl h ↦ ap (λ (z : ℤ). turned sense (z -ℤ (if less then pos 0 else pos 0))) (count_same a h.0 r ts) ∙ ap (line_coefficient a ts less sense) (sym h.1)
-  | inr h ↦ ap (λ (z : ℤ). turned sense (z -ℤ (if less then pos 0 else pos 0))) (single_same a h.0 r ts) ∙ ap (line_coefficient a ts less sense) (sym h.1)
+  | inl h ↦ ap (λ (z : ℤ). coefficient_in_sense sense (z -ℤ (if less then pos 0 else pos 0))) (count_same a h.0 r ts) ∙ ap (line_coefficient a ts less sense) (sym h.1)
+  | inr h ↦ ap (λ (z : ℤ). coefficient_in_sense sense (z -ℤ (if less then pos 0 else pos 0))) (single_same a h.0 r ts) ∙ ap (line_coefficient a ts less sense) (sym h.1)
 ]
 
 pub returns-in-Some-clause-value : goal.returns-in-Some-clause-value
@@ -35,7 +35,7 @@ returns-in-Some-clause-value c =
     let found = c.in-Some.ensures.lookup.3 in
     let at : z ≡ get_or zs r (pos 0) = found.1 (pos 0) in
     let fits : InRange z = subst InRange (sym at) (c.requires.rules.fits r (pos 0) found.0) in
-    clean_range z fits ∙ at ∙ c.requires.rules.value r found.0 ∙ firing_same a ts c.args.less_starts c.args.sense c.args.meaning r c.in-Count.is
+    to_z_range z fits ∙ at ∙ c.requires.rules.value r found.0 ∙ firing_same a ts c.args.less_starts c.args.sense c.args.meaning r c.in-Count.is
 
 pub returns-in-None-clause-value : goal.returns-in-None-clause-value
-returns-in-None-clause-value c = clean_range c.line_coefficient-in-None.result c.line_coefficient-in-None.ensures.fits ∙ c.line_coefficient-in-None.ensures.value ∙ ap (line_coefficient c.args.automaton.now c.args.terms.now c.args.less_starts c.args.sense) c.in-Count.meaning-is
+returns-in-None-clause-value c = to_z_range c.line_coefficient-in-None.result c.line_coefficient-in-None.ensures.fits ∙ c.line_coefficient-in-None.ensures.value ∙ ap (line_coefficient c.args.automaton.now c.args.terms.now c.args.less_starts c.args.sense) c.in-Count.meaning-is

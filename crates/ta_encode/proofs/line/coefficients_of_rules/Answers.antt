@@ -2,11 +2,11 @@ use Rattle.std.proofs.Common.{◌≡◌, arith, ap, sym, subst, ◌∙◌, List,
 use Rattle.std.proofs.lemmas.Bool.{cases_lt}
 use Rattle.std.proofs.lemmas.List.{length-append, get_or_append_left, get_or_push}
 use Rattle.std.proofs.lemmas.List.Elements.{All-push}
+use Rattle.ta_base.proofs.Integers.{to_z_range}
 use Rattle.ta_linear.specs.Numbers.{InRange}
 use Rattle.ta_encode.specs.Unknowns.{Count}
 use Rattle.ta_encode.specs.Lines.{line_coefficient}
 use Rattle.ta_encode.specs.Inside.Rules.{AreOfRules}
-use Rattle.ta_encode.proofs.Running.{clean_range}
 use Rattle.ta_encode.proofs.line.coefficients_of_rules.Goals as goal
 
 pub loop-rule-preserved : goal.loop-rule-preserved
@@ -19,7 +19,7 @@ loop-rule-preserved c =
     let told = c.line_coefficient-coefficient.ensures in
     let before = c.loop-rule.invariant.of_rules in
     let count = c.loop-rule.invariant.count in
-    let items : c.push.new.self.items ≡ zs ++ z ∷ [] = c.in_ok-push.ensures.items ∙ ap (λ (y : ℤ). zs ++ y ∷ []) (clean_range z told.fits) in
+    let items : c.push.new.self.items ≡ zs ++ z ∷ [] = c.in_ok-push.ensures.items ∙ ap (λ (y : ℤ). zs ++ y ∷ []) (to_z_range z told.fits) in
     let all : AreOfRules a ts c.args.less_starts c.args.sense (zs ++ z ∷ []) = record {
       value = λ r b. (let l = length-append zs (z ∷ []) in elim (cases_lt r (length zs)) [
         | inl below ↦ get_or_append_left zs (z ∷ []) (pos 0) r below ∙ before.value r below

@@ -1,10 +1,10 @@
 use Rattle.std.proofs.Common.{◌≡◌, ◌+◌, ◌≤◌, ◌^◌, ◌++◌, ◌∷◌, [], length, arith, sym, ap, ◌∙◌, subst}
+use Rattle.ta_base.proofs.Integers.{is_none, not_none, to_z_range}
 use Rattle.ta_linear.specs.Numbers.{InRange}
 use Rattle.ta_linear.specs.Terms.{IsNormal, coefficient}
 use Rattle.ta_linear.proofs.TermLemmas.{IsNormal-higher}
 use Rattle.ta_encode.specs.Lines.{line_coefficient}
 use Rattle.ta_encode.specs.declared.meaning.Meaning.TheVariants.{Parameter}
-use Rattle.ta_encode.proofs.Running.{clean_range, not_none, is_none}
 use Rattle.ta_encode.proofs.Sparse.{Sparse, sparse_push, sparse_skip, sparse_all}
 use Rattle.ta_encode.proofs.line.line.Goals as goal
 use Rattle.ta_encode.proofs.line.line.Goals.{then-coefficient-ne0+in_ok-push, else-coefficient-ne0}
@@ -13,7 +13,7 @@ pub invariant_of-result : goal.invariant_of-result
 invariant_of-result c =
     let few : c.loop-unknown.unknown ≤ 2 ^ 32 = (let high = c.loop-unknown.auto.unknown-end in let most = c.requires.numbers in omega arith) in
     record {
-      constant_fits = subst InRange (sym (clean_range c.args.constant c.requires.fits)) c.requires.fits;
+      constant_fits = subst InRange (sym (to_z_range c.args.constant c.requires.fits)) c.requires.fits;
       normal = subst (IsNormal 0 (2 ^ 32)) (sym c.from_vec.ensures) (IsNormal-higher 0 c.loop-unknown.unknown (2 ^ 32) c.loop-unknown.written.items few c.loop-unknown.invariant.normal);
     }
 
@@ -26,7 +26,7 @@ loop-unknown-preserved c =
     elim c.if-coefficient-ne0.branch [
       | then-coefficient-ne0+in_ok-push w ↦
           sparse_push f c.args.meanings.now n c.loop-unknown.written.items c.if-coefficient-ne0.written.items (Parameter 0) z c.loop-unknown.invariant c.loop-unknown-test.true told.value (not_none z w.if-coefficient-ne0.true) told.fits
-          (ap (λ v. v.items) w.written-is ∙ w.in_ok-push.ensures.items ∙ ap (λ y. c.loop-unknown.written.items ++ (n, y) ∷ []) (clean_range z told.fits))
+          (ap (λ v. v.items) w.written-is ∙ w.in_ok-push.ensures.items ∙ ap (λ y. c.loop-unknown.written.items ++ (n, y) ∷ []) (to_z_range z told.fits))
       | else-coefficient-ne0 w ↦
           subst (λ ts. Sparse f c.args.meanings.now (n + 1) ts) (sym (ap (λ v. v.items) w.written-is)) (sparse_skip f c.args.meanings.now n c.loop-unknown.written.items (Parameter 0) z c.loop-unknown.invariant c.loop-unknown-test.true told.value (is_none z told.fits w.if-coefficient-ne0.false))
     ]
@@ -36,6 +36,6 @@ returns-clause-row c =
     let f = line_coefficient c.args.automaton.now c.args.terms.now c.args.less_starts c.args.sense in
     let end : c.loop-unknown.unknown ≡ length c.args.meanings.now = (let low = c.loop-unknown-test.false in let high = c.loop-unknown.auto.unknown-end in omega arith) in
     record {
-      constant = clean_range c.args.constant c.requires.fits;
+      constant = to_z_range c.args.constant c.requires.fits;
       coefficients = λ u. ap (λ ts. coefficient ts u) c.from_vec.ensures ∙ sparse_all f c.args.meanings.now c.loop-unknown.unknown c.loop-unknown.written.items c.loop-unknown.invariant end u;
     }

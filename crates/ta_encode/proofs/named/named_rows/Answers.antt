@@ -1,7 +1,7 @@
 use Rattle.std.proofs.Common.{◌≡◌, ◌++◌, length, map, arith, refl, sym, subst}
 use Rattle.ta_linear.specs.Rows.{AllBelow}
 use Rattle.ta_encode.specs.System.{bound_row}
-use Rattle.ta_encode.specs.Named.{number_at}
+use Rattle.ta_encode.specs.Named.{row_number_at}
 use Rattle.ta_encode.proofs.Naming.{names_none, names_more, names_all, names_absent}
 use Rattle.ta_encode.proofs.named.named_rows.Goals as goal
 
@@ -12,7 +12,7 @@ pub returns-then-not-branch : goal.returns-then-not-branch
 returns-then-not-branch c = λ ls is.
     let i = c.loop-number.number-index in
     let told = rw c.if-not-branch.true at (c.in_ok-push_named.ensures ls is) in
-    names_absent (ls ++ map bound_row c.args.bounds.now) c.args.system.now.unknowns c.args.multipliers.now i (number_at c.args.multipliers.now i) c.loop-number.rows.items (c.loop-number.invariant ls is) c.loop-number-test.true refl told
+    names_absent (ls ++ map bound_row c.args.bounds.now) c.args.system.now.unknowns c.args.multipliers.now i (row_number_at c.args.multipliers.now i) c.loop-number.rows.items (c.loop-number.invariant ls is) c.loop-number-test.true refl told
 
 pub loop-number-preserved : goal.loop-number-preserved
 loop-number-preserved c = λ ls is.

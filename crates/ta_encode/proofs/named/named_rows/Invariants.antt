@@ -1,8 +1,8 @@
 use Rattle.std.proofs.Common.{List, ◌++◌, map}
 use Rattle.ta_encode.specs.System.{LinearRow, bound_row}
-use Rattle.ta_encode.specs.Code.{RowsOf}
+use Rattle.ta_encode.specs.Code.{AreRowsOf}
 use Rattle.ta_encode.proofs.Naming.{NamedSoFar}
 use Rattle.ta_encode.proofs.named.named_rows.Given as goal
 
 abbrev pub invariant-loop-number : goal.invariant-loop-number
-invariant-loop-number l = (ls : List LinearRow) → RowsOf ls l.system.rows → NamedSoFar (ls ++ map bound_row l.bounds) l.system.unknowns l.multipliers l.number-index l.rows.items
+invariant-loop-number l = (ls : List LinearRow) → AreRowsOf ls l.system.rows → NamedSoFar (ls ++ map bound_row l.bounds) l.system.unknowns l.multipliers l.number-index l.rows.items

@@ -2,7 +2,7 @@ use Rattle.std.proofs.Common.{◌≡◌, ◌-◌, ◌≤◌, ◌<◌, pos, List,
 use Rattle.ta_linear.specs.declared.row.Row.{Row}
 use Rattle.std.proofs.lemmas.Option.{slice_get-get_or, slice_get_read}
 use Rattle.ta_encode.specs.System.{Bound, Low, bound_row}
-use Rattle.ta_encode.specs.Inside.Lines.{Adds}
+use Rattle.ta_encode.specs.Inside.Lines.{AddsRows}
 use Rattle.ta_encode.proofs.Naming.{adds_copy, adds_bound, no_row}
 use Rattle.ta_encode.proofs.named.push_named.Goals as goal
 
@@ -21,7 +21,7 @@ returns-then-at-bounds c = λ ls is.
     let n = c.args.system.now.unknowns in
     let before = c.args.rows.now.items in
     let after = c.push_bound.new.rows.items in
-    let added = subst (λ (rs : List Row). Adds (bound_row (get_or c.args.bounds.now (c.args.number - length rs) d) ∷ []) n before after) c.as_slice-written.ensures c.in_ok-push_bound.ensures in
+    let added = subst (λ (rs : List Row). AddsRows (bound_row (get_or c.args.bounds.now (c.args.number - length rs) d) ∷ []) n before after) c.as_slice-written.ensures c.in_ok-push_bound.ensures in
     let at = c.args.number - length c.args.system.now.rows in
     adds_bound ls c.args.bounds.now c.args.system.now.rows c.args.number n (get_or c.args.bounds.now at d) before after is past (slice_get-get_or c.args.bounds.now at d within) added
 

@@ -1,13 +1,13 @@
 use Rattle.std.proofs.Common.{◌≡◌, ◌∙◌, List, length, slice_get, Some, arith, refl, sym, ap, subst}
 use Rattle.std.proofs.lemmas.Option.{slice_get_read}
+use Rattle.ta_base.proofs.Integers.{to_z_abs}
 use Rattle.ta_automaton.specs.Places.{rule_change}
 use Rattle.ta_automaton.specs.declared.rule.Rule.{Rule}
-use Rattle.ta_encode.proofs.Running.{clean}
 use Rattle.ta_encode.proofs.place.change_of.Goals as goal
 
 pub returns-in-Some-clause-value : goal.returns-in-Some-clause-value
 returns-in-Some-clause-value c =
-    let plain = clean c.rule_change.result 17000000000 c.rule_change.ensures.small (omega arith) in
+    let plain = to_z_abs c.rule_change.result 17000000000 c.rule_change.ensures.small (omega arith) in
     let found = c.in-Some.ensures.lookup in
     let rule = c.in-Some.rule.now in
     let items = c.as_slice.result.now in

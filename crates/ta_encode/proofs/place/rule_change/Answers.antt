@@ -1,7 +1,7 @@
 use Rattle.std.proofs.Common.{◌-◌, length, arith, ap, ◌∙◌}
+use Rattle.ta_base.proofs.Integers.{to_z_abs}
 use Rattle.ta_linear.specs.Terms.{coefficient}
 use Rattle.ta_automaton.specs.Places.{one_if}
-use Rattle.ta_encode.proofs.Running.{clean}
 use Rattle.ta_encode.proofs.Changes.{change_parameter, change_shared, change_location, clean_move}
 use Rattle.ta_encode.proofs.place.rule_change.Goals as goal
 
@@ -14,7 +14,7 @@ returns-then-place-first_shared-clause-value c =
 pub returns-then-place-first_location-clause-value : goal.returns-then-place-first_location-clause-value
 returns-then-place-first_location-clause-value c =
     let same = ap length c.as_slice.ensures in
-    let plain = clean c.update_of.result 16000000000 c.update_of.ensures.small (omega arith) in
+    let plain = to_z_abs c.update_of.result 16000000000 c.update_of.ensures.small (omega arith) in
     let low = c.if-place-first_shared.false in
     let high = c.if-place-first_location.true in
     let first = c.first_location-first_location.ensures in

@@ -1,7 +1,7 @@
 use Rattle.std.proofs.Common.{◌≡◌, ℕ, ℤ, ◌≤◌, List, to_z, length, arith, sym, ap, ◌∙◌, subst}
 use Rattle.std.specs.Int.{w128}
+use Rattle.std.specs.List.{AllByRecursion}
 use Rattle.ta_linear.specs.Terms.{coefficient}
-use Rattle.ta_automaton.specs.Lists.{Each}
 use Rattle.ta_encode.proofs.Running.{Small, count_fits, count_more, count_past, counted_all}
 use Rattle.ta_encode.proofs.place.update_of.Goals as goal
 use Rattle.ta_encode.proofs.place.update_of.Goals.{then-number-variable, else-number-variable}
@@ -10,13 +10,13 @@ pub overflow_add-total : goal.overflow_add-total
 overflow_add-total c =
     let items = c.as_slice-number-items.result.now in
     let same = c.as_slice-number-items.ensures in
-    count_fits items c.loop-number.number-index c.args.variable (to_z w128 c.loop-number.total-bits) (subst (Each Small) (sym same) c.requires.small) (subst (λ (ts : List (ℕ × ℤ)). length ts ≤ 16) (sym same) c.requires.limit) c.loop-number-test.true c.loop-number.invariant
+    count_fits items c.loop-number.number-index c.args.variable (to_z w128 c.loop-number.total-bits) (subst (AllByRecursion Small) (sym same) c.requires.small) (subst (λ (ts : List (ℕ × ℤ)). length ts ≤ 16) (sym same) c.requires.limit) c.loop-number-test.true c.loop-number.invariant
 
 pub loop-number-preserved : goal.loop-number-preserved
 loop-number-preserved c =
     let items = c.as_slice-number-items.result.now in
     let same = c.as_slice-number-items.ensures in
-    let each = subst (Each Small) (sym same) c.requires.small in
+    let each = subst (AllByRecursion Small) (sym same) c.requires.small in
     let few = subst (λ (ts : List (ℕ × ℤ)). length ts ≤ 16) (sym same) c.requires.limit in
     elim c.if-number-variable.branch [
       | then-number-variable w ↦ count_more items c.loop-number.number-index c.args.variable (to_z w128 c.loop-number.total-bits) (to_z w128 c.if-number-variable.total-bits) each few c.loop-number-test.true c.loop-number.invariant w.if-number-variable.true w.total-is

@@ -1,14 +1,14 @@
-use Rattle.std.proofs.Common.{pos, ◌++◌, ◌∷◌, [], map, take, get_or}
+use Rattle.std.proofs.Common.{pos, ◌∷◌, [], map, take, get_or}
+use Rattle.ta_base.proofs.Each.{each_get_or}
 use Rattle.ta_encode.specs.System.{Bound, Low, bound_row}
 use Rattle.ta_encode.specs.Lines.{BoundWithin}
-use Rattle.ta_encode.proofs.Running.{each_get}
 use Rattle.ta_encode.proofs.Adding.{adds_join, adds_same, map_more}
 use Rattle.ta_encode.proofs.rows.push_bounds.Goals as goal
 
 pub push_bound-requires-clause-bound : goal.push_bound-requires-clause-bound
 push_bound-requires-clause-bound c =
     let d : Bound = record { unknown = 0; floor = pos 0; side = Low } in
-    each_get (BoundWithin c.args.unknowns) c.args.bounds.now c.loop-bound.bound-index d c.requires.bounds c.loop-bound-test.true
+    each_get_or (BoundWithin c.args.unknowns) c.args.bounds.now c.loop-bound.bound-index d c.requires.bounds c.loop-bound-test.true
 
 pub loop-bound-preserved : goal.loop-bound-preserved
 loop-bound-preserved c =

@@ -1,7 +1,7 @@
 use Rattle.std.proofs.Common.{map, take}
 use Rattle.ta_encode.specs.System.{bound_row}
-use Rattle.ta_encode.specs.Inside.Lines.{Adds}
+use Rattle.ta_encode.specs.Inside.Lines.{AddsRows}
 use Rattle.ta_encode.proofs.rows.push_bounds.Given as goal
 
 abbrev pub invariant-loop-bound : goal.invariant-loop-bound
-invariant-loop-bound l = Adds (map bound_row (take l.bound-index l.bounds)) l.unknowns l.fn.rows.items l.rows.items
+invariant-loop-bound l = AddsRows (map bound_row (take l.bound-index l.bounds)) l.unknowns l.fn.rows.items l.rows.items

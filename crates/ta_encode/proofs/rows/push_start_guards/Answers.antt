@@ -1,9 +1,9 @@
 use Rattle.std.proofs.Common.{length, take, [], ◌∷◌, ◌++◌, ap, sym, ◌∙◌, subst}
+use Rattle.ta_base.proofs.Each.{each_get_or}
 use Rattle.ta_linear.specs.declared.row.Row.{Row}
-use Rattle.ta_automaton.specs.Masks.{has_bit}
+use Rattle.ta_base.specs.Masks.{has_bit}
 use Rattle.ta_encode.specs.System.{form_row, start_guard_rows}
 use Rattle.ta_encode.specs.Inside.Lines.{in_sense, start_sense, SmallForm, SmallRows}
-use Rattle.ta_encode.proofs.Running.{each_get}
 use Rattle.ta_encode.proofs.Smallness.{fall_rows_small}
 use Rattle.ta_encode.proofs.Adding.{adds_join, adds_same, start_more}
 use Rattle.ta_encode.proofs.rows.push_start_guards.Goals as goal
@@ -11,7 +11,7 @@ use Rattle.ta_encode.proofs.rows.push_start_guards.Goals as goal
 pub push_form-requires-clause-small : goal.push_form-requires-clause-small
 push_form-requires-clause-small c =
     let each = subst SmallRows (sym c.as_slice-guard-items.ensures) (fall_rows_small c.args.automaton.now) in
-    subst (λ (r : Row). SmallForm r.form) (sym c.guard-item.is) (each_get (λ (r : Row). SmallForm r.form) c.as_slice-guard-items.result.now c.loop-number.number c.guard-item.result each c.loop-number-test.true)
+    subst (λ (r : Row). SmallForm r.form) (sym c.guard-item.is) (each_get_or (λ (r : Row). SmallForm r.form) c.as_slice-guard-items.result.now c.loop-number.number c.guard-item.result each c.loop-number-test.true)
 
 pub loop-number-preserved : goal.loop-number-preserved
 loop-number-preserved c =

@@ -1,10 +1,10 @@
 use Rattle.std.proofs.Common.{◌<◌, ◌^◌, refl, List, length, arith, sym, ap, ◌∙◌, subst}
 use Rattle.ta_linear.specs.Rows.{AllBelow}
 use Rattle.ta_linear.specs.declared.row.Row.{Row}
-use Rattle.ta_encode.specs.Code.{RowsOf}
+use Rattle.ta_encode.specs.Code.{AreRowsOf}
 use Rattle.ta_encode.specs.Lines.{BoundsWithin}
 use Rattle.ta_encode.specs.Sample.{sample_search, sampled}
-use Rattle.ta_encode.specs.Search.{rows_of}
+use Rattle.ta_encode.specs.Search.{bounded_rows}
 use Rattle.ta_encode.specs.Unknowns.{Meaning}
 use Rattle.ta_encode.proofs.Samples.{sample_few, sample_written}
 use Rattle.ta_encode.proofs.Smallness.{resilience_small}
@@ -58,5 +58,5 @@ returns-clause-system c =
     let whole = sample_written a c.args.bounds.now ms (length ms) c.new-rows.result.items c.push_condition.new.rows.items c.push_processes.new.rows.items c.push_bounds.new.rows.items is refl c.new-rows.ensures.items c.in_ok-push_condition.ensures c.in_ok-push_processes.ensures c.in_ok-push_bounds.ensures in
     record {
       unknowns = ap (λ (us : List Meaning). length us) is;
-      rows = subst (λ (rs : List Row). RowsOf (rows_of (sample_search a) (sampled c.args.bounds.now)) rs) (sym c.from_vec.ensures) whole.rows_of;
+      rows = subst (λ (rs : List Row). AreRowsOf (bounded_rows (sample_search a) (sampled c.args.bounds.now)) rs) (sym c.from_vec.ensures) whole.rows_of;
     }

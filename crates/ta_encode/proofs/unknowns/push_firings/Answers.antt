@@ -1,8 +1,9 @@
 use Rattle.std.proofs.Common.{◌<◌, ◌++◌, ◌∷◌, [], map, arith, ap, ◌∙◌, append_assoc}
 use Rattle.std.specs.Prelude.{filter}
-use Rattle.ta_automaton.specs.Masks.{has_bit, numbers_from}
+use Rattle.ta_base.specs.Masks.{has_bit, numbers_from}
+use Rattle.ta_base.proofs.Bits.{bit_off, bit_on}
+use Rattle.ta_base.proofs.Ranges.{passed_none, passed_one}
 use Rattle.ta_encode.specs.Inside.Firings.{firing}
-use Rattle.ta_encode.proofs.Masked.{bit_on, bit_off, passed_one, passed_none}
 use Rattle.ta_encode.proofs.unknowns.push_firings.Goals as goal
 use Rattle.ta_encode.proofs.unknowns.push_firings.Goals.{then-allowed-rule-ne0+in_ok-push, else-allowed-rule-ne0}
 

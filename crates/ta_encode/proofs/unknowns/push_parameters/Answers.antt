@@ -1,7 +1,7 @@
 use Rattle.std.proofs.Common.{◌≡◌, ◌+◌, ◌++◌, ◌∷◌, [], map, arith, sym, ap, ◌∙◌, append_assoc}
 use Rattle.std.proofs.lemmas.List.{map-append}
-use Rattle.ta_automaton.specs.Masks.{numbers_from}
-use Rattle.ta_words.proofs.Pushes.{numbers_more}
+use Rattle.ta_base.specs.Masks.{numbers_from}
+use Rattle.ta_base.proofs.Ranges.{numbers_more}
 use Rattle.ta_encode.specs.Unknowns.{Parameter}
 use Rattle.ta_encode.proofs.unknowns.push_parameters.Goals as goal
 

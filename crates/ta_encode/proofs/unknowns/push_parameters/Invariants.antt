@@ -1,5 +1,5 @@
 use Rattle.std.proofs.Common.{◌≡◌, ◌++◌, map}
-use Rattle.ta_automaton.specs.Masks.{numbers_from}
+use Rattle.ta_base.specs.Masks.{numbers_from}
 use Rattle.ta_encode.specs.Unknowns.{Parameter}
 use Rattle.ta_encode.proofs.unknowns.push_parameters.Given as goal
 

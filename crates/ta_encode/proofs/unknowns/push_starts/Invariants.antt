@@ -1,6 +1,6 @@
 use Rattle.std.proofs.Common.{◌≡◌, ◌++◌, map, not, take}
 use Rattle.std.specs.Prelude.{filter}
-use Rattle.ta_automaton.specs.Masks.{has_bit}
+use Rattle.ta_base.specs.Masks.{has_bit}
 use Rattle.ta_encode.specs.Unknowns.{Start}
 use Rattle.ta_encode.proofs.unknowns.push_starts.Given as goal
 

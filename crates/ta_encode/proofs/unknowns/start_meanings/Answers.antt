@@ -1,5 +1,5 @@
 use Rattle.std.proofs.Common.{List, ℕ, ◌++◌, map, length, ap, ◌∙◌}
-use Rattle.ta_automaton.specs.Masks.{numbers_from}
+use Rattle.ta_base.specs.Masks.{numbers_from}
 use Rattle.ta_encode.specs.Unknowns.{Parameter, Start, start_locations, start_meanings}
 use Rattle.ta_encode.proofs.unknowns.start_meanings.Goals as goal
 

@@ -1,7 +1,7 @@
 use Rattle.std.proofs.Common.{take}
-use Rattle.ta_implied.specs.Copies.{Copied}
+use Rattle.ta_implied.specs.Copies.{AreCopied}
 use Rattle.ta_implied.proofs.system.push_rows.Given as goal
 
 -- copies of the rows so far stand behind those that were there
 abbrev pub invariant-loop-row : goal.invariant-loop-row
-invariant-loop-row l = Copied (take l.row-index l.some) l.fn.rows.items l.rows.items
+invariant-loop-row l = AreCopied (take l.row-index l.some) l.fn.rows.items l.rows.items

@@ -1,7 +1,7 @@
 use Rattle.std.proofs.Common.{◌-◌}
 use Rattle.ta_links.specs.Gaps.{spot}
 use Rattle.ta_links.specs.Links.{direction}
-use Rattle.ta_links.specs.Listing.{places_of}
+use Rattle.ta_links.specs.Listing.{line_places}
 use Rattle.ta_links.proofs.Listed.{Listing}
 use Rattle.ta_links.proofs.lines.list_line.Given as goal
 
@@ -9,4 +9,4 @@ abbrev pub invariant-list : goal.invariant-list
 invariant-list l = Listing l.way l.links l.line l.before l.list.items
 
 abbrev pub decreases-list : goal.decreases-list
-decreases-list l = places_of l.way l.links - spot (direction l.way) l.links.cells.items l.before
+decreases-list l = line_places l.way l.links - spot (direction l.way) l.links.cells.items l.before

@@ -1,10 +1,10 @@
 use Rattle.std.proofs.Common.{◌≡◌, ◌≤◌, ◌∙◌, ap, sym, List, ℕ, length, Option, Some, arith}
 use Rattle.std.proofs.lemmas.Int.{to_z-of_z}
+use Rattle.ta_base.proofs.Options.{some_below}
 use Rattle.ta_links.specs.declared.cell.Cell.{Cell}
 use Rattle.ta_links.specs.declared.way.Way.TheVariants.{Rows}
 use Rattle.ta_links.specs.Chains.{along_rows, along_columns}
 use Rattle.ta_links.specs.Links.{following, next_free}
-use Rattle.ta_links.proofs.Options.{within}
 use Rattle.ta_links.proofs.Splicing.{spliced_long}
 use Rattle.ta_links.proofs.Inserting.{Put, put_from, free_in, taken_longer, right_in, below_in}
 use Rattle.ta_links.proofs.linked_cells.insert.Goals as goal
@@ -12,7 +12,7 @@ use Rattle.ta_links.proofs.linked_cells.insert.Goals as goal
 pub take_cell-requires : goal.take_cell-requires
 take_cell-requires c =
     let l = c.args.links.now in
-    within l.free_head (length l.cells.items) (free_in l.cells.items l.free_head c.requires.sound.free)
+    some_below l.free_head (length l.cells.items) (free_in l.cells.items l.free_head c.requires.sound.free)
 
 pub splice-requires-clause-after : goal.splice-requires-clause-after
 splice-requires-clause-after c =
@@ -29,7 +29,7 @@ splice-requires-clause-after c =
     let part_right = c.cell_behind-right.ensures ∙ ap (λ (xs : List Cell). following along_rows xs c.deref-2.result.now c.args.row c.args.left) c.deref.ensures.value in
     let right : c.cell_behind-right.result ≡ following along_rows l.cells.items l.row_heads.items c.args.row c.args.left = part_right ∙ ap (λ (hs : List (Option ℕ)). following along_rows l.cells.items hs c.args.row c.args.left) c.deref-2.ensures.value in
     let longer : length l.cells.items ≤ length c.take_cell.new.cells.items = taken_longer l.cells.items l.free_head _ c.take_cell.new.cells.items c.requires.sound.free c.in_ok-at.ensures.cells in
-    within c.cell_behind-right.result (length c.take_cell.new.cells.items) (λ j h.
+    some_below c.cell_behind-right.result (length c.take_cell.new.cells.items) (λ j h.
     let b = right_in l.cells.items l.row_heads.items l.column_heads.items l.free_head c.args.left c.args.above c.args.row c.args.column c.args.value w j (sym right ∙ h) in
     omega arith)
 
@@ -49,7 +49,7 @@ splice-requires-2-clause-after c =
     let below : c.cell_behind-below.result ≡ following along_columns l.cells.items l.column_heads.items c.args.column c.args.above = part_below ∙ ap (λ (hs : List (Option ℕ)). following along_columns l.cells.items hs c.args.column c.args.above) c.deref-4.ensures.value in
     let longer : length l.cells.items ≤ length c.take_cell.new.cells.items = taken_longer l.cells.items l.free_head _ c.take_cell.new.cells.items c.requires.sound.free c.in_ok-at.ensures.cells in
     let long : length c.splice.new.cells.items ≡ length c.take_cell.new.cells.items = ap (λ (xs : List Cell). length xs) c.splice.ensures ∙ spliced_long Rows c.take_cell.new.cells.items c.args.left c.cell_behind-right.result (Some c.in_ok-at.at) (Some c.in_ok-at.at) in
-    within c.cell_behind-below.result (length c.splice.new.cells.items) (λ j h.
+    some_below c.cell_behind-below.result (length c.splice.new.cells.items) (λ j h.
     let b = below_in l.cells.items l.row_heads.items l.column_heads.items l.free_head c.args.left c.args.above c.args.row c.args.column c.args.value w j (sym below ∙ h) in
     omega arith)
 

@@ -1,9 +1,9 @@
 use Rattle.std.proofs.Common.{◌≡◌, ◌∙◌, ap, sym, List, length, arith}
+use Rattle.ta_base.proofs.Options.{some_below}
 use Rattle.ta_links.specs.declared.cell.Cell.{Cell}
 use Rattle.ta_links.specs.Chains.{cell_at, along_rows, along_columns}
 use Rattle.ta_links.specs.declared.way.Way.TheVariants.{Rows}
 use Rattle.ta_links.proofs.Splicing.{spliced_long}
-use Rattle.ta_links.proofs.Options.{within}
 use Rattle.ta_links.proofs.Removing.{cut_from, before_in, after_in}
 use Rattle.ta_links.proofs.linked_cells.remove.Goals as goal
 
@@ -11,19 +11,19 @@ pub splice-requires-clause-before : goal.splice-requires-clause-before
 splice-requires-clause-before c =
     let l = c.args.links.now in
     let e : c.cell_of-cell.result ≡ cell_at l.cells.items c.args.at = c.cell_of-cell.ensures ∙ ap (λ (xs : List Cell). cell_at xs c.args.at) c.deref.ensures.value in
-    within c.cell_of-cell.result.left (length l.cells.items) (λ j h. before_in along_rows l.cells.items l.row_heads.items c.args.at c.requires.sound.rows c.requires.live j (ap (λ (c : Cell). c.left) (sym e) ∙ h))
+    some_below c.cell_of-cell.result.left (length l.cells.items) (λ j h. before_in along_rows l.cells.items l.row_heads.items c.args.at c.requires.sound.rows c.requires.live j (ap (λ (c : Cell). c.left) (sym e) ∙ h))
 
 pub splice-requires-clause-after : goal.splice-requires-clause-after
 splice-requires-clause-after c =
     let l = c.args.links.now in
     let e : c.cell_of-cell.result ≡ cell_at l.cells.items c.args.at = c.cell_of-cell.ensures ∙ ap (λ (xs : List Cell). cell_at xs c.args.at) c.deref.ensures.value in
-    within c.cell_of-cell.result.right (length l.cells.items) (λ j h. after_in along_rows l.cells.items l.row_heads.items c.args.at c.requires.sound.rows c.requires.live j (ap (λ (c : Cell). c.right) (sym e) ∙ h))
+    some_below c.cell_of-cell.result.right (length l.cells.items) (λ j h. after_in along_rows l.cells.items l.row_heads.items c.args.at c.requires.sound.rows c.requires.live j (ap (λ (c : Cell). c.right) (sym e) ∙ h))
 
 pub splice-requires-2-clause-before : goal.splice-requires-2-clause-before
 splice-requires-2-clause-before c =
     let l = c.args.links.now in
     let e : c.cell_of-cell.result ≡ cell_at l.cells.items c.args.at = c.cell_of-cell.ensures ∙ ap (λ (xs : List Cell). cell_at xs c.args.at) c.deref.ensures.value in
-    within c.cell_of-cell.result.above (length c.splice.new.cells.items) (λ j h.
+    some_below c.cell_of-cell.result.above (length c.splice.new.cells.items) (λ j h.
     let b = before_in along_columns l.cells.items l.column_heads.items c.args.at c.requires.sound.columns c.requires.live j (ap (λ (c : Cell). c.above) (sym e) ∙ h) in
     let long = ap (λ (xs : List Cell). length xs) c.splice.ensures ∙ spliced_long Rows l.cells.items c.cell_of-cell.result.left c.cell_of-cell.result.right c.cell_of-cell.result.right c.cell_of-cell.result.left in
     omega arith)
@@ -32,7 +32,7 @@ pub splice-requires-2-clause-after : goal.splice-requires-2-clause-after
 splice-requires-2-clause-after c =
     let l = c.args.links.now in
     let e : c.cell_of-cell.result ≡ cell_at l.cells.items c.args.at = c.cell_of-cell.ensures ∙ ap (λ (xs : List Cell). cell_at xs c.args.at) c.deref.ensures.value in
-    within c.cell_of-cell.result.below (length c.splice.new.cells.items) (λ j h.
+    some_below c.cell_of-cell.result.below (length c.splice.new.cells.items) (λ j h.
     let b = after_in along_columns l.cells.items l.column_heads.items c.args.at c.requires.sound.columns c.requires.live j (ap (λ (c : Cell). c.below) (sym e) ∙ h) in
     let long = ap (λ (xs : List Cell). length xs) c.splice.ensures ∙ spliced_long Rows l.cells.items c.cell_of-cell.result.left c.cell_of-cell.result.right c.cell_of-cell.result.right c.cell_of-cell.result.left in
     omega arith)

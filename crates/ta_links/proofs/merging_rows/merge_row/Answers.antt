@@ -1,4 +1,4 @@
-use Rattle.std.proofs.Common.{ℕ, unsigned_abs, ◌≡◌, ◌∙◌, ap, sym, subst, rules, List, ℤ, pos, ◌*ℤ◌, ◌-ℤ◌, ◌<ℤ◌, get_or, set, arith}
+use Rattle.std.proofs.Common.{unsigned_abs, ◌≡◌, ◌∙◌, ap, sym, subst, rules, List, ℤ, pos, ◌*ℤ◌, ◌-ℤ◌, ◌<ℤ◌, get_or, set, arith}
 use Rattle.std.specs.Prelude.{int_div}
 use Rattle.std.proofs.lemmas.Int.{to_z-of_z, to_z_pos, ints}
 use mir.Val.{SFits, to_z}

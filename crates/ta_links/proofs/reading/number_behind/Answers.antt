@@ -4,7 +4,7 @@ use mir.Val.{SFits}
 use mir.Syntax.{w128}
 use Rattle.ta_links.specs.declared.cell.Cell.{Cell}
 use Rattle.ta_links.specs.Chains.{along_rows, cell_at}
-use Rattle.ta_links.specs.Gaps.{IsAt, IsGap, IsSought}
+use Rattle.ta_links.specs.Gaps.{IsAt, IsEmptyPlace, IsSought}
 use Rattle.ta_links.proofs.Writing.{at_value, gap_value}
 use Rattle.ta_links.proofs.reading.number_behind.Goals as goal
 
@@ -23,6 +23,6 @@ returns-in-Some-clause-value c =
 pub returns-in-None-clause-value : goal.returns-in-None-clause-value
 returns-in-None-clause-value c =
     let l = c.args.links.now in
-    let gap = subst (λ (xs : List Cell). IsGap along_rows xs c.deref-2.result.now c.args.row c.args.column c.args.left) c.deref.ensures.value c.in-None.ensures.none in
-    let gap_ = subst (λ (hs : List (Option ℕ)). IsGap along_rows l.cells.items hs c.args.row c.args.column c.args.left) c.deref-2.ensures.value gap in
+    let gap = subst (λ (xs : List Cell). IsEmptyPlace along_rows xs c.deref-2.result.now c.args.row c.args.column c.args.left) c.deref.ensures.value c.in-None.ensures.none in
+    let gap_ = subst (λ (hs : List (Option ℕ)). IsEmptyPlace along_rows l.cells.items hs c.args.row c.args.column c.args.left) c.deref-2.ensures.value gap in
     sym (gap_value l.cells.items l.row_heads.items l.column_heads.items l.free_head c.args.row c.args.column c.args.left c.requires.sound gap_)

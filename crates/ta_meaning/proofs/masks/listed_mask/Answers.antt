@@ -3,9 +3,9 @@ use Rattle.std.proofs.lemmas.Bool.{false≢true}
 use Rattle.std.proofs.lemmas.Option.{slice_get_within}
 use Rattle.std.proofs.lemmas.Result.{err_from_is_err_and}
 use Rattle.std.proofs.Math.ListN.{drop_of_length-le}
+use Rattle.ta_base.proofs.Lists.{next_item}
 use Rattle.ta_syntax.specs.declared.names.Spelled.{Spelled}
 use Rattle.ta_meaning.specs.Inside.Listed.{between}
-use Rattle.ta_meaning.proofs.ListItems.{next_item}
 use Rattle.ta_meaning.proofs.ListedSteps.{ListedTo, listing_begins, listing_stops, listing_repeats, listing_goes_on, listing_ends, between-distinct, between-within, between-length}
 use Rattle.ta_meaning.proofs.masks.listed_mask.Goals as goal
 
@@ -37,7 +37,7 @@ returns-then-contains c =
     let names = c.args.names.now in
     let allowed = between c.args.from c.args.to names in
     let here : drop i xs ≡ x ∷ drop (i + 1) xs = next_item xs i x (omega arith) c.name-item.is in
-    listing_repeats names allowed xs x (drop (i + 1) xs) c.loop-name.mask (subst (λ (ys : List Spelled). ListedTo names allowed xs ys c.loop-name.mask) here c.loop-name.invariant) c.in_ok-number.number c.in_ok-number.ensures.1 (c.if-contains.ensures.0 refl)
+    listing_repeats names allowed xs x (drop (i + 1) xs) c.loop-name.mask (subst (λ (ys : List Spelled). ListedTo names allowed xs ys c.loop-name.mask) here c.loop-name.invariant) c.in_ok-number.number c.in_ok-number.ensures.1 (c.if-contains.ensures.tells.0 refl)
 
 pub loop-name-preserved : goal.loop-name-preserved
 loop-name-preserved c =
@@ -48,7 +48,7 @@ loop-name-preserved c =
     let allowed = between c.args.from c.args.to names in
     let here : drop i xs ≡ x ∷ drop (i + 1) xs = next_item xs i x (omega arith) c.name-item.is in
     let few = between-length c.args.from c.args.to names c.requires.within in
-    listing_goes_on names allowed xs x (drop (i + 1) xs) c.loop-name.mask (subst (λ (ys : List Spelled). ListedTo names allowed xs ys c.loop-name.mask) here c.loop-name.invariant) c.in_ok-number.number (between-distinct c.args.from c.args.to names c.requires.distinct) (omega arith) c.in_ok-number.ensures.0 c.in_ok-number.ensures.1 (λ b. false≢true (c.if-contains.ensures.1 b))
+    listing_goes_on names allowed xs x (drop (i + 1) xs) c.loop-name.mask (subst (λ (ys : List Spelled). ListedTo names allowed xs ys c.loop-name.mask) here c.loop-name.invariant) c.in_ok-number.number (between-distinct c.args.from c.args.to names c.requires.distinct) (omega arith) c.in_ok-number.ensures.0 c.in_ok-number.ensures.1 (λ b. false≢true (c.if-contains.ensures.tells.1 b))
 
 pub returns : goal.returns
 returns c =

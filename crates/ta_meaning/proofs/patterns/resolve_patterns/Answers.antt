@@ -1,9 +1,9 @@
 use Rattle.std.proofs.Common.{◌≡◌, ◌+◌, List, ◌∷◌, drop, subst, arith}
 use Rattle.std.proofs.lemmas.Result.{err_from_is_err_and}
 use Rattle.std.proofs.Math.ListN.{drop_of_length-le}
+use Rattle.ta_base.proofs.Lists.{next_item}
 use Rattle.ta_syntax.specs.declared.tree.TreePattern.{TreePattern}
 use Rattle.ta_meaning.specs.Inside.Resolved.{kinds_of}
-use Rattle.ta_meaning.proofs.ListItems.{next_item}
 use Rattle.ta_meaning.proofs.PatternSteps.{PatternsTo, patterns_begin, patterns_stop, patterns_go_on, patterns_end}
 use Rattle.ta_meaning.proofs.patterns.resolve_patterns.Goals as goal
 

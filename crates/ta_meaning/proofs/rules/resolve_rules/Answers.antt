@@ -1,10 +1,10 @@
 use Rattle.std.proofs.Common.{◌+◌, List, drop, sym, subst}
 use Rattle.std.proofs.lemmas.Result.{err_from_is_err_and}
 use Rattle.std.proofs.Math.ListN.{drop_of_length-le}
+use Rattle.ta_base.proofs.Lists.{next_item}
 use Rattle.ta_automaton.specs.declared.rule.Rule.{Rule}
 use Rattle.ta_syntax.specs.declared.tree.TreeRule.{TreeRule}
 use Rattle.ta_meaning.specs.Inside.Resolved.{kinds_of}
-use Rattle.ta_meaning.proofs.ListItems.{next_item}
 use Rattle.ta_meaning.proofs.Exits.{exit-first}
 use Rattle.ta_meaning.proofs.RuleSequence.{RulesReading, rules_begin, rules_more, rules_stop, rules_end}
 use Rattle.ta_meaning.proofs.rules.resolve_rules.Goals as goal

@@ -1,9 +1,10 @@
 use Rattle.std.proofs.Common.{IfNone, IfSome}
 use Rattle.std.proofs.lemmas.Result.{IfOk-weaker}
+use Rattle.ta_base.proofs.Options.{none_weaker, some_weaker}
 use Rattle.ta_linear.specs.Values.{point_of}
 use Rattle.ta_automaton.specs.Runs.{Holds, HoldsAt}
 use Rattle.ta_counter.specs.Configs.{config_of}
-use Rattle.ta_pattern.proofs.Agreeing.{holds_there, holds_here, none_weaker, some_weaker}
+use Rattle.ta_pattern.proofs.Agreeing.{holds_there, holds_here}
 use Rattle.ta_pattern.proofs.condition.failing_start.Goals as goal
 
 pub returns-clause-holds : goal.returns-clause-holds

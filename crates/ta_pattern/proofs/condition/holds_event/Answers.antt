@@ -1,8 +1,8 @@
 use Rattle.std.proofs.Common.{◌<◌, ◌∙◌, sym, ap, subst, length, List, ℤ, arith, Ok}
 use Rattle.std.proofs.lemmas.Option.{same_Some}
+use Rattle.ta_base.proofs.Lists.{read_same}
 use Rattle.ta_linear.specs.Values.{point_of}
 use Rattle.ta_automaton.specs.declared.pattern.Event.{Event}
-use Rattle.ta_counter.proofs.Passing.{read_at}
 use Rattle.ta_counter.specs.Checks.{FirstFalse}
 use Rattle.ta_pattern.specs.Events.{EventAnswer}
 use Rattle.ta_pattern.proofs.Agreeing.{event_answer, tells_event}
@@ -14,7 +14,7 @@ returns-clause-answer c =
     let event = c.index-as_slice-event.result in
     let count = ap (λ (es : List Event). length es) c.as_slice.ensures in
     let exists : c.args.event < length c.as_slice.result.now = (let e = c.requires.exists in omega arith) in
-    let named = read_at events c.as_slice.result.now c.args.event event c.as_slice.ensures exists c.index-as_slice-event.is in
+    let named = read_same events c.as_slice.result.now c.args.event event c.as_slice.ensures exists c.index-as_slice-event.is in
     let told = subst (λ (vs : List ℤ). FirstFalse (point_of vs) event.condition (Ok c.in_ok-failing.failing)) c.values.ensures c.in_ok-failing.ensures.answer in
     λ other at. subst (λ (e : Event). EventAnswer (point_of c.args.config.now.values.items) e.condition (Ok c.is_none.result)) (same_Some event other (sym named ∙ at)) (event_answer (point_of c.args.config.now.values.items) event.condition c.in_ok-failing.failing c.is_none.result told c.is_none.ensures)
 

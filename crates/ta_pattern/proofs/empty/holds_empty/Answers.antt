@@ -1,5 +1,5 @@
 use Rattle.std.proofs.Common.{ℕ, ◌≤◌, List, length, ap, arith, refl}
-use Rattle.ta_automaton.proofs.Thresholds.{bit_below}
+use Rattle.ta_base.proofs.Bits.{bit_below}
 use Rattle.ta_pattern.proofs.Agreeing.{keeps_empty}
 use Rattle.ta_pattern.proofs.empty.holds_empty.Goals as goal
 

@@ -2,7 +2,7 @@ use Rattle.std.proofs.Common.{◌≡◌, ◌∙◌, ◌++◌, List, ℕ, sym, ap
 use Rattle.std.specs.Prelude.{IfOk}
 use Rattle.ta_check.specs.Subjects.{Subject}
 use Rattle.ta_check.specs.Certificate.{Certificate}
-use Rattle.ta_check.specs.Checkers.{Finished, StandsFor}
+use Rattle.ta_check.specs.Checkers.{CheckerFinishAnswers, CheckerStandsFor}
 use Rattle.ta_shell.specs.Puts.{texts_joined}
 use Rattle.ta_program.proofs.Benching.{ends_well, one_more_piece}
 use Rattle.ta_program.proofs.bench.accept.Goals as goal
@@ -17,7 +17,7 @@ loop-piece-preserved c =
     let bytes : c.as_bytes.result.now ≡ c.piece-item.result = c.as_bytes.ensures.value ∙ c.as_str.ensures in
     let more = ap (λ (b : List ℕ). texts_joined (take k pieces) ++ b) bytes ∙ one_more_piece pieces k c.piece-item.result c.loop-piece-test.true (sym c.piece-item.is) in
     record {
-      stands = subst (λ (t : List ℕ). StandsFor c.feed.new.self t) more (c.in_ok-feed.ensures.answer (texts_joined (take k pieces)) c.loop-piece.invariant.stands);
+      stands = subst (λ (t : List ℕ). CheckerStandsFor c.feed.new.self t) more (c.in_ok-feed.ensures.answer (texts_joined (take k pieces)) c.loop-piece.invariant.stands);
       subject = c.feed.ensures.subject ∙ c.loop-piece.invariant.subject;
     }
 
@@ -29,5 +29,5 @@ returns c =
     let pieces = c.args.pieces.now in
     let text = texts_joined (take c.loop-piece.piece-index pieces) in
     let all = ap texts_joined (take_all c.loop-piece.piece-index pieces c.loop-piece-test.false) in
-    let answer = subst (λ (s : Subject). Finished s text c.finish.result) c.loop-piece.invariant.subject (c.finish.ensures.answer text c.loop-piece.invariant.stands) in
+    let answer = subst (λ (s : Subject). CheckerFinishAnswers s text c.finish.result) c.loop-piece.invariant.subject (c.finish.ensures.answer text c.loop-piece.invariant.stands) in
     subst (λ (t : List ℕ). IfOk c.finish.result (λ accepted. Certificate c.args.scoped.now.file t accepted.patterns)) all (ends_well c.args.scoped.now.file text c.finish.result answer)

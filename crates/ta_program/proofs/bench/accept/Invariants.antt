@@ -1,6 +1,6 @@
 use Rattle.std.proofs.Common.{◌≡◌, take}
 use Rattle.ta_claim.specs.declared.claim.Claim.TheVariants.{Safe}
-use Rattle.ta_check.specs.Checkers.{StandsFor, subject_of}
+use Rattle.ta_check.specs.Checkers.{CheckerStandsFor, subject_of}
 use Rattle.ta_check.specs.Subjects.{claiming}
 use Rattle.ta_shell.specs.Puts.{texts_joined}
 use Rattle.ta_program.proofs.bench.accept.Given as goal
@@ -8,6 +8,6 @@ use Rattle.ta_program.proofs.bench.accept.Given as goal
 -- the checker stands for the pieces so far
 abbrev pub invariant-loop-piece : goal.invariant-loop-piece
 invariant-loop-piece l = record {
-  stands : StandsFor l.checker (texts_joined (take l.piece-index l.pieces));
+  stands : CheckerStandsFor l.checker (texts_joined (take l.piece-index l.pieces));
   subject : subject_of l.checker ≡ claiming Safe l.scoped.file;
 }

@@ -1,4 +1,4 @@
-use Rattle.std.proofs.Common.{◌≡◌, ◌∙◌, List, refl, sym, ap, slice_get}
+use Rattle.std.proofs.Common.{◌∙◌, List, refl, sym, ap, slice_get}
 use Rattle.ta_automaton.specs.declared.pattern.Pattern.{Pattern}
 use Rattle.ta_report.specs.declared.verdict.Verdict.{Verdict}
 use Rattle.ta_shell.specs.Puts.{texts_joined}

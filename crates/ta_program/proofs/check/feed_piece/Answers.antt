@@ -1,8 +1,9 @@
-use Rattle.std.proofs.Common.{◌≡◌, ◌-◌, ap, inl, inr, length, min, refl, rules}
+use Rattle.std.proofs.Common.{◌≡◌, ◌-◌, inl, inr, length, min, rules}
+use Rattle.ta_base.proofs.Lists.{piece_size}
 use Rattle.ta_shell.specs.Lines.{longer_than}
 use Rattle.ta_check.specs.Checkers.{subject_of}
 use Rattle.ta_program.specs.declared.limits.TheConstants.{CERTIFICATE}
-use Rattle.ta_program.proofs.PiecesJudged.{fault_only, passes_limit, piece_allowed, piece_breaks, piece_size, says_only}
+use Rattle.ta_program.proofs.PiecesJudged.{fault_only, passes_limit, piece_allowed, piece_breaks, says_only}
 use Rattle.ta_program.proofs.check.feed_piece.Goals as goal
 
 pub returns-then-allowed-piece-clause-fed : goal.returns-then-allowed-piece-clause-fed

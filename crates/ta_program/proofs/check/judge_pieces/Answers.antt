@@ -1,4 +1,4 @@
-use Rattle.std.proofs.Common.{◌≡◌, ◌∙◌, ◌≤◌, Option, arith, length, subst, sym}
+use Rattle.std.proofs.Common.{◌∙◌, ◌≤◌, Option, arith, length, subst, sym}
 use Rattle.ta_shelf.specs.Put.{Told}
 use Rattle.ta_check.specs.Checkers.{subject_of}
 use Rattle.ta_program.specs.Inside.Judged.{JudgedTo}

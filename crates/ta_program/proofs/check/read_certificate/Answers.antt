@@ -1,5 +1,5 @@
 use Rattle.std.proofs.Common.{Err, subst}
-use Rattle.ta_check.specs.Checkers.{Finished, IsExactEnd, subject_of}
+use Rattle.ta_check.specs.Checkers.{CheckerFinishAnswers, IsExactCheck, subject_of}
 use Rattle.ta_check.specs.Subjects.{Subject}
 use Rattle.ta_program.proofs.PiecesJudged.{stage_ended}
 use Rattle.ta_program.proofs.check.read_certificate.Goals as goal
@@ -9,8 +9,8 @@ returns-in-Err-finish-clause-stage g c =
     let judged = c.in-Ok.ensures.judged in
     let whole = judged.such.0 in
     let f = c.in-Err-finish.fault in
-    let finished = subst (λ (s : Subject). Finished s whole.text (Err f)) judged.such.1 (c.in-Err-finish.ensures.answer whole.text whole.stands) in
-    let exact = subst (λ (s : Subject). IsExactEnd s whole.text (Err f)) judged.such.1 (c.in-Err-finish.ensures.exact whole.text whole.stands) in
+    let finished = subst (λ (s : Subject). CheckerFinishAnswers s whole.text (Err f)) judged.such.1 (c.in-Err-finish.ensures.answer whole.text whole.stands) in
+    let exact = subst (λ (s : Subject). IsExactCheck s whole.text (Err f)) judged.such.1 (c.in-Err-finish.ensures.exact whole.text whole.stands) in
     record {
       added = judged.added;
       grown = judged.grown;

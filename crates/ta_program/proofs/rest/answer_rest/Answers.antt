@@ -1,6 +1,6 @@
 use Rattle.std.proofs.Common.{◌≡◌, ◌∙◌, List, ap, length, subst, sym, true}
 use Rattle.std.specs.Prelude.{is_some}
-use Rattle.ta_automaton.specs.Lists.{Each}
+use Rattle.std.specs.List.{AllByRecursion}
 use Rattle.ta_report.specs.declared.verdict.Verdict.{Verdict}
 use Rattle.ta_report.specs.Report.{VerdictFits}
 use Rattle.ta_shell.specs.Puts.{texts_joined}
@@ -13,7 +13,7 @@ pub report-requires-clause-all : goal.report-requires-clause-all
 report-requires-clause-all c = subst (λ (vs : List Verdict). length vs ≡ length c.args.rest.now.ending.file.patterns) (sym c.as_slice-2.ensures) c.in-Ok.ensures.all
 
 pub report-requires-clause-fit : goal.report-requires-clause-fit
-report-requires-clause-fit c = subst (Each (VerdictFits c.args.rest.now.ending.file)) (sym c.as_slice-2.ensures) c.in-Ok.ensures.fit
+report-requires-clause-fit c = subst (AllByRecursion (VerdictFits c.args.rest.now.ending.file)) (sym c.as_slice-2.ensures) c.in-Ok.ensures.fit
 
 pub returns-in-None-clause-says : goal.returns-in-None-clause-says
 returns-in-None-clause-says c = λ files file ends.

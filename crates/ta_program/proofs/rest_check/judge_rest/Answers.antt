@@ -1,4 +1,4 @@
-use Rattle.std.proofs.Common.{[], refl, subst, sym, ap, ◌∙◌, ◌≡◌, List, ℕ}
+use Rattle.std.proofs.Common.{[], refl, subst, List, ℕ}
 use Rattle.ta_check.specs.declared.accepted.Accepted.{Accepted}
 use Rattle.ta_check.specs.Subjects.{claiming}
 use Rattle.ta_claim.specs.declared.claim.Claim.TheVariants.{RestSafe}

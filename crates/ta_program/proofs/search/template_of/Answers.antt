@@ -1,10 +1,10 @@
 use Rattle.std.proofs.Common.{◌≢◌, List, ℕ}
 use Rattle.ta_search.specs.declared.fault.TemplateFault.{TemplateFault}
 use Rattle.ta_search.specs.declared.fault.TemplateFault.TheVariants as fault
-use Rattle.ta_search.specs.TemplateFaults.{FaultOf, FirstFault}
+use Rattle.ta_search.specs.TemplateFaults.{FaultOf, FirstTemplateFault}
 use Rattle.ta_program.proofs.search.template_of.Goals as goal
 
-first_of : (bytes : List ℕ) (e : TemplateFault) → e ≢ fault.Memory → FaultOf bytes e → FirstFault bytes e
+first_of : (bytes : List ℕ) (e : TemplateFault) → e ≢ fault.Memory → FaultOf bytes e → FirstTemplateFault bytes e
 first_of bytes (fault.Line number) other is = is
 first_of bytes (fault.Repeated number) other is = is
 first_of bytes (fault.Range number) other is = is

@@ -1,9 +1,10 @@
 use Rattle.std.proofs.Common.{◌≡◌, ◌<◌, ◌+◌, length, get_or, ap, subst, ◌∙◌, arith}
 use Rattle.std.proofs.lemmas.List.{length_push, get_or_default}
 use Rattle.std.proofs.lemmas.Result.{err_from_is_err_and}
+use Rattle.ta_base.proofs.Ranges.{rises_at}
 use Rattle.ta_replay.specs.RunText.{start_slot, start_slots}
 use Rattle.ta_replay.proofs.Decimals.{stored}
-use Rattle.ta_replay.proofs.ValueLines.{values_none, value_step, value_stop, rises_below}
+use Rattle.ta_replay.proofs.ValueLines.{values_none, value_step, value_stop}
 use Rattle.ta_replay.proofs.reading.read_counts.Goals as goal
 
 pub location_name-name-requires : goal.location_name-name-requires
@@ -11,7 +12,7 @@ location_name-name-requires c =
     let a = c.args.automaton.now in
     let i = c.loop-location.location-index in
     let within : i < length a.initial = subst (λ xs. i < length xs) c.as_slice-location-items.ensures c.loop-location-test.true in
-    rw c.as_slice-location-items.ensures (rises_below 0 (length a.locations) a.initial i 0 a.shape.initial_rises within)
+    rw c.as_slice-location-items.ensures (rises_at 0 (length a.locations) a.initial i 0 a.shape.initial_rises within)
 
 pub loop-location-init : goal.loop-location-init
 loop-location-init c = rw c.new-values.ensures.items (record { begun = values_none (start_slots c.args.automaton.now) c.args.bytes.now; count = omega arith })

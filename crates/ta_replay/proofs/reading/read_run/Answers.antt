@@ -3,9 +3,9 @@ use Rattle.std.specs.Prelude.{slice_get}
 use Rattle.std.proofs.lemmas.List.{length-map}
 use Rattle.std.proofs.lemmas.Option.{slice_get_read}
 use Rattle.std.proofs.lemmas.Result.{err_from_is_err_and}
+use Rattle.ta_base.proofs.Ranges.{rises_length_added}
 use Rattle.ta_automaton.specs.declared.pattern.Pattern.{Pattern}
 use Rattle.ta_replay.specs.RunText.{parameter_slot, start_slot}
-use Rattle.ta_replay.proofs.ValueLines.{rises_count}
 use Rattle.ta_replay.proofs.WholeTexts.{whole_read, parameters_fault, counts_fault, lines_fault}
 use Rattle.ta_replay.specs.declared.fault.RunFault.TheVariants as fault
 use Rattle.ta_replay.proofs.OneRun.{one_run, no_fault}
@@ -88,7 +88,7 @@ returns-in_err-counts-clause-misnamed c =
 pub read_steps-requires-clause-room : goal.read_steps-requires-clause-room
 read_steps-requires-clause-room c =
     let a = c.args.file.now.automaton in
-    let initial = rises_count 0 (length a.locations) a.initial (omega arith) a.shape.initial_rises in
+    let initial = rises_length_added 0 (length a.locations) a.initial (omega arith) a.shape.initial_rises in
     let locations = a.shape.limits.locations_limit in
     let parameters = a.shape.limits.parameters_limit in
     let first = c.in_ok-parameters.ensures.read.all ∙ length-map a.parameters parameter_slot in

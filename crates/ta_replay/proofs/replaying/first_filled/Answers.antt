@@ -4,8 +4,8 @@ use Rattle.std.proofs.lemmas.Int.{to_z-of_z}
 use Rattle.std.proofs.lemmas.Option.{slice_get-get_or, same_Some}
 use mir.Val.{SFits, to_z, of_z}
 use mir.Syntax.{w128}
+use Rattle.ta_base.proofs.Ranges.{rises_within}
 use Rattle.ta_linear.specs.Values.{point_of}
-use Rattle.ta_counter.proofs.Starting.{rises_within}
 use Rattle.ta_replay.proofs.replaying.first_filled.Goals as goal
 use Rattle.ta_replay.proofs.replaying.first_filled.Goals.{else-contains-via-then-contains+else-counts-place-ne0, else-contains-via-else-contains}
 
@@ -26,7 +26,7 @@ returns-then-counts-place-ne0-clause-some c =
     record {
       location = get_or items j 0;
       at = subst (λ (ls : List ℕ). slice_get ls j ≡ Some (get_or items j 0)) c.as_slice-location-items.ensures at;
-      empty = c.contains.ensures.0 test;
+      empty = c.contains.ensures.tells.0 test;
       some = λ e. c.if-counts-place-ne0.true (ap (λ z. of_z w128 z) (ap (λ (xs : List ℤ). get_or xs j (pos 0)) c.as_slice-counts.ensures ∙ e));
       before = c.loop-place.invariant;
     }
@@ -48,7 +48,7 @@ loop-place-preserved c = λ i k b at bit.
                 let none = simp to_z-of_z at zero in
                 ap (point_of c.args.run.now.counts) same ∙ ap (λ (xs : List ℤ). get_or xs j (pos 0)) (sym c.as_slice-counts.ensures) ∙ none)
             | else-contains-via-else-contains w ↦ (
-                let told = c.contains.ensures.1 (subst (IsBitSet c.args.pattern.now.empty) location bit) in
+                let told = c.contains.ensures.tells.1 (subst (IsBitSet c.args.pattern.now.empty) location bit) in
                 absurd (false≢true (sym w.if-contains.false ∙ told)))
           ])
     ]

@@ -8,8 +8,8 @@ returns-in_err-name c =
     rw c.from_residual-in_err-name.ensures
     (no_space c.args.word.now c.in_ok-rest.rest.now c.args.line.now c.in_ok-rest.ensures c.in_err-name.ensures)
 
-pub returns-then-not-is_name : goal.returns-then-not-is_name
-returns-then-not-is_name c = no_word c.args.word.now c.in_ok-rest.rest.now c.args.line.now c.in_ok-name.name.now c.in_ok-name.digits.now c.in_ok-rest.ensures c.in_ok-name.ensures (λ word. false≢true (sym c.if-not-is_name.true ∙ c.is_name.ensures.1 word))
+pub returns-then-not-is_word : goal.returns-then-not-is_word
+returns-then-not-is_word c = no_word c.args.word.now c.in_ok-rest.rest.now c.args.line.now c.in_ok-name.name.now c.in_ok-name.digits.now c.in_ok-rest.ensures c.in_ok-name.ensures (λ word. false≢true (sym c.if-not-is_word.true ∙ c.is_word.ensures.1 word))
 
 pub returns-in_err-value : goal.returns-in_err-value
 returns-in_err-value c =

@@ -1,7 +1,7 @@
 use Rattle.std.proofs.Common.{◌<◌, length, get_or, ◌++◌, sym, subst, arith, string_bytes}
 use Rattle.std.proofs.lemmas.List.{get_or_default}
+use Rattle.ta_base.proofs.Ranges.{rises_at}
 use Rattle.ta_replay.specs.RunText.{start_slot, start_slots, value_lines, lines_text}
-use Rattle.ta_replay.proofs.ValueLines.{rises_below}
 use Rattle.ta_replay.proofs.PrintedLines.{item_written}
 use Rattle.ta_replay.proofs.writing.write_counts.Goals as goal
 
@@ -10,7 +10,7 @@ location_name-name-requires c =
     let a = c.args.automaton.now in
     let i = c.loop-i.i in
     let within : i < length a.initial = (let h = c.requires in omega arith) in
-    rw c.as_slice-initial.ensures (rises_below 0 (length a.locations) a.initial i 0 a.shape.initial_rises within)
+    rw c.as_slice-initial.ensures (rises_at 0 (length a.locations) a.initial i 0 a.shape.initial_rises within)
 
 pub loop-i-preserved : goal.loop-i-preserved
 loop-i-preserved c =

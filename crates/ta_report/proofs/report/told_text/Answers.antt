@@ -2,9 +2,9 @@ use Rattle.std.proofs.Common.{◌≡◌, ◌∙◌, sym, ap, subst, List, ℕ, [
 use Rattle.std.specs.Iterator.Adapters.{zip_first, zip_second}
 use Rattle.std.specs.Slice.Iter.{iter_rest}
 use Rattle.std.specs.String.{string_bytes}
+use Rattle.std.specs.List.{AllByRecursion}
 use Rattle.ta_automaton.specs.declared.file.File.{File}
 use Rattle.ta_automaton.specs.declared.pattern.Pattern.{Pattern}
-use Rattle.ta_automaton.specs.Lists.{Each}
 use Rattle.ta_report.specs.declared.verdict.Verdict.{Verdict}
 use Rattle.ta_report.specs.Report.{VerdictFits, run_part, told_line, told_lines}
 use Rattle.ta_report.proofs.report.told_text.Goals as goal
@@ -26,13 +26,13 @@ no_verdict rest file (p ∷ ps) [] e = refl
 no_verdict rest file (p ∷ ps) (v ∷ vs) e = cc
 
 pub write_run-requires : goal.write_run-requires
-write_run-requires c = (subst (Each (VerdictFits c.args.file.now)) c.in-Some.ensures.steps.1 c.loop-pattern.invariant.0).0
+write_run-requires c = (subst (AllByRecursion (VerdictFits c.args.file.now)) c.in-Some.ensures.steps.1 c.loop-pattern.invariant.0).0
 
 pub loop-pattern-preserved : goal.loop-pattern-preserved
 loop-pattern-preserved c =
     let file = c.args.file.now in
     let turn = c.in-Some.ensures.steps in
-    let left = subst (Each (VerdictFits file)) turn.1 c.loop-pattern.invariant.0 in (
+    let left = subst (AllByRecursion (VerdictFits file)) turn.1 c.loop-pattern.invariant.0 in (
       left.1,
       line_more c.args.rest file (string_bytes c.loop-pattern.text) (string_bytes c.write.new.self) (string_bytes c.write_run.new.text) _ c.in-Some.pattern.now c.in-Some.verdict.now _ _ _ _ c.loop-pattern.invariant.1 turn.0 turn.1 (search rules) (search rules),
     )

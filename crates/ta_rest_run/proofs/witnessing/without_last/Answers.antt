@@ -1,9 +1,9 @@
 use Rattle.std.proofs.Common.{◌≡◌, ◌++◌, ◌∙◌, List, ap, subst, sym}
 use Rattle.std.specs.Prelude.{option_to_list}
-use Rattle.ta_automaton.specs.Lists.{Each}
+use Rattle.std.specs.List.{AllByRecursion}
+use Rattle.ta_base.proofs.Each.{each_front}
 use Rattle.ta_replay.specs.declared.run.RunLine.{RunLine}
 use Rattle.ta_replay.specs.Fits.{LineFits}
-use Rattle.ta_replay.proofs.ListSteps.{each_front}
 use Rattle.ta_rest_run.proofs.witnessing.without_last.Goals as goal
 
 pub returns-clause-fits : goal.returns-clause-fits
@@ -17,5 +17,5 @@ returns-clause-fits c = λ file fits.
       parameters_natural = fits.parameters_natural;
       counts = fits.counts;
       counts_natural = fits.counts_natural;
-      lines = each_front (LineFits file.automaton fits.pattern) c.from_vec.result last (subst (Each (LineFits file.automaton fits.pattern)) whole fits.lines);
+      lines = each_front (LineFits file.automaton fits.pattern) c.from_vec.result last (subst (AllByRecursion (LineFits file.automaton fits.pattern)) whole fits.lines);
     }

@@ -1,6 +1,5 @@
-use Rattle.std.proofs.Common.{◌≡◌, ◌∙◌, ◌++◌, List, [], append-nil, subst, sym}
+use Rattle.std.proofs.Common.{◌∙◌, ◌++◌, List, [], append-nil, subst, sym}
 use Rattle.ta_cert.specs.Certificates.{head_text, proofs_text}
-use Rattle.ta_cert.specs.declared.line.Order.{Order}
 use Rattle.ta_report.specs.declared.verdict.Verdict.{Verdict}
 use Rattle.ta_shell.specs.Puts.{texts_joined}
 use Rattle.ta_verdict.specs.Certificates.{AreTreesOf, safe_ones}

@@ -3,9 +3,9 @@ use Rattle.std.specs.Prelude.{int_lt}
 use Rattle.std.proofs.lemmas.Int.{ints}
 use mir.Syntax.{w128}
 use mir.Val.{to_z, of_z}
+use Rattle.ta_base.proofs.Lists.{read_same}
 use Rattle.ta_automaton.specs.declared.rule.Rule.{Rule}
 use Rattle.ta_scope.specs.Inside.Listed.{steps_from}
-use Rattle.ta_scope.proofs.Cycles.{read_at}
 use Rattle.ta_scope.proofs.Listing.{steps_more}
 use Rattle.ta_scope.proofs.arrange.push_steps.Goals as goal
 
@@ -15,7 +15,7 @@ loop-number-init c = sym (append-nil c.args.steps.now.items)
 pub loop-number-preserved : goal.loop-number-preserved
 loop-number-preserved c =
     let a = c.args.automaton.now in
-    let named = read_at a.rules c.as_slice-rule-items.result.now c.loop-number.number c.rule-item.result c.as_slice-rule-items.ensures c.loop-number-test.true c.rule-item.is in
+    let named = read_same a.rules c.as_slice-rule-items.result.now c.loop-number.number c.rule-item.result c.as_slice-rule-items.ensures c.loop-number-test.true c.rule-item.is in
     let z = to_z w128 (of_z w128 (get_or c.args.counts.now c.loop-number.number (pos 0))) in
     let next = cond (eqb c.rule-item.result.from c.args.location && int_lt (pos 0) z) ((c.loop-number.number, z) ∷ []) [] in
     let so_far = steps_from a c.args.counts.now c.args.location c.loop-number.number in

@@ -1,14 +1,15 @@
 use Rattle.std.proofs.Common.{ap, length, arith, List, ℕ, IsBitSet}
 use Rattle.std.proofs.lemmas.Option.{slice_get_within}
+use Rattle.ta_base.proofs.Lists.{read_same}
 use Rattle.ta_automaton.specs.declared.rule.Rule.{Rule}
 use Rattle.ta_scope.specs.Cycles.{OnCycle}
-use Rattle.ta_scope.proofs.Cycles.{read_at, rules_more}
+use Rattle.ta_scope.proofs.Cycles.{rules_more}
 use Rattle.ta_scope.proofs.circulation.first_cycle.Goals as goal
 
 pub returns-in-Some-clause-some : goal.returns-in-Some-clause-some
 returns-in-Some-clause-some c =
     let a = c.args.automaton.now in
-    let named = read_at a.rules c.as_slice-rule-items.result.now c.loop-number.number c.rule-item.result c.as_slice-rule-items.ensures c.loop-number-test.true c.rule-item.is in
+    let named = read_same a.rules c.as_slice-rule-items.result.now c.loop-number.number c.rule-item.result c.as_slice-rule-items.ensures c.loop-number-test.true c.rule-item.is in
     let cycle = rw c.in-Some.is at c.in_ok-cycle.ensures.some in
     record {
       number = c.loop-number.number;
@@ -26,7 +27,7 @@ returns-in-Some-clause-some c =
 pub loop-number-preserved : goal.loop-number-preserved
 loop-number-preserved c =
     let a = c.args.automaton.now in
-    let named = read_at a.rules c.as_slice-rule-items.result.now c.loop-number.number c.rule-item.result c.as_slice-rule-items.ensures c.loop-number-test.true c.rule-item.is in
+    let named = read_same a.rules c.as_slice-rule-items.result.now c.loop-number.number c.rule-item.result c.as_slice-rule-items.ensures c.loop-number-test.true c.rule-item.is in
     let none = rw c.in_default.is at c.in_ok-cycle.ensures.none in
     rules_more a.rules (λ (r : ℕ) (rule : Rule). IsBitSet c.args.rules r → ¬ OnCycle a c.args.rules rule) c.loop-number.number c.rule-item.result named none c.loop-number.invariant
 

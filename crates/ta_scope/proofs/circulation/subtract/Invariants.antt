@@ -1,7 +1,7 @@
 use Rattle.std.proofs.Common.{take}
-use Rattle.ta_scope.specs.Arranged.{Subtracted}
+use Rattle.ta_scope.specs.Arranged.{SubtractsFrom}
 use Rattle.ta_scope.proofs.circulation.subtract.Given as goal
 
 -- the amount is subtracted from the counts of the earlier rules
 abbrev pub invariant-loop-number : goal.invariant-loop-number
-invariant-loop-number l = Subtracted (take l.number-index l.rules) l.amount l.initial.counts l.counts
+invariant-loop-number l = SubtractsFrom (take l.number-index l.rules) l.amount l.initial.counts l.counts

@@ -1,7 +1,7 @@
 use Rattle.std.proofs.Common.{◌≡◌, ◌≤ℤ◌, pos, ◌++◌, ◌∷◌, [], List, ℤ, arith, sym, ap, ◌∙◌, subst, length, take, drop, ◌<◌}
 use Rattle.std.proofs.lemmas.List.{take_at}
 use Rattle.ta_scope.specs.Inside.Taking.{IsLeastCycle}
-use Rattle.ta_scope.specs.Arranged.{Counts, Support, LeastCount, Subtracted, TakenOut, AllTakenOut, count_at}
+use Rattle.ta_scope.specs.Arranged.{AreRuleCounts, Support, LeastCount, SubtractsFrom, TakenOut, AllTakenOut, count_at}
 use Rattle.ta_scope.proofs.Taken.{sum_of, taken_more}
 use Rattle.ta_scope.proofs.Circulations.{taken_counts, taken_less, least_within, least_distinct, least_taken, no_cycle_same}
 use Rattle.ta_scope.proofs.circulation.without_circulations.Goals as goal
@@ -9,7 +9,7 @@ use Rattle.ta_scope.proofs.circulation.without_circulations.Goals as goal
 pub loop-rest-init : goal.loop-rest-init
 loop-rest-init c =
     let same : c.extend_from_slice.new.self.items ≡ c.args.counts.now = c.in_ok-extend_from_slice.ensures.items ∙ ap (λ (xs : List ℤ). xs ++ c.args.counts.now) c.new-rest.ensures.items in
-    record { later = []; taken_out = sym same; left = subst (Counts c.args.automaton.now) (sym same) c.requires }
+    record { later = []; taken_out = sym same; left = subst (AreRuleCounts c.args.automaton.now) (sym same) c.requires }
 
 pub support_of-requires : goal.support_of-requires
 support_of-requires c =
@@ -40,7 +40,7 @@ taken c =
     let support : Support c.loop-rest.rest.items c.support_of.result = subst (λ (xs : List ℤ). Support xs c.support_of.result) c.as_slice.ensures.value c.support_of.ensures in
     let cycle = subst (IsLeastCycle a c.support_of.result) (sym c.as_slice-in-Some.ensures.value) (rw c.in-Some.is at c.in_ok-cycle.ensures.some) in
     least_taken a c.loop-rest.rest.items c.take_out.new.counts c.support_of.result c.as_slice-in-Some.result.now support cycle
-    (subst (λ (xs : List ℤ). (amount : ℤ) × LeastCount xs c.as_slice-in-Some.result.now amount × Subtracted c.as_slice-in-Some.result.now amount xs c.take_out.new.counts) c.as_mut_slice.ensures.value c.take_out.ensures)
+    (subst (λ (xs : List ℤ). (amount : ℤ) × LeastCount xs c.as_slice-in-Some.result.now amount × SubtractsFrom c.as_slice-in-Some.result.now amount xs c.take_out.new.counts) c.as_mut_slice.ensures.value c.take_out.ensures)
 
 written : (c : goal.After-drop-cycle) → take c.loop-rest.rest.len (c.take_out.new.counts ++ drop (length c.take_out.new.counts) c.loop-rest.rest.items) ≡ c.take_out.new.counts
 written c =
@@ -61,7 +61,7 @@ loop-rest-preserved c =
     record {
       later = later;
       taken_out = subst (λ (xs : List ℤ). AllTakenOut a c.args.counts.now later xs) (sym (written c)) (taken_more a c.args.counts.now c.loop-rest.invariant.later c.loop-rest.rest.items c.take_out.new.counts c.loop-rest.invariant.taken_out (taken c));
-      left = subst (Counts a) (sym (written c)) (taken_counts a c.loop-rest.rest.items c.take_out.new.counts c.loop-rest.invariant.left (taken c));
+      left = subst (AreRuleCounts a) (sym (written c)) (taken_counts a c.loop-rest.rest.items c.take_out.new.counts c.loop-rest.invariant.left (taken c));
     }
 
 pub returns : goal.returns

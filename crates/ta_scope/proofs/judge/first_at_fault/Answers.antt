@@ -1,16 +1,17 @@
 use Rattle.std.proofs.Common.{ap, refl, length, arith, List, ℕ}
 use Rattle.std.proofs.lemmas.Bool.{false≢true}
 use Rattle.std.proofs.lemmas.Option.{slice_get_within}
+use Rattle.ta_base.proofs.Lists.{read_same}
 use Rattle.ta_automaton.specs.declared.rule.Rule.{Rule}
 use Rattle.ta_scope.specs.Faults.{AtFault}
-use Rattle.ta_scope.proofs.Cycles.{read_at, rules_more}
+use Rattle.ta_scope.proofs.Cycles.{rules_more}
 use Rattle.ta_scope.proofs.Judging.{in_scope, fault_out, fault_exactly}
 use Rattle.ta_scope.proofs.judge.first_at_fault.Goals as goal
 
 pub returns-then-is_at_fault-clause-fault : goal.returns-then-is_at_fault-clause-fault
 returns-then-is_at_fault-clause-fault c =
     let a = c.args.automaton.now in
-    let named = read_at a.rules c.as_slice-rule-items.result.now c.loop-number.number c.rule-item.result c.as_slice-rule-items.ensures c.loop-number-test.true c.rule-item.is in
+    let named = read_same a.rules c.as_slice-rule-items.result.now c.loop-number.number c.rule-item.result c.as_slice-rule-items.ensures c.loop-number-test.true c.rule-item.is in
     record {
       rule = c.rule-item.result;
       named = named;
@@ -21,13 +22,13 @@ returns-then-is_at_fault-clause-fault c =
 pub returns-then-is_at_fault-clause-out_of_scope : goal.returns-then-is_at_fault-clause-out_of_scope
 returns-then-is_at_fault-clause-out_of_scope c =
     let a = c.args.automaton.now in
-    let named = read_at a.rules c.as_slice-rule-items.result.now c.loop-number.number c.rule-item.result c.as_slice-rule-items.ensures c.loop-number-test.true c.rule-item.is in
+    let named = read_same a.rules c.as_slice-rule-items.result.now c.loop-number.number c.rule-item.result c.as_slice-rule-items.ensures c.loop-number-test.true c.rule-item.is in
     fault_out a c.loop-number.number c.rule-item.result named ((fault_exactly a c.args.table.now c.loop-number.number c.rule-item.result c.requires named).0 (c.if-is_at_fault.ensures.0 refl))
 
 pub loop-number-preserved : goal.loop-number-preserved
 loop-number-preserved c =
     let a = c.args.automaton.now in
-    let named = read_at a.rules c.as_slice-rule-items.result.now c.loop-number.number c.rule-item.result c.as_slice-rule-items.ensures c.loop-number-test.true c.rule-item.is in
+    let named = read_same a.rules c.as_slice-rule-items.result.now c.loop-number.number c.rule-item.result c.as_slice-rule-items.ensures c.loop-number-test.true c.rule-item.is in
     rules_more a.rules (λ (r : ℕ) (rule : Rule). ¬ AtFault a rule) c.loop-number.number c.rule-item.result named
     (λ fault. false≢true (c.if-is_at_fault.ensures.1 ((fault_exactly a c.args.table.now c.loop-number.number c.rule-item.result c.requires named).1 fault)))
     c.loop-number.invariant

@@ -1,16 +1,17 @@
 use Rattle.std.proofs.Common.{ap, refl, length, arith, List, ℕ}
 use Rattle.std.proofs.lemmas.Bool.{false≢true}
 use Rattle.std.proofs.lemmas.Option.{slice_get_within}
+use Rattle.ta_base.proofs.Lists.{read_same}
 use Rattle.ta_automaton.specs.declared.rule.Rule.{Rule}
 use Rattle.ta_scope.specs.LongerCycles.{OnLongerCycle}
-use Rattle.ta_scope.proofs.Cycles.{read_at, rules_more}
+use Rattle.ta_scope.proofs.Cycles.{rules_more}
 use Rattle.ta_scope.proofs.LongerCycles.{loops_alone, longer_exactly}
 use Rattle.ta_scope.proofs.longer.first_by_table.Goals as goal
 
 pub returns-then-is_on_longer_cycle-clause-some : goal.returns-then-is_on_longer_cycle-clause-some
 returns-then-is_on_longer_cycle-clause-some c =
     let a = c.args.automaton.now in
-    let named = read_at a.rules c.as_slice-rule-items.result.now c.loop-number.number c.rule-item.result c.as_slice-rule-items.ensures c.loop-number-test.true c.rule-item.is in
+    let named = read_same a.rules c.as_slice-rule-items.result.now c.loop-number.number c.rule-item.result c.as_slice-rule-items.ensures c.loop-number-test.true c.rule-item.is in
     record {
       rule = c.rule-item.result;
       named = named;
@@ -21,7 +22,7 @@ returns-then-is_on_longer_cycle-clause-some c =
 pub loop-number-preserved : goal.loop-number-preserved
 loop-number-preserved c =
     let a = c.args.automaton.now in
-    let named = read_at a.rules c.as_slice-rule-items.result.now c.loop-number.number c.rule-item.result c.as_slice-rule-items.ensures c.loop-number-test.true c.rule-item.is in
+    let named = read_same a.rules c.as_slice-rule-items.result.now c.loop-number.number c.rule-item.result c.as_slice-rule-items.ensures c.loop-number-test.true c.rule-item.is in
     rules_more a.rules (λ (r : ℕ) (rule : Rule). ¬ OnLongerCycle a rule) c.loop-number.number c.rule-item.result named
     (λ cycle. false≢true (c.if-is_on_longer_cycle.ensures.1 ((longer_exactly a c.args.table.now c.loop-number.number c.rule-item.result c.requires named).1 cycle)))
     c.loop-number.invariant

@@ -1,22 +1,23 @@
 use Rattle.std.proofs.Common.{ap, refl, length, arith, List, ℕ, IsBitSet}
 use Rattle.std.proofs.lemmas.Bool.{false≢true}
 use Rattle.std.proofs.lemmas.Option.{slice_get_within}
+use Rattle.ta_base.proofs.Lists.{read_same}
 use Rattle.ta_automaton.specs.declared.rule.Rule.{Rule}
 use Rattle.ta_scope.specs.Order.{Blocks, Ready}
-use Rattle.ta_scope.proofs.Cycles.{read_at, rules_more}
+use Rattle.ta_scope.proofs.Cycles.{rules_more}
 use Rattle.ta_scope.proofs.order.is_ready.Goals as goal
 
 pub returns-then-blocks : goal.returns-then-blocks
 returns-then-blocks c =
     let a = c.args.automaton.now in
-    let named = read_at a.rules c.as_slice-rule-items.result.now c.loop-number.number c.rule-item.result c.as_slice-rule-items.ensures c.loop-number-test.true c.rule-item.is in
+    let named = read_same a.rules c.as_slice-rule-items.result.now c.loop-number.number c.rule-item.result c.as_slice-rule-items.ensures c.loop-number-test.true c.rule-item.is in
     let blocked = c.if-blocks.ensures.0 refl in
     (λ t. absurd (false≢true t), λ ready. absurd (ready.free c.loop-number.number c.rule-item.result named blocked.0 blocked.1))
 
 pub loop-number-preserved : goal.loop-number-preserved
 loop-number-preserved c =
     let a = c.args.automaton.now in
-    let named = read_at a.rules c.as_slice-rule-items.result.now c.loop-number.number c.rule-item.result c.as_slice-rule-items.ensures c.loop-number-test.true c.rule-item.is in
+    let named = read_same a.rules c.as_slice-rule-items.result.now c.loop-number.number c.rule-item.result c.as_slice-rule-items.ensures c.loop-number-test.true c.rule-item.is in
     rules_more a.rules (λ (r : ℕ) (rule : Rule). ¬ (IsBitSet c.args.rules r × Blocks c.args.placed.now c.args.location rule)) c.loop-number.number c.rule-item.result named
     (λ blocked. false≢true (c.if-blocks.ensures.1 blocked)) c.loop-number.invariant
 

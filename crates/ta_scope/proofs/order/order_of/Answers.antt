@@ -1,5 +1,5 @@
 use Rattle.std.proofs.Common.{arith, length-append, sym, ap, subst, length, ◌++◌, ◌∷◌, [], List, ℕ}
-use Rattle.ta_scope.specs.Order.{Built, Next, Ready}
+use Rattle.ta_scope.specs.Order.{IsBuilt, Next, Ready}
 use Rattle.ta_scope.proofs.OrderLaws.{built_push, built_length, order_done}
 use Rattle.ta_scope.proofs.order.order_of.Goals as goal
 
@@ -15,7 +15,7 @@ pub loop-location-preserved : goal.loop-location-preserved
 loop-location-preserved c =
     let a = c.args.automaton.now in
     let next : Next a c.args.rules c.loop-location.order.items c.in-Some.location = subst (λ (xs : List ℕ). Next a c.args.rules xs c.in-Some.location) c.as_slice.ensures.value c.in-Some.ensures.some in
-    subst (Built a c.args.rules) (sym c.in_ok-push.ensures.items) (built_push a c.args.rules c.loop-location.order.items c.in-Some.location c.loop-location.invariant next)
+    subst (IsBuilt a c.args.rules) (sym c.in_ok-push.ensures.items) (built_push a c.args.rules c.loop-location.order.items c.in-Some.location c.loop-location.invariant next)
 
 pub returns : goal.returns
 returns c =

@@ -1,9 +1,9 @@
 use Rattle.std.proofs.Common.{◌-◌, length}
-use Rattle.ta_scope.specs.Order.{Built}
+use Rattle.ta_scope.specs.Order.{IsBuilt}
 use Rattle.ta_scope.proofs.order.order_of.Given as goal
 
 abbrev pub invariant-loop-location : goal.invariant-loop-location
-invariant-loop-location l = Built l.automaton l.rules l.order.items
+invariant-loop-location l = IsBuilt l.automaton l.rules l.order.items
 
 abbrev pub decreases-loop-location : goal.decreases-loop-location
 decreases-loop-location l = length l.automaton.locations - length l.order.items

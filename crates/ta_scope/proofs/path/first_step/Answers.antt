@@ -1,22 +1,23 @@
 use Rattle.std.proofs.Common.{ap, refl, length, arith, List, ℕ}
 use Rattle.std.proofs.lemmas.Bool.{false≢true}
 use Rattle.std.proofs.lemmas.Option.{slice_get_within}
+use Rattle.ta_base.proofs.Lists.{read_same}
 use Rattle.ta_automaton.specs.declared.rule.Rule.{Rule}
 use Rattle.ta_scope.specs.Inside.Distances.{IsStep}
-use Rattle.ta_scope.proofs.Cycles.{read_at, rules_more}
+use Rattle.ta_scope.proofs.Cycles.{rules_more}
 use Rattle.ta_scope.proofs.Stepping.{no_step}
 use Rattle.ta_scope.proofs.path.first_step.Goals as goal
 
 pub returns-then-is_step : goal.returns-then-is_step
 returns-then-is_step c =
     let a = c.args.automaton.now in
-    let named = read_at a.rules c.as_slice-rule-items.result.now c.loop-number.number c.rule-item.result c.as_slice-rule-items.ensures c.loop-number-test.true c.rule-item.is in
+    let named = read_same a.rules c.as_slice-rule-items.result.now c.loop-number.number c.rule-item.result c.as_slice-rule-items.ensures c.loop-number-test.true c.rule-item.is in
     record { rule = c.rule-item.result; named = named; step = c.if-is_step.ensures.0 refl; first = c.loop-number.invariant }
 
 pub loop-number-preserved : goal.loop-number-preserved
 loop-number-preserved c =
     let a = c.args.automaton.now in
-    let named = read_at a.rules c.as_slice-rule-items.result.now c.loop-number.number c.rule-item.result c.as_slice-rule-items.ensures c.loop-number-test.true c.rule-item.is in
+    let named = read_same a.rules c.as_slice-rule-items.result.now c.loop-number.number c.rule-item.result c.as_slice-rule-items.ensures c.loop-number-test.true c.rule-item.is in
     rules_more a.rules (λ (r : ℕ) (rule : Rule). ¬ IsStep a c.args.rules c.args.from c.args.to c.args.left r rule) c.loop-number.number c.rule-item.result named (λ step. false≢true (c.if-is_step.ensures.1 step)) c.loop-number.invariant
 
 pub unreachable-requires : goal.unreachable-requires

@@ -1,28 +1,29 @@
 use Rattle.std.proofs.Common.{ap, refl, length, arith, List, ℕ}
 use Rattle.std.proofs.lemmas.Bool.{false≢true}
 use Rattle.std.proofs.lemmas.Option.{slice_get_within}
+use Rattle.ta_base.proofs.Lists.{read_same}
 use Rattle.ta_automaton.specs.declared.rule.Rule.{Rule}
 use Rattle.ta_scope.specs.Inside.Reached.{LeadsOut}
-use Rattle.ta_scope.proofs.Cycles.{read_at, rules_more}
+use Rattle.ta_scope.proofs.Cycles.{rules_more}
 use Rattle.ta_scope.proofs.Reaching.{grown_by, grown_greater, to_fits}
 use Rattle.ta_scope.proofs.reach.grown.Goals as goal
 
 pub returns-then-leads_out-clause-some : goal.returns-then-leads_out-clause-some
 returns-then-leads_out-clause-some c =
     let a = c.args.automaton.now in
-    let named = read_at a.rules c.as_slice-rule-items.result.now c.loop-number.number c.rule-item.result c.as_slice-rule-items.ensures c.loop-number-test.true c.rule-item.is in
+    let named = read_same a.rules c.as_slice-rule-items.result.now c.loop-number.number c.rule-item.result c.as_slice-rule-items.ensures c.loop-number-test.true c.rule-item.is in
     grown_by a c.args.rules c.args.mask c.loop-number.number c.rule-item.result named (c.if-leads_out.ensures.0 refl) (to_fits a c.loop-number.number c.rule-item.result named)
 
 pub returns-then-leads_out-clause-greater : goal.returns-then-leads_out-clause-greater
 returns-then-leads_out-clause-greater c =
     let a = c.args.automaton.now in
-    let named = read_at a.rules c.as_slice-rule-items.result.now c.loop-number.number c.rule-item.result c.as_slice-rule-items.ensures c.loop-number-test.true c.rule-item.is in
+    let named = read_same a.rules c.as_slice-rule-items.result.now c.loop-number.number c.rule-item.result c.as_slice-rule-items.ensures c.loop-number-test.true c.rule-item.is in
     grown_greater c.args.rules c.args.mask c.loop-number.number c.rule-item.result (c.if-leads_out.ensures.0 refl) (to_fits a c.loop-number.number c.rule-item.result named)
 
 pub loop-number-preserved : goal.loop-number-preserved
 loop-number-preserved c =
     let a = c.args.automaton.now in
-    let named = read_at a.rules c.as_slice-rule-items.result.now c.loop-number.number c.rule-item.result c.as_slice-rule-items.ensures c.loop-number-test.true c.rule-item.is in
+    let named = read_same a.rules c.as_slice-rule-items.result.now c.loop-number.number c.rule-item.result c.as_slice-rule-items.ensures c.loop-number-test.true c.rule-item.is in
     rules_more a.rules (λ (r : ℕ) (rule : Rule). ¬ LeadsOut c.args.rules c.args.mask r rule) c.loop-number.number c.rule-item.result named (λ out. false≢true (c.if-leads_out.ensures.1 out)) c.loop-number.invariant
 
 pub returns-clause-none : goal.returns-clause-none

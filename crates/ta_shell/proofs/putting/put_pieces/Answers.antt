@@ -1,4 +1,4 @@
-use Rattle.std.proofs.Common.{◌∙◌, ap, sym}
+use Rattle.std.proofs.Common.{◌∙◌, sym}
 use Rattle.ta_shell.proofs.PutPieces.{filled_more}
 use Rattle.ta_shell.proofs.putting.put_pieces.Goals as goal
 

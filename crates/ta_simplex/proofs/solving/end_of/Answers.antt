@@ -1,6 +1,6 @@
 use Rattle.std.proofs.Common.{ℕ, Option, length, map, subst}
 use Rattle.ta_dense.specs.Slack.{slack_tableau}
-use Rattle.ta_simplex.specs.Stops.{StopsAt}
+use Rattle.ta_simplex.specs.Stops.{RuleStopsAt}
 use Rattle.ta_simplex.proofs.FollowLemmas.{follows_reached}
 use Rattle.ta_simplex.proofs.RunSteps.{follows_dictionary}
 use Rattle.ta_simplex.proofs.VertexLemmas.{values_meet_rows}
@@ -17,7 +17,7 @@ vertex_of-requires-after_bounds g c κs within =
 pub returns-in_ok-multipliers_of-in-Some : goal.returns-in_ok-multipliers_of-in-Some
 returns-in_ok-multipliers_of-in-Some g c =
     let t = g.D.Dictionary.tableau c.args.stopped.now.dictionary in
-    let P : Option ℕ → Type 0 = StopsAt t in
+    let P : Option ℕ → Type 0 = RuleStopsAt t in
     record {
       steps = length c.args.kept.now;
       tableau = t;
@@ -31,7 +31,7 @@ pub returns-in_ok-vertex_of-in-None : goal.returns-in_ok-vertex_of-in-None
 returns-in_ok-vertex_of-in-None g c =
     let t = g.D.Dictionary.tableau c.args.stopped.now.dictionary in
     let s = c.args.system.now in
-    let P : Option ℕ → Type 0 = StopsAt t in
+    let P : Option ℕ → Type 0 = RuleStopsAt t in
     let ended = subst P c.in-None.is c.requires.stops in
     let gives = c.in_ok-vertex_of-in-None.ensures in
     let d = follows_dictionary s (map g.D.Dictionary.pivot_of c.args.kept.now) (length c.args.kept.now) t c.requires.follows in

@@ -1,7 +1,7 @@
 use Rattle.std.proofs.Common.{subst}
 use Rattle.std.proofs.lemmas.Result.{err_from_is_err_and}
 use Rattle.ta_smt.specs.Admit.{asked}
-use Rattle.ta_smt.specs.Inside.Checking.{Passes, WordFault}
+use Rattle.ta_smt.specs.Inside.Checking.{PassesCheck, WordFault}
 use Rattle.ta_smt.proofs.Admitted.{admits, complete_is, incomplete_is, line_fault, run_fault, solution_from, word_fault}
 use Rattle.ta_smt.proofs.admitting.admit.Goals as goal
 
@@ -31,7 +31,7 @@ run_of-requires-clause-solves c =
     let file = c.args.scoped.now.file in
     let word = asked c.args.pattern c.args.start_mask c.args.word.now in
     let complete = complete_is file word c.is_complete.result c.requires.exists c.is_complete.ensures c.if-not-is_complete.false in
-    let passes = subst (Passes file word) c.as_slice.ensures.value c.in_ok-check_word.ensures.passes in
+    let passes = subst (PassesCheck file word) c.as_slice.ensures.value c.in_ok-check_word.ensures.passes in
     solution_from file word c.in_ok-values.values.items complete c.requires.legal c.in_ok-values.ensures.values.numbers passes
 
 pub returns-in_err-run-clause-fault : goal.returns-in_err-run-clause-fault
@@ -39,7 +39,7 @@ returns-in_err-run-clause-fault c =
     let file = c.args.scoped.now.file in
     let word = asked c.args.pattern c.args.start_mask c.args.word.now in
     let complete = complete_is file word c.is_complete.result c.requires.exists c.is_complete.ensures c.if-not-is_complete.false in
-    let passes = subst (Passes file word) c.as_slice.ensures.value c.in_ok-check_word.ensures.passes in
+    let passes = subst (PassesCheck file word) c.as_slice.ensures.value c.in_ok-check_word.ensures.passes in
     let solution = solution_from file word c.in_ok-values.values.items complete c.requires.legal c.in_ok-values.ensures.values.numbers passes in
     let p = err_from_is_err_and c.from_residual-in_err-run.result c.from_residual-in_err-run.ensures.1 in
     rw (p.1, p.2) (run_fault file word c.args.bytes.now c.in_ok-values.values.items c.in_err-run.field-0.0 complete c.in_ok-values.ensures.values passes solution c.in_err-run.ensures.fault)
@@ -49,6 +49,6 @@ returns-clause-run c =
     let file = c.args.scoped.now.file in
     let word = asked c.args.pattern c.args.start_mask c.args.word.now in
     let complete = complete_is file word c.is_complete.result c.requires.exists c.is_complete.ensures c.if-not-is_complete.false in
-    let passes = subst (Passes file word) c.as_slice.ensures.value c.in_ok-check_word.ensures.passes in
+    let passes = subst (PassesCheck file word) c.as_slice.ensures.value c.in_ok-check_word.ensures.passes in
     let solution = solution_from file word c.in_ok-values.values.items complete c.requires.legal c.in_ok-values.ensures.values.numbers passes in
     admits file word c.args.bytes.now c.in_ok-values.values.items c.in_ok-run.run' c.in_ok-values.ensures.values passes solution c.in_ok-run.ensures.run

@@ -1,9 +1,9 @@
 use Rattle.std.proofs.Common.{refl}
 use Rattle.std.proofs.lemmas.Result.{err_from_is_err_and}
+use Rattle.ta_base.proofs.Lists.{all_passed, one_passed, read_same}
 use Rattle.ta_linear.specs.Values.{point_of}
 use Rattle.ta_linear.specs.declared.row.Row.{Row}
 use Rattle.ta_counter.specs.Checks.{RowPasses}
-use Rattle.ta_counter.proofs.Passing.{all_passed, one_passed, read_at}
 use Rattle.ta_smt.proofs.Admitted.{row_stops}
 use Rattle.ta_smt.proofs.admitting.check_rows.Goals as goal
 
@@ -11,7 +11,7 @@ pub returns-in_err-check_row-clause-fault : goal.returns-in_err-check_row-clause
 returns-in_err-check_row-clause-fault c =
     let rows = c.args.rows.now in
     let row = c.index-rows-number.result in
-    let named = read_at rows rows c.loop-number.number row refl c.loop-number-test.true c.index-rows-number.is in
+    let named = read_same rows rows c.loop-number.number row refl c.loop-number-test.true c.index-rows-number.is in
     let p = err_from_is_err_and c.from_residual.result c.from_residual.ensures.1 in
     rw (p.1, p.2) (row_stops (point_of c.args.values.now) rows c.loop-number.number row c.in_err-check_row.field-0.0 named c.loop-number.invariant c.in_err-check_row.ensures.fault)
 
@@ -19,7 +19,7 @@ pub loop-number-preserved : goal.loop-number-preserved
 loop-number-preserved c =
     let rows = c.args.rows.now in
     let row = c.index-rows-number.result in
-    let named = read_at rows rows c.loop-number.number row refl c.loop-number-test.true c.index-rows-number.is in
+    let named = read_same rows rows c.loop-number.number row refl c.loop-number-test.true c.index-rows-number.is in
     one_passed (λ j (r : Row). RowPasses (point_of c.args.values.now) r) rows c.loop-number.number row named c.in_ok-check_row.ensures.passes c.loop-number.invariant
 
 pub returns-clause-passes : goal.returns-clause-passes

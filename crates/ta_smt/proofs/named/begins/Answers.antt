@@ -1,5 +1,4 @@
-use Rattle.std.proofs.Common.{◌≡◌, ◌≤◌, ◌^◌, ◌∙◌, length, ap, arith, nat_lt, refl}
-use Rattle.std.proofs.lemmas.Bool.Decides.{nat_tests}
+use Rattle.std.proofs.Common.{length, refl}
 use Rattle.ta_cursor.proofs.PatternWords.{shifted}
 use Rattle.ta_smt.proofs.named.begins.Goals as goal
 

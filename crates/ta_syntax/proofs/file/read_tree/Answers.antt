@@ -2,7 +2,7 @@ use Rattle.std.proofs.Common.{subst, length, List}
 use Rattle.std.proofs.lemmas.Result.{err_from_is_err_and}
 use Rattle.ta_syntax.specs.Grammar.{FileText}
 use Rattle.ta_syntax.specs.Limits.{at_start}
-use Rattle.ta_syntax.specs.Faults.{Stopped}
+use Rattle.ta_syntax.specs.Faults.{IsStopped}
 use Rattle.ta_syntax.specs.Inside.FileReading.{IsSpelled}
 use Rattle.ta_syntax.specs.declared.placed.Token.{Token}
 use Rattle.ta_syntax.proofs.LegalTrees.{tree_read, scan_fault, file_fault}
@@ -18,7 +18,7 @@ returns-in_err-tokens c =
 pub returns-in_err-tree : goal.returns-in_err-tree
 returns-in_err-tree c =
     let p = err_from_is_err_and c.from_residual-in_err-tree.result c.from_residual-in_err-tree.ensures.1 in
-    let f = (file_fault c.args.bytes.now c.in_ok-tokens.tokens.items c.in_err-tree.field-0.0 c.in_ok-tokens.ensures (subst (λ (z : List Token). Stopped FileText at_start (length c.args.bytes.now) z c.in_err-tree.field-0.0) c.as_slice.ensures.value c.in_err-tree.ensures)) in
+    let f = (file_fault c.args.bytes.now c.in_ok-tokens.tokens.items c.in_err-tree.field-0.0 c.in_ok-tokens.ensures (subst (λ (z : List Token). IsStopped FileText at_start (length c.args.bytes.now) z c.in_err-tree.field-0.0) c.as_slice.ensures.value c.in_err-tree.ensures)) in
     rw (p.1, p.2) (record { exact = f; alone = tt; only = λ t text within. no_fault c.args.bytes.now t c.in_err-tree.field-0.0 text within f })
 
 pub returns : goal.returns

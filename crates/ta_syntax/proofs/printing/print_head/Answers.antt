@@ -1,12 +1,12 @@
-use Rattle.std.proofs.Common.{◌≡◌, List, [], ◌∷◌, ◌++◌, map, ap, subst, ◌∙◌}
+use Rattle.std.proofs.Common.{[], ◌∷◌, ◌++◌, map}
 use Rattle.std.specs.String.{string_bytes}
-use Rattle.ta_syntax.specs.Grammar.{PlainRule, PlainEvent, sum_kinds, relation_kind, listed, led, ended, each, name_kinds, location_kinds, comparison_kinds, update_kinds, rule_kinds, event_kinds, pattern_kinds}
-use Rattle.ta_syntax.specs.PlainSums.{plain_sum}
-use Rattle.ta_syntax.specs.PlainTrees.{plain_name, plain_location, plain_comparison, plain_update, plain_rule, plain_event, plain_pattern, plain_tree}
-use Rattle.ta_syntax.specs.Inside.Printed.{Prints, head_kinds}
+use Rattle.ta_base.proofs.Options.{if_ok_then}
+use Rattle.ta_syntax.specs.Grammar.{listed, name_kinds, location_kinds}
+use Rattle.ta_syntax.specs.PlainTrees.{plain_name, plain_location}
+use Rattle.ta_syntax.specs.Inside.Printed.{Prints}
 use Rattle.ta_syntax.specs.declared.tokens.Kind.TheVariants as kind
 use Rattle.ta_syntax.specs.declared.tokens.Mark.TheVariants as mark
-use Rattle.ta_syntax.proofs.PrintSteps.{prints_then, if_ok_then, listed_of, led_of, ended_of, each_of, declared_of, declared_then, head_parts}
+use Rattle.ta_syntax.proofs.PrintSteps.{prints_then, declared_of, declared_then}
 use Rattle.ta_syntax.proofs.printing.print_head.Goals as goal
 
 pub returns : goal.returns

@@ -1,9 +1,12 @@
 use Rattle.std.proofs.Common.{take, ap, ◌∙◌, ◌≡◌, sym, ℕ}
 use Rattle.std.specs.List.{prefix_len}
 use Rattle.std.proofs.lemmas.List.Sums.{prefix_len-le-length}
-use Rattle.ta_syntax.specs.Kinds.{is_word, mark_bytes}
+use Rattle.ta_base.proofs.ByteLists.{words_ascii}
+use Rattle.ta_base.proofs.Each.{all_front}
+use Rattle.ta_syntax.specs.Kinds.{mark_bytes}
+use Rattle.ta_base.specs.Bytes.{is_word}
 use Rattle.ta_syntax.specs.declared.tokens.Mark.{Mark}
-use Rattle.ta_syntax.proofs.Words.{all_front, words_ascii, name_from}
+use Rattle.ta_syntax.proofs.Words.{name_from}
 use Rattle.ta_syntax.proofs.scanner.read_word.Goals as goal
 
 pub split_at-requires : goal.split_at-requires

@@ -2,7 +2,7 @@ use Rattle.std.proofs.Common.{◌≡◌, subst, ℕ}
 use Rattle.ta_encode.specs.PatternSearch.{pattern_search}
 use Rattle.ta_scope.proofs.Judging.{loops_pure}
 use Rattle.ta_walk.specs.Ends.{NodeOf, TreeIs}
-use Rattle.ta_verdict.specs.Verdicts.{LeavesIn, SpentHolds}
+use Rattle.ta_verdict.specs.Verdicts.{IsOutOfRangeIn, SpentHolds}
 use Rattle.ta_verdict.proofs.VerdictsMade.{overflow_holds, safe_holds, solution_found, spent_holds, under}
 use Rattle.ta_verdict.proofs.judging.verdict_on.Goals as goal
 
@@ -41,5 +41,5 @@ returns-in-Overflow-clause-holds g c = λ p at.
     let file = c.args.scoped.now.file in
     let budget = c.args.nodes in
     let left = (rw c.in-Overflow.is at c.in_ok-count.ensures) p at in
-    under file (λ pairs. NodeOf (pattern_search file.automaton p pairs) budget c.in-Overflow.node (LeavesIn file pairs c.args.pattern p c.report_kind.result)) c.args.found.now.list c.args.found.now.orders c.requires.found c.requires.same
+    under file (λ pairs. NodeOf (pattern_search file.automaton p pairs) budget c.in-Overflow.node (IsOutOfRangeIn file pairs c.args.pattern p c.report_kind.result)) c.args.found.now.list c.args.found.now.orders c.requires.found c.requires.same
     (overflow_holds file c.args.found.now.orders c.args.pattern p budget c.in-Overflow.node c.in-Overflow.kind c.report_kind.result c.report_kind.ensures left)

@@ -1,11 +1,10 @@
-use Rattle.std.proofs.Common.{◌^◌, ◌∙◌, refl, sym, subst}
+use Rattle.std.proofs.Common.{◌^◌, refl, sym, subst}
 use Rattle.ta_linear.specs.Leaf.{AreMultipliers, LeafOf}
 use Rattle.ta_dense.specs.Slack.{slack_tableau}
 use Rattle.ta_farkas.specs.Columns.{CheckStays}
 use Rattle.ta_simplex.specs.LeastIndex.{OverflowsAt}
 use Rattle.ta_simplex.specs.Refuted.{IsRefuted}
 use Rattle.ta_simplex.specs.Vertex.{IsVertex}
-use Rattle.ta_walk.specs.FoundOrders.{RefutedPair}
 use Rattle.ta_walk.proofs.PairSystems.{few_variables_of_pair}
 use Rattle.ta_walk.proofs.OrdersOnce.{none_overflows, none_at_vertex, none_leaves}
 use Rattle.ta_walk.proofs.Nodes.{judgeable}
@@ -39,8 +38,7 @@ returns-in-Ok g c =
     let refuted : IsRefuted system c.in-Ok-Refuted.multipliers = rw c.in-Ok-Refuted.field-0-is at c.in-Ok-Refuted.ensures.ok in
     let ok = c.in-Ok.ensures.ok.0 refl in
     let stays = subst (CheckStays system) c.as_slice.ensures ok.1 in
-    subst (RefutedPair c.args.automaton.now c.args.before c.args.after) (sym (c.from_vec.ensures ∙ c.into_vec.ensures))
-    (record { system = system; is = c.in_ok-system.ensures; refuted = refuted; stays = stays })
+    record { system = system; is = c.in_ok-system.ensures; refuted = refuted; stays = stays }
 
 pub returns : goal.returns
 returns g c =

@@ -1,13 +1,13 @@
 use Rattle.std.proofs.Common.{map, subst, sym}
 use Rattle.ta_walk.specs.declared.end.TreeEnd.{TreeEnd}
 use Rattle.ta_walk.specs.Ends.{IsTreeEnd}
-use Rattle.ta_walk.specs.Inside.Parts.{IsWholeEnd, root_word, search_of}
+use Rattle.ta_walk.specs.Inside.Parts.{IsWholeEnd, root_word, search_of_tree}
 use Rattle.ta_walk.proofs.PartsMerged.{whole_visited}
 use Rattle.ta_walk.proofs.forked.visit_parts.Goals as goal
 
 pub returns-clause-ends : goal.returns-clause-ends
 returns-clause-ends g c =
-    let s = search_of c.args.tree.now in
+    let s = search_of_tree c.args.tree.now in
     let keeps = g.K.Keeper.keeps in
     let part = c.in_ok-part.part in
     let whole = c.in-Some.ensures.some in

@@ -3,7 +3,7 @@ use Rattle.ta_simplex.specs.declared.fraction.Fraction.{Fraction}
 use Rattle.ta_dense.specs.Slack.{slack_tableau}
 use Rattle.ta_simplex.specs.LeastIndex.{OverflowsAt}
 use Rattle.ta_simplex.specs.Vertex.{IsVertex}
-use Rattle.ta_walk.specs.Visit.{LeavesAt}
+use Rattle.ta_walk.specs.Visit.{IsOutOfRangeAt}
 use Rattle.ta_cursor.specs.Cursors.{here}
 use Rattle.ta_walk.specs.declared.end.PlaceKind.TheVariants.{Pivot}
 use Rattle.ta_walk.proofs.Nodes.{few_variables}
@@ -16,8 +16,8 @@ pub returns-in-Err-Overflow-clause-solved : goal.returns-in-Err-Overflow-clause-
 returns-in-Err-Overflow-clause-solved g c =
     let system = c.args.system.now in
     let overflows : OverflowsAt (slack_tableau system) c.in-Err-Overflow.pivot = rw c.in-Err-Overflow.field-0-is at c.in-Err-Overflow.ensures.fault in
-    let Leaves : ℕ → Type 0 = λ count. LeavesAt (g.T.Tree.search c.args.tree.now) (here c.args.cursor.now) (Pivot count) in
-    subst Leaves (sym c.in-Err-Overflow.pivot-is) (record { system = system; is = c.requires.system; holds = overflows })
+    let IsOut : ℕ → Type 0 = λ count. IsOutOfRangeAt (g.T.Tree.search c.args.tree.now) (here c.args.cursor.now) (Pivot count) in
+    subst IsOut (sym c.in-Err-Overflow.pivot-is) (record { system = system; is = c.requires.system; holds = overflows })
 
 pub take_refuted-requires-clause-few : goal.take_refuted-requires-clause-few
 take_refuted-requires-clause-few g c = few_variables (here c.args.cursor.now) c.args.system.now c.requires.few c.requires.small

@@ -1,8 +1,7 @@
-use Rattle.std.proofs.Common.{◌^◌, ◌∙◌, sym, subst, refl}
+use Rattle.std.proofs.Common.{◌^◌, sym, subst, refl}
 use Rattle.ta_linear.specs.Leaf.{AreMultipliers, LeafOf}
 use Rattle.ta_farkas.specs.Columns.{CheckStays}
-use Rattle.ta_walk.specs.Visit.{LeafAt}
-use Rattle.ta_walk.proofs.Nodes.{judgeable, leaf_at, leaf_leaves}
+use Rattle.ta_walk.proofs.Nodes.{judgeable, leaf_at, leaf_out_of_range}
 use Rattle.ta_walk.proofs.node.take_refuted.Goals as goal
 
 pub check_leaf-requires : goal.check_leaf-requires
@@ -15,12 +14,11 @@ returns-in-Ok c = λ s w is.
     let system = c.args.system.now in
     let ok = c.in-Ok.ensures.ok.0 refl in
     let stays = subst (CheckStays system) c.as_slice.ensures ok.1 in
-    subst (LeafAt s w) (sym (c.from_vec.ensures ∙ c.into_vec.ensures))
-    (leaf_at s w system c.args.multipliers is c.requires.refuted stays)
+    leaf_at s w system c.args.multipliers is c.requires.refuted stays
 
 pub returns-in-Err : goal.returns-in-Err
 returns-in-Err c = λ s w is.
     let system = c.args.system.now in
-    leaf_leaves s w system c.args.multipliers is c.requires.refuted (λ leaf stays.
+    leaf_out_of_range s w system c.args.multipliers is c.requires.refuted (λ leaf stays.
     let is_ok = c.in-Err.ensures.ok.1 (subst (LeafOf system) (sym c.as_slice.ensures) leaf, subst (CheckStays system) (sym c.as_slice.ensures) stays) in
     cc)

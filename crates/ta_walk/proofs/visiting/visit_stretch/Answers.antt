@@ -4,10 +4,10 @@ use Rattle.ta_cursor.specs.declared.cursor.Cursor.{Cursor}
 use Rattle.ta_linear.specs.declared.row.System.{System}
 use Rattle.ta_simplex.specs.Branch.{IsBranch}
 use Rattle.ta_walk.specs.Ends.{IsSpent, WholeWord, leaf_count}
-use Rattle.ta_walk.specs.Visit.{LeavesAt, NodeAt}
+use Rattle.ta_walk.specs.Visit.{IsOutOfRangeAt, NodeAt}
 use Rattle.ta_walk.specs.Inside.Parts.{beginning}
 use Rattle.ta_walk.proofs.LeavesCounted.{leaves_few, leaves_more}
-use Rattle.ta_walk.proofs.SearchesMoved.{moved_leaves, moved_whole}
+use Rattle.ta_walk.proofs.SearchesMoved.{moved_out_of_range, moved_whole}
 use Rattle.ta_walk.proofs.WordSoFar.{WordSoFar, both_stand, word_at_node, word_begins, word_few, word_goes, word_refutes, word_shared, word_spent}
 use Rattle.ta_walk.proofs.visiting.visit_stretch.Goals as goal
 
@@ -48,15 +48,15 @@ leaves_with-leaves-requires g c =
     let few = leaves_few l.invariant.found in
     omega arith
 
-pub returns-in-Leaves-clause-ends : goal.returns-in-Leaves-clause-ends
-returns-in-Leaves-clause-ends g c = λ first before has.
+pub returns-in-OutOfRange-clause-ends : goal.returns-in-OutOfRange-clause-ends
+returns-in-OutOfRange-clause-ends g c = λ first before has.
     let s = g.T.Tree.search c.args.tree.now in
     let l = c.loop-before in
     let begun = left_at s c.args.cursor.now in
-    let kind = c.in-Leaves.kind in
+    let kind = c.in-OutOfRange.kind in
     let within : l.before + 1 ≤ c.args.nodes = omega arith in
-    word_at_node s begun l.cursor l.before c.args.nodes l.invariant.found (λ w. LeavesAt (beginning s begun) w kind) l.invariant.walked
-    (moved_leaves s s.roots begun (here l.cursor) kind (rw c.in-Leaves.is at c.in_ok-kind.ensures.solved)) within
+    word_at_node s begun l.cursor l.before c.args.nodes l.invariant.found (λ w. IsOutOfRangeAt (beginning s begun) w kind) l.invariant.walked
+    (moved_out_of_range s s.roots begun (here l.cursor) kind (rw c.in-OutOfRange.is at c.in_ok-kind.ensures.solved)) within
 
 pub returns-in-Whole-clause-ends : goal.returns-in-Whole-clause-ends
 returns-in-Whole-clause-ends g c = λ first before has.

@@ -1,5 +1,5 @@
 use Rattle.std.proofs.Common.{map}
-use Rattle.ta_automaton.specs.Masks.{numbers_from}
+use Rattle.ta_base.specs.Masks.{numbers_from}
 use Rattle.ta_encode.specs.declared.meaning.Meaning.TheVariants.{Parameter}
 use Rattle.ta_witness.specs.Values.{unknown_value}
 use Rattle.ta_witness.specs.Inside.Making.{AreValues}

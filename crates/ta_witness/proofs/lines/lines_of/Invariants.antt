@@ -1,8 +1,8 @@
 use Rattle.std.proofs.Common.{take}
 use Rattle.ta_witness.specs.Values.{unknown_value}
-use Rattle.ta_witness.specs.Inside.Making.{Lined}
+use Rattle.ta_witness.specs.Inside.Making.{AddsPieces}
 use Rattle.ta_witness.proofs.lines.lines_of.Given as goal
 
 -- the lines of the earlier elements' pieces
 abbrev pub invariant-loop-number : goal.invariant-loop-number
-invariant-loop-number l = Lined l.scoped.file.automaton l.pattern (unknown_value l.meanings l.values) (take l.number l.elements) l.lines.items
+invariant-loop-number l = AddsPieces l.scoped.file.automaton l.pattern (unknown_value l.meanings l.values) (take l.number l.elements) l.lines.items

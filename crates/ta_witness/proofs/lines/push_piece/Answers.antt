@@ -1,7 +1,7 @@
 use Rattle.std.proofs.Common.{◌≡◌, ℕ, ℤ, List, length, map, sym, ap, ◌∙◌, subst}
 use Rattle.ta_automaton.specs.declared.rule.Rule.{Rule}
-use Rattle.ta_automaton.specs.Masks.{numbers_from}
-use Rattle.ta_scope.specs.Arranged.{Counts}
+use Rattle.ta_base.specs.Masks.{numbers_from}
+use Rattle.ta_scope.specs.Arranged.{AreRuleCounts}
 use Rattle.ta_encode.specs.declared.meaning.Meaning.{Meaning}
 use Rattle.ta_encode.specs.declared.meaning.Meaning.TheVariants.{Count}
 use Rattle.ta_witness.specs.Values.{unknown_value}
@@ -14,7 +14,7 @@ arrange-requires c =
     let a = c.args.scoped.now.file.automaton in
     let rules = ap (λ (rs : List Rule). length rs) c.as_slice-rules.ensures in
     let natural = counts_from a (λ r. unknown_value c.args.meanings.now c.args.values.now (Count c.args.number r)) (length c.as_slice-rules.result.now) c.in_ok-counts.counts.items rules c.in_ok-counts.ensures in
-    subst (Counts a) (sym c.as_slice.ensures.value) natural
+    subst (AreRuleCounts a) (sym c.as_slice.ensures.value) natural
 
 pub returns : goal.returns
 returns c =
@@ -25,7 +25,7 @@ returns c =
     let f : ℕ → ℤ = λ r. value (Count c.args.number r) in
     let counts = c.as_slice.result.now in
     let are : counts ≡ counts_before a value c.args.number = c.as_slice.ensures.value ∙ c.in_ok-counts.ensures.are ∙ ap (λ n. map f (numbers_from 0 n)) rules in
-    let natural = subst (Counts a) (sym c.as_slice.ensures.value) (counts_from a f (length c.as_slice-rules.result.now) c.in_ok-counts.counts.items rules c.in_ok-counts.ensures) in
+    let natural = subst (AreRuleCounts a) (sym c.as_slice.ensures.value) (counts_from a f (length c.as_slice-rules.result.now) c.in_ok-counts.counts.items rules c.in_ok-counts.ensures) in
     let steps = c.in_ok-arranged.arranged.steps in
     let pushed : StepsPushed steps c.args.lines.now.items c.push_steps.new.lines.items = subst (λ xs. StepsPushed xs c.args.lines.now.items c.push_steps.new.lines.items) c.as_slice-2.ensures (c.in_ok-push_steps.ensures.added, c.in_ok-push_steps.ensures.fit) in
     piece_added a c.args.scoped.now.in_scope p value c.args.number c.args.element counts steps c.args.lines.now.items c.push_steps.new.lines.items c.push_end.new.lines.items are natural c.in_ok-arranged.ensures pushed c.in_ok-push_end.ensures

@@ -1,6 +1,6 @@
 use Rattle.std.proofs.Common.{[], ◌∷◌, length-append, arith}
-use Rattle.timings.proofs.Below.{AllBelow-push}
 use Rattle.timings.proofs.pivots.intervals.Goals as goal
+use Rattle.ta_dense.proofs.PushedRows.{AllBelow-push}
 
 pub loop-first-preserved : goal.loop-first-preserved
 loop-first-preserved c =

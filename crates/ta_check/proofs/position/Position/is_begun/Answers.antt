@@ -1,4 +1,4 @@
-use Rattle.ta_check.proofs.JudgingMembers.{begun_before}
+use Rattle.ta_base.proofs.Members.{begun_before}
 use Rattle.ta_check.proofs.position.Position.is_begun.Goals as goal
 
 pub returns : goal.returns

@@ -1,13 +1,12 @@
-use Rattle.std.proofs.Common.{◌≡◌, List, ℕ, Ok, Err, true, false, sym, ◌∙◌, ap, subst, refl}
+use Rattle.std.proofs.Common.{Ok, Err, true, false, sym, ◌∙◌, ap, subst, refl}
 use Rattle.std.proofs.lemmas.Result.{err_from_is_err_and}
 use Rattle.ta_cert.specs.declared.line.Line.TheVariants as line
 use Rattle.ta_cert.specs.declared.line.Node.TheVariants as node
 use Rattle.ta_cursor.specs.Cursors.{IsWord, here}
 use Rattle.ta_cursor.specs.declared.cursor.Cursor.{Cursor}
-use Rattle.ta_encode.specs.Search.{Search}
 use Rattle.ta_claim.specs.Claims.{search_for}
-use Rattle.ta_claim.specs.Trees.{search_of}
-use Rattle.ta_check.specs.Positions.{Taken, LeafTaken}
+use Rattle.ta_claim.specs.Trees.{search_of_claim}
+use Rattle.ta_check.specs.Positions.{LineAnswers}
 use Rattle.ta_check.specs.Subjects.{claiming}
 use Rattle.ta_check.proofs.JudgingNodes.{some_newest, pattern_there, tree_within, tree_word, went_on, first_within, later, leaf_refused, leaf_told, node_taken}
 use Rattle.ta_check.proofs.position.Position.take_leaf.Goals as goal
@@ -17,7 +16,7 @@ new-tree-requires c = pattern_there (claiming c.args.claim c.args.file.now) c.ar
 
 pub judge_leaf-requires-clause-word : goal.judge_leaf-requires-clause-word
 judge_leaf-requires-clause-word c =
-    let tree = search_of c.new-tree.result in
+    let tree = search_of_claim c.new-tree.result in
     let word = tree_word (claiming c.args.claim c.args.file.now) c.args.self.now c.args.pattern tree c.requires.none c.requires.current c.new-tree.ensures.search c.requires.somewhere in
     subst (λ (d : Cursor). IsWord tree (here d)) (sym c.cursor.ensures) word
 
@@ -40,7 +39,7 @@ returns-in_err-judge_leaf c = λ at is.
     let f = c.in_err-judge_leaf.field-0.0 in
     let new = record s { encoding = c.judge_leaf.new.kept } in
     let refused = leaf_told _ (search_for c.args.claim c.args.file.now.automaton n.0 s.orders) _ s.place.cursor c.args.number ts (Err f) (c.new-tree.ensures.search n.0 n.1.named) c.cursor.ensures c.in_err-judge_leaf.ensures.taken in
-    subst (Taken subject at c.args.number (line.Tree (node.Leaf ts)) new) (sym (q.1 ∙ ap Err q.2)) (leaf_refused subject s new at c.args.pattern c.args.number n.0 ts f n.1 refused)
+    subst (LineAnswers subject at c.args.number (line.Tree (node.Leaf ts)) new) (sym (q.1 ∙ ap Err q.2)) (leaf_refused subject s new at c.args.pattern c.args.number n.0 ts f n.1 refused)
 
 pub returns-then-not-branch : goal.returns-then-not-branch
 returns-then-not-branch c = λ at is.

@@ -1,7 +1,7 @@
 use Rattle.std.proofs.Common.{sym, subst}
 use Rattle.ta_check.specs.Subjects.{claiming}
-use Rattle.ta_check.specs.Positions.{Taken}
+use Rattle.ta_check.specs.Positions.{LineAnswers}
 use Rattle.ta_check.proofs.position.Position.take_line.Goals as goal
 
 pub returns-in-Header : goal.returns-in-Header
-returns-in-Header c = λ at is. subst (λ l. Taken (claiming c.args.claim c.args.file.now) at c.args.number l c.take_header.new.self c.take_header.result) (sym c.in-Header.is) (c.take_header.ensures.taken at is)
+returns-in-Header c = λ at is. subst (λ l. LineAnswers (claiming c.args.claim c.args.file.now) at c.args.number l c.take_header.new.self c.take_header.result) (sym c.in-Header.is) (c.take_header.ensures.taken at is)

@@ -1,10 +1,9 @@
-use Rattle.std.proofs.Common.{◌≡◌, true, false, reverse, List, ℕ, ◌<◌, ◌≤◌, sym, ap, ◌∙◌, refl, subst, FitsSigned}
+use Rattle.std.proofs.Common.{true, false, reverse, List, ℕ, ◌<◌, ◌≤◌, sym, ap, ◌∙◌, refl, subst, FitsSigned}
 use Rattle.ta_cert.specs.declared.line.Node.TheVariants as node
-use Rattle.ta_cursor.specs.InTrees.{here_at}
 use Rattle.ta_cursor.specs.declared.cursor.Cursor.{Cursor}
 use Rattle.ta_encode.specs.Search.{Comes, Search}
 use Rattle.ta_words.specs.declared.element.Element.{Element}
-use Rattle.ta_claim.specs.Trees.{search_of}
+use Rattle.ta_claim.specs.Trees.{search_of_claim}
 use Rattle.ta_claim.specs.Claims.{search_for}
 use Rattle.ta_check.specs.Subjects.{claiming}
 use Rattle.std.specs.Int.{w128}
@@ -18,7 +17,7 @@ new-tree-requires c = pattern_there (claiming c.args.claim c.args.file.now) c.ar
 pub unknown_count-requires : goal.unknown_count-requires
 unknown_count-requires c =
     let d = c.args.self.now.place.cursor in
-    let tree = search_of c.new-tree.result in
+    let tree = search_of_claim c.new-tree.result in
     let there = (tree_word (claiming c.args.claim c.args.file.now) c.args.self.now c.args.pattern tree c.requires.none c.requires.current c.new-tree.ensures.search c.requires.somewhere).comes in
     let start = c.start_mask-start_mask.ensures ∙ ap (λ (e : Cursor). e.start_mask) c.cursor.ensures in
     let word = c.word.ensures ∙ ap (λ (e : Cursor). e.word) c.cursor-2.ensures in
@@ -30,7 +29,7 @@ split-requires-clause-within c = tree_within (claiming c.args.claim c.args.file.
 pub split-requires-clause-unknown : goal.split-requires-clause-unknown
 split-requires-clause-unknown c =
     let d = c.args.self.now.place.cursor in
-    let tree = search_of c.new-tree.result in
+    let tree = search_of_claim c.new-tree.result in
     let start = c.start_mask-start_mask.ensures ∙ ap (λ (e : Cursor). e.start_mask) c.cursor.ensures in
     let word = c.word.ensures ∙ ap (λ (e : Cursor). e.word) c.cursor-2.ensures in
     subst (λ (k : ℕ). c.args.unknown < k) (told_at (λ (q : Search). q.unknowns) tree tree c.unknown_count.result _ d.start_mask _ d.word refl start word c.unknown_count.ensures) c.if-unknown-unknown_count.false

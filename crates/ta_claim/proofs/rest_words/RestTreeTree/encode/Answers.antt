@@ -1,5 +1,5 @@
 use Rattle.std.proofs.Common.{reverse}
-use Rattle.ta_words.specs.Words.{Legal}
+use Rattle.ta_words.specs.Words.{LegalWord}
 use Rattle.ta_words.proofs.Lists.{of_pattern}
 use Rattle.ta_cursor.specs.Cursors.{word_at}
 use Rattle.ta_claim.proofs.RestRows.{rest_legal, rest_small, rest_system}
@@ -9,7 +9,7 @@ pub grown_to-requires-clause-legal : goal.grown_to-requires-clause-legal
 grown_to-requires-clause-legal c =
     let t = c.args.self.now in
     let past = reverse c.args.word.now in
-    of_pattern t.file.now t.number t.pattern.now (λ p. Legal t.file.now.automaton p c.args.start_mask past) t.named (rest_legal t.file.now.automaton t.pattern.now c.args.start_mask past c.requires.word)
+    of_pattern t.file.now t.number t.pattern.now (λ p. LegalWord t.file.now.automaton p c.args.start_mask past) t.named (rest_legal t.file.now.automaton t.pattern.now c.args.start_mask past c.requires.word)
 
 pub returns-clause-system : goal.returns-clause-system
 returns-clause-system c =

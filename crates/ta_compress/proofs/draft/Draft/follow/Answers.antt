@@ -2,8 +2,8 @@ use Rattle.std.proofs.Common.{◌≡◌, ◌≤◌, ◌+◌, ◌++◌, ◌∷◌
 use Rattle.std.proofs.lemmas.Int.{ints}
 use mir.Syntax.{w128}
 use mir.Val.{to_z, of_z}
-use Rattle.ta_counter.proofs.Models.{natural_pos}
 use Rattle.std.proofs.lemmas.Result.{on_ok_weaker}
+use Rattle.ta_base.proofs.Integers.{abs_natural}
 use Rattle.ta_replay.specs.declared.run.RunLine.{RunLine}
 use Rattle.ta_replay.specs.Shows.{factor_of}
 use Rattle.ta_compress.specs.Inside.Drafts.{DraftAt, LineKeeps, MayRepeat, Room}
@@ -13,7 +13,7 @@ use Rattle.ta_compress.proofs.Drafting.{marked}
 use Rattle.ta_compress.proofs.draft.Draft.follow.Goals as goal
 
 plain : (z : ℤ) → pos 1 ≤ℤ z → unsigned_abs z ≤ 1000000 → to_z w128 (of_z w128 z) ≡ z
-plain z low few = (let same = natural_pos z (omega (arith, ints)) in omega (arith, ints))
+plain z low few = (let same = abs_natural z (omega (arith, ints)) in omega (arith, ints))
 
 pub repeat-requires-clause-may : goal.repeat-requires-clause-may
 repeat-requires-clause-may c =

@@ -1,11 +1,11 @@
-use Rattle.std.proofs.Common.{◌≡◌, ◌<◌, ◌∙◌, sym, ap, subst, length, List, arith, FitsSigned}
+use Rattle.std.proofs.Common.{◌<◌, ◌∙◌, sym, ap, subst, length, List, arith, FitsSigned}
 use Rattle.std.proofs.lemmas.Int.{to_z-of_z}
 use Rattle.std.proofs.lemmas.Option.{same_Some}
 use Rattle.std.proofs.lemmas.Result.{err_from_is_err_and}
 use Rattle.std.specs.Int.{w128}
+use Rattle.ta_base.proofs.Lists.{read_same}
 use Rattle.ta_automaton.specs.declared.rule.Rule.{Rule}
-use Rattle.ta_counter.specs.Steps.{StepFails, Taken}
-use Rattle.ta_counter.proofs.Passing.{read_at}
+use Rattle.ta_counter.specs.Steps.{StepFails, StepIsTaken}
 use Rattle.ta_counter.proofs.Stepping.{taken_fires, no_steps}
 use Rattle.ta_counter.proofs.config.Config.accelerated_step.Goals as goal
 
@@ -15,7 +15,7 @@ returns-in_err-after-clause-no_steps c =
     let rule = c.index-as_slice-rule.result in
     let count = ap (λ (rs : List Rule). length rs) c.as_slice.ensures in
     let exists : c.args.rule < length c.as_slice.result.now = (let e = c.requires.exists in omega arith) in
-    let named = read_at a.rules c.as_slice.result.now c.args.rule rule c.as_slice.ensures exists c.index-as_slice-rule.is in
+    let named = read_same a.rules c.as_slice.result.now c.args.rule rule c.as_slice.ensures exists c.index-as_slice-rule.is in
     let factor : FitsSigned w128 c.args.factor = c.ranges.factor in
     let fails = simp to_z-of_z at c.in_err-after.ensures.fails in
     let p = err_from_is_err_and c.from_residual.result c.from_residual.ensures.1 in
@@ -28,11 +28,11 @@ returns-clause-answer c =
     let rule = c.index-as_slice-rule.result in
     let count = ap (λ (rs : List Rule). length rs) c.as_slice.ensures in
     let exists : c.args.rule < length c.as_slice.result.now = (let e = c.requires.exists in omega arith) in
-    let named = read_at a.rules c.as_slice.result.now c.args.rule rule c.as_slice.ensures exists c.index-as_slice-rule.is in
+    let named = read_same a.rules c.as_slice.result.now c.args.rule rule c.as_slice.ensures exists c.index-as_slice-rule.is in
     let factor : FitsSigned w128 c.args.factor = c.ranges.factor in
     let told = simp to_z-of_z at c.in_ok-after.ensures.ok in
-    let from = subst (λ vs. Taken a rule c.args.factor vs c.in_ok-after.after.items) c.as_slice-2.ensures.value told in
-    λ other at. subst (λ (q : Rule). Taken a q c.args.factor c.args.self.now.values.items c.in_ok-after.after.items) (same_Some rule other (sym named ∙ at)) from
+    let from = subst (λ vs. StepIsTaken a rule c.args.factor vs c.in_ok-after.after.items) c.as_slice-2.ensures.value told in
+    λ other at. subst (λ (q : Rule). StepIsTaken a q c.args.factor c.args.self.now.values.items c.in_ok-after.after.items) (same_Some rule other (sym named ∙ at)) from
 
 pub returns-clause-steps : goal.returns-clause-steps
 returns-clause-steps c =
@@ -40,8 +40,8 @@ returns-clause-steps c =
     let rule = c.index-as_slice-rule.result in
     let count = ap (λ (rs : List Rule). length rs) c.as_slice.ensures in
     let exists : c.args.rule < length c.as_slice.result.now = (let e = c.requires.exists in omega arith) in
-    let named = read_at a.rules c.as_slice.result.now c.args.rule rule c.as_slice.ensures exists c.index-as_slice-rule.is in
+    let named = read_same a.rules c.as_slice.result.now c.args.rule rule c.as_slice.ensures exists c.index-as_slice-rule.is in
     let factor : FitsSigned w128 c.args.factor = c.ranges.factor in
     let told = simp to_z-of_z at c.in_ok-after.ensures.ok in
-    let from = subst (λ vs. Taken a rule c.args.factor vs c.in_ok-after.after.items) c.as_slice-2.ensures.value told in
+    let from = subst (λ vs. StepIsTaken a rule c.args.factor vs c.in_ok-after.after.items) c.as_slice-2.ensures.value told in
     (taken_fires a c.args.rule rule c.args.factor c.args.self.now.values.items c.in_ok-after.after.items named c.requires.factor c.args.self.now.natural c.requires.is_of c.in_ok-after.ensures.natural from)

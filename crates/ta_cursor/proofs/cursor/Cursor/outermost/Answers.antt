@@ -1,8 +1,9 @@
 use Rattle.std.proofs.Common.{◌≡◌, ◌≤◌, ◌∙◌, List, ap, refl, sym, subst, length, take, slice_get, Some, arith}
 use Rattle.std.proofs.lemmas.Option.{slice_get_read}
 use Rattle.std.proofs.lemmas.Bool.{ltb-false}
+use Rattle.ta_base.proofs.Lists.{take_whole}
 use Rattle.ta_cursor.specs.declared.cursor.Frame.{Frame}
-use Rattle.ta_cursor.proofs.FramesShared.{all_inside, frame_short, stands_inside, take_whole}
+use Rattle.ta_cursor.proofs.FramesShared.{all_inside, frame_short, stands_inside}
 use Rattle.ta_cursor.proofs.cursor.Cursor.outermost.Goals as goal
 use Rattle.ta_cursor.proofs.cursor.Cursor.outermost.Goals.{in-Some, in_default}
 

@@ -1,5 +1,5 @@
 use Rattle.std.proofs.Common.{reverse}
-use Rattle.ta_words.specs.Words.{Legal}
+use Rattle.ta_words.specs.Words.{LegalWord}
 use Rattle.ta_words.proofs.Lists.{of_pattern}
 use Rattle.ta_cursor.specs.Cursors.{word_at}
 use Rattle.ta_cursor.proofs.RowCounts.{is_small}
@@ -10,7 +10,7 @@ pub grown-requires-clause-legal : goal.grown-requires-clause-legal
 grown-requires-clause-legal c =
     let t = c.args.self.now in
     let past = reverse c.args.word.now in
-    of_pattern t.file.now t.number t.pattern.now (λ p. Legal t.file.now.automaton p c.args.start_mask past) t.named (comes_legal t.file.now.automaton t.pattern.now t.orders.now c.args.start_mask past c.requires.word).legal
+    of_pattern t.file.now t.number t.pattern.now (λ p. LegalWord t.file.now.automaton p c.args.start_mask past) t.named (comes_legal t.file.now.automaton t.pattern.now t.orders.now c.args.start_mask past c.requires.word).legal
 
 pub returns-clause-small : goal.returns-clause-small
 returns-clause-small c =

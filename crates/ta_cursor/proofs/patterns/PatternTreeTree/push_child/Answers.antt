@@ -1,7 +1,7 @@
 use Rattle.std.proofs.Common.{◌≡◌, reverse, true, sym, ◌∙◌}
-use Rattle.ta_words.specs.Words.{Legal, children}
+use Rattle.ta_base.proofs.Members.{in_at}
+use Rattle.ta_words.specs.Words.{LegalWord, children}
 use Rattle.ta_words.proofs.Lists.{of_pattern}
-use Rattle.ta_cursor.proofs.FramesParts.{in_at}
 use Rattle.ta_cursor.proofs.PatternWords.{comes_legal, child_pushed}
 use Rattle.ta_cursor.proofs.patterns.PatternTreeTree.push_child.Goals as goal
 
@@ -9,7 +9,7 @@ pub push-requires-clause-legal : goal.push-requires-clause-legal
 push-requires-clause-legal c =
     let t = c.args.self.now in
     let past = reverse c.args.word.now in
-    of_pattern t.file.now t.number t.pattern.now (λ p. Legal t.file.now.automaton p c.args.start_mask past) t.named (comes_legal t.file.now.automaton t.pattern.now t.orders.now c.args.start_mask past c.requires).legal
+    of_pattern t.file.now t.number t.pattern.now (λ p. LegalWord t.file.now.automaton p c.args.start_mask past) t.named (comes_legal t.file.now.automaton t.pattern.now t.orders.now c.args.start_mask past c.requires).legal
 
 pub returns-in-Some : goal.returns-in-Some
 returns-in-Some c =

@@ -1,5 +1,5 @@
 use Rattle.std.proofs.Common.{reverse}
-use Rattle.ta_words.specs.Words.{Legal}
+use Rattle.ta_words.specs.Words.{LegalWord}
 use Rattle.ta_words.proofs.Lists.{of_pattern}
 use Rattle.ta_cursor.proofs.PatternWords.{comes_legal}
 use Rattle.ta_cursor.proofs.patterns.PatternTreeTree.unknown_count.Goals as goal
@@ -8,4 +8,4 @@ pub unknown_count-requires-clause-legal : goal.unknown_count-requires-clause-leg
 unknown_count-requires-clause-legal c =
     let t = c.args.self.now in
     let past = reverse c.args.word.now in
-    of_pattern t.file.now t.number t.pattern.now (λ p. Legal t.file.now.automaton p c.args.start_mask past) t.named (comes_legal t.file.now.automaton t.pattern.now t.orders.now c.args.start_mask past c.requires).legal
+    of_pattern t.file.now t.number t.pattern.now (λ p. LegalWord t.file.now.automaton p c.args.start_mask past) t.named (comes_legal t.file.now.automaton t.pattern.now t.orders.now c.args.start_mask past c.requires).legal

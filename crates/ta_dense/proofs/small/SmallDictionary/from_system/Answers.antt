@@ -1,7 +1,10 @@
-use Rattle.std.proofs.Common.{◌≡◌, arith, sym, ◌∙◌, ap, ◌+◌, List, ℕ, length, subst, drop}
+use Rattle.std.proofs.Common.{◌≡◌, arith, sym, ◌∙◌, ap, ◌+◌, ◌++◌, List, ℕ, length, subst, drop}
+use Rattle.std.proofs.lemmas.List.{length-map}
 use Rattle.std.proofs.lemmas.List.FromFn.{length-range_with_len}
+use Rattle.ta_dense.specs.Tableau.{TableauRow}
 use Rattle.ta_dense.specs.Slack.{slack_rows}
-use Rattle.ta_dense.specs.Narrow.{narrow_views, AreNarrow}
+use Rattle.ta_dense.specs.Narrow.{narrow_view, narrow_views}
+use Rattle.ta_dense.specs.Shared.{row_at_place, shared_views, AreShared}
 use Rattle.ta_dense.proofs.SlackRows.{slack_tableau-is}
 use Rattle.ta_dense.proofs.small.SmallDictionary.from_system.Goals as goal
 
@@ -12,9 +15,12 @@ invariant_of-result c =
     let columns : length c.in_ok-non_basic.non_basic.items ≡ c.args.system.now.unknowns = omega arith in
     let room = c.requires in
     let long = rw c.in-Some.is at c.in_ok-rows.ensures.long in
-    let narrow = rw c.in-Some.is at c.in_ok-rows.ensures.narrow in
+    let value = c.in_ok-push_rows.ensures.value ∙ ap (λ (rs : List TableauRow). rs ++ narrow_views c.in-Some.rows.items) c.no_rows-shared.ensures.value in
+    let l1 = ap (λ (rs : List TableauRow). length rs) value in
+    let l2 = length-map c.in-Some.rows.items narrow_view in
+    let l3 = length-map c.push_rows.new.shared.places.items (row_at_place c.push_rows.new.shared.rows.items) in
     record {
-      narrow = subst (λ (k : ℕ). AreNarrow k c.in-Some.rows.items) (sym columns) narrow;
+      shared = subst (λ (k : ℕ). AreShared k c.push_rows.new.shared) (sym columns) c.in_ok-push_rows.ensures.shared;
       rows_fit = omega arith;
       columns_fit = omega arith;
     }
@@ -23,6 +29,7 @@ pub returns : goal.returns
 returns c =
     let u = c.args.system.now.unknowns in
     let none : c.args.system.now.unknowns + 0 ≡ c.args.system.now.unknowns = omega arith in
+    let shared = c.in_ok-push_rows.ensures.value ∙ ap (λ (rs : List TableauRow). rs ++ narrow_views c.in-Some.rows.items) c.no_rows-shared.ensures.value in
     let value = rw c.in-Some.is at c.in_ok-rows.ensures.value in
-    slack_tableau-is c.args.system.now c.in_ok-non_basic.non_basic.items (narrow_views c.in-Some.rows.items) c.in_ok-non_basic.ensures
-    (value ∙ ap (λ (m : ℕ). slack_rows u m (drop 0 c.args.system.now.rows)) none)
+    slack_tableau-is c.args.system.now c.in_ok-non_basic.non_basic.items (shared_views c.push_rows.new.shared) c.in_ok-non_basic.ensures
+    (shared ∙ value ∙ ap (λ (m : ℕ). slack_rows u m (drop 0 c.args.system.now.rows)) none)

@@ -1,9 +1,9 @@
 use Rattle.std.proofs.Common.{◌++◌, List, map, reverse, subst}
 use Rattle.std.proofs.lemmas.List.{append-nil}
+use Rattle.std.proofs.lemmas.Result.{IfOk-weaker}
 use Rattle.ta_words.specs.Calls.{OfPattern}
-use Rattle.ta_encode.specs.Code.{RowsOf, SystemOf}
+use Rattle.ta_encode.specs.Code.{AreRowsOf, SystemOf}
 use Rattle.ta_encode.specs.System.{LinearRow, bound_row, word_rows}
-use Rattle.ta_encode.proofs.Marking.{on_ok}
 use Rattle.ta_encode.proofs.growing.Encoding.grown.Goals as goal
 
 pub returns-clause-system : goal.returns-clause-system
@@ -12,6 +12,6 @@ returns-clause-system c =
     let start = c.args.start_mask in
     let past = reverse c.args.word.now in
     let bounds = c.args.bounds.now in
-    on_ok c.grown_to.result _ (λ grown. OfPattern file c.args.pattern (λ p. SystemOf file.automaton p start past bounds grown.encoding.system))
-    (λ grown h p named. let is = h p named in record { unknowns = is.unknowns; rows = subst (λ (ls : List LinearRow). RowsOf (ls ++ map bound_row bounds) grown.encoding.system.rows) (append-nil (word_rows file.automaton p start past)) is.rows })
+    IfOk-weaker c.grown_to.result _ (λ grown. OfPattern file c.args.pattern (λ p. SystemOf file.automaton p start past bounds grown.encoding.system))
+    (λ grown h p named. let is = h p named in record { unknowns = is.unknowns; rows = subst (λ (ls : List LinearRow). AreRowsOf (ls ++ map bound_row bounds) grown.encoding.system.rows) (append-nil (word_rows file.automaton p start past)) is.rows })
     c.grown_to.ensures.system

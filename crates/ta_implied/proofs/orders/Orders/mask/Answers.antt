@@ -1,8 +1,8 @@
 use Rattle.std.proofs.Common.{◌∙◌, sym, ap, subst, arith}
 use Rattle.std.proofs.lemmas.Bool.{false≢true}
 use Rattle.std.proofs.lemmas.List.{get_or_past}
-use Rattle.ta_automaton.specs.Masks.{In, has_bit}
-use Rattle.ta_implied.proofs.Bits.{has_none}
+use Rattle.ta_base.specs.Masks.{In, has_bit}
+use Rattle.ta_base.proofs.Bits.{has_none}
 use Rattle.ta_implied.proofs.Pairs.{pair_of_bit, bit_of_pair}
 use Rattle.ta_implied.proofs.orders.Orders.mask.Goals as goal
 

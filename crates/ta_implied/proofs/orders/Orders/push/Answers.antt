@@ -1,5 +1,5 @@
 use Rattle.std.proofs.Common.{refl}
-use Rattle.ta_implied.specs.Orders.{Joined, MayJoin}
+use Rattle.ta_implied.specs.Orders.{JoinsPair, MayJoin}
 use Rattle.ta_implied.proofs.Joining.{joined_by, joined_good}
 use Rattle.ta_implied.proofs.orders.Orders.push.Goals as goal
 
@@ -13,6 +13,6 @@ returns-clause-joined c = joined_by c.args.automaton.now (c.args.before, c.args.
 
 pub returns-clause-good : goal.returns-clause-good
 returns-clause-good c =
-    let joined : Joined c.args.automaton.now (c.args.before, c.args.after) c.args.multipliers.now c.args.self.now c.insert.new.self =
+    let joined : JoinsPair c.args.automaton.now (c.args.before, c.args.after) c.args.multipliers.now c.args.self.now c.insert.new.self =
     joined_by c.args.automaton.now (c.args.before, c.args.after) c.args.multipliers.now c.args.self.now c.insert.new.self c.in_ok-system.system (c.if-not-takes.ensures.0 refl) c.in_ok-system.ensures (c.in_default.ensures.ok.0 refl) c.insert.ensures in
     joined_good c.args.automaton.now (c.args.before, c.args.after) c.args.multipliers.now c.args.self.now c.insert.new.self joined

@@ -1,7 +1,8 @@
 use Rattle.std.proofs.Common.{◌≡◌, arith, sym, ◌∙◌, ap, ◌+◌, suc, ◌++◌, ◌∷◌, [], List, ℕ, length, subst, rules}
 use Rattle.std.proofs.lemmas.List.FromFn.{length-range_with_len}
 use Rattle.std.specs.List.{range_with_len}
-use Rattle.ta_dense.proofs.SlackRows.{range_more, slack_tableau-is}
+use Rattle.ta_base.proofs.Lists.{range_more}
+use Rattle.ta_dense.proofs.SlackRows.{slack_tableau-is}
 use Rattle.ta_links.specs.declared.row_head.RowHead.{RowHead}
 use Rattle.ta_links.specs.Linked.{table_rows, AreProperHeads}
 use Rattle.ta_links.specs.Starting.{slack_heads}

@@ -1,13 +1,13 @@
 use Rattle.std.proofs.Common.{◌≡◌, refl, sym, subst, ◌∙◌, length, arith}
 use Rattle.std.proofs.lemmas.Bool.{false≢true}
-use Rattle.ta_automaton.specs.Masks.{In}
-use Rattle.ta_words.proofs.Items.{in_at, not_yet, not_listed}
+use Rattle.ta_base.specs.Masks.{In}
+use Rattle.ta_base.proofs.Members.{in_get_or, not_listed, not_yet}
 use Rattle.ta_words.proofs.child_list.Children.contains.Goals as goal
 
 pub returns-then-is : goal.returns-then-is
 returns-then-is c =
     let same = c.is.ensures.0 c.if-is.true in
-    let here = in_at c.elements-child-items.result.now c.loop-child.child-index _ c.loop-child-test.true in
+    let here = in_get_or c.elements-child-items.result.now c.loop-child.child-index _ c.loop-child-test.true in
     ((λ _. subst (In c.args.element) c.elements-child-items.ensures (subst (λ x. In x c.elements-child-items.result.now) same here)), λ _. refl)
 
 pub loop-child-preserved : goal.loop-child-preserved

@@ -1,0 +1,331 @@
+-- sets of numbers as masks and as tests
+use Rattle.std.proofs.Common.{ℕ, ◌<◌, eqb, max, ◌≡◌, ◌||◌, zero, refl, suc, arith, min, ◌&&◌, true≢false, bit_or, ap, ◌∙◌, bit_and, ◌^◌, ◌==◌, inl, sym, inr, false, ◌≤◌, ◌-◌, true, Bool, not, eqb-true, eq-eqb, ◌*◌, ◌%◌, pow_pos, ◌+◌, ◌⊎◌, IsBitSet, ◌/◌, cond, ◌↔◌, List, filter, [], ◌∷◌, get_or, ◌≢◌, w32}
+use Rattle.std.proofs.lemmas.Bool.{false≢true, and_parts, and_from, cases_lt, cases_eq, and_cases}
+use Rattle.std.proofs.lemmas.Nat.Bits.{bit_at_or, bit_at-lt, bit_at_and, same_from_bits, bit_at-pow_same, bit_at-pow_other, bit_at-zero, bit_at_above, bit_at_ones, and_pow, bit_at_lowest, bit_at-suc, bit_at_cat_low, bit_at_not}
+use Rattle.std.specs.Int.{bit_at, bit_not}
+use Rattle.std.proofs.lemmas.Bool.Decides.{eqb_tells}
+use Rattle.std.proofs.lemmas.Nat.{one_shl, and_le_r}
+use Rattle.std.proofs.Math.Nat.{pow-le-pow_right, div-eq_of_lt}
+use Rattle.std.specs.List.{AllByRecursion}
+use Rattle.ta_base.specs.Masks.{has_bit, implies, all_below}
+use Rattle.ta_base.proofs.Naturals.{in_or_above, mask_of, bit_small}
+use Rattle.ta_base.proofs.Booleans.{both_ways, implies-from, and_left}
+use Rattle.ta_base.proofs.Lists.{filter_same, filter_all}
+
+or_max : (x y : ℕ) → x < 2 → y < 2 → eqb (max x y) 1 ≡ (eqb y 1 || eqb x 1)
+or_max zero zero h g = refl
+or_max zero (suc zero) h g = refl
+or_max (suc zero) zero h g = refl
+or_max (suc zero) (suc zero) h g = refl
+or_max (suc (suc x)) y h g = absurd (omega arith)
+or_max x (suc (suc y)) h g = absurd (omega arith)
+
+and_min : (x y : ℕ) → x < 2 → y < 2 → eqb (min x y) 1 ≡ (eqb x 1 && eqb y 1)
+and_min zero zero h g = refl
+and_min zero (suc zero) h g = refl
+and_min (suc zero) zero h g = refl
+and_min (suc zero) (suc zero) h g = refl
+and_min (suc (suc x)) y h g = absurd (omega arith)
+and_min x (suc (suc y)) h g = absurd (omega arith)
+
+same_digit : (x y : ℕ) → x < 2 → y < 2 → eqb x 1 ≡ eqb y 1 → x ≡ y
+same_digit zero zero h g e = refl
+same_digit zero (suc zero) h g e = absurd (false≢true e)
+same_digit (suc zero) zero h g e = absurd (true≢false e)
+same_digit (suc zero) (suc zero) h g e = refl
+same_digit (suc (suc x)) y h g e = absurd (omega arith)
+same_digit x (suc (suc y)) h g e = absurd (omega arith)
+
+pub has_or : (a b i : ℕ) → has_bit (bit_or a b) i ≡ (has_bit b i || has_bit a i)
+unfolding has_bit
+has_or a b i = ap (λ k. eqb k 1) (bit_at_or a b i) ∙ or_max (bit_at a i) (bit_at b i) (bit_at-lt a i) (bit_at-lt b i)
+
+pub has_and : (a b i : ℕ) → has_bit (bit_and a b) i ≡ (has_bit a i && has_bit b i)
+unfolding has_bit
+has_and a b i = ap (λ k. eqb k 1) (bit_at_and a b i) ∙ and_min (bit_at a i) (bit_at b i) (bit_at-lt a i) (bit_at-lt b i)
+
+pub same_mask : (a b : ℕ) → ((i : ℕ) → has_bit a i ≡ has_bit b i) → a ≡ b
+unfolding has_bit
+same_mask a b h = same_from_bits a b (λ i. same_digit (bit_at a i) (bit_at b i) (bit_at-lt a i) (bit_at-lt b i) (h i))
+
+pub has_pow : (k i : ℕ) → has_bit (2 ^ k) i ≡ (k == i)
+unfolding has_bit
+has_pow k i = elim (eqb_tells k i) [
+  | inl e ↦ ap (λ b. eqb b 1) (ap (λ j. bit_at (2 ^ k) j) (sym e.1) ∙ bit_at-pow_same k) ∙ sym e.0
+  | inr ne ↦ ap (λ b. eqb b 1) (bit_at-pow_other k i (λ e. ne.1 (sym e))) ∙ sym ne.0
+]
+
+pub has_none : (i : ℕ) → has_bit 0 i ≡ false
+unfolding has_bit
+has_none i = ap (λ b. eqb b 1) (bit_at-zero i)
+
+pub has_above : (n k i : ℕ) → n < 2 ^ k → k ≤ i → has_bit n i ≡ false
+unfolding has_bit
+has_above n k i h g = ap (λ b. eqb b 1) (bit_at_above n k i h g)
+
+pub has_ones : (k i : ℕ) → i < k → has_bit (2 ^ k - 1) i ≡ true
+unfolding has_bit
+has_ones k i h = ap (λ b. eqb b 1) (bit_at_ones k i h)
+
+and_same : (x y : Bool) → implies x y ≡ true → (x && y) ≡ x
+and_same true y e = e
+and_same false y e = refl
+
+and_none : (x y : Bool) → implies x (not y) ≡ true → (x && y) ≡ false
+and_none true true e = absurd (false≢true e)
+and_none true false e = refl
+and_none false y e = refl
+
+pub all_below-at : (n : ℕ) (test : ℕ → Bool) → all_below n test ≡ true → (k : ℕ) → k < n → test k ≡ true
+unfolding all_below
+all_below-at zero test h k b = absurd (omega arith)
+all_below-at (suc n) test h k b =
+    let parts = and_parts (all_below n test) (test n) h in
+    elim (eqb_tells k n) [ inl e ↦ ap test e.1 ∙ parts.1 | inr ne ↦ all_below-at n test parts.0 k (let q = ne.1 in omega arith) ]
+
+-- a test of each number below another says the same of each number, where a mask has no bit above
+implied : (part n : ℕ) (test : ℕ → Bool) → part < 2 ^ n → all_below n (λ i. implies (has_bit part i) (test i)) ≡ true → (i : ℕ) → implies (has_bit part i) (test i) ≡ true
+implied part n test b h i = elim (in_or_above n i) [
+  | inl below ↦ all_below-at n (λ k. implies (has_bit part k) (test k)) h i below
+  | inr above ↦ ap (λ x. implies x (test i)) (has_above part n i b above)
+]
+
+pub all_below-from : (n : ℕ) (test : ℕ → Bool) → ((k : ℕ) → k < n → test k ≡ true) → all_below n test ≡ true
+unfolding all_below
+all_below-from zero test h = refl
+all_below-from (suc n) test h = and_from (all_below n test) (test n) (all_below-from n test (λ k b. h k (omega arith))) (h n (omega arith))
+
+pub subset : (part whole n : ℕ) → part < 2 ^ n → (bit_and part whole == part) ≡ all_below n (λ i. implies (has_bit part i) (has_bit whole i))
+subset part whole n b = both_ways _ _
+    (λ e. all_below-from n (λ i. implies (has_bit part i) (has_bit whole i)) (λ i _. implies-from (has_bit part i) (has_bit whole i) (λ t. and_left (has_bit part i) (has_bit whole i) (sym (has_and part whole i) ∙ ap (λ m. has_bit m i) (eqb-true (bit_and part whole) part e) ∙ t))))
+    (λ h. eq-eqb (bit_and part whole) part (same_mask (bit_and part whole) part (λ i. has_and part whole i ∙ and_same (has_bit part i) (has_bit whole i) (implied part n (has_bit whole) b h i))))
+
+pub disjoint : (part other n : ℕ) → part < 2 ^ n → (bit_and part other == 0) ≡ all_below n (λ i. implies (has_bit part i) (not (has_bit other i)))
+disjoint part other n b = both_ways _ _
+    (λ e. all_below-from n (λ i. implies (has_bit part i) (not (has_bit other i))) (λ i _. implies-from (has_bit part i) (not (has_bit other i)) (λ t. none_both (has_bit part i) (has_bit other i) t (sym (has_and part other i) ∙ ap (λ m. has_bit m i) (eqb-true (bit_and part other) 0 e) ∙ has_none i))))
+    (λ h. eq-eqb (bit_and part other) 0 (same_mask (bit_and part other) 0 (λ i. has_and part other i ∙ and_none (has_bit part i) (has_bit other i) (implied part n (λ k. not (has_bit other k)) b h i) ∙ sym (has_none i))))
+  where
+    none_both : (x y : Bool) → x ≡ true → (x && y) ≡ false → not y ≡ true
+    none_both true true t e = sym e
+    none_both true false t e = refl
+    none_both false y t e = absurd (false≢true t)
+
+digit_test : (b m : ℕ) → b < 2 → 0 < m → not (eqb (b * m) 0) ≡ eqb b 1
+digit_test zero m h g = ap (λ k. not (eqb k 0)) (let e : 0 * m ≡ 0 = omega arith in e)
+digit_test (suc zero) m h g = elim (eqb_tells (1 * m) 0) [ inl e ↦ absurd (let q = e.1 in omega arith) | inr ne ↦ ap not ne.0 ]
+digit_test (suc (suc b)) m h g = absurd (omega arith)
+
+pub set_test : (w mask k : ℕ) → k < w → not (eqb (bit_and mask ((1 * 2 ^ k) % 2 ^ w)) 0) ≡ has_bit mask k
+unfolding has_bit
+set_test w mask k h =
+    ap (λ b. not (eqb (bit_and mask b) 0)) (one_shl k w h) ∙ ap (λ b. not (eqb b 0)) (and_pow mask k) ∙ digit_test (bit_at mask k) (2 ^ k) (bit_at-lt mask k) (pow_pos k)
+
+pub with_bit : (w mask k i : ℕ) → k < w → has_bit (bit_or mask ((1 * 2 ^ k) % 2 ^ w)) i ≡ ((k == i) || has_bit mask i)
+with_bit w mask k i h = ap (λ b. has_bit (bit_or mask b) i) (one_shl k w h) ∙ has_or mask (2 ^ k) i ∙ ap (λ b. b || has_bit mask i) (has_pow k i)
+
+pub all_below-same : (n : ℕ) (f g : ℕ → Bool) → ((k : ℕ) → k < n → f k ≡ g k) → all_below n f ≡ all_below n g
+unfolding all_below
+all_below-same zero f g h = refl
+all_below-same (suc n) f g h = ap (λ b. b && f n) (all_below-same n f g (λ k b. h k (omega arith))) ∙ ap (λ b. all_below n g && b) (h n (omega arith))
+
+-- the mask of the first n numbers
+pub first_numbers : (n : ℕ) (test : ℕ → Bool) → n < 32 → all_below n (λ i. implies (has_bit ((1 * 2 ^ n) % 4294967296 - 1) i) (test i)) ≡ all_below n test
+first_numbers n test h = all_below-same n _ _ (λ i b. ap (λ x. implies x (test i)) (ap (λ m. has_bit (m - 1) i) (one_shl n 32 h) ∙ has_ones n i b))
+
+-- a mask that says of each number below n whether it passes
+pub record Told (test : ℕ → Bool) (mask n : ℕ) : Type 0 where
+  pub below : (k : ℕ) → k < n → has_bit mask k ≡ test k
+  pub above : (k : ℕ) → n ≤ k → has_bit mask k ≡ false
+
+pub none_told : (test : ℕ → Bool) → Told test 0 0
+none_told test = record { below = λ k b. absurd (omega arith); above = λ k b. has_none k }
+
+pub one_told : (test : ℕ → Bool) (w mask more n : ℕ) → Told test mask n → n < w → test n ≡ true → more ≡ bit_or mask ((1 * 2 ^ n) % 2 ^ w) → Told test more (n + 1)
+one_told test w mask more n told within passes is = record {
+  below = λ k b. ap (λ m. has_bit m k) is ∙ with_bit w mask n k within ∙ elim (eqb_tells n k) [
+    | inl e ↦ ap (λ x. x || has_bit mask k) e.0 ∙ sym (sym (ap test e.1) ∙ passes)
+    | inr ne ↦ ap (λ x. x || has_bit mask k) ne.0 ∙ told.below k (let q = ne.1 in omega arith)
+  ];
+  above = λ k b. ap (λ m. has_bit m k) is ∙ with_bit w mask n k within ∙ elim (eqb_tells n k) [
+    | inl e ↦ absurd (let q = e.1 in omega arith)
+    | inr ne ↦ ap (λ x. x || has_bit mask k) ne.0 ∙ told.above k (omega arith)
+  ];
+}
+
+pub not_told : (test : ℕ → Bool) (mask n : ℕ) → Told test mask n → test n ≡ false → Told test mask (n + 1)
+not_told test mask n told fails = record {
+  below = λ k b. elim (eqb_tells n k) [
+    | inl e ↦ told.above k (let q = e.1 in omega arith) ∙ sym fails ∙ ap test e.1
+    | inr ne ↦ told.below k (let q = ne.1 in omega arith)
+  ];
+  above = λ k b. told.above k (omega arith);
+}
+
+-- a mask that isn't 0 has a bit
+pub some_bit : (mask n : ℕ) → 1 ≤ mask → mask < 2 ^ n → (j : ℕ) × (j < n) × (has_bit mask j ≡ true)
+some_bit mask n least most = elim (find (has_bit mask) n) [
+  | inl found ↦ found
+  | inr none ↦ absurd (let zero_mask = same_mask mask 0 (λ i. elim (in_or_above n i) [ inl below ↦ none i below ∙ sym (has_none i) | inr above ↦ has_above mask n i most above ∙ sym (has_none i) ]) in omega arith)
+]
+  where
+    found_or : (test : ℕ → Bool) (n : ℕ) (b : Bool) → test n ≡ b → ((j : ℕ) × (j < n) × (test j ≡ true)) ⊎ ((j : ℕ) → j < n → test j ≡ false) → ((j : ℕ) × (j < suc n) × (test j ≡ true)) ⊎ ((j : ℕ) → j < suc n → test j ≡ false)
+    found_or test n true e h = inl (n, omega arith, e)
+    found_or test n false e (inl f) = inl (f.0, (let b = f.1 in omega arith), f.2)
+    found_or test n false e (inr f) = inr (λ j b. elim (eqb_tells j n) [ inl q ↦ ap test q.1 ∙ e | inr ne ↦ f j (let q = ne.1 in omega arith) ])
+
+    find : (test : ℕ → Bool) (n : ℕ) → ((j : ℕ) × (j < n) × (test j ≡ true)) ⊎ ((j : ℕ) → j < n → test j ≡ false)
+    find test zero = inr (λ j b. absurd (omega arith))
+    find test (suc n) = found_or test n (test n) refl (find test n)
+
+pow_positive : (k : ℕ) → 1 ≤ 2 ^ k
+pow_positive zero = omega arith
+pow_positive (suc k) = omega (arith, pow_positive k)
+
+pub bit_true : (n i : ℕ) → IsBitSet n i → has_bit n i ≡ true
+unfolding has_bit
+bit_true n i h =
+    let e = and_pow n i in
+    let one : (n / 2 ^ i) % 2 ≡ 1 = elim (eqb_tells ((n / 2 ^ i) % 2) 0) [
+      | inl z ↦ absurd (h (e ∙ ap (λ b. b * 2 ^ i) z.1 ∙ (let q : 0 * 2 ^ i ≡ 0 = omega arith in q)))
+      | inr ne ↦ (let q = ne.1 in omega arith)
+    ] in
+    eq-eqb ((n / 2 ^ i) % 2) 1 one
+
+pub bit_set : (n i : ℕ) → has_bit n i ≡ true → IsBitSet n i
+unfolding has_bit
+bit_set n i h none =
+    let one = eqb-true ((n / 2 ^ i) % 2) 1 h in
+    let e : 1 * 2 ^ i ≡ 0 = ap (λ b. b * 2 ^ i) (sym one) ∙ sym (and_pow n i) ∙ none in
+    omega (arith, pow_positive i)
+
+odd_part : (b m : ℕ) → b < 2 → (b + 2 * m) % 2 ≡ b
+odd_part b m h = omega arith
+
+half_part : (b m : ℕ) → b < 2 → (b + 2 * m) / 2 ≡ m
+half_part b m h = omega arith
+
+bit_same : (t : Bool) → eqb (cond t 1 0) 1 ≡ t
+bit_same true = refl
+bit_same false = refl
+
+pub mask_of-bit : (test : ℕ → Bool) (n j : ℕ) → j < n → has_bit (mask_of test n) j ≡ test j
+unfolding has_bit mask_of
+mask_of-bit test zero j h = absurd (omega arith)
+mask_of-bit test (suc n) zero h =
+    ap (λ k. eqb k 1) (bit_at_lowest (mask_of test (suc n)) ∙ odd_part (cond (test 0) 1 0) (mask_of (λ j. test (suc j)) n) (bit_small (test 0))) ∙ bit_same (test 0)
+mask_of-bit test (suc n) (suc j) h =
+    ap (λ k. eqb k 1) (bit_at-suc (mask_of test (suc n)) j ∙ ap (λ m. bit_at m j) (half_part (cond (test 0) 1 0) (mask_of (λ j. test (suc j)) n) (bit_small (test 0)))) ∙ mask_of-bit (λ j. test (suc j)) n j (omega arith)
+
+pub no_bit : (i : ℕ) → IsBitSet 0 i → ⊥
+no_bit i b = b refl
+
+-- a bit that is set is below a limit of the mask
+pub bit_below : (mask n i : ℕ) → mask < 2 ^ n → IsBitSet mask i → i < n
+unfolding has_bit
+bit_below mask n i h b = elim (cases_lt i n) [
+  | inl c ↦ c
+  | inr c ↦ (
+      let more : 2 ^ n ≤ 2 ^ i = pow-le-pow_right (omega arith) c in
+      let none : mask / 2 ^ i ≡ 0 = div-eq_of_lt (omega arith) in
+      absurd (false≢true (sym (ap (λ q. eqb (q % 2) 1) none) ∙ bit_true mask i b)))
+]
+
+pub set_at : (n i : ℕ) → IsBitSet n i → bit_at n i ≡ 1
+unfolding has_bit
+set_at n i h = eqb-true (bit_at n i) 1 (bit_true n i h)
+
+pub at_set : (n i : ℕ) → bit_at n i ≡ 1 → IsBitSet n i
+unfolding has_bit
+at_set n i h = bit_set n i (eq-eqb (bit_at n i) 1 h)
+
+pub set_or : (n i : ℕ) → IsBitSet n i ⊎ (IsBitSet n i → ⊥)
+set_or n i = elim (eqb_tells (bit_at n i) 1) [ inl e ↦ inl (at_set n i e.1) | inr ne ↦ inr (λ h. ne.1 (set_at n i h)) ]
+
+pub not_set : (n i : ℕ) → (IsBitSet n i → ⊥) → bit_at n i ≡ 0
+not_set n i none = elim (eqb_tells (bit_at n i) 1) [
+  | inl e ↦ absurd (none (at_set n i e.1))
+  | inr ne ↦ (let q = ne.1 in let low = bit_at-lt n i in omega arith)
+]
+
+-- a mask without bits from a number on is below that power of 2
+pub mask_below : (mask n : ℕ) → ((i : ℕ) → IsBitSet mask i → i < n) → mask < 2 ^ n
+mask_below mask n below =
+    let least : 1 ≤ 2 ^ n = omega (arith, pow_pos) in
+    let rest : mask % 2 ^ n < 2 ^ n = omega arith in
+    let split : (mask / 2 ^ n) * 2 ^ n + mask % 2 ^ n ≡ mask = omega arith in
+    let same : mask ≡ mask % 2 ^ n = same_from_bits mask (mask % 2 ^ n) (λ i. elim (cases_lt i n) [
+      | inl h ↦ ap (λ m. bit_at m i) (sym split) ∙ bit_at_cat_low (mask / 2 ^ n) n (mask % 2 ^ n) i h
+      | inr h ↦ not_set mask i (λ b. let low = below i b in absurd (omega arith)) ∙ sym (bit_at_above (mask % 2 ^ n) n i rest h)
+    ]) in
+    omega arith
+
+-- ---- masks
+
+-- a mask is determined by its bits
+pub mask-one : (IsIn : ℕ → Type 0) (m n : ℕ) → ((i : ℕ) → IsBitSet m i ↔ IsIn i) → ((i : ℕ) → IsBitSet n i ↔ IsIn i) → m ≡ n
+mask-one IsIn m n p q = same_from_bits m n (λ i. elim (cases_eq (bit_at m i) 1) [
+  | inl e ↦ e ∙ sym (set_at n i ((q i).1 ((p i).0 (at_set m i e))))
+  | inr ne ↦ not_set m i (λ b. ne (set_at m i b)) ∙ sym (not_set n i (λ b. ne (set_at m i ((p i).1 ((q i).0 b)))))
+])
+
+pub no_numbers : (xs : List ℕ) → filter (has_bit 0) xs ≡ []
+no_numbers [] = refl
+no_numbers (x ∷ xs) = ap (λ b. cond b (x ∷ filter (has_bit 0) xs) (filter (has_bit 0) xs)) (has_none x) ∙ no_numbers xs
+
+-- a mask of numbers of guards alone has no other bits
+pub bit_in_masks_below : (masks : List ℕ) (d j : ℕ) → AllByRecursion (λ m. m < 2 ^ 16) masks → has_bit (get_or masks d 0) j ≡ true → j < 16
+bit_in_masks_below [] d j h has = absurd (false≢true (sym (has_none j) ∙ has))
+bit_in_masks_below (m ∷ ms) zero j h has = elim (in_or_above 16 j) [ inl below ↦ below | inr above ↦ absurd (false≢true (sym (has_above m 16 j h.0 above) ∙ has)) ]
+bit_in_masks_below (m ∷ ms) (suc d) j h has = bit_in_masks_below ms d j h.1 has
+
+pub bit_on : (w mask k : ℕ) → k < w → bit_and mask ((1 * 2 ^ k) % 2 ^ w) ≢ 0 → has_bit mask k ≡ true
+bit_on w mask k b h = sym (set_test w mask k b) ∙ elim (eqb_tells (bit_and mask ((1 * 2 ^ k) % 2 ^ w)) 0) [ inl e ↦ absurd (h e.1) | inr ne ↦ ap not ne.0 ]
+
+pub bit_off : (w mask k : ℕ) → k < w → bit_and mask ((1 * 2 ^ k) % 2 ^ w) ≡ 0 → has_bit mask k ≡ false
+bit_off w mask k b h = sym (set_test w mask k b) ∙ ap not (eq-eqb (bit_and mask ((1 * 2 ^ k) % 2 ^ w)) 0 h)
+
+eqb_turned : (x y : ℕ) → (x == y) ≡ (y == x)
+eqb_turned x y = elim (eqb_tells x y) [
+  | inl e ↦ e.0 ∙ sym (eq-eqb y x (sym e.1))
+  | inr ne ↦ ne.0 ∙ elim (eqb_tells y x) [ inl e ↦ absurd (ne.1 (sym e.1)) | inr other ↦ sym other.0 ]
+]
+
+pub only_bit : (n k : ℕ) → n < 32 → has_bit ((1 * 2 ^ n) % 4294967296) k ≡ (k == n)
+only_bit n k b = ap (λ m. has_bit m k) (one_shl n 32 b) ∙ has_pow n k ∙ eqb_turned n k
+
+pub has_no_bit : (n k : ℕ) → 32 ≤ n → k < 32 → has_bit 0 k ≡ (k == n)
+has_no_bit n k b h = has_none k ∙ elim (eqb_tells k n) [ inl e ↦ absurd (let q = e.1 in omega arith) | inr ne ↦ sym ne.0 ]
+
+opposite_digit : (b : ℕ) → b < 2 → eqb (1 - b) 1 ≡ not (eqb b 1)
+opposite_digit zero h = refl
+opposite_digit (suc zero) h = refl
+opposite_digit (suc (suc b)) h = absurd (omega arith)
+
+pub standing_bit : (mask j : ℕ) → mask < 2 ^ 32 → j < 32 → has_bit (bit_not w32 mask) j ≡ not (has_bit mask j)
+unfolding has_bit
+standing_bit mask j b h = ap (λ k. eqb k 1) (bit_at_not w32 mask j b h) ∙ opposite_digit (bit_at mask j) (bit_at-lt mask j)
+
+-- no location is kept empty
+pub none_kept_empty : (ls : List ℕ) → filter (λ l. not (has_bit 0 l)) ls ≡ ls
+none_kept_empty ls = filter_same (λ l. not (has_bit 0 l)) (λ l. true) ls (λ l. ap not (has_none l)) ∙ filter_all ls
+
+pub all_below-false : (n : ℕ) (test : ℕ → Bool) → all_below n test ≡ false → (k : ℕ) × (k < n) × (test k ≡ false)
+unfolding all_below
+all_below-false zero test h = absurd (true≢false h)
+all_below-false (suc n) test h = elim (and_cases (all_below n test) (test n) h) [
+  | inl e ↦ (let w = all_below-false n test e in (w.0, (let b = w.1 in omega arith), w.2))
+  | inr e ↦ (n, omega arith, e)
+]
+
+not_not : (b : Bool) → not (not b) ≡ b
+not_not true = refl
+not_not false = refl
+
+-- the complement of the locations that are left and aren't kept empty
+pub left_bit : (empty left l : ℕ) → empty < 2 ^ 32 → left < 2 ^ 32 → l < 32 → not (has_bit (bit_not w32 (bit_and (bit_not w32 empty) left)) l) ≡ (not (has_bit empty l) && has_bit left l)
+left_bit empty left l e f h =
+    let b : bit_and (bit_not w32 empty) left < 2 ^ 32 = omega (arith, and_le_r (bit_not w32 empty) left) in
+    ap not (standing_bit (bit_and (bit_not w32 empty) left) l b h)
+    ∙ not_not (has_bit (bit_and (bit_not w32 empty) left) l)
+    ∙ has_and (bit_not w32 empty) left l
+    ∙ ap (λ (c : Bool). c && has_bit left l) (standing_bit empty l e h)

@@ -1,0 +1,42 @@
+-- bytes and texts
+use Rattle.std.proofs.Common.{ℕ, IsTrue, ◌<◌, arith, List, IsAscii, [], ◌∷◌, bytes_eq, ◌≡◌, true, refl, ◌≢◌, false, String, Global, string_eq, string_bytes, map, sym, ◌∙◌}
+use Rattle.std.proofs.lemmas.Bool.Decides.{nat_tests, same_from_decides}
+use Rattle.std.specs.List.{AllByRecursion, IsDistinct}
+use Rattle.std.proofs.lemmas.Str.Ascii.{IsAscii-nil, IsAscii-cons}
+use Rattle.std.proofs.lemmas.Slice.Eq.{bytes_eq-Decides}
+use Rattle.std.proofs.lemmas.Bool.{false_from_ne_true, false≢true}
+use Rattle.std.proofs.lemmas.Map.Keys.{IsDistinct-head, IsDistinct-tail}
+use Rattle.ta_base.specs.Bytes.{is_word}
+use Rattle.ta_base.specs.Lists.{Distinct}
+
+-- the bytes of words are ASCII
+word_ascii : (b : ℕ) → IsTrue (is_word b) → b < 128
+word_ascii b h = grind (arith, nat_tests)
+
+pub words_ascii : (bytes : List ℕ) → AllByRecursion (λ b. IsTrue (is_word b)) bytes → IsAscii bytes
+words_ascii [] each = IsAscii-nil
+words_ascii (b ∷ bs) each = IsAscii-cons b bs (word_ascii b each.0) (words_ascii bs each.1)
+
+-- a name is its own
+pub same_name : (name : List ℕ) → bytes_eq name name ≡ true
+same_name name = (bytes_eq-Decides name name).1 refl
+
+-- two names that differ aren't equal
+pub other_name : (known name : List ℕ) → known ≢ name → bytes_eq known name ≡ false
+other_name known name differ = false_from_ne_true (bytes_eq known name) (λ e. differ ((bytes_eq-Decides known name).0 e))
+
+-- ---- names that are kept as strings
+each_other : (k : String Global) (ks : List (String Global)) → AllByRecursion (λ y. string_eq k y ≡ false) ks → AllByRecursion (λ y. string_bytes k ≡ y → ⊥) (map string_bytes ks)
+each_other k [] h = tt
+each_other k (y ∷ ks) h = (λ e. false≢true (sym h.0 ∙ (bytes_eq-Decides (string_bytes k) (string_bytes y)).1 e), each_other k ks h.1)
+
+pub distinct_names : (keys : List (String Global)) → IsDistinct string_eq keys → Distinct (map string_bytes keys)
+distinct_names [] h = tt
+distinct_names (k ∷ ks) h = (each_other k ks (IsDistinct-head string_eq k ks h), distinct_names ks (IsDistinct-tail string_eq k ks h))
+
+pub bytes_eq_turned : (m n : List ℕ) → bytes_eq m n ≡ bytes_eq n m
+bytes_eq_turned m n = same_from_decides (bytes_eq m n) (bytes_eq n m) (bytes_eq-Decides m n) (λ e. sym ((bytes_eq-Decides n m).0 e), λ e. (bytes_eq-Decides n m).1 (sym e))
+
+-- a name that none of these holes has differs from each of their names
+pub differs : (n m : List ℕ) → bytes_eq n m ≡ false → m ≡ n → ⊥
+differs n m e same = false≢true (sym e ∙ (bytes_eq-Decides n m).1 (sym same))

@@ -1,0 +1,34 @@
+-- Numbers in decimal: the digits of each, and the number of digits
+use Rattle.std.proofs.Common.{ℕ, ◌+◌, ◌/◌, ◌%◌, ◌^◌, ◌<◌, ◌≤◌, ◌≡◌, ◌≢◌, true, false, List, [], ◌∷◌, ◌++◌, length, get_or, refl, sym, ap, ◌∙◌, decimal, arith, rules, tests}
+use Rattle.std.proofs.lemmas.Bool.{false≢true}
+use Rattle.std.proofs.lemmas.Fmt.{decimal_by_steps_wide}
+use Rattle.ta_base.specs.Decimals.{DigitsAt, NoDecimalAt, is_padded}
+use Rattle.ta_base.proofs.DecimalDigits.{digits_are}
+use Rattle.ta_base.proofs.Naturals.{wide}
+
+-- what a number's digits begin with
+Begins : ℕ → List ℕ → Type 0
+Begins n ds = (0 < n → 48 < get_or ds 0 0) × (0 < length ds) × (is_padded ds ≡ false)
+
+-- one digit more leaves the beginning
+begins_more : (n x : ℕ) (ds : List ℕ) → 0 < n → Begins n ds → (48 < get_or (ds ++ (x ∷ [])) 0 0) × (0 < length (ds ++ (x ∷ []))) × (is_padded (ds ++ (x ∷ [])) ≡ false)
+unfolding Begins
+begins_more n x [] some b = absurd (omega (arith, b.1))
+begins_more n x (c ∷ []) some b = let high = b.0 some in let other : c ≢ 48 = omega arith in (high, omega arith, search (rules, tests))
+begins_more n x (c ∷ e ∷ es) some b = let high = b.0 some in let other : c ≢ 48 = omega arith in (high, omega arith, search (rules, tests))
+
+-- each number begins so
+begins_all : (n : ℕ) → n < 10 ^ 64 → Begins n (decimal n)
+unfolding Begins
+begins_all = decimal_by_steps_wide Begins (λ n low. (λ some. omega arith, omega arith, refl)) (λ n ds high b. let some : 0 < n / 10 = omega arith in let m = begins_more (n / 10) (48 + n % 10) ds some b in (λ _. m.0, m.1, m.2))
+
+-- a number isn't padded
+pub decimal_plain : (n : ℕ) → n < 10 ^ 64 → is_padded (decimal n) ≡ false
+unfolding Begins
+decimal_plain n below = (begins_all n below).2
+
+-- padded digits are no number
+pub none_padded : (limit : ℕ) (bytes ds after : List ℕ) → limit ≤ 2 ^ 128 → DigitsAt bytes ds after → is_padded ds ≡ true → NoDecimalAt limit bytes
+none_padded limit bytes ds after small found padded n rest at =
+    let same = digits_are limit n bytes ds after rest small found at in
+    false≢true (sym (decimal_plain n (wide n limit at.below small)) ∙ ap is_padded (sym same.0) ∙ padded)

@@ -1,0 +1,14 @@
+-- lemmas for the crates above
+pub mod Booleans
+pub mod Options
+pub mod Naturals
+pub mod Integers
+pub mod Lists
+pub mod Members
+pub mod Each
+pub mod Ranges
+pub mod Sums
+pub mod Bits
+pub mod ByteLists
+pub mod DecimalDigits
+pub mod Digits

@@ -1,0 +1,56 @@
+-- options and results
+use Rattle.std.proofs.Common.{Result, IfOk, Ok, Err, Option, ℕ, IfNone, None, Some, IfSome, ℤ, ◌≡◌, SomeIff, ◌∙◌, ◌⊎◌, inl, refl, inr, ◌<◌, IsSomeAnd, sym, is_some, false, true≢false, option_map, arith, suc, Bool, cond, true, option_and_then}
+use Rattle.std.proofs.lemmas.Option.{same_Some}
+
+pub if_ok_then : {T E A B : Type 0} (r : Result T E) → (A → B) → IfOk r (λ x. A) → IfOk r (λ x. B)
+if_ok_then (Ok x) f p = f p
+if_ok_then (Err e) f p = tt
+
+pub none_weaker : {P Q : Type 0} (first : Option ℕ) → (P → Q) → IfNone first P → IfNone first Q
+none_weaker None f h = f h
+none_weaker (Some k) f h = h
+
+pub some_weaker : {P Q : Type 0} (first : Option ℕ) → (P → Q) → IfSome first (λ k. P) → IfSome first (λ k. Q)
+some_weaker None f h = h
+some_weaker (Some k) f h = f h
+
+pub SomeIff-same : (o : Option ℤ) (P Q : Type 0) (v w : ℤ) → (P → Q) → (Q → P) → v ≡ w → SomeIff o P v → SomeIff o Q w
+SomeIff-same None P Q v w f g e s = λ q. s (g q)
+SomeIff-same (Some x) P Q v w f g e s = (f s.0, s.1 ∙ e)
+
+pub none_or_some : (o : Option ℕ) → (o ≡ None) ⊎ ((k : ℕ) × (o ≡ Some k))
+none_or_some None = inl refl
+none_or_some (Some k) = inr (k, refl)
+
+pub not_both : (o : Option ℕ) (k : ℕ) → o ≡ Some k → o ≡ None → ⊥
+not_both o k e n = cc
+
+pub same_index : (o : Option ℕ) (j k : ℕ) → o ≡ Some j → o ≡ Some k → j ≡ k
+same_index o j k e f = cc
+
+pub some_below : (o : Option ℕ) (n : ℕ) → ((j : ℕ) → o ≡ Some j → j < n) → IfSome o (λ k. k < n)
+some_below None n h = tt
+some_below (Some j) n h = h j refl
+
+pub is_some-map : {A : Type 0} (o : Option A) (P Q : A → Type 0) → ((x : A) → P x → Q x) → IsSomeAnd o P → IsSomeAnd o Q
+is_some-map None P Q f p = p
+is_some-map (Some x) P Q f p = f x p
+
+-- no pair waits where none does
+pub not_waiting : (o : Option (ℕ × ℕ)) (pair : ℕ × ℕ) → o ≡ None → o ≡ Some pair → ⊥
+not_waiting o pair none some = let e : None ≡ Some pair = sym none ∙ some in cc
+
+pub none_of : {X : Type 0} (o : Option X) → is_some o ≡ false → o ≡ None
+none_of None e = refl
+none_of (Some x) e = absurd (true≢false e)
+
+-- it stands in the body
+pub below_if : (n p : ℕ) (t : Bool) (o : Option ℕ) → ((q : ℕ) → o ≡ Some q → q < n) → cond t (Some 0) (option_map suc o) ≡ Some p → p < suc n
+below_if n p true o below e = let same = same_Some 0 p e in omega arith
+below_if n p false None below e = absurd (cc)
+below_if n p false (Some q) below e = let same = same_Some (suc q) p e in let low = below q refl in omega arith
+
+-- what was looked for first, where something came of it
+pub and_then_some : {A B : Type 0} (f : A → Option B) (o : Option A) (b : B) → option_and_then f o ≡ Some b → (a : A) × (f a ≡ Some b)
+and_then_some f None b is = absurd (cc)
+and_then_some f (Some a) b is = (a, is)

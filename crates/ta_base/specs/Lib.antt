@@ -1,0 +1,5 @@
+pub mod Lists
+pub mod Masks
+pub mod Lending
+pub mod Bytes
+pub mod Decimals

@@ -1,0 +1,12 @@
+//! What all crates stand on: lists and texts that contracts see as the list of their items, sets of
+//! numbers as masks, the parts of texts, and decimals.
+#![tactic(auto)]
+
+pub mod bytes;
+pub mod decimals;
+mod list;
+pub mod masks;
+mod text;
+
+pub use list::List;
+pub use text::Text;

@@ -1,0 +1,10 @@
+use Rattle.std.proofs.Common.{◌≡◌, ◌+◌, take, map}
+use Rattle.ta_dense.specs.Inside.Padded.{zero_filled}
+use Rattle.ta_dense.specs.Narrow.{narrow_views, AreNarrow}
+use Rattle.ta_dense.proofs.narrow_extending.filled_rows.Given as goal
+
+abbrev pub invariant-loop-row : goal.invariant-loop-row
+invariant-loop-row l = record {
+  value : narrow_views l.wide.items ≡ map (zero_filled l.new) (narrow_views (take l.row-index l.rows));
+  narrow : AreNarrow (l.unknowns + l.new) l.wide.items;
+}

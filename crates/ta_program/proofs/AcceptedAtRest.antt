@@ -1,0 +1,110 @@
+-- what `rest` puts `rest-check` accepts
+use Rattle.std.proofs.Common.{◌≡◌, ◌∙◌, ◌≤◌, ◌+◌, ℕ, zero, suc, List, [], ◌∷◌, length, map, Option, None, Some, slice_get, refl, sym, ap, subst, inl}
+use Rattle.ta_automaton.specs.declared.automaton.Automaton.{Automaton}
+use Rattle.ta_automaton.specs.declared.file.File.{File}
+use Rattle.ta_automaton.specs.declared.pattern.Pattern.{Pattern}
+use Rattle.ta_check.specs.Certificate.{AllRestSafe, RestCertificate}
+use Rattle.ta_check.specs.Subjects.{claiming}
+use Rattle.ta_claim.specs.declared.claim.Claim.TheVariants as claim
+use Rattle.ta_report.specs.Check.{rest_check_text}
+use Rattle.ta_report.specs.declared.verdict.Verdict.{Verdict}
+use Rattle.ta_report.specs.declared.verdict.Verdict.TheVariants.{Safe, Unsafe, Spent, Overflow}
+use Rattle.ta_rest.proofs.EndingLaws.{endings_rest}
+use Rattle.ta_rest.specs.Endings.{Endings, IsEnding}
+use Rattle.ta_rest.specs.Rest.{RestSafe}
+use Rattle.ta_resting.specs.Verdicts.{RestVerdictHolds, RestVerdictsHold}
+use Rattle.ta_shelf.specs.Put.{Told, WhereTold}
+use Rattle.ta_shell.proofs.Read.{is_more}
+use Rattle.ta_shell.proofs.Views.{sub_told}
+use Rattle.ta_shell.specs.Commands.{IsSo}
+use Rattle.ta_shell.specs.Ends.{Performs, State}
+use Rattle.ta_shell.specs.Puts.{HoldsText}
+use Rattle.ta_shell.specs.Sights.{in_files, seen}
+use Rattle.ta_shell.specs.Stages.{FileMeans}
+use Rattle.ta_shell.specs.declared.answer.Answer.{Answer}
+use Rattle.ta_verdict.specs.Certificates.{SafeOne, safe_numbers, safe_ones, tree_size, with_safe}
+use Rattle.ta_program.specs.declared.limits.TheConstants.{CERTIFICATE}
+use Rattle.ta_program.specs.Kinds.{IsFile, certificate_kind, file_kind}
+use Rattle.ta_program.specs.Laws.{SaysOrFails, WrittenAtRestIsAccepted}
+use Rattle.ta_program.specs.RestCheck.{rest_check_meaning}
+use Rattle.ta_program.specs.RestEnds.{FileEndings, IsEnds}
+use Rattle.ta_program.proofs.Accepted.{told_before}
+use Rattle.ta_program.proofs.Accepting.{is_kept, one_list, ones_hold, own_numbers, says_or_fails}
+use Rattle.ta_program.proofs.Clauses.{as_rest_check, rests_report, same_file}
+use Rattle.ta_program.proofs.EndsOnce.{ends_once}
+use Rattle.ta_program.proofs.RestMeanings.{rest_check_decides}
+use Rattle.ta_program.proofs.WordsDiffer.{rest_out_differs}
+
+-- the endings of the patterns that are said to be safe at rest are safe at rest
+module _ (file ending : File) (added budget : ℕ) (same : ending.automaton ≡ file.automaton) where
+  size_safe : (number : ℕ) (own p : Pattern) (v : Verdict) (size : ℕ) → IsEnding own p → tree_size v ≡ Some size → RestVerdictHolds file ending added budget number own p v → RestSafe ending.automaton p
+  size_safe number own p (Safe nodes leaves) size is sized h = subst (λ (a : Automaton). RestSafe a p) (sym same) (λ first rules occurs. h.safe first rules ((endings_rest file.automaton own p is first rules).1 occurs))
+  size_safe number own p (Unsafe nodes run) size is sized h = absurd (cc)
+  size_safe number own p (Spent nodes) size is sized h = absurd (cc)
+  size_safe number own p (Overflow node kind) size is sized h = absurd (cc)
+
+  safe_at : (number : ℕ) (owns ps : List Pattern) (vs : List Verdict) → Endings owns ps → RestVerdictsHold file ending added budget number owns ps vs → (k : ℕ) (p : Pattern) (v : Verdict) (size : ℕ) → slice_get ps k ≡ Some p → slice_get vs k ≡ Some v → tree_size v ≡ Some size → RestSafe ending.automaton p
+  safe_at number [] [] vs are hold k p v size named given sized = absurd (cc)
+  safe_at number [] (q ∷ ps) vs are hold k p v size named given sized = absurd are
+  safe_at number (own ∷ owns) [] vs are hold k p v size named given sized = absurd are
+  safe_at number (own ∷ owns) (q ∷ ps) [] are hold k p v size named given sized = absurd hold
+  safe_at number (own ∷ owns) (q ∷ ps) (w ∷ vs) are hold zero p v size named given sized =
+      let here : q ≡ p = cc in
+      let said : w ≡ v = cc in
+      subst (RestSafe ending.automaton) here (size_safe number own q w size are.0 (ap tree_size said ∙ sized) hold.0)
+  safe_at number (own ∷ owns) (q ∷ ps) (w ∷ vs) are hold (suc k) p v size named given sized = safe_at (number + 1) owns ps vs are.1 hold.1 k p v size named given sized
+
+-- they have the numbers of the patterns themselves
+alike_one : (number : ℕ) (p q : Pattern) (size : Option ℕ) (xs ys : List SafeOne) → map (λ one. one.number) xs ≡ map (λ one. one.number) ys → map (λ one. one.number) (with_safe number q size xs) ≡ map (λ one. one.number) (with_safe number p size ys)
+alike_one number p q None xs ys same = same
+alike_one number p q (Some nodes) xs ys same = ap (λ (ns : List ℕ). number ∷ ns) same
+
+alike_ones : (number : ℕ) (ps qs : List Pattern) (vs : List Verdict) → Endings ps qs → map (λ one. one.number) (safe_ones number qs vs) ≡ map (λ one. one.number) (safe_ones number ps vs)
+alike_ones number [] [] vs are = refl
+alike_ones number [] (q ∷ qs) vs are = absurd are
+alike_ones number (p ∷ ps) [] vs are = absurd are
+alike_ones number (p ∷ ps) (q ∷ qs) [] are = refl
+alike_ones number (p ∷ ps) (q ∷ qs) (v ∷ vs) are = alike_one number p q (tree_size v) (safe_ones (number + 1) qs vs) (safe_ones (number + 1) ps vs) (alike_ones (number + 1) ps qs vs are.1)
+
+-- `rest-check` of such files
+module _ (name out : List ℕ) (told : Told) (file : File) (ends : FileEndings) (numbers text : List ℕ) (is_file : IsFile (in_files told) name file) (are_ends : IsEnds file ends) (held : told out ≡ Some text) (within : length text ≤ CERTIFICATE.bytes) (accepted : RestCertificate ends.ending text numbers) (safe : AllRestSafe ends.ending numbers) where
+  is_certificate : FileMeans (certificate_kind (claiming claim.RestSafe ends.ending)) (in_files told) out numbers
+  is_certificate = record { bytes = text; had = record { seen = held; within = within }; means = record { accepted = accepted; safe = safe } }
+
+  is_so : IsSo (rest_check_meaning name out) (in_files told) 0
+  is_so = inl (record { number = 0; text = rest_check_text file numbers; puts = [] }, refl, (file, is_file, (ends, are_ends, (numbers, is_certificate, record { numbered = refl; written = refl; no_put = refl }))))
+
+  -- what it says, where it answers
+  says_just_these : (answer : Answer) → (rest_check_meaning name out).answers (in_files told) answer → answer.text ≡ rest_check_text file numbers
+  says_just_these answer (other, is, (found_ends, are, (found, proved, writes))) =
+      let same : other ≡ file = same_file told name file other is is_file in
+      let one : found_ends ≡ ends = ends_once file found_ends ends (subst (λ (f : File). IsEnds f found_ends) same are) are_ends in
+      let texts : proved.bytes ≡ text = (let e : Some proved.bytes ≡ Some text = sym proved.had.seen ∙ held in cc) in
+      let moved : RestCertificate ends.ending text found = subst (λ (e : FileEndings). RestCertificate e.ending text found) one (subst (λ (t : List ℕ). RestCertificate found_ends.ending t found) texts proved.means.accepted) in
+      writes.written ∙ ap (λ (f : File). rest_check_text f found) same ∙ ap (rest_check_text file) (one_list (claiming claim.RestSafe ends.ending) text found numbers moved accepted)
+
+  rest_checks : (second : ℕ) (begun ended : State) → begun.shelf.files ≡ Some told → Performs (rest_check_meaning name out) second begun ended → SaysOrFails (rest_check_text file numbers) second begun ended
+  rest_checks second begun ended is h = says_or_fails (rest_check_meaning name out) (rest_check_decides name out) told (rest_check_text file numbers) is_so says_just_these second begun ended is h
+
+pub written_at_rest_is_accepted : WrittenAtRestIsAccepted
+written_at_rest_is_accepted words first before after h asked out is given low told after_told again checked second begun ended begun_told done =
+    let name = asked.file in
+    let written = (rests_report words first before after h).certificate asked out is given low in
+    let c = written.such in
+    let r = c.report in
+    let ending = r.ends.ending in
+    let endings = r.are_ends.endings in
+    let files = told_before (HoldsText out c.text) before.shelf.files told (subst (λ (o : Option Told). WhereTold (HoldsText out c.text) before.shelf.files o) after_told c.stands) in
+    let read = written.added in
+    let is_first : IsFile (in_files files.0) name r.file = is_more file_kind (seen (Some files.0) read) (in_files files.0) (sub_told files.0 read) name r.file (subst (λ (o : Option Told). IsFile (seen o read) name r.file) files.1 r.is_file) in
+    let is_now = is_kept file_kind files.0 told name r.file (files.2.others name (rest_out_differs words asked out is given)) is_first in
+    let safe = ones_hold (claiming claim.RestSafe ending) 0 ending.patterns r.verdicts (safe_at r.file ending r.ends.added asked.nodes endings.automaton 0 r.file.patterns ending.patterns r.verdicts endings.patterns r.are.hold) (own_numbers ending.patterns) in
+    let accepted = rest_checks name out told r.file r.ends (safe_numbers ending r.verdicts) c.text is_now r.are_ends files.2.held c.within c.accepted safe second begun ended begun_told (as_rest_check again second begun ended done (record { file = name; other = out }) checked) in
+    record {
+      file = r.file;
+      is_file = is_now;
+      sample = r.sample;
+      verdicts = r.verdicts;
+      reported = r.wrote;
+      accepted = subst (λ (ns : List ℕ). SaysOrFails (rest_check_text r.file ns) second begun ended) (alike_ones 0 r.file.patterns ending.patterns r.verdicts endings.patterns) accepted;
+    }

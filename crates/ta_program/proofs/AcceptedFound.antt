@@ -1,0 +1,76 @@
+-- what `search` puts `check` accepts
+use Rattle.std.proofs.Common.{◌≡◌, ◌≤◌, ℕ, List, [], ◌∷◌, ◌++◌, length, Bool, Option, Some, refl, sym, subst, inl, inr, arith}
+use Rattle.std.specs.Prelude.{IsSome}
+use Rattle.ta_base.specs.Masks.{numbers_from}
+use Rattle.ta_check.specs.Subjects.{claiming}
+use Rattle.ta_claim.specs.declared.claim.Claim.TheVariants as claim
+use Rattle.ta_search.specs.declared.outcome.Outcome.{Outcome}
+use Rattle.ta_search.specs.declared.outcome.SearchEnd.{SearchEnd}
+use Rattle.ta_search.specs.declared.outcome.Tried.{Tried}
+use Rattle.ta_search.specs.declared.template.Template.{Template}
+use Rattle.ta_search.specs.Filling.{filled_text}
+use Rattle.ta_search.specs.Outcomes.{OutcomeHolds}
+use Rattle.ta_search.specs.Searching.{AreTried, IsSearchEnd, LastIsFound}
+use Rattle.ta_search.specs.Vectors.{vectors}
+use Rattle.ta_shelf.specs.Put.{Told, WhereTold}
+use Rattle.ta_shell.proofs.Read.{is_more}
+use Rattle.ta_shell.proofs.Views.{sub_told}
+use Rattle.ta_shell.specs.Sights.{in_files, seen}
+use Rattle.ta_program.specs.declared.limits.TheConstants.{FILE}
+use Rattle.ta_program.specs.Kinds.{IsFile}
+use Rattle.ta_program.specs.Laws.{FoundIsAccepted}
+use Rattle.ta_program.specs.Search.{HoldFound, IsTemplate, template_kind}
+use Rattle.ta_program.proofs.Accepted.{checks, told_before}
+use Rattle.ta_program.proofs.Accepting.{each_holds, is_kept, own_numbers}
+use Rattle.ta_program.proofs.Clauses.{as_check, searches}
+use Rattle.ta_program.proofs.SearchMeanings.{no_end}
+use Rattle.ta_program.proofs.WordsDiffer.{names_apart}
+
+-- the outcome of the last vector that was tried holds
+last_holds : (t : Template) (budget : ℕ) (vs : List (List ℕ)) (before : List Tried) (x : Tried) (found : Bool) → AreTried t budget vs (before ++ x ∷ []) found → OutcomeHolds (filled_text t x.values) budget x.outcome
+last_holds t budget [] [] x found h = absurd h
+last_holds t budget [] (b ∷ before) x found h = absurd h
+last_holds t budget (v ∷ vs) [] x found h = subst (λ (values : List ℕ). OutcomeHolds (filled_text t values) budget x.outcome) (sym h.0.values) h.0.holds
+last_holds t budget (v ∷ vs) (b ∷ before) x found h = elim h.1 [
+  | inl ends ↦ absurd (no_end before x (sym ends.last))
+  | inr more ↦ last_holds t budget vs before x found more.1
+]
+
+-- the text that was found is no longer than a file may be
+found_within : (t : Template) (budget : ℕ) (end : SearchEnd) → IsSearchEnd t budget end → (l : LastIsFound t end) → length (filled_text t l.last.values) ≤ FILE.bytes
+found_within t budget end is l =
+    let tried = subst (λ (xs : List Tried). AreTried t budget (vectors t.holes) xs end.found) l.whole is in
+    let holds = last_holds t budget (vectors t.holes) l.before l.last end.found tried in
+    let safe = subst (λ (o : Outcome). OutcomeHolds (filled_text t l.last.values) budget o) l.said holds in
+    safe.judged.sampled.within
+
+pub found_is_accepted : FoundIsAccepted
+found_is_accepted words before after h asked out filled is out_is filled_is told after_told again checked second begun ended begun_told done =
+    let name = asked.file in
+    let searched = searches words 0 before after h asked is (omega arith) in
+    let s = searched.such in
+    let t = s.template in
+    let found = s.found refl in
+    let last = found.last in
+    let text = filled_text t last.last.values in
+    let file = last.found.file in
+    let apart = names_apart words asked is in
+    let files = told_before (HoldFound asked.filled asked.out text last.certificate) before.shelf.files told (subst (λ (o : Option Told). WhereTold (HoldFound asked.filled asked.out text last.certificate) before.shelf.files o) after_told found.stands) in
+    let holds = files.2 in
+    let read = searched.added in
+    let is_first : IsTemplate (in_files files.0) name t = is_more template_kind (seen (Some files.0) read) (in_files files.0) (sub_told files.0 read) name t (subst (λ (o : Option Told). IsTemplate (seen o read) name t) files.1 s.is_template) in
+    let same : told name ≡ files.0 name = holds.others name (λ given. apart.filled name name refl given refl) (λ given. apart.out name name refl given refl) in
+    let held : told filled ≡ Some text = holds.first filled filled_is in
+    let is_file : IsFile (in_files told) filled file = record { bytes = text; had = record { seen = held; within = found_within t asked.nodes s.end s.is_end last }; means = last.found.legal } in
+    let safe = each_holds (claiming claim.Safe file) 0 file.patterns last.found.safe (own_numbers file.patterns) in
+    let short = found.within (subst (λ (o : Option (List ℕ)). IsSome o) (sym out_is) refl) in
+    record {
+      template = t;
+      is_template = is_kept template_kind files.0 told name t same is_first;
+      end = s.end;
+      reported = s.wrote;
+      last = last;
+      held = held;
+      is_file = is_file;
+      accepted = checks filled out told file (numbers_from 0 (length file.patterns)) last.certificate is_file (holds.second out out_is) short last.found.accepted safe second begun ended begun_told (as_check again second begun ended done (record { file = filled; other = out }) checked);
+    }

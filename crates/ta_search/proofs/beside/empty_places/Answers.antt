@@ -1,0 +1,8 @@
+use Rattle.std.proofs.Common.{◌≡◌, Option, Some, subst, List, slice_get}
+use Rattle.ta_search.proofs.Places.{none_behind}
+use Rattle.ta_search.specs.declared.outcome.Tried.{Tried}
+use Rattle.ta_search.proofs.beside.empty_places.Goals as goal
+
+pub numbers-preserved : goal.numbers-preserved
+numbers-preserved c = λ t budget place x at. c.numbers.invariant t budget place x
+    (none_behind c.numbers.places.items place x (subst (λ (xs : List (Option Tried)). slice_get xs place ≡ Some (Some x)) c.in_ok-push.ensures.items at))

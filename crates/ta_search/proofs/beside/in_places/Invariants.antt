@@ -1,0 +1,8 @@
+use Rattle.std.proofs.Common.{ℕ}
+use Rattle.std.specs.List.{AllByRecursion}
+use Rattle.ta_search.specs.declared.template.Template.{Template}
+use Rattle.ta_search.specs.Inside.Beside.{AtHand, IsPlaced}
+use Rattle.ta_search.proofs.beside.in_places.Given as goal
+
+abbrev pub invariant-placed : goal.invariant-placed
+invariant-placed l = (t : Template) (budget : ℕ) → AllByRecursion (IsPlaced t budget) l.fn.placed.items → AtHand t budget l.places.items × AllByRecursion (IsPlaced t budget) l.place-iterator.rest.items

@@ -1,0 +1,6 @@
+use Rattle.std.specs.List.{AllByRecursion}
+use Rattle.ta_search.specs.Inside.Beside.{IsPlaced}
+use Rattle.ta_search.proofs.beside.try_part.Given as goal
+
+abbrev pub invariant-vectors : goal.invariant-vectors
+invariant-vectors g l = AllByRecursion (IsPlaced l.fn.template l.fn.nodes) l.placed.items

@@ -1,0 +1,48 @@
+use Rattle.std.proofs.Common.{◌≤◌, List, length, refl, subst, sym}
+use Rattle.std.proofs.lemmas.Option.{slice_get_past, slice_get_read}
+use borrow.Author.Tests.{ltb-false}
+use Rattle.ta_report.specs.declared.verdict.Verdict.{Verdict}
+use Rattle.ta_check.specs.Certificate.{Certificate}
+use Rattle.ta_shell.specs.Puts.{texts_joined}
+use Rattle.ta_verdict.specs.Certificates.{CertificateOf, safe_numbers}
+use Rattle.ta_verdict.specs.Verdicts.{AreVerdicts}
+use Rattle.ta_search.specs.Outcomes.{IsSafe}
+use Rattle.ta_search.proofs.Outcoming.{numbered, other_at, pattern_holds, safe_holds}
+use Rattle.ta_search.proofs.vector.patterns_outcome.Goals as goal
+
+pub pattern_outcome-requires-clause-exists : goal.pattern_outcome-requires-clause-exists
+pattern_outcome-requires-clause-exists g c =
+    let vs = c.as_slice-verdicts.result.now in
+    let v = c.in-Some.verdict.now in
+    let found = c.in-Some.ensures.lookup in
+    let are = subst (AreVerdicts c.args.scoped.now.file c.args.nodes) (sym c.as_slice-verdicts.ensures) c.in_ok-judged.ensures.verdicts in
+    numbered c.args.scoped.now.file c.args.nodes vs v c.safe_before-place.result are (slice_get_read vs (length vs) c.safe_before-place.result v refl found.3.0 found.1)
+
+pub pattern_outcome-requires-clause-other : goal.pattern_outcome-requires-clause-other
+pattern_outcome-requires-clause-other g c =
+    let vs = c.as_slice-verdicts.result.now in
+    let v = c.in-Some.verdict.now in
+    let found = c.in-Some.ensures.lookup in
+    other_at vs v c.safe_before-place.result c.safe_before-place.ensures (slice_get_read vs (length vs) c.safe_before-place.result v refl found.3.0 found.1)
+
+pub returns-in-Some : goal.returns-in-Some
+returns-in-Some g c = λ bytes values sampled.
+    let vs = c.as_slice-verdicts.result.now in
+    let v = c.in-Some.verdict.now in
+    let found = c.in-Some.ensures.lookup in
+    let are = subst (AreVerdicts c.args.scoped.now.file c.args.nodes) (sym c.as_slice-verdicts.ensures) c.in_ok-judged.ensures.verdicts in
+    pattern_holds bytes c.args.nodes c.args.scoped.now.file vs v c.safe_before-place.result values c.pattern_outcome.result sampled are c.safe_before-place.ensures (slice_get_read vs (length vs) c.safe_before-place.result v refl found.3.0 found.1) c.pattern_outcome.ensures
+
+pub returns-in-None : goal.returns-in-None
+returns-in-None g c = λ bytes values sampled.
+    let file = c.args.scoped.now.file in
+    let budget = c.args.nodes in
+    let vs = c.as_slice-verdicts.result.now in
+    let place = c.safe_before-place.result in
+    let past : length vs ≤ place = ltb-false place (length vs) (sym c.in-None.ensures.lookup.0) in
+    let ensures = c.in_ok-judged.ensures in
+    let text = texts_joined c.in_ok-judged.judged.certificate in
+    let are = subst (AreVerdicts file budget) (sym c.as_slice-verdicts.ensures) ensures.verdicts in
+    let certificate = subst (λ (ws : List Verdict). CertificateOf file budget ws text) (sym c.as_slice-verdicts.ensures) (ensures.certificate refl) in
+    let accepted = subst (λ (ws : List Verdict). Certificate file text (safe_numbers file ws)) (sym c.as_slice-verdicts.ensures) (ensures.accepted refl) in
+    subst (IsSafe bytes budget) (sym c.from_pieces.ensures) (safe_holds bytes budget file vs place values text sampled are c.safe_before-place.ensures (slice_get_past vs place past) certificate accepted)

@@ -1,0 +1,223 @@
+//! The vectors of a template that are tried beside each other.
+#![tactic(auto)]
+
+ghost use Rattle.std.specs.Prelude.{◌≡◌, ◌≤◌, ◌<◌, ℕ, IfOk, IfSome};
+ghost use Rattle.std.specs.List.{AllByRecursion};
+ghost use denote.Param.Send.{IsSync};
+ghost use Rattle.ta_search.specs.declared.template.Template.{Template};
+ghost use Rattle.ta_search.specs.Holes.{vector_count};
+ghost use Rattle.ta_search.specs.Inside.Beside.{AtHand, IsPlaced};
+ghost use Rattle.ta_search.specs.Inside.Trying.{vector_at};
+ghost use Rattle.ta_search.specs.Searching.{IsTried};
+
+use crate::outcome::Tried;
+use crate::template::Template;
+use crate::vector::{is_found, try_vector};
+use std::alloc::{AllocError, Global};
+use std::sync::atomic::{AtomicU64, Ordering};
+use std::thread::{Threads, available_parallelism, join};
+
+/// How many parts of a search run beside each other at most. The walks of their vectors are divided
+/// as ever, into as many parts each.
+const MOST_PARTS: u64 = 4;
+
+/// A vector that was tried, behind its number.
+#[derive(Drop)]
+pub(crate) struct Placed {
+    pub place: u64,
+    pub tried: Tried,
+}
+
+/// What the parts of a search know of one another. No answer depends on it.
+#[derive(Drop)]
+pub(crate) struct Board {
+    /// How many vectors there are.
+    pub count: u64,
+    /// The number of the first vector that no part took yet.
+    pub next: AtomicU64,
+    /// From this number on no vector is tried any more: the search ends before it.
+    pub end: AtomicU64,
+}
+
+impl Board {
+    /// The board of a search of so many vectors, of which none is taken.
+    fn new(count: u64) -> Board
+        ensures { result.count ≡ count }
+    {
+        Board {
+            count,
+            next: AtomicU64::new(0),
+            end: AtomicU64::new(count),
+        }
+    }
+
+    /// Takes the next vector, unless none is left that matters.
+    fn take(&self) -> Option<u64>
+        ensures { IfSome result (λ place. place < self.now.count) }
+    {
+        let place = self.next.fetch_add(1, Ordering::SeqCst);
+        if place < self.count && place < self.end.load(Ordering::SeqCst) {
+            Some(place)
+        } else {
+            None
+        }
+    }
+
+    /// Says that the search ends with the vector of a number, or that there was no memory for it.
+    fn end_at(&self, place: u64) {
+        let _before = self.end.fetch_min(place, Ordering::SeqCst);
+    }
+}
+
+/// Tries vectors of a template beside each other, where there are several and processors for them.
+/// What comes of each stands at its number.
+pub(crate) fn try_beside<R: Threads + Sync>(
+    rt: &R,
+    alloc: Global,
+    template: &Template,
+    count: u64,
+    nodes: u64,
+) -> Result<Vec<Option<Tried>>, AllocError>
+    requires count { count ≡ vector_count template.now.holes }
+    requires some { 0 < nodes }
+    requires limit { nodes ≤ 1000000000 }
+    ensures { IfOk result (λ places. AtHand template.now nodes places.items) }
+{
+    let parts = most_parts(rt).min(count);
+    if parts < 2 {
+        return Ok(Vec::new(alloc));
+    }
+    let board = Board::new(count);
+    let placed = try_parts(rt, alloc, template, &board, nodes, parts)?;
+    in_places(alloc, count, placed)
+}
+
+/// How many parts there may be: no more than there are processors for.
+fn most_parts<R: Threads>(rt: &R) -> u64 {
+    match available_parallelism(rt) {
+        Ok(count) => (count.get() as u64).min(MOST_PARTS),
+        Err(_) => MOST_PARTS,
+    }
+}
+
+/// Tries vectors in so many parts beside each other.
+fn try_parts<R: Threads + Sync>(
+    rt: &R,
+    alloc: Global,
+    template: &Template,
+    board: &Board,
+    nodes: u64,
+    parts: u64,
+) -> Result<Vec<Placed>, AllocError>
+    requires count { board.now.count ≡ vector_count template.now.holes }
+    requires some { 0 < nodes }
+    requires limit { nodes ≤ 1000000000 }
+    ensures { IfOk result (λ placed. AllByRecursion (IsPlaced template.now nodes) placed.items) }
+{
+    if parts < 2 {
+        return Ok(try_part(rt, alloc, template, board, nodes));
+    }
+    let others = parts - 1;
+    let back = move || -> Result<Vec<Placed>, AllocError>
+        requires { IsSync R.row × (board.now.count ≡ vector_count template.now.holes) × (0 < nodes) × (nodes ≤ 1000000000) }
+        ensures { IfOk result (λ placed. AllByRecursion (IsPlaced template.entry.now nodes) placed.items) }
+    { try_parts(rt, alloc, template, board, nodes, others) };
+    let front = move || -> Vec<Placed>
+        requires { IsSync R.row × (board.now.count ≡ vector_count template.now.holes) × (0 < nodes) × (nodes ≤ 1000000000) }
+        ensures { AllByRecursion (IsPlaced template.entry.now nodes) result.items }
+    { try_part(rt, alloc, template, board, nodes) };
+    let (rest, mut placed) = join(rt, back, front);
+    placed.append(&mut rest?)?;
+    Ok(placed)
+}
+
+/// Tries one vector after the other, each the first that no part took, until none is left that matters.
+/// Where there is no memory for a vector, it is left out.
+fn try_part<R: Threads + Sync>(
+    rt: &R,
+    alloc: Global,
+    template: &Template,
+    board: &Board,
+    nodes: u64,
+) -> Vec<Placed>
+    requires count { board.now.count ≡ vector_count template.now.holes }
+    requires some { 0 < nodes }
+    requires limit { nodes ≤ 1000000000 }
+    ensures { AllByRecursion (IsPlaced template.now nodes) result.items }
+{
+    let mut placed = Vec::new(alloc);
+    'vectors: for _ in 0..board.count {
+        let Some(place) = board.take() else {
+            return placed;
+        };
+        let goes_on = add_tried(rt, alloc, template, place, nodes, &mut placed).unwrap_or(false);
+        if !goes_on {
+            board.end_at(place);
+        }
+    }
+    placed
+}
+
+/// Tries the vector of a number and adds it to others. Whether the search goes on behind it.
+fn add_tried<R: Threads + Sync>(
+    rt: &R,
+    alloc: Global,
+    template: &Template,
+    place: u64,
+    nodes: u64,
+    placed: &mut Vec<Placed>,
+) -> Result<bool, AllocError>
+    requires place { place < vector_count template.now.holes }
+    requires some { 0 < nodes }
+    requires limit { nodes ≤ 1000000000 }
+    requires placed { AllByRecursion (IsPlaced template.now nodes) placed.old.items }
+    ensures { AllByRecursion (IsPlaced template.now nodes) placed.new.items }
+{
+    let tried = try_vector(rt, alloc, template, place, nodes)?;
+    let goes_on = !is_found(&tried.outcome);
+    placed.push(Placed { place, tried })?;
+    Ok(goes_on)
+}
+
+/// So many places, each with the vector of its number, where that was tried.
+fn in_places(
+    alloc: Global,
+    count: u64,
+    placed: Vec<Placed>,
+) -> Result<Vec<Option<Tried>>, AllocError>
+    ensures { (t : Template) (budget : ℕ) → AllByRecursion (IsPlaced t budget) placed.items → IfOk result (λ places. AtHand t budget places.items) }
+{
+    let mut places = empty_places(alloc, count)?;
+    'placed: for Placed { place, tried } in placed {
+        put(&mut places, place, tried);
+    }
+    Ok(places)
+}
+
+/// So many empty places.
+fn empty_places(alloc: Global, count: u64) -> Result<Vec<Option<Tried>>, AllocError>
+    ensures { IfOk result (λ places. (t : Template) (budget : ℕ) → AtHand t budget places.items) }
+{
+    let mut places = Vec::new(alloc);
+    'numbers: for _ in 0..count {
+        places.push(None)?;
+    }
+    Ok(places)
+}
+
+/// Puts a vector that was tried to its place.
+fn put(places: &mut Vec<Option<Tried>>, place: u64, tried: Tried)
+    ensures { (t : Template) (budget : ℕ) → AtHand t budget places.old.items → IsTried t budget (vector_at t.holes place) tried → AtHand t budget places.new.items }
+{
+    if let Some(slot) = places.get_mut(place as usize) {
+        *slot = Some(tried);
+    }
+}
+
+/// Takes the vector of a number, where it was tried.
+pub(crate) fn take(places: &mut Vec<Option<Tried>>, place: u64) -> Option<Tried>
+    ensures is { (t : Template) (budget : ℕ) → AtHand t budget places.old.items → IfSome result (λ tried. IsTried t budget (vector_at t.holes place) tried) }
+    ensures left { (t : Template) (budget : ℕ) → AtHand t budget places.old.items → AtHand t budget places.new.items }
+{
+    places.get_mut(place as usize)?.take()
+}
