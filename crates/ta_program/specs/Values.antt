@@ -4,7 +4,7 @@ use Rattle.std.specs.Char.{is_ascii_digit}
 use Rattle.std.specs.List.{list_all}
 use Rattle.std.specs.Str.{bytes_eq}
 use Rattle.std.specs.Str.Parse.{digits_value}
-use Rattle.ta_program.specs.Words.{Taken, plain_of, taken_by}
+use Rattle.ta_program.specs.Words.{plain_of, taken_by}
 
 -- the name of a file, which isn't empty
 abbrev pub file_name_of : List ℕ → Option (List ℕ)
@@ -12,8 +12,7 @@ file_name_of name = if nat_lt 0 (length name) then Some name else None
 
 -- whether a text is a budget of nodes: 1 to 10 digits, and its value within the limits
 abbrev pub is_budget : List ℕ → Bool
-is_budget text =
-    nat_lt 0 (length text) && nat_le (length text) 10 && list_all is_ascii_digit text && nat_le 1 (digits_value 10 text) && nat_le (digits_value 10 text) 1000000000
+is_budget text = nat_lt 0 (length text) && nat_le (length text) 10 && list_all is_ascii_digit text && nat_le 1 (digits_value 10 text) && nat_le (digits_value 10 text) 1000000000
 
 -- the budget that is asked for: 1,000,000 where none is given
 abbrev pub budget_of : Option (List ℕ) → Option ℕ
@@ -39,10 +38,6 @@ pub record TwoNames : Type 0 where
   pub file : List ℕ
   pub other : List ℕ
 
--- two plain words that are names of files
-abbrev pub file_names_of : Taken → Option TwoNames
-file_names_of taken = option_and_then (λ file. option_map (λ other. record { file = file; other = other }) (file_name_of (plain_of taken 1))) (file_name_of (plain_of taken 0))
-
--- and no option
+-- two plain words that are names of files, and no option
 abbrev pub two_names : List (List ℕ) → Option TwoNames
-two_names words = option_and_then file_names_of (taken_by (record { plain = 2; options = [] }) words)
+two_names words = option_and_then (λ taken. option_and_then (λ file. option_map (λ other. record { file = file; other = other }) (file_name_of (plain_of taken 1))) (file_name_of (plain_of taken 0))) (taken_by (record { plain = 2; options = [] }) words)

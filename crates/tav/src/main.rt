@@ -18,12 +18,8 @@ fn main(rt: HostRuntime) -> ExitCode {
     let mut shelf = DiskShelf::new(files);
     let arguments = match env::args(&rt) {
         Ok(arguments) => arguments,
-        Err(error) => {
-            if error.kind() == ErrorKind::OutOfMemory {
-                return ExitCode::from(7);
-            }
-            return ExitCode::from(run(&rt, rt.alloc(), &[], &mut shelf, &mut out, &mut err));
-        }
+        Err(error) if error.kind() == ErrorKind::OutOfMemory => return ExitCode::from(7),
+        Err(_) => return ExitCode::from(run(&rt, rt.alloc(), &[], &mut shelf, &mut out, &mut err)),
     };
     let mut owned = Vec::new(rt.alloc());
     for word in arguments.skip(1) {
