@@ -1,12 +1,5 @@
 -- rules along a walk move one process from its beginning to its end, and along a circuit nobody
-use Rattle.std.proofs.Common.{◌≡◌, inl, inr, ℕ, pos, ◌+ℤ◌, ◌-ℤ◌, List, [], ◌∷◌, arith, ap, ◌∙◌, slice_get, Some, Option}
-use Rattle.std.proofs.lemmas.Int.{ints}
-use Rattle.ta_linear.specs.Terms.{coefficient}
-use Rattle.ta_automaton.specs.declared.rule.Rule.{Rule}
-use Rattle.ta_automaton.specs.declared.automaton.Automaton.{Automaton}
-use Rattle.ta_automaton.specs.Runs.{Walk}
-use Rattle.ta_automaton.specs.Places.{one_if, shared_change, rule_change, location_place}
-use Rattle.ta_automaton.specs.Sums.{total}
+use Rattle.ta_automaton.proofs.Common.{◌≡◌, inl, inr, ℕ, pos, ◌+ℤ◌, ◌-ℤ◌, List, [], ◌∷◌, arith, ap, ◌∙◌, slice_get, Some, Option, ints, coefficient, Rule, Automaton, Walk, one_if, shared_change, rule_change, location_place, total}
 use Rattle.ta_automaton.proofs.Moves.{place_cases, shared_change-location, shared_change-parameter, shared_change-shared}
 use Rattle.ta_automaton.proofs.Onward.{change_of}
 

@@ -1,24 +1,6 @@
 -- a file with one rule from A to B, whose pattern, that some process is in B, occurs
-use Rattle.std.proofs.Common.{◌≡◌, ℕ, zero, suc, ◌+◌, ℤ, pos, negsuc, [], ◌∷◌, eqb, cond, arith, refl, sym, subst, ◌≤◌, slice_get, get_or, Some, All, Contains, IsBitSet}
-use Rattle.std.proofs.lemmas.Int.{ints}
-use Rattle.std.proofs.lemmas.Bool.Decides.{nat_tests}
+use Rattle.ta_automaton.proofs.Common.{◌≡◌, ℕ, zero, suc, ◌+◌, ℤ, pos, negsuc, [], ◌∷◌, eqb, cond, arith, refl, sym, subst, ◌≤◌, slice_get, get_or, Some, All, Contains, IsBitSet, ints, nat_tests, no_bit, all_none, letters_apart, IsTerm, RowHolds, Form, Row, Comparison, Condition, Rule, Automaton, Event, Pattern, FormOver, Config, Initial, Move, Occurs, HoldsAt, HappensAt, number_at, value_at, SomeUnsafe}
 use Rattle.std.proofs.lemmas.List.Elements.{All-cons}
-use Rattle.ta_base.proofs.Bits.{no_bit}
-use Rattle.ta_base.proofs.Each.{all_none}
-use Rattle.ta_base.proofs.Lists.{letters_apart}
-use Rattle.ta_linear.specs.Terms.{IsTerm}
-use Rattle.ta_linear.specs.Values.{RowHolds}
-use Rattle.ta_linear.specs.declared.form.Form.{Form}
-use Rattle.ta_linear.specs.declared.row.Row.{Row}
-use Rattle.ta_automaton.specs.declared.condition.Comparison.{Comparison}
-use Rattle.ta_automaton.specs.declared.condition.Condition.{Condition}
-use Rattle.ta_automaton.specs.declared.rule.Rule.{Rule}
-use Rattle.ta_automaton.specs.declared.automaton.Automaton.{Automaton}
-use Rattle.ta_automaton.specs.declared.pattern.Event.{Event}
-use Rattle.ta_automaton.specs.declared.pattern.Pattern.{Pattern}
-use Rattle.ta_automaton.specs.Forms.{FormOver}
-use Rattle.ta_automaton.specs.Runs.{Config, Initial, Move, Occurs, HoldsAt, HappensAt, number_at, value_at}
-use Rattle.ta_automaton.specs.Laws.{SomeUnsafe}
 use Rattle.ta_automaton.proofs.ShortNames.{letter_name}
 
 one_term : (x : ℕ) → IsTerm (x, pos 1)

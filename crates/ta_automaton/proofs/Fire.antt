@@ -1,19 +1,9 @@
 -- firing a rule
-use Rattle.std.proofs.Common.{◌≡◌, inl, inr, ℕ, ◌+◌, ◌≤◌, pos, ◌+ℤ◌, ◌-ℤ◌, map, length, eqb, cond, false, arith, sym, ap, ◌∙◌, refl, slice_get, get_or, Some}
-use Rattle.std.proofs.lemmas.Int.{ints}
-use Rattle.std.proofs.lemmas.Bool.{cases_lt}
-use Rattle.std.proofs.lemmas.Bool.Decides.{nat_tests, eqb_tells}
-use Rattle.std.proofs.lemmas.List.{length-map, get_or_past}
-use Rattle.ta_base.proofs.Integers.{natural, pos_natural}
+use Rattle.ta_automaton.proofs.Common.{◌≡◌, inl, inr, ℕ, ◌+◌, ◌≤◌, pos, ◌+ℤ◌, ◌-ℤ◌, map, length, eqb, cond, false, arith, sym, ap, ◌∙◌, refl, slice_get, get_or, Some, List, ints, cases_lt, nat_tests, eqb_tells, length-map, get_or_past, natural, pos_natural, coefficient, Rule, Automaton, Config, Step, MaskedHold, numbers_from, one_if, Whole}
 use Rattle.ta_base.proofs.Ranges.{at_index, length_numbers, past_numbers}
-use Rattle.ta_linear.specs.Terms.{coefficient}
-use Rattle.ta_automaton.specs.declared.rule.Rule.{Rule}
-use Rattle.ta_automaton.specs.declared.automaton.Automaton.{Automaton}
-use Rattle.ta_automaton.specs.Runs.{Config, Step, MaskedHold}
-use Rattle.ta_base.specs.Masks.{numbers_from}
-use Rattle.ta_automaton.specs.Places.{one_if}
 pub use Rattle.ta_automaton.specs.Places.{Whole}
 use Rattle.ta_automaton.proofs.Thresholds.{updates_natural, updates_within, from_within, to_within}
+use Rattle.ta_automaton.proofs.Moves.{Fits}
 
 abbrev pub fire : Automaton → Rule → Config → Config
 fire a rule c = record {
@@ -69,3 +59,13 @@ fire_step a r rule c named w rise fall some = record {
     parameters = refl;
   };
 }
+
+pub step_whole : (a : Automaton) (r : ℕ) (c d : Config) → Whole a c → Step a r c d → Whole a d
+step_whole a r c d w step = record {
+  parameters = ap (λ (ps : List ℕ). length ps) step.move.parameters ∙ w.parameters;
+  shared = step.move.shared_count ∙ w.shared;
+  counters = step.move.counters_count ∙ w.counters;
+}
+
+pub fits_whole : (a : Automaton) (d : Config) → Whole a d → Fits a d
+fits_whole a d w = record { parameters = w.parameters; shared = w.shared }

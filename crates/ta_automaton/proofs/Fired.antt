@@ -1,15 +1,6 @@
 -- lists of fired rules and their numbers
-use Rattle.std.proofs.Common.{◌≡◌, inl, inr, ℕ, zero, suc, ◌+◌, ◌<◌, ◌≤◌, ℤ, pos, ◌+ℤ◌, ◌*ℤ◌, List, [], ◌∷◌, eqb, cond, Bool, true, false, arith, sym, ap, ◌∙◌, refl, zero-add}
+use Rattle.ta_automaton.proofs.Common.{◌≡◌, inl, inr, ℕ, zero, suc, ◌+◌, ◌<◌, ◌≤◌, ℤ, pos, ◌+ℤ◌, ◌*ℤ◌, List, [], ◌∷◌, eqb, cond, Bool, true, false, arith, sym, ap, ◌∙◌, refl, zero-add, ints, cases_Bool, nat_tests, eqb_tells, *ℤ-zero, numbers_from, by_one, distributes, filter_false, filter_true, total, times_in, one_if}
 use Rattle.std.specs.Prelude.{filter}
-use Rattle.std.proofs.lemmas.Int.{ints}
-use Rattle.std.proofs.lemmas.Bool.{cases_Bool}
-use Rattle.std.proofs.lemmas.Bool.Decides.{nat_tests, eqb_tells}
-use Rattle.std.proofs.Math.IntN.{*ℤ-zero}
-use Rattle.ta_base.specs.Masks.{numbers_from}
-use Rattle.ta_base.proofs.Integers.{by_one, distributes}
-use Rattle.ta_base.proofs.Lists.{filter_false, filter_true}
-use Rattle.ta_automaton.specs.Sums.{total, times_in}
-use Rattle.ta_automaton.specs.Places.{one_if}
 use Rattle.ta_automaton.proofs.Sums.{total-zero, total-same, total-add, one_if-same, one_if-other}
 
 -- each number of the first list is once in the second

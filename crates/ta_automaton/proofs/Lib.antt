@@ -11,3 +11,4 @@ pub mod Onward
 pub mod Circuits
 pub mod Rearranged
 mod Examples
+mod Common

@@ -1,15 +1,6 @@
 -- what a unit step does at each place
-use Rattle.std.proofs.Common.{◌≡◌, ◌≢◌, ◌⊎◌, inl, inr, ℕ, ◌+◌, ◌-◌, ◌<◌, pos, ◌+ℤ◌, List, length, eqb, ltb, cond, true, false, arith, sym, ap, ◌∙◌, refl, slice_get, get_or, Option}
-use Rattle.std.proofs.lemmas.Int.{ints}
-use Rattle.std.proofs.lemmas.Bool.Decides.{nat_tests, eqb_tells}
-use Rattle.std.proofs.lemmas.Bool.{cases_lt}
-use Rattle.ta_base.proofs.Lists.{left_place, middle_place, right_place}
-use Rattle.ta_linear.specs.Terms.{coefficient}
-use Rattle.ta_automaton.specs.declared.rule.Rule.{Rule}
-use Rattle.ta_automaton.specs.declared.automaton.Automaton.{Automaton}
-use Rattle.ta_automaton.specs.Runs.{Config, value_at, Step}
+use Rattle.ta_automaton.proofs.Common.{◌≡◌, ◌≢◌, ◌⊎◌, inl, inr, ℕ, ◌+◌, ◌-◌, ◌<◌, pos, ◌+ℤ◌, List, length, eqb, ltb, cond, true, false, arith, sym, ap, ◌∙◌, refl, slice_get, get_or, Option, ℤ, ◌≤ℤ◌, ints, nat_tests, eqb_tells, cases_lt, left_place, middle_place, right_place, coefficient, Rule, Automaton, Config, value_at, Step, one_if, shared_change, rule_change, location_place}
 use Rattle.ta_automaton.proofs.Thresholds.{Later, updates_natural}
-use Rattle.ta_automaton.specs.Places.{one_if, shared_change, rule_change, location_place}
 
 -- a configuration has one value for each parameter, shared variable and location
 pub record Fits (a : Automaton) (c : Config) : Type 0 where
@@ -117,3 +108,6 @@ step_later a r before after f g step = record {
       let there = ap (value_at after) e ∙ value_at-shared a after x g b in
       omega (arith, ints, here, there, step.move.added x, updates_natural a r step.rule step.named x);
 }
+
+pub one_if-natural : (x y : ℕ) → pos 0 ≤ℤ one_if x y
+one_if-natural x y = elim (eqb_tells x y) [ inl e ↦ rw e.0 (omega (arith, ints)) | inr e ↦ rw e.0 (omega (arith, ints)) ]

@@ -1,17 +1,5 @@
 -- firings in an order in which nobody arrives any more where one leaves are legal as they stand, if their end is natural
-use Rattle.std.proofs.Common.{◌≡◌, ◌≢◌, inl, inr, ℕ, ◌+◌, ◌-◌, ◌<◌, ◌≤◌, ℤ, pos, ◌+ℤ◌, ◌-ℤ◌, ◌≤ℤ◌, List, [], ◌∷◌, length, arith, ap, ◌∙◌, refl, slice_get, get_or, Some, Option, IsBitSet}
-use Rattle.std.proofs.lemmas.Int.{ints}
-use Rattle.std.proofs.lemmas.Bool.Decides.{eqb_tells}
-use Rattle.ta_base.proofs.Lists.{without_last}
-use Rattle.ta_linear.specs.Terms.{coefficient}
-use Rattle.ta_linear.specs.Values.{RowHolds}
-use Rattle.ta_linear.specs.declared.row.Row.{Row}
-use Rattle.ta_automaton.specs.declared.rule.Rule.{Rule}
-use Rattle.ta_automaton.specs.declared.automaton.Automaton.{Automaton}
-use Rattle.ta_automaton.specs.Runs.{At, Config, value_at, Steps, MaskedHold}
-use Rattle.ta_base.specs.Masks.{In}
-use Rattle.ta_automaton.specs.Places.{one_if, shared_change, rule_change, location_place}
-use Rattle.ta_automaton.specs.Sums.{total}
+use Rattle.ta_automaton.proofs.Common.{◌≡◌, ◌≢◌, inl, inr, ℕ, ◌+◌, ◌-◌, ◌<◌, ◌≤◌, ℤ, pos, ◌+ℤ◌, ◌-ℤ◌, ◌≤ℤ◌, List, [], ◌∷◌, length, arith, ap, ◌∙◌, refl, slice_get, get_or, Some, Option, IsBitSet, ints, eqb_tells, without_last, coefficient, RowHolds, Row, Rule, Automaton, At, Config, value_at, Steps, MaskedHold, In, one_if, shared_change, rule_change, location_place, total}
 use Rattle.ta_automaton.proofs.Sums.{terms_value-same}
 use Rattle.ta_automaton.proofs.Moves.{Fits, move_at, value_at-location, one_if-shift, one_if-ne, shared_change-location, shared_change-parameter, shared_change-shared}
 use Rattle.ta_automaton.proofs.Thresholds.{Later, falls as falls_rows, fall_back, stays_true, updates_natural, from_within}

@@ -1,15 +1,6 @@
 -- firings from which the circuits are taken out stand in an order in which nobody arrives any more where one leaves
-use Rattle.std.proofs.Common.{◌≡◌, ◌≢◌, ◌⊎◌, inl, inr, ℕ, zero, suc, ◌≤◌, ℤ, pos, ◌≤ℤ◌, List, [], ◌∷◌, ◌++◌, length, arith, sym, ap, ◌∙◌, refl, subst, slice_get, Some, append_assoc}
-use Rattle.std.proofs.lemmas.Int.{ints}
-use Rattle.std.proofs.lemmas.Bool.Decides.{eqb_tells}
-use Rattle.ta_base.proofs.Lists.{length_parts}
+use Rattle.ta_automaton.proofs.Common.{◌≡◌, ◌≢◌, ◌⊎◌, inl, inr, ℕ, zero, suc, ◌≤◌, ℤ, pos, ◌≤ℤ◌, List, [], ◌∷◌, ◌++◌, length, arith, sym, ap, ◌∙◌, refl, subst, slice_get, Some, append_assoc, ints, eqb_tells, length_parts, coefficient, Rule, Automaton, Walk, InScope, In, total}
 use Rattle.ta_base.proofs.Members.{In-left, In-right, in_append}
-use Rattle.ta_linear.specs.Terms.{coefficient}
-use Rattle.ta_automaton.specs.declared.rule.Rule.{Rule}
-use Rattle.ta_automaton.specs.declared.automaton.Automaton.{Automaton}
-use Rattle.ta_automaton.specs.Runs.{Walk, InScope}
-use Rattle.ta_base.specs.Masks.{In}
-use Rattle.ta_automaton.specs.Sums.{total}
 use Rattle.ta_automaton.proofs.Sums.{total-append}
 use Rattle.ta_automaton.proofs.Thresholds.{updates_natural}
 use Rattle.ta_automaton.proofs.Onward.{change_of, NoneInto, Onward, EachRule}

@@ -1,21 +1,8 @@
 -- the laws of runs
-use Rattle.std.proofs.Common.{◌≡◌, inl, inr, ℕ, zero, suc, ◌+◌, ◌<◌, ◌≤◌, ℤ, pos, ◌+ℤ◌, ◌≤ℤ◌, ◌<ℤ◌, List, [], ◌∷◌, length, take, sum, count_by, eqb, cond, true, false, arith, sym, ap, ◌∙◌, refl, subst, slice_get, get_or, Some}
-use Rattle.std.proofs.lemmas.Int.{ints}
-use Rattle.std.proofs.lemmas.Bool.Decides.{nat_tests, eqb_tells}
+use Rattle.ta_automaton.proofs.Common.{◌≡◌, inl, inr, ℕ, zero, suc, ◌+◌, ◌<◌, ◌≤◌, ℤ, pos, ◌+ℤ◌, ◌≤ℤ◌, ◌<ℤ◌, List, [], ◌∷◌, length, take, sum, count_by, eqb, cond, true, false, arith, sym, ap, ◌∙◌, refl, subst, slice_get, get_or, Some, ints, nat_tests, eqb_tells, not_held, filter_all, one_if_turned, coefficient, value_of, Rule, Automaton, Config, Initial, Step, Steps, Run, At, value_at, number_at, numbers_from, total, times_in, CountersAddUp, ParametersStay, SharedNeverFalls, RiseGuardsStayTrue, FallGuardsStayFalse, CountersByFirings, SharedByFirings, leads_into, leads_out_of, update_of}
 use Rattle.std.proofs.lemmas.Option.{slice_get_within, same_Some}
 use Rattle.std.proofs.lemmas.List.Sums.{sum_by-cons}
-use Rattle.ta_base.proofs.Integers.{not_held}
-use Rattle.ta_base.proofs.Lists.{filter_all}
-use Rattle.ta_base.proofs.Naturals.{one_if_turned}
 use Rattle.ta_base.proofs.Sums.{count-cons}
-use Rattle.ta_linear.specs.Terms.{coefficient}
-use Rattle.ta_linear.specs.Values.{value_of}
-use Rattle.ta_automaton.specs.declared.rule.Rule.{Rule}
-use Rattle.ta_automaton.specs.declared.automaton.Automaton.{Automaton}
-use Rattle.ta_automaton.specs.Runs.{Config, Initial, Step, Steps, Run, At, value_at, number_at}
-use Rattle.ta_base.specs.Masks.{numbers_from}
-use Rattle.ta_automaton.specs.Sums.{total, times_in}
-use Rattle.ta_automaton.specs.Laws.{CountersAddUp, ParametersStay, SharedNeverFalls, RiseGuardsStayTrue, FallGuardsStayFalse, CountersByFirings, SharedByFirings, leads_into, leads_out_of, update_of}
 use Rattle.ta_automaton.proofs.Thresholds.{Later, updates_natural, stays_true, stays_below, from_within, to_within}
 use Rattle.ta_automaton.proofs.Moves.{Fits, fits_after, step_later}
 use Rattle.ta_automaton.proofs.Fired.{EachOnce, firings, once}

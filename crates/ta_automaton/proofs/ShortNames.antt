@@ -1,7 +1,5 @@
 -- names of one letter
-use Rattle.std.proofs.Common.{◌≡◌, ℕ, [], ◌∷◌, arith, refl, IsTrue}
-use Rattle.ta_base.proofs.Lists.{no_sign}
-use Rattle.ta_base.proofs.Naturals.{word_letter}
+use Rattle.ta_automaton.proofs.Common.{◌≡◌, ℕ, [], ◌∷◌, arith, refl, IsTrue, no_sign, word_letter}
 use Rattle.ta_syntax.specs.declared.tokens.Mark.{Mark}
 use Rattle.ta_syntax.specs.declared.tokens.Mark.TheVariants as mark
 use Rattle.ta_syntax.specs.Kinds.{mark_bytes}

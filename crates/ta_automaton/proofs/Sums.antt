@@ -1,12 +1,4 @@
-use Rattle.std.proofs.Common.{◌≡◌, ◌≢◌, ◌⊎◌, inl, inr, ℕ, zero, suc, ◌+◌, ◌<◌, ◌≤◌, ℤ, pos, ◌+ℤ◌, ◌*ℤ◌, List, [], ◌∷◌, ◌++◌, arith, sym, ap, refl}
-use Rattle.std.proofs.lemmas.Int.{ints}
-use Rattle.std.proofs.lemmas.Bool.Decides.{eqb_tells}
-use Rattle.std.proofs.Math.IntN.{zero-*ℤ, *ℤ-zero}
-use Rattle.ta_base.proofs.Integers.{distributes, one_times}
-use Rattle.ta_linear.specs.Values.{terms_value}
-use Rattle.ta_base.specs.Masks.{numbers_from}
-use Rattle.ta_automaton.specs.Sums.{total}
-use Rattle.ta_automaton.specs.Places.{one_if}
+use Rattle.ta_automaton.proofs.Common.{◌≡◌, ◌≢◌, ◌⊎◌, inl, inr, ℕ, zero, suc, ◌+◌, ◌<◌, ◌≤◌, ℤ, pos, ◌+ℤ◌, ◌*ℤ◌, List, [], ◌∷◌, ◌++◌, arith, sym, ap, refl, ints, eqb_tells, zero-*ℤ, *ℤ-zero, distributes, one_times, terms_value, numbers_from, total, one_if}
 
 pub total-append : {X : Type 0} (f : X → ℤ) (xs ys : List X) → total f (xs ++ ys) ≡ (total f xs +ℤ total f ys)
 unfolding total

@@ -1,29 +1,10 @@
 -- what the types of an automaton and of a file keep, in the form that the laws of runs need
-use Rattle.std.proofs.Common.{◌≡◌, ◌⊎◌, inl, inr, ℕ, zero, suc, ◌+◌, ◌<◌, ◌≤◌, ℤ, pos, ◌+ℤ◌, ◌*ℤ◌, ◌≤ℤ◌, ◌<ℤ◌, List, [], ◌∷◌, ◌++◌, length, arith, sym, ap, ◌∙◌, refl, slice_get, Some, IsBitSet, eqb, false, length-append, All}
-use Rattle.std.proofs.lemmas.Int.{ints}
-use Rattle.std.proofs.lemmas.Bool.{cases_lt}
-use Rattle.std.proofs.lemmas.Bool.Decides.{nat_tests, eqb_tells}
-use Rattle.std.proofs.lemmas.List.{get_or_append_left}
+use Rattle.ta_automaton.proofs.Common.{◌≡◌, ◌⊎◌, inl, inr, ℕ, zero, suc, ◌+◌, ◌<◌, ◌≤◌, ℤ, pos, ◌+ℤ◌, ◌*ℤ◌, ◌≤ℤ◌, ◌<ℤ◌, List, [], ◌∷◌, ◌++◌, length, arith, sym, ap, ◌∙◌, refl, slice_get, Some, IsBitSet, eqb, false, length-append, All, ints, cases_lt, nat_tests, eqb_tells, get_or_append_left, bit_below, each_at, each_from_at, less_times, times_le, coefficient, IsNormal, terms_value, value_of, RowHolds, Form, Row, Rule, Automaton, Event, Pattern, FormOver, RowOver, ConditionOver, RiseRow, FallRow, Comparison, Condition, Config, value_at, number_at, HoldsAt}
 use Rattle.std.specs.List.{AllByRecursion}
-use Rattle.ta_base.proofs.Bits.{bit_below}
-use Rattle.ta_base.proofs.Each.{each_at, each_from_at}
-use Rattle.ta_base.proofs.Integers.{less_times, times_le}
-use Rattle.ta_linear.specs.Terms.{coefficient, IsNormal}
-use Rattle.ta_linear.specs.Values.{terms_value, value_of, RowHolds}
-use Rattle.ta_linear.specs.declared.form.Form.{Form}
-use Rattle.ta_linear.specs.declared.row.Row.{Row}
 use Rattle.ta_linear.proofs.TermLemmas.{IsNormal-le}
-use Rattle.ta_automaton.specs.declared.rule.Rule.{Rule}
-use Rattle.ta_automaton.specs.declared.automaton.Automaton.{Automaton}
-use Rattle.ta_automaton.specs.declared.pattern.Event.{Event}
-use Rattle.ta_automaton.specs.declared.pattern.Pattern.{Pattern}
 use Rattle.ta_automaton.specs.declared.file.File.{File}
-use Rattle.ta_automaton.specs.Forms.{FormOver, RowOver, ConditionOver, RiseRow, FallRow}
 use Rattle.ta_automaton.specs.Shape.{Update, RuleWithin}
 use Rattle.ta_automaton.specs.Patterns.{EventWithin, PatternWithin}
-use Rattle.ta_automaton.specs.declared.condition.Comparison.{Comparison}
-use Rattle.ta_automaton.specs.declared.condition.Condition.{Condition}
-use Rattle.ta_automaton.specs.Runs.{Config, value_at, number_at, HoldsAt}
 
 -- terms over parameters and shared variables, with no positive coefficient of a shared variable
 abbrev pub FallTerms : ℕ → ℕ → List (ℕ × ℤ) → Type 0

@@ -1,7 +1,5 @@
 -- runs that grow at their end
-use Rattle.std.proofs.Common.{◌≡◌, ℕ, suc, ◌≤◌, List, [], ◌∷◌, length, ap, refl, slice_get, Some}
-use Rattle.ta_automaton.specs.declared.automaton.Automaton.{Automaton}
-use Rattle.ta_automaton.specs.Runs.{Config, Steps}
+use Rattle.ta_automaton.proofs.Common.{◌≡◌, ℕ, suc, ◌≤◌, List, [], ◌∷◌, length, ap, refl, slice_get, Some, Automaton, Config, Steps}
 
 pub run_length : (a : Automaton) (c : Config) (rules : List ℕ) (later : List Config) → Steps a c rules later → length later ≡ length rules
 run_length a c [] [] run = refl

@@ -2,6 +2,7 @@
 use Rattle.std.specs.Prelude.{ℕ, ℤ, pos, ◌+◌, ◌<◌, ◌≤◌, ◌≤ℤ◌, unsigned_abs}
 use Rattle.std.proofs.Props.{props}
 use Rattle.std.specs.List.{AllByRecursion, AllByRecursion-prop}
+use Rattle.ta_base.specs.declared.limits.TheConstants.{LARGEST_NUMBER}
 use Rattle.ta_linear.specs.Terms.{IsNormal, IsNormal-prop}
 use Rattle.ta_linear.specs.declared.form.Form.{Form}
 use Rattle.ta_linear.specs.declared.row.Row.{Row}
@@ -10,11 +11,11 @@ use Rattle.ta_automaton.specs.declared.condition.Condition.{Condition}
 
 -- no constant and no coefficient is above 1,000,000,000 in absolute value
 pub record Small (form : Form) : Type 0 where
-  pub constant : unsigned_abs form.constant ≤ 1000000000
-  pub coefficients : AllByRecursion (λ (t : ℕ × ℤ). unsigned_abs t.1 ≤ 1000000000) form.terms
+  pub constant : unsigned_abs form.constant ≤ LARGEST_NUMBER
+  pub coefficients : AllByRecursion (λ (t : ℕ × ℤ). unsigned_abs t.1 ≤ LARGEST_NUMBER) form.terms
 
 Small-prop : (form : Form) → IsProp (Small form)
-Small-prop form = hlevel (props, AllByRecursion-prop (λ (t : ℕ × ℤ). unsigned_abs t.1 ≤ 1000000000) (λ t. hlevel props) form.terms)
+Small-prop form = hlevel (props, AllByRecursion-prop (λ (t : ℕ × ℤ). unsigned_abs t.1 ≤ LARGEST_NUMBER) (λ t. hlevel props) form.terms)
 
 -- a small form over the first places
 pub record FormOver (places : ℕ) (form : Form) : Type 0 where

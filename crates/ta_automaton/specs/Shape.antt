@@ -2,6 +2,7 @@
 use Rattle.std.specs.Prelude.{ℕ, ℤ, pos, ◌<◌, ◌≤◌, ◌^◌, ◌≤ℤ◌, ◌++◌, List, length, map}
 use Rattle.std.proofs.Props.{props}
 use Rattle.std.specs.List.{AllByRecursion, AllByRecursion-prop}
+use Rattle.ta_base.specs.declared.limits.TheConstants.{LARGEST_NUMBER}
 use Rattle.ta_linear.specs.declared.form.Form.{Form}
 use Rattle.ta_linear.specs.declared.row.Row.{Row}
 use Rattle.ta_automaton.specs.declared.condition.Condition.{Condition}
@@ -14,7 +15,7 @@ use Rattle.ta_automaton.specs.Forms.{FormOver, FormOver-prop, ConditionOver, Con
 pub record Update (shared : ℕ) (update : ℕ × ℤ) : Type 0 where
   pub exists : update.0 < shared
   pub least : pos 1 ≤ℤ update.1
-  pub most : update.1 ≤ℤ pos 1000000000
+  pub most : update.1 ≤ℤ pos LARGEST_NUMBER
 
 Update-prop : (shared : ℕ) (update : ℕ × ℤ) → IsProp (Update shared update)
 Update-prop shared update = hlevel props

@@ -1,13 +1,6 @@
 -- sets of numbers as masks and as tests
-use Rattle.std.proofs.Common.{ℕ, ◌<◌, eqb, max, ◌≡◌, ◌||◌, zero, refl, suc, arith, min, ◌&&◌, true≢false, bit_or, ap, ◌∙◌, bit_and, ◌^◌, ◌==◌, inl, sym, inr, false, ◌≤◌, ◌-◌, true, Bool, not, eqb-true, eq-eqb, ◌*◌, ◌%◌, pow_pos, ◌+◌, ◌⊎◌, IsBitSet, ◌/◌, cond, ◌↔◌, List, filter, [], ◌∷◌, get_or, ◌≢◌, w32}
-use Rattle.std.proofs.lemmas.Bool.{false≢true, and_parts, and_from, cases_lt, cases_eq, and_cases}
+use Rattle.ta_base.proofs.Common.{ℕ, ◌<◌, eqb, max, ◌≡◌, ◌||◌, zero, refl, suc, arith, min, ◌&&◌, true≢false, bit_or, ap, ◌∙◌, bit_and, ◌^◌, ◌==◌, inl, sym, inr, false, ◌≤◌, ◌-◌, true, Bool, not, eqb-true, eq-eqb, ◌*◌, ◌%◌, pow_pos, ◌+◌, ◌⊎◌, IsBitSet, ◌/◌, cond, ◌↔◌, List, filter, [], ◌∷◌, get_or, ◌≢◌, w32, false≢true, and_parts, and_from, cases_lt, cases_eq, and_cases, bit_at, bit_not, eqb_tells, one_shl, and_le_r, pow-le-pow_right, div-eq_of_lt, AllByRecursion, has_bit, implies, all_below}
 use Rattle.std.proofs.lemmas.Nat.Bits.{bit_at_or, bit_at-lt, bit_at_and, same_from_bits, bit_at-pow_same, bit_at-pow_other, bit_at-zero, bit_at_above, bit_at_ones, and_pow, bit_at_lowest, bit_at-suc, bit_at_cat_low, bit_at_not}
-use Rattle.std.specs.Int.{bit_at, bit_not}
-use Rattle.std.proofs.lemmas.Bool.Decides.{eqb_tells}
-use Rattle.std.proofs.lemmas.Nat.{one_shl, and_le_r}
-use Rattle.std.proofs.Math.Nat.{pow-le-pow_right, div-eq_of_lt}
-use Rattle.std.specs.List.{AllByRecursion}
-use Rattle.ta_base.specs.Masks.{has_bit, implies, all_below}
 use Rattle.ta_base.proofs.Naturals.{in_or_above, mask_of, bit_small}
 use Rattle.ta_base.proofs.Booleans.{both_ways, implies-from, and_left}
 use Rattle.ta_base.proofs.Lists.{filter_same, filter_all}

@@ -1,9 +1,7 @@
 -- truth values: and, or, not, and choices by a test
-use Rattle.std.proofs.Common.{Bool, ◌&&◌, ◌≡◌, true, false, refl, ◌||◌, not, sym, ◌∙◌, IsTrue, true≢false, cond, ◌⊎◌, inl, inr}
-use Rattle.std.proofs.lemmas.Bool.{false≢true}
+use Rattle.ta_base.proofs.Common.{Bool, ◌&&◌, ◌≡◌, true, false, refl, ◌||◌, not, sym, ◌∙◌, IsTrue, true≢false, cond, ◌⊎◌, inl, inr, false≢true, implies}
 use mathlib.Core.Bool.{beq}
 use Rattle.std.specs.Bool.{OnTrue}
-use Rattle.ta_base.specs.Masks.{implies}
 
 pub and_left : (x y : Bool) → (x && y) ≡ true → y ≡ true
 and_left true y e = e

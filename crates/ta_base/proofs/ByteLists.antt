@@ -1,13 +1,6 @@
 -- bytes and texts
-use Rattle.std.proofs.Common.{ℕ, IsTrue, ◌<◌, arith, List, IsAscii, [], ◌∷◌, bytes_eq, ◌≡◌, true, refl, ◌≢◌, false, String, Global, string_eq, string_bytes, map, sym, ◌∙◌}
-use Rattle.std.proofs.lemmas.Bool.Decides.{nat_tests, same_from_decides}
-use Rattle.std.specs.List.{AllByRecursion, IsDistinct}
-use Rattle.std.proofs.lemmas.Str.Ascii.{IsAscii-nil, IsAscii-cons}
-use Rattle.std.proofs.lemmas.Slice.Eq.{bytes_eq-Decides}
-use Rattle.std.proofs.lemmas.Bool.{false_from_ne_true, false≢true}
+use Rattle.ta_base.proofs.Common.{ℕ, IsTrue, ◌<◌, arith, List, IsAscii, [], ◌∷◌, bytes_eq, ◌≡◌, true, refl, ◌≢◌, false, String, Global, string_eq, string_bytes, map, sym, ◌∙◌, nat_tests, same_from_decides, AllByRecursion, IsDistinct, IsAscii-nil, IsAscii-cons, bytes_eq-Decides, false_from_ne_true, false≢true, is_word, Distinct}
 use Rattle.std.proofs.lemmas.Map.Keys.{IsDistinct-head, IsDistinct-tail}
-use Rattle.ta_base.specs.Bytes.{is_word}
-use Rattle.ta_base.specs.Lists.{Distinct}
 
 -- the bytes of words are ASCII
 word_ascii : (b : ℕ) → IsTrue (is_word b) → b < 128

@@ -1,20 +1,8 @@
 -- decimal digits and the numbers that they write
-use Rattle.std.proofs.Common.{ℕ, ◌≡◌, true, ◌<◌, rules, tests, arith, List, ◌≤◌, [], ◌∷◌, ◌*◌, ◌+◌, ◌^◌, decimal, ◌++◌, ◌/◌, ◌%◌, ◌∙◌, ap, sym, append-nil, append_assoc, false, ◌≢◌, length, take, get_or, ◌-◌, refl, subst, Bool, drop, cond, one-add, take-append-drop, IsTrue, IsAscii, ℤ, pos, ◌≤ℤ◌, ◌<ℤ◌, negsuc, lit≤, lit<, Option, Some, None}
-use Rattle.std.specs.Char.{is_ascii_digit, digit_value}
-use Rattle.std.specs.Int.{IsInRange}
+use Rattle.ta_base.proofs.Common.{ℕ, ◌≡◌, true, ◌<◌, rules, tests, arith, List, ◌≤◌, [], ◌∷◌, ◌*◌, ◌+◌, ◌^◌, decimal, ◌++◌, ◌/◌, ◌%◌, ◌∙◌, ap, sym, append-nil, append_assoc, false, ◌≢◌, length, take, get_or, ◌-◌, refl, subst, Bool, drop, cond, one-add, take-append-drop, IsTrue, IsAscii, ℤ, pos, ◌≤ℤ◌, ◌<ℤ◌, negsuc, lit≤, lit<, Option, Some, None, codes, is_ascii_digit, digit_value, IsInRange, digits_value_after, AllDigits, digits_value, decimal_step_wide, decimal_digit, decimal_is_IsNumeral_wide, length-decimal-le_wide, decimal_injective, decimal_is_IsNumeral, false≢true, prefix_len, AllByRecursion, list_all, nat_tests, IsAscii-nil, IsAscii-cons, signed_decimal, ints, is_padded, BeginsNoDigit, DigitsAt, DecimalAt, NoDecimalAt, IsDecimal, Avoids, is_letter}
 use Rattle.std.proofs.lemmas.Str.{digit_value_digit}
 use Rattle.std.proofs.lemmas.Str.Parse.{digit_from_value, digit_at, digits_value-take-le, IsNumeralModel, numerals_by_value}
-use Rattle.std.specs.Str.Parse.{digits_value_after, AllDigits, digits_value}
-use Rattle.std.proofs.lemmas.Fmt.{decimal_step_wide, decimal_digit, decimal_is_IsNumeral_wide, length-decimal-le_wide, decimal_injective, decimal_is_IsNumeral}
-use Rattle.std.proofs.lemmas.Bool.{false≢true}
 use Rattle.std.proofs.lemmas.Int.Digits.{digits_value_more}
-use Rattle.std.specs.List.{prefix_len, AllByRecursion, list_all}
-use Rattle.std.proofs.lemmas.Bool.Decides.{nat_tests}
-use Rattle.std.proofs.lemmas.Str.Ascii.{IsAscii-nil, IsAscii-cons}
-use Rattle.std.specs.Fmt.{signed_decimal}
-use Rattle.std.proofs.lemmas.Int.{ints}
-use Rattle.ta_base.specs.Decimals.{is_padded, BeginsNoDigit, DigitsAt, DecimalAt, NoDecimalAt, IsDecimal}
-use Rattle.ta_base.specs.Bytes.{Avoids, is_letter}
 use Rattle.ta_base.proofs.Naturals.{wide, small_is_wide}
 use Rattle.ta_base.proofs.Integers.{floor_is}
 use Rattle.ta_base.proofs.Lists.{avoids-append}
@@ -276,3 +264,6 @@ short_avoids byte n below low = decimal_avoids byte (10 ^ 10) n below low (lit�
 -- digits by their test
 pub digits_model : IsNumeralModel (λ ds. list_all is_ascii_digit ds ≡ true) (digits_value 10)
 digits_model = numerals_by_value _ (search rules)
+
+pub zero_text : codes "0" ≡ decimal 0
+zero_text = sym (decimal_digit 0 (omega arith))

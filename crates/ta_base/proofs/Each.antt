@@ -1,16 +1,8 @@
 -- facts about each item of a list
-use Rattle.std.proofs.Common.{ℕ, Bool, List, ◌≡◌, true, IsTrue, [], ◌∷◌, refl, ◌≤◌, length, get_or, arith, sym, ◌∙◌, map, take, cond, ◌+◌, suc, false, All, slice_get, Some, zero, subst, ℤ, filter, inl, inr, ◌⊎◌, ◌++◌, Contains, eqb, ne_eqb, ◌<◌, ap, drop, take-append-drop, set, pos, ◌^◌, unsigned_abs, ◌-ℤ◌, replicate, ◌≤ℤ◌}
-use Rattle.std.specs.List.{list_all, AllByRecursion, prefix_len, IsDistinct, list_any}
-use Rattle.std.proofs.lemmas.Bool.{and_parts, and_from, cases_Bool, false≢true}
-use Rattle.std.proofs.lemmas.Bool.Decides.{eqb_tells}
+use Rattle.ta_base.proofs.Common.{ℕ, Bool, List, ◌≡◌, true, IsTrue, [], ◌∷◌, refl, ◌≤◌, length, get_or, arith, sym, ◌∙◌, map, take, cond, ◌+◌, suc, false, All, slice_get, Some, zero, subst, ℤ, filter, inl, inr, ◌⊎◌, ◌++◌, Contains, eqb, ne_eqb, ◌<◌, ap, drop, take-append-drop, set, pos, ◌^◌, unsigned_abs, ◌-ℤ◌, replicate, ◌≤ℤ◌, length-append, list_all, AllByRecursion, prefix_len, IsDistinct, list_any, and_parts, and_from, cases_Bool, false≢true, eqb_tells, same_Some, slice_get-get_or, get_or_from_slice_get, slice_get_within, ints, is_letter, is_word, IsWord, Avoids, EachFrom, Distinct, In}
 use Rattle.std.proofs.lemmas.Map.Steps.{length-le_from_distinct_below}
-use Rattle.std.proofs.lemmas.Option.{same_Some, slice_get-get_or, get_or_from_slice_get, slice_get_within}
-use Rattle.std.proofs.lemmas.Int.{ints}
-use Rattle.ta_base.specs.Bytes.{is_letter, is_word, IsWord, Avoids}
-use Rattle.ta_base.specs.Lists.{EachFrom, Distinct}
-use Rattle.ta_base.specs.Masks.{In}
 use Rattle.ta_base.proofs.Lists.{filter_true, filter_false, get_map}
-use Rattle.ta_base.proofs.Members.{contains_here, contains_later, in_get_or, in_append, In-right}
+use Rattle.ta_base.proofs.Members.{contains_here, contains_later, in_get_or, in_append, In-right, In-left}
 use Rattle.ta_base.proofs.Integers.{less_small}
 
 -- a test of all bytes
@@ -395,3 +387,30 @@ each_made P Q f (x ∷ xs) gives h = (gives x h.0, each_made P Q f xs gives h.1)
 pub each_last : {X : Type 0} (P : X → Type 0) (ys : List X) (x : X) → AllByRecursion P (ys ++ x ∷ []) → P x
 each_last P [] x e = e.0
 each_last P (y ∷ ys) x e = each_last P ys x e.1
+
+-- a list, cut at one of its items
+record CutAt {X : Type 0} (x : X) (ys : List X) : Type 0 where
+  pub front : List X
+  pub back : List X
+  pub is : ys ≡ front ++ x ∷ back
+
+cut_at : {X : Type 0} (x : X) (ys : List X) → In x ys → CutAt x ys
+cut_at x [] h = absurd h
+cut_at x (y ∷ ys) (inl e) = record { front = []; back = ys; is = ap (λ z. z ∷ ys) (sym e) }
+cut_at x (y ∷ ys) (inr h) = (let c = cut_at x ys h in record { front = y ∷ c.front; back = c.back; is = ap (λ zs. y ∷ zs) c.is })
+
+-- distinct items of a list are no more than its items
+pub no_more : {X : Type 0} (xs ys : List X) → Distinct xs → ((x : X) → In x xs → In x ys) → length xs ≤ length ys
+no_more [] ys d inside = omega arith
+no_more (x ∷ xs) ys d inside =
+    let c = cut_at x ys (inside x (inl refl)) in
+    let rest = no_more xs (c.front ++ c.back) d.1 (λ z h. elim (in_append z c.front (x ∷ c.back) (subst (In z) c.is (inside z (inr h)))) [
+      | inl g ↦ In-left z c.front c.back g
+      | inr (inl e) ↦ absurd (each_in (λ y. x ≡ y → ⊥) xs z d.0 h (sym e))
+      | inr (inr g) ↦ In-right z c.front c.back g
+    ]) in
+    omega (arith, rest, ap length c.is, length-append c.front c.back, length-append c.front (x ∷ c.back))
+
+-- items with distinct images, each at one place
+pub distinct_map_at : {X Y : Type 0} (f : X → Y) (xs : List X) (i j : ℕ) (x y : X) → Distinct (map f xs) → slice_get xs i ≡ Some x → slice_get xs j ≡ Some y → f x ≡ f y → i ≡ j
+distinct_map_at f xs i j x y distinct at there same = distinct_at (map f xs) i j (f x) distinct (get_map f xs i x at) (get_map f xs j y there ∙ ap Some (sym same))

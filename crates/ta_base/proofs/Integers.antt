@@ -1,17 +1,10 @@
 -- whole numbers: signs, sizes, products, and a ruleset that writes polynomials as sums of sorted products
-use Rattle.std.proofs.Common.{ℕ, ◌<◌, ◌*◌, ◌≡◌, sym, ◌∙◌, ap, ◌/◌, ℤ, pos, ◌*ℤ◌, arith, unsigned_abs, int_div, negsuc, suc, neg_ℤ, ◌≤ℤ◌, ◌<ℤ◌, ◌+ℤ◌, div-add-mod', ◌-ℤ◌, ◌≢◌, zero, refl, cond, eqb, FitsSigned, w64, ◌≤◌, ◌^◌, true, false, ◌⊎◌, inl, inr, int_lt, Bool, ◌+◌, to_z, of_z, to_z-of_z, subst, mul-le-mul, true≢false, if◌then◌else◌, mul-le-mul_left, div-le_self, mul-le-mul_right, length, replicate, lit<, get_or}
-use Rattle.std.proofs.Math.Nat.{mul-div_cancel_left, mul-div_cancel', mul-dvd-mul_left, dvd-mul_right}
+use Rattle.ta_base.proofs.Common.{ℕ, ◌<◌, ◌*◌, ◌≡◌, sym, ◌∙◌, ap, ◌/◌, ℤ, pos, ◌*ℤ◌, arith, unsigned_abs, int_div, negsuc, suc, neg_ℤ, ◌≤ℤ◌, ◌<ℤ◌, ◌+ℤ◌, div-add-mod', ◌-ℤ◌, ◌≢◌, zero, refl, cond, eqb, FitsSigned, w64, ◌≤◌, ◌^◌, true, false, ◌⊎◌, inl, inr, int_lt, Bool, ◌+◌, to_z, of_z, to_z-of_z, subst, mul-le-mul, true≢false, if◌then◌else◌, mul-le-mul_left, div-le_self, mul-le-mul_right, length, replicate, lit<, get_or, mul-div_cancel_left, mul-div_cancel', mul-dvd-mul_left, dvd-mul_right, ◌∣◌, int_div_euclid, IsGcd, int_min, w128, int_rem_euclid, mod_below, ints, fits_signed_from_abs, unsigned_abs-mul, by_lt_z, *ℤ_comm, pos-*ℤ-pos, pos-*ℤ-negsuc, negsuc-*ℤ-pos, negsuc-*ℤ-negsuc, *ℤ-zero, one, *ℤ-one, nat_tests, eqb_tells, cases_Bool, false≢true, cases_eq, props, signed_decimal, length-decimal-le_wide}
 use borrow.Author.Differences.{product_is, up, down, same_in, neg_is, sum_is_lem}
-use Rattle.std.specs.Int.{◌∣◌, int_div_euclid, IsGcd, int_min, w128, int_rem_euclid}
-use Rattle.std.proofs.lemmas.Nat.{mod_below}
-use Rattle.std.proofs.lemmas.Int.{ints, fits_signed_from_abs, unsigned_abs-mul, by_lt_z}
-use Rattle.std.proofs.Math.IntN.{*ℤ_comm, pos-*ℤ-pos, pos-*ℤ-negsuc, negsuc-*ℤ-pos, negsuc-*ℤ-negsuc, *ℤ-zero, one, *ℤ-one}
-use Rattle.std.proofs.lemmas.Bool.Decides.{nat_tests, eqb_tells}
-use Rattle.std.proofs.lemmas.Bool.{cases_Bool, false≢true, cases_eq}
-use Rattle.std.proofs.Props.{props}
-use Rattle.std.specs.Fmt.{signed_decimal}
-use Rattle.std.proofs.lemmas.Fmt.{length-decimal-le_wide}
+use Rattle.std.specs.Int.{w32}
 use Rattle.ta_base.proofs.Naturals.{wide}
+use mir.Val.{SFits}
+use mir.Syntax.{w16}
 
 mul_cancel_ℕ : (g x y : ℕ) → 0 < g → g * x ≡ g * y → x ≡ y
 mul_cancel_ℕ g x y h e = sym (mul-div_cancel_left x h) ∙ ap (λ (n : ℕ). n / g) e ∙ mul-div_cancel_left y h
@@ -635,12 +628,23 @@ pub pos_cond : (b : Bool) (x y : ℕ) → cond b (pos x) (pos y) ≡ pos (cond b
 pos_cond true x y = refl
 pos_cond false x y = refl
 
--- what is left of two equal sums whose first parts are equal
-pub rests_same : (a b x y : ℤ) → a ≡ b → (a +ℤ x) ≡ (b +ℤ y) → x ≡ y
-rests_same a b x y e f = omega (arith, ints)
-
 pub order_is : (l r v : ℤ) → l ≡ (r +ℤ v) → r ≤ℤ l → pos 0 ≤ℤ v
 order_is l r v e h = omega (arith, ints)
 
 pub order_back : (l r v : ℤ) → l ≡ (r +ℤ v) → pos 0 ≤ℤ v → r ≤ℤ l
 order_back l r v e h = omega (arith, ints)
+
+pub fits32 : (z : ℤ) (t : ℕ) → unsigned_abs z ≤ t → t < 2 ^ 31 → SFits w32 z
+fits32 z t h k = fits_signed_from_abs w32 z (omega arith)
+
+pub small_positive : (z : ℤ) → SFits w32 z → pos 0 <ℤ z → unsigned_abs z < 2 ^ 31
+small_positive (pos n) f h = let s = f.sfits in omega arith
+small_positive (negsuc n) f h = absurd (omega (arith, ints, h))
+
+pub fits_more : (z : ℤ) → SFits w16 z → SFits w32 z
+fits_more (pos n) f = let s = f.sfits in fits_signed_from_abs w32 (pos n) (omega arith)
+fits_more (negsuc n) f = let s = f.sfits in fits_signed_from_abs w32 (negsuc n) (omega arith)
+
+pub zero_from_bits : (z : ℤ) → SFits w128 z → of_z w128 z ≡ 0 → z ≡ pos 0
+zero_from_bits (pos n) f e = ap pos e
+zero_from_bits (negsuc n) f e = let s = f.sfits in absurd (omega arith)

@@ -12,3 +12,4 @@ pub mod Bits
 pub mod ByteLists
 pub mod DecimalDigits
 pub mod Digits
+mod Common

@@ -1,18 +1,9 @@
 -- lists: items by number, parts, maps, filters
-use Rattle.std.proofs.Common.{ℕ, List, [], ◌∙◌, sym, append-nil, decimal, ◌<◌, get_or, ◌≡◌, take, zero, suc, ◌∷◌, arith, length, ◌≤◌, subst, take_all as take_all_of_Common, ◌-◌, ◌+◌, drop, length-drop, ap, ◌++◌, refl, not, eqb, true, rules, tests, ℤ, add-one, drop-cons, Bool, Option, if◌then◌else◌, Some, None, false, length-take-le, map, append_assoc, IsTrue, pos, ◌≤ℤ◌, ◌<ℤ◌, ◌^◌, negsuc, length-append, false-eqb, filter, get_or-append-add, eq-eqb, slice_get, ◌⊎◌, inr, inl, cond, take_at, drop_at, replicate, drop-drop, take-append-drop, ext_get_or, true≢false, reverse, set, ◌+ℤ◌, get_or-set_same, get_or-set_other, ◌≢◌, neg_ℤ, int_div, IsSomeAnd, unsigned_abs, slice_index, ◌==◌, Result, is_ok, OnOk, Ok, Err}
-use Rattle.std.proofs.Math.Seq.{split_at, take-append-add, take-length}
-use Rattle.std.specs.List.{list_all, prefix_len, list_any, range_with_len, slice_split, onto_first}
-use Rattle.std.proofs.lemmas.Bool.{and_parts, false≢true, or_cases, cases_lt, cases_eq}
-use Rattle.std.proofs.lemmas.Option.{none-some, same_Some, slice_get_read, slice_get_within}
-use Rattle.std.proofs.lemmas.List.{take-append-le, length-map, get_or_append_left, drop_more, get_or-append_right, get_or-replicate, get_or_past as get_or_past_of_List, length-replicate, take_more, reverse-append, map-append}
-use Rattle.std.proofs.lemmas.Bool.Decides.{nat_tests, eqb_tells}
-use Rattle.std.specs.Fmt.{signed_decimal}
-use Rattle.std.proofs.lemmas.Int.{ints}
-use Rattle.std.proofs.lemmas.List.Elements.{filter-append}
+use Rattle.ta_base.proofs.Common.{ℕ, List, [], ◌∙◌, sym, append-nil, decimal, ◌<◌, get_or, ◌≡◌, take, zero, suc, ◌∷◌, arith, length, ◌≤◌, subst, ◌-◌, ◌+◌, drop, length-drop, ap, ◌++◌, refl, not, eqb, true, rules, tests, ℤ, add-one, drop-cons, Bool, Option, if◌then◌else◌, Some, None, false, length-take-le, map, append_assoc, IsTrue, pos, ◌≤ℤ◌, ◌<ℤ◌, ◌^◌, negsuc, length-append, false-eqb, filter, get_or-append-add, eq-eqb, slice_get, ◌⊎◌, inr, inl, cond, take_at, drop_at, replicate, drop-drop, take-append-drop, ext_get_or, true≢false, reverse, set, ◌+ℤ◌, get_or-set_same, get_or-set_other, ◌≢◌, neg_ℤ, int_div, IsSomeAnd, unsigned_abs, slice_index, ◌==◌, Result, is_ok, OnOk, Ok, Err, split_at, take-append-add, take-length, list_all, prefix_len, list_any, range_with_len, slice_split, onto_first, and_parts, false≢true, or_cases, cases_lt, cases_eq, none-some, same_Some, slice_get_read, slice_get_within, take-append-le, length-map, get_or_append_left, drop_more, get_or-append_right, get_or-replicate, length-replicate, take_more, reverse-append, map-append, nat_tests, eqb_tells, signed_decimal, ints, filter-append, IsDecimal, DecimalAt, Avoids, SplitAt, is_letter, is_word, BeginsByLetter}
+use Rattle.std.proofs.Common.{take_all as take_all_of_Common}
+use Rattle.std.proofs.lemmas.List.{get_or_past as get_or_past_of_List}
 use Rattle.std.proofs.lemmas.List.Edits.{fill_by_more}
 use Rattle.std.proofs.lemmas.List.Splits.{slice_split-cons_yes, slice_split-cons_no}
-use Rattle.ta_base.specs.Decimals.{IsDecimal, DecimalAt}
-use Rattle.ta_base.specs.Bytes.{Avoids, SplitAt, is_letter, is_word, BeginsByLetter}
 use Rattle.ta_base.proofs.Integers.{pos_same, div-one}
 
 -- a number that the bytes are stands first in them
@@ -858,3 +849,7 @@ one_content file content other is are = let e : Some content ≡ Some other = sy
 -- how long a text is with a piece behind it
 pub piece_size : (text piece : List ℕ) (at : ℕ) → at ≡ length text → at + length piece ≡ length (text ++ piece)
 piece_size text piece at place = omega (arith, place, length-append text piece)
+
+pub cond_append : (pair other : ℕ × ℕ) (others rest ys : List (ℕ × ℕ)) (b : Bool) → cond b (pair ∷ other ∷ (others ++ ys)) (other ∷ (rest ++ ys)) ≡ cond b (pair ∷ other ∷ others) (other ∷ rest) ++ ys
+cond_append pair other others rest ys true = refl
+cond_append pair other others rest ys false = refl

@@ -1,12 +1,5 @@
 -- members of lists
-use Rattle.std.proofs.Common.{List, ◌++◌, [], ◌∷◌, inl, inr, map, ap, Bool, ◌≡◌, true, ◌⊎◌, cond, false, filter, sym, ◌∙◌, ℕ, refl, arith, replicate, zero, suc, Contains, subst, slice_get, length, Some, take, ◌<◌, get_or, ◌+◌, reverse, nat_eq, ◌||◌, eqb-true, eq-eqb, IsTrue, ◌↔◌}
-use Rattle.std.proofs.lemmas.Bool.{false≢true, cases_lt}
-use Rattle.std.proofs.lemmas.Bool.Decides.{eqb_tells}
-use Rattle.std.proofs.lemmas.Option.{slice_get_within, get_or_from_slice_get}
-use Rattle.std.proofs.lemmas.List.{take_more, reverse-append}
-use Rattle.std.proofs.Math.Seq.{take-length}
-use Rattle.std.specs.List.{list_any}
-use Rattle.ta_base.specs.Masks.{In}
+use Rattle.ta_base.proofs.Common.{List, ◌++◌, [], ◌∷◌, inl, inr, map, ap, Bool, ◌≡◌, true, ◌⊎◌, cond, false, filter, sym, ◌∙◌, ℕ, refl, arith, replicate, zero, suc, Contains, subst, slice_get, length, Some, take, ◌<◌, get_or, ◌+◌, reverse, nat_eq, ◌||◌, eqb-true, eq-eqb, IsTrue, ◌↔◌, false≢true, cases_lt, eqb_tells, slice_get_within, get_or_from_slice_get, take_more, reverse-append, take-length, list_any, AllByRecursion, In}
 use Rattle.ta_base.proofs.Lists.{without_last}
 
 pub In-left : {X : Type 0} (x : X) (xs ys : List X) → In x xs → In x (xs ++ ys)
@@ -236,3 +229,12 @@ begun_before x items xs answer same is = (
 pub known_first : (n k limit : ℕ) (ks : List ℕ) → n < limit → ((j : ℕ) → In j ks → j < limit) → In k (n ∷ ks) → k < limit
 known_first n k limit ks below known (inl same) = omega arith
 known_first n k limit ks below known (inr old) = known k old
+
+-- what each item has, one that a test finds has
+listed_in : (P : ℕ → Type 0) (x y : ℕ) (rest first : Bool) → first ≡ nat_eq y x → P y → (rest ≡ true → P x) → (first || rest) ≡ true → P x
+listed_in P x y rest true is here later among = subst P (eqb-true y x (sym is)) here
+listed_in P x y rest false is here later among = later among
+
+pub listed : (P : ℕ → Type 0) (x : ℕ) (xs : List ℕ) → AllByRecursion P xs → list_any (λ y. nat_eq y x) xs ≡ true → P x
+listed P x [] each among = absurd (cc)
+listed P x (y ∷ xs) each among = listed_in P x y (list_any (λ z. nat_eq z x) xs) (nat_eq y x) refl each.0 (listed P x xs each.1) among

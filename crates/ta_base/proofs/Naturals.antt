@@ -1,11 +1,5 @@
 -- natural numbers: orders, products, powers
-use Rattle.std.proofs.Common.{ℕ, ◌<◌, ◌⊎◌, ◌≤◌, zero, inl, inr, arith, suc, ◌*◌, ◌^◌, ◌%◌, ◌-◌, pow_pos, lit<, Bool, cond, ◌+◌, true, false, ◌≡◌, eqb, IsTrue, refl, mod-eq_of_lt, ◌∙◌, true≢false, ap, sym, ◌≢◌, not, Option, Some, None, min, ◌&&◌, nat_lt, ◌/◌, div-lt_iff_lt-mul, mod-lt, ◌==◌, rules}
-use Rattle.std.proofs.lemmas.Bool.Decides.{eqb_tells, nat_tests}
-use Rattle.std.proofs.lemmas.Nat.{one_shl, pow_below}
-use Rattle.std.proofs.Props.{props}
-use Rattle.std.proofs.lemmas.Bool.{false≢true, cases_eq, cases_lt}
-use Rattle.std.proofs.Math.Nat.{pow-le-pow_right}
-use Rattle.ta_base.specs.Bytes.{is_letter, is_word}
+use Rattle.ta_base.proofs.Common.{ℕ, ◌<◌, ◌⊎◌, ◌≤◌, zero, inl, inr, arith, suc, ◌*◌, ◌^◌, ◌%◌, ◌-◌, pow_pos, lit<, Bool, cond, ◌+◌, true, false, ◌≡◌, eqb, IsTrue, refl, mod-eq_of_lt, ◌∙◌, true≢false, ap, sym, ◌≢◌, not, Option, Some, None, min, ◌&&◌, nat_lt, ◌/◌, div-lt_iff_lt-mul, mod-lt, ◌==◌, rules, eqb_tells, nat_tests, one_shl, pow_below, props, false≢true, cases_eq, cases_lt, pow-le-pow_right, is_letter, is_word}
 
 pub in_or_above : (n i : ℕ) → (i < n) ⊎ (n ≤ i)
 in_or_above n zero = elim (eqb_tells n 0) [ inl e ↦ inr (let q = e.1 in omega arith) | inr ne ↦ inl (let q = ne.1 in omega arith) ]

@@ -1,6 +1,5 @@
 -- options and results
-use Rattle.std.proofs.Common.{Result, IfOk, Ok, Err, Option, ℕ, IfNone, None, Some, IfSome, ℤ, ◌≡◌, SomeIff, ◌∙◌, ◌⊎◌, inl, refl, inr, ◌<◌, IsSomeAnd, sym, is_some, false, true≢false, option_map, arith, suc, Bool, cond, true, option_and_then}
-use Rattle.std.proofs.lemmas.Option.{same_Some}
+use Rattle.ta_base.proofs.Common.{Result, IfOk, Ok, Err, Option, ℕ, IfNone, None, Some, IfSome, ℤ, ◌≡◌, SomeIff, ◌∙◌, ◌⊎◌, inl, refl, inr, ◌<◌, IsSomeAnd, sym, is_some, false, true≢false, option_map, arith, suc, Bool, cond, true, zero, List, [], ◌∷◌, ◌++◌, slice_get, same_Some}
 
 pub if_ok_then : {T E A B : Type 0} (r : Result T E) → (A → B) → IfOk r (λ x. A) → IfOk r (λ x. B)
 if_ok_then (Ok x) f p = f p
@@ -50,7 +49,9 @@ below_if n p true o below e = let same = same_Some 0 p e in omega arith
 below_if n p false None below e = absurd (cc)
 below_if n p false (Some q) below e = let same = same_Some (suc q) p e in let low = below q refl in omega arith
 
--- what was looked for first, where something came of it
-pub and_then_some : {A B : Type 0} (f : A → Option B) (o : Option A) (b : B) → option_and_then f o ≡ Some b → (a : A) × (f a ≡ Some b)
-and_then_some f None b is = absurd (cc)
-and_then_some f (Some a) b is = (a, is)
+-- an empty place behind others is none of those with a value
+pub none_behind : {X : Type 0} (xs : List (Option X)) (place : ℕ) (x : X) → slice_get (xs ++ None ∷ []) place ≡ Some (Some x) → slice_get xs place ≡ Some (Some x)
+none_behind [] zero x at = cc
+none_behind [] (suc place) x at = at
+none_behind (y ∷ ys) zero x at = at
+none_behind (y ∷ ys) (suc place) x at = none_behind ys place x at

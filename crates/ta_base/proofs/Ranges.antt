@@ -1,11 +1,5 @@
 -- numbers in a row, and lists of numbers that rise
-use Rattle.std.proofs.Common.{ℕ, ◌≤◌, ◌<◌, ◌+◌, zero, arith, suc, inl, inr, get_or, map, ◌≡◌, ap, ◌∙◌, length, refl, List, [], ◌∷◌, ℤ, slice_get, Some, ◌++◌, Bool, filter, cond, pos, true, sym, length-append, false, subst, None, slice_index_or}
-use Rattle.std.proofs.lemmas.Bool.Decides.{eqb_tells}
-use Rattle.std.proofs.lemmas.List.{get_or_past, length-map, map-append}
-use Rattle.std.proofs.lemmas.List.Elements.{filter-append}
-use Rattle.std.specs.List.{AllByRecursion}
-use Rattle.ta_base.specs.Masks.{In, numbers_from}
-use Rattle.ta_base.specs.Lists.{Rises}
+use Rattle.ta_base.proofs.Common.{ℕ, ◌≤◌, ◌<◌, ◌+◌, zero, arith, suc, inl, inr, get_or, map, ◌≡◌, ap, ◌∙◌, length, refl, List, [], ◌∷◌, ℤ, slice_get, Some, ◌++◌, Bool, filter, cond, pos, true, sym, length-append, false, subst, None, slice_index_or, eqb_tells, get_or_past, length-map, map-append, filter-append, AllByRecursion, In, numbers_from, Rises}
 use Rattle.ta_base.proofs.Lists.{append_nil, filter_shorter, map_same}
 use Rattle.ta_base.proofs.Each.{each_weaker}
 

@@ -1,10 +1,5 @@
 -- sums over numbers and over lists
-use Rattle.std.proofs.Common.{ℕ, ℤ, ◌<◌, ◌≡◌, zero, refl, suc, arith, ◌+ℤ◌, pos, ◌≢◌, inl, inr, cond, eqb, ◌*ℤ◌, ap, ◌∙◌, sym, ◌≤ℤ◌, Bool, List, count_by, ◌∷◌, ◌+◌, ◌≤◌, ◌-ℤ◌}
-use Rattle.std.proofs.lemmas.Int.{ints}
-use Rattle.std.proofs.lemmas.Bool.Decides.{eqb_tells, nat_tests}
-use Rattle.std.proofs.Math.IntN.{zero-*ℤ, *ℤ-zero}
-use Rattle.std.proofs.lemmas.List.Sums.{sum_by-cons}
-use Rattle.std.proofs.lemmas.Bool.{cases_eq}
+use Rattle.ta_base.proofs.Common.{ℕ, ℤ, ◌<◌, ◌≡◌, zero, refl, suc, arith, ◌+ℤ◌, pos, ◌≢◌, inl, inr, cond, eqb, ◌*ℤ◌, ap, ◌∙◌, sym, ◌≤ℤ◌, Bool, List, count_by, ◌∷◌, ◌+◌, ◌≤◌, ◌-ℤ◌, ints, eqb_tells, nat_tests, zero-*ℤ, *ℤ-zero, sum_by-cons, cases_eq}
 use Rattle.ta_base.proofs.Integers.{range_sum, distributes, sum_between, single, single-elsewhere, single-at}
 use Rattle.ta_base.proofs.Naturals.{sum_below}
 

@@ -4,6 +4,7 @@
 
 pub mod bytes;
 pub mod decimals;
+pub mod limits;
 mod list;
 pub mod masks;
 mod text;

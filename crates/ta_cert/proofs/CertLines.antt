@@ -1,16 +1,6 @@
 -- The lines of a certificate.
-use Rattle.std.proofs.Common.{◌≡◌, true, List, [], ◌∷◌, ◌++◌, map, refl, sym, ap, ◌∙◌, append-nil, inl, inr, arith}
-use Rattle.std.specs.List.{AllByRecursion}
-use Rattle.std.proofs.lemmas.Bool.{false≢true}
-use Rattle.ta_cert.specs.Lines.{IsLine, IsNode, IsVersion, has_end}
-use Rattle.ta_cert.specs.Streams.{AreLater, IsComplete}
-use Rattle.ta_cert.specs.Certificates.{AreOrders, AreWritable, order_lines, version_of, proof_lines, cert_lines, cert_text}
-use Rattle.ta_cert.specs.Laws.{AreShort}
-use Rattle.ta_cert.specs.declared.line.Node.{Node}
-use Rattle.ta_cert.specs.declared.line.Line.{Line}
+use Rattle.ta_cert.proofs.Common.{◌≡◌, true, List, [], ◌∷◌, ◌++◌, map, refl, sym, ap, ◌∙◌, append-nil, inl, inr, arith, AllByRecursion, false≢true, IsLine, IsNode, IsVersion, has_end, AreLater, IsComplete, AreOrders, AreWritable, order_lines, version_of, proof_lines, cert_lines, cert_text, AreShort, Node, Line, Order, Proof}
 use Rattle.ta_cert.specs.declared.line.Line.TheVariants as line
-use Rattle.ta_cert.specs.declared.line.Order.{Order}
-use Rattle.ta_cert.specs.declared.line.Proof.{Proof}
 use Rattle.ta_cert.proofs.Unique.{lines_unique}
 
 -- the lines have texts

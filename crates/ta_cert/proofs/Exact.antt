@@ -1,13 +1,6 @@
 -- An answer that is right is the only one.
-use Rattle.std.proofs.Common.{ℕ, ◌≡◌, true, false, List, [], ◌++◌, length, Result, Ok, Err, refl, sym, ap, ◌∙◌, inl, inr}
-use Rattle.std.proofs.lemmas.Bool.{false≢true}
-use Rattle.ta_cert.specs.Lines.{has_end}
-use Rattle.ta_cert.specs.Streams.{line_number, StandsFor, FeedAnswers}
-use Rattle.ta_cert.specs.Laws.{IsExact, IsExactEnd}
-use Rattle.ta_cert.specs.declared.line.Line.{Line}
-use Rattle.ta_cert.specs.declared.fault.CertFault.{CertFault}
+use Rattle.ta_cert.proofs.Common.{ℕ, ◌≡◌, true, false, List, [], ◌++◌, length, Result, Ok, Err, refl, sym, ap, ◌∙◌, inl, inr, false≢true, has_end, line_number, StandsFor, FeedAnswers, IsExact, IsExactEnd, Line, CertFault, Reader}
 use Rattle.ta_cert.specs.declared.fault.CertFault.TheVariants as fault
-use Rattle.ta_cert.specs.declared.reader.Reader.{Reader}
 use Rattle.ta_cert.proofs.Unique.{reads_unique, reads_malformed, reads_trailing, malformed_trailing, malformed_place, trailing_place}
 
 -- the answer to a piece

@@ -1,10 +1,5 @@
 -- The fields of splits and pairs, one after another.
-use Rattle.std.proofs.Common.{ℕ, ℤ, pos, ◌^◌, ◌≡◌, List, ◌∷◌, ◌++◌, decimal, refl, sym, ap, ◌∙◌, append_assoc, arith, lit≤}
-use Rattle.std.specs.Fmt.{signed_decimal}
-use Rattle.ta_base.specs.Decimals.{DecimalAt, NoDecimalAt, NoDecimal}
-use Rattle.ta_base.proofs.DecimalDigits.{multiplier_number, number_is}
-use Rattle.ta_base.proofs.Lists.{floor_number}
-use Rattle.ta_cert.specs.Inside.Numbers.{IsSplitText, AreGuardsText, PairAt}
+use Rattle.ta_cert.proofs.Common.{ℕ, ℤ, pos, ◌^◌, ◌≡◌, List, ◌∷◌, ◌++◌, decimal, refl, sym, ap, ◌∙◌, append_assoc, arith, lit≤, signed_decimal, DecimalAt, NoDecimalAt, NoDecimal, multiplier_number, number_is, floor_number, IsSplitText, AreGuardsText, PairAt}
 
 -- what stands behind the unknown
 pub split_rest : (m u : ℕ) (f : ℤ) (bytes r : List ℕ) → DecimalAt (2 ^ 32) bytes m r → IsSplitText bytes u f → r ≡ 32 ∷ signed_decimal f

@@ -9,3 +9,4 @@ mod Pairs
 mod Exact
 mod Reading
 mod CertAnswers
+mod Common

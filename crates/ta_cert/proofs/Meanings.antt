@@ -1,9 +1,6 @@
 -- What a line without a meaning isn't.
-use Rattle.std.proofs.Common.{ℕ, ◌≡◌, List, ◌++◌, Option, None, Some, MatchOption, inl, inr, refl, sym, ap, ◌∙◌, decimal, codes, lit<}
+use Rattle.ta_cert.proofs.Common.{ℕ, ◌≡◌, List, ◌++◌, Option, None, Some, MatchOption, inl, inr, refl, sym, ap, ◌∙◌, decimal, codes, lit<, line_text, pairs_text, split_text, guards_text, IsVersion, IsMeaning, SaysLine, IsNoFixed, BeginsOtherwise, Line}
 use Rattle.std.proofs.lemmas.Fmt.{decimal_digit}
-use Rattle.ta_cert.specs.Lines.{line_text, pairs_text, split_text, guards_text, IsVersion, IsMeaning, SaysLine, IsNoFixed}
-use Rattle.ta_base.specs.Bytes.{BeginsOtherwise}
-use Rattle.ta_cert.specs.declared.line.Line.{Line}
 use Rattle.ta_cert.specs.declared.line.Line.TheVariants as line
 use Rattle.ta_cert.specs.declared.line.Node.TheVariants as node
 

@@ -1,8 +1,5 @@
 -- The pairs of a leaf, one after another.
-use Rattle.std.proofs.Common.{ℕ, ℤ, ◌+◌, ◌<◌, ◌≤◌, ◌≡◌, List, [], ◌∷◌, ◌++◌, length, refl, sym, ap, subst, ◌∙◌, append_assoc, append-nil, length-append, arith}
-use Rattle.ta_cert.specs.Lines.{ArePairs, pair_text, pairs_text}
-use Rattle.ta_base.specs.Decimals.{BeginsNoDigit}
-use Rattle.ta_cert.specs.Inside.Numbers.{ArePairsText, NoPairsText, PairAt, NoPairAt}
+use Rattle.ta_cert.proofs.Common.{ℕ, ℤ, ◌+◌, ◌<◌, ◌≤◌, ◌≡◌, List, [], ◌∷◌, ◌++◌, length, refl, sym, ap, subst, ◌∙◌, append_assoc, append-nil, length-append, arith, ArePairs, pair_text, pairs_text, BeginsNoDigit, ArePairsText, NoPairsText, PairAt, NoPairAt}
 use Rattle.ta_cert.proofs.Fields.{pair_unique}
 
 -- what the rest may still be: pairs from the least row number on

@@ -1,13 +1,6 @@
 -- A whole text, read piece by piece.
-use Rattle.std.proofs.Common.{ℕ, ◌+◌, ◌≡◌, List, [], ◌∷◌, ◌++◌, length, Result, Ok, Err, refl, sym, ap, subst, ◌∙◌, append_assoc, append-nil, arith, MatchResult}
-use Rattle.std.proofs.lemmas.Bool.{false≢true}
-use Rattle.ta_cert.specs.Lines.{has_end}
-use Rattle.ta_cert.specs.Streams.{ReadsLines, IsRefusedText, IsComplete, line_number, numbered_lines, StandsAt, StandsFor, FeedAnswers, FinishAnswers}
-use Rattle.ta_cert.specs.Laws.{WasRead, AreGiven, joined, OneReadingByPieces}
-use Rattle.ta_cert.specs.declared.line.Line.{Line}
-use Rattle.ta_cert.specs.declared.fault.CertFault.{CertFault}
+use Rattle.ta_cert.proofs.Common.{ℕ, ◌+◌, ◌≡◌, List, [], ◌∷◌, ◌++◌, length, Result, Ok, Err, refl, sym, ap, subst, ◌∙◌, append_assoc, append-nil, arith, MatchResult, false≢true, has_end, ReadsLines, IsRefusedText, IsComplete, line_number, numbered_lines, StandsAt, StandsFor, FeedAnswers, FinishAnswers, WasRead, AreGiven, joined, OneReadingByPieces, Line, CertFault, Reader}
 use Rattle.ta_cert.specs.declared.fault.CertFault.TheVariants as fault
-use Rattle.ta_cert.specs.declared.reader.Reader.{Reader}
 use Rattle.ta_cert.proofs.Standing.{refused_more}
 use Rattle.ta_cert.proofs.Unique.{reads_unique, reads_malformed, reads_trailing}
 

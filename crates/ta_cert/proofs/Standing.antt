@@ -1,22 +1,12 @@
 -- What a reader stands for, step by step.
-use Rattle.std.proofs.Common.{ℕ, ◌+◌, ◌-◌, ◌^◌, ◌<◌, ◌≤◌, ◌≡◌, min, true, false, not, eqb, ◌||◌, List, [], ◌∷◌, ◌++◌, length, take, get_or, Option, Some, None, refl, sym, ap, subst, ◌∙◌, inl, inr, append_assoc, append-nil, length-append, arith, Result, Ok, Err, is_err}
+use Rattle.ta_cert.proofs.Common.{ℕ, ◌+◌, ◌-◌, ◌^◌, ◌<◌, ◌≤◌, ◌≡◌, min, true, false, not, eqb, ◌||◌, List, [], ◌∷◌, ◌++◌, length, take, get_or, Option, Some, None, refl, sym, ap, subst, ◌∙◌, inl, inr, append_assoc, append-nil, length-append, arith, Result, Ok, Err, is_err, false≢true, or_parts, take-append-le, SplitAt, avoids-append, whole_more, line_text, cert_lines_text, IsLine, SaysLine, is_header, is_end, has_end, line_limit, AreLater, AreLines, IsUnbroken, ReadsLines, line_number, IsMalformed, IsTrailing, IsRefusedText, IsRefusedBehind, numbered_lines, has_line, StandsAt, StandsFor, CompletesLines, FeedAnswers, EndsLine, FeedLineAnswers, IsFaultAt, IsFaultHere, TakeLineAnswers, AreTaken, TakeAnswers, Line, CertFault, Reader}
 use mathlib.Core.Bool.{beq}
 use Rattle.std.proofs.Math.Seq.{take-length}
-use Rattle.std.proofs.lemmas.Bool.{false≢true, or_parts}
-use Rattle.std.proofs.lemmas.List.{take-append-le}
-use Rattle.ta_base.specs.Bytes.{SplitAt}
 use Rattle.ta_base.proofs.Booleans.{beq_true, or_false, other_header, place_is}
-use Rattle.ta_base.proofs.Lists.{avoids-append, whole_more}
-use Rattle.ta_cert.specs.Lines.{line_text, cert_lines_text, IsLine, SaysLine, is_header, is_end, has_end}
-use Rattle.ta_cert.specs.Streams.{line_limit, AreLater, AreLines, IsUnbroken, ReadsLines, line_number, IsMalformed, IsTrailing, IsRefusedText, IsRefusedBehind, numbered_lines, has_line, StandsAt, StandsFor, CompletesLines, FeedAnswers, EndsLine, FeedLineAnswers}
-use Rattle.ta_cert.specs.Steps.{IsFaultAt, IsFaultHere, TakeLineAnswers, AreTaken, TakeAnswers}
 use Rattle.ta_cert.specs.declared.reader.Ended.{Ended}
-use Rattle.ta_cert.specs.declared.line.Line.{Line}
 use Rattle.ta_cert.specs.declared.line.Line.TheVariants as line
 use Rattle.ta_cert.specs.declared.line.Node.TheVariants as node
-use Rattle.ta_cert.specs.declared.fault.CertFault.{CertFault}
 use Rattle.ta_cert.specs.declared.fault.CertFault.TheVariants as fault
-use Rattle.ta_cert.specs.declared.reader.Reader.{Reader}
 
 -- the text of more lines
 pub lines_text-append : (ls ms : List Line) → cert_lines_text (ls ++ ms) ≡ cert_lines_text ls ++ cert_lines_text ms

@@ -1,16 +1,7 @@
 -- Texts and lines determine each other.
-use Rattle.std.proofs.Common.{ℕ, ℤ, ◌+◌, ◌<◌, ◌≤◌, ◌^◌, ◌≡◌, ◌⊎◌, true, false, List, [], ◌∷◌, ◌++◌, length, refl, sym, ap, subst, ◌∙◌, inl, inr, append_assoc, append-nil, length-append, decimal, arith, lit<, lit≤, codes}
-use Rattle.std.specs.Fmt.{signed_decimal}
-use Rattle.std.specs.List.{AllByRecursion}
-use Rattle.std.proofs.lemmas.Bool.{false≢true, false_from_ne_true, or_from}
-use Rattle.std.proofs.lemmas.List.{append_cancel_left}
-use Rattle.ta_base.proofs.DecimalDigits.{decimal_avoids, decimal_same, floor_same, guards_same, multiplier_number, number_is}
+use Rattle.ta_cert.proofs.Common.{ℕ, ℤ, ◌+◌, ◌<◌, ◌≤◌, ◌^◌, ◌≡◌, ◌⊎◌, true, false, List, [], ◌∷◌, ◌++◌, length, refl, sym, ap, subst, ◌∙◌, inl, inr, append_assoc, append-nil, length-append, decimal, arith, lit<, lit≤, codes, signed_decimal, AllByRecursion, false≢true, false_from_ne_true, or_from, append_cancel_left, decimal_avoids, decimal_same, floor_same, guards_same, multiplier_number, number_is, avoids-append, avoids_known, differ, first_byte, not_parted, line_text, cert_lines_text, ArePairs, IsSplit, pair_text, pairs_text, split_text, guards_text, IsVersion, IsLine, is_header, is_end, has_end, line_limit, AreLater, AreLines, IsUnbroken, ReadsLines, line_number, IsMalformed, IsTrailing, Line}
 use Rattle.ta_base.proofs.Integers.{floor_is}
-use Rattle.ta_base.proofs.Lists.{avoids-append, avoids_known, differ, first_byte, not_parted}
-use Rattle.ta_cert.specs.Lines.{line_text, cert_lines_text, ArePairs, IsSplit, pair_text, pairs_text, split_text, guards_text, IsVersion, IsLine, is_header, is_end, has_end}
-use Rattle.ta_cert.specs.Streams.{line_limit, AreLater, AreLines, IsUnbroken, ReadsLines, line_number, IsMalformed, IsTrailing}
 use Rattle.ta_cert.specs.declared.line.Node.TheVariants as node
-use Rattle.ta_cert.specs.declared.line.Line.{Line}
 use Rattle.ta_cert.specs.declared.line.Line.TheVariants as line
 use Rattle.ta_cert.proofs.Fields.{pair_unique}
 use Rattle.ta_cert.proofs.Pairs.{pairs_begin}

@@ -1,13 +1,7 @@
 -- The text of proofs, line by line.
-use Rattle.std.proofs.Common.{◌≡◌, ℕ, List, [], ◌∷◌, ◌++◌, map, codes, refl, sym, ap, ◌∙◌, append_assoc}
-use Rattle.ta_cert.specs.Lines.{line_text, cert_lines_text, node_text}
-use Rattle.ta_cert.specs.Certificates.{order_lines, version_of, proof_lines, nodes_text, order_text, orders_text, head_text, proof_text, proofs_text, cert_text}
-use Rattle.ta_cert.specs.declared.line.Node.{Node}
+use Rattle.ta_cert.proofs.Common.{◌≡◌, ℕ, List, [], ◌∷◌, ◌++◌, map, codes, refl, sym, ap, ◌∙◌, append_assoc, line_text, cert_lines_text, node_text, order_lines, version_of, proof_lines, nodes_text, order_text, orders_text, head_text, proof_text, proofs_text, cert_text, Node, Line, Order, Proof}
 use Rattle.ta_cert.specs.declared.line.Node.TheVariants as node
-use Rattle.ta_cert.specs.declared.line.Line.{Line}
 use Rattle.ta_cert.specs.declared.line.Line.TheVariants as line
-use Rattle.ta_cert.specs.declared.line.Order.{Order}
-use Rattle.ta_cert.specs.declared.line.Proof.{Proof}
 use Rattle.ta_cert.proofs.Standing.{lines_text-append}
 
 -- the text of nodes

@@ -1,5 +1,6 @@
 -- What a text says that comes in pieces, line by line, and its first fault.
 use Rattle.std.specs.Prelude.{ℕ, ◌+◌, ◌-◌, ◌^◌, ◌<◌, ◌≤◌, ◌≡◌, ◌⊎◌, min, Bool, true, false, List, [], ◌∷◌, ◌++◌, length, take, Option, Some, None, Result, Ok, Err}
+use Rattle.ta_base.specs.declared.limits.TheConstants.{LINE_BYTES}
 use Rattle.ta_base.specs.Bytes.{Avoids}
 use Rattle.ta_cert.specs.Lines.{line_text, cert_lines_text, IsLine, is_header, is_end, has_end}
 use Rattle.ta_cert.specs.declared.line.Line.{Line}
@@ -10,7 +11,7 @@ use Rattle.ta_cert.specs.declared.reader.Reader.{Reader}
 
 -- how many bytes a line has at most, its line feed aside
 abbrev pub line_limit : ℕ
-line_limit = 1048576
+line_limit = LINE_BYTES
 
 -- lines behind the first: each of its form and no header, and nothing after the end
 abbrev pub AreLater : List Line → Type 0

@@ -13,9 +13,7 @@ use crate::parse::read_line;
 use std::alloc::Global;
 use ta_base::List;
 use ta_base::bytes::split_at_byte;
-
-/// How many bytes a line has at most, its line feed aside.
-const LINE_LIMIT: usize = 1_048_576;
+use ta_base::limits::LINE_BYTES;
 
 /// A reader of certificates, which keeps of the text nothing but its unfinished line.
 #[derive(Drop)]
@@ -206,7 +204,7 @@ impl Reader {
         if self.ended {
             return Err(CertFault::Trailing(self.number));
         }
-        let room = LINE_LIMIT.saturating_sub(self.line.as_slice().len());
+        let room = LINE_BYTES.saturating_sub(self.line.as_slice().len());
         if bytes.len() > room {
             return Err(CertFault::Line(self.number));
         }

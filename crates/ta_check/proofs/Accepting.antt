@@ -1,39 +1,25 @@
--- certificates and the lines that may follow each other
-use Rattle.std.proofs.Common.{◌≡◌, inl, inr, ℕ, zero, suc, ◌≤◌, List, [], ◌∷◌, ◌++◌, map, length, reverse, Some, slice_get, arith, sym, ap, ◌∙◌, refl, subst, append-nil, codes, lit<, lit≤}
+-- Why what is accepted holds, and why a certificate is accepted.
+--
+-- The checker knows nothing of how a certificate was found. It reads line by line and keeps a standing: the pairs of
+-- guards that have been judged, the patterns that have begun, and for the pattern at hand the words that its nodes still
+-- leave. A line may follow where it refutes, splits or extends the next of these words, and a pattern may end where none is
+-- left.
+-- So a whole text whose lines may follow each other is a certificate in the sense of `Certificate`: read as trees, its nodes
+-- refute each word with which the pattern's search begins (`certificate_of`). Each leaf is a sum of rows that no natural
+-- values meet, each split leaves out no natural value, and each extension leaves out no legal word; so no legal word of the
+-- pattern has a solution (`certificate_unsolved`). A run in which the pattern occurs would give one (`Reorder` of ta_encode),
+-- so there is none, and the pattern is safe (`certificates_show`).
+-- The other way, the lines of a certificate follow each other, whoever wrote it (`lines_of`): the standing is computed
+-- from the lines alone, and only a number that leaves the range, or memory, can stop the checker before its end.
+use Rattle.ta_check.proofs.Common.{◌≡◌, inl, inr, ℕ, zero, suc, ◌≤◌, List, [], ◌∷◌, ◌++◌, map, length, reverse, Some, slice_get, arith, sym, ap, ◌∙◌, refl, subst, append-nil, codes, lit<, lit≤, false≢true, reverse-reverse, AllByRecursion, none_begun, File, Pattern, Distinct, Line, Node, Order, Tree, IsVersion, line_text, cert_lines_text, AreLater, IsComplete, line_limit, AreOrders, cert_lines, order_lines, pair_of, proof_lines, proofs_of, version_of, AreShort, Good, Search, weaker_proof, IsJudged, MayClaim, search_for, Claim, Safe, RestSafe, ComesLast, HasVersion, Subject, claiming, AllClaimsHold, AllSafe, AllUnsolved, Certificate, CertificateFor, CertificatesShow, ClaimsHold, MayClaimAll, MayHave, PatternUnsolved, ProvesClaim, ProvesPattern, ShowsPair, proof_number, Standing, OpensCertificate, first_standing, LeadThrough, MayFollow}
 use Rattle.std.proofs.lemmas.Fmt.{decimal_digit}
-use Rattle.std.proofs.lemmas.Bool.{false≢true}
-use Rattle.std.proofs.lemmas.List.{reverse-reverse}
-use Rattle.std.specs.List.{AllByRecursion}
-use Rattle.ta_base.proofs.Each.{none_begun}
 use Rattle.ta_rest.proofs.Resting.{no_pairs_good}
-use Rattle.ta_automaton.specs.declared.file.File.{File}
-use Rattle.ta_automaton.specs.declared.pattern.Pattern.{Pattern}
-use Rattle.ta_base.specs.Lists.{Distinct}
 use Rattle.ta_automaton.specs.Runs.{InScope, LoopsPure}
-use Rattle.ta_cert.specs.declared.line.Line.{Line}
 use Rattle.ta_cert.specs.declared.line.Line.TheVariants as line
-use Rattle.ta_cert.specs.declared.line.Node.{Node}
-use Rattle.ta_cert.specs.declared.line.Order.{Order}
-use Rattle.ta_cert.specs.Tree.{Tree}
-use Rattle.ta_cert.specs.Lines.{IsVersion, line_text, cert_lines_text}
-use Rattle.ta_cert.specs.Streams.{AreLater, IsComplete, line_limit}
-use Rattle.ta_cert.specs.Certificates.{AreOrders, cert_lines, order_lines, pair_of, proof_lines, proofs_of, version_of}
-use Rattle.ta_cert.specs.Laws.{AreShort}
 use Rattle.ta_cert.proofs.CertLines.{cert_complete}
-use Rattle.ta_implied.specs.Implied.{Good}
 use Rattle.ta_encode.specs.Refutes.{IsLeaf, ProofBy}
-use Rattle.ta_encode.specs.InPreorder.{Search}
-use Rattle.ta_encode.proofs.Preorders.{weaker_proof}
 use Rattle.ta_encode.proofs.Theorems.{no_solution, runs}
-use Rattle.ta_cursor.specs.Range.{IsJudged}
-use Rattle.ta_claim.specs.Claims.{MayClaim, search_for}
 use Rattle.ta_claim.proofs.ClaimsShown.{proofs_show}
-use Rattle.ta_claim.specs.declared.claim.Claim.{Claim}
-use Rattle.ta_claim.specs.declared.claim.Claim.TheVariants.{Safe, RestSafe}
-use Rattle.ta_rest.specs.Endings.{ComesLast}
-use Rattle.ta_check.specs.Subjects.{HasVersion, Subject, claiming}
-use Rattle.ta_check.specs.Certificate.{AllClaimsHold, AllSafe, AllUnsolved, Certificate, CertificateFor, CertificatesShow, ClaimsHold, MayClaimAll, MayHave, PatternUnsolved, ProvesClaim, ProvesPattern, ShowsPair, proof_number}
-use Rattle.ta_check.specs.Lines.{Standing, OpensCertificate, first_standing, LeadThrough, MayFollow}
 use Rattle.ta_check.proofs.Searches.{searched}
 use Rattle.ta_check.proofs.Behind.{lead_proofs, standing}
 use Rattle.ta_check.proofs.Heads.{OrdersBehind, heads, lead_orders}

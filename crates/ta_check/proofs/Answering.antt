@@ -1,20 +1,8 @@
 -- what the judge's answer excludes and proves
-use Rattle.std.proofs.Common.{ℕ, ◌≡◌, ◌≢◌, ◌⊎◌, inl, inr, false, List, [], ◌++◌, Result, Ok, Err, IfOk, IfErr, IsErrOf, is_err, refl, sym, ap, ◌∙◌, subst}
-use Rattle.std.proofs.lemmas.Bool.{false≢true}
-use Rattle.ta_cert.specs.declared.fault.CertFault.{CertFault}
+use Rattle.ta_check.proofs.Common.{ℕ, ◌≡◌, ◌≢◌, ◌⊎◌, inl, inr, false, List, [], ◌++◌, Result, Ok, Err, IfOk, IfErr, IsErrOf, is_err, refl, sym, ap, ◌∙◌, subst, false≢true, CertFault, IsErrOrMemory, Reader, reads_malformed, reads_trailing, Subject, Accepted, CertificateFor, MayClaimAll, Position, StandBehind, CheckerStandsFor, IsSoundChecker, CheckerFeedAnswers, IsExactFeed, CheckerFinishAnswers, IsExactCheck, subject_of, TakenTo, LineAtFault, IsFirstFaultFor, IsLastingFor}
 use Rattle.ta_cert.specs.declared.fault.CertFault.TheVariants as fault
-use Rattle.ta_cert.specs.Laws.{IsErrOrMemory}
-use Rattle.ta_cert.specs.declared.reader.Reader.{Reader}
 use Rattle.ta_cert.specs.Streams.{FinishAnswers as ReaderFinished}
-use Rattle.ta_cert.proofs.Unique.{reads_malformed, reads_trailing}
-use Rattle.ta_check.specs.Subjects.{Subject}
-use Rattle.ta_check.specs.declared.accepted.Accepted.{Accepted}
-use Rattle.ta_check.specs.Certificate.{CertificateFor, MayClaimAll}
-use Rattle.ta_check.specs.declared.position.Position.{Position}
-use Rattle.ta_check.specs.Checkers.{StandBehind, CheckerStandsFor, IsSoundChecker, CheckerFeedAnswers, IsExactFeed, CheckerFinishAnswers, IsExactCheck, subject_of}
 use Rattle.ta_check.specs.declared.checker.Checker.{Checker}
-use Rattle.ta_check.specs.Inside.Pieces.{TakenTo}
-use Rattle.ta_check.specs.Faults.{LineAtFault, IsFirstFaultFor, IsLastingFor}
 use Rattle.ta_check.proofs.OneFault.{one_fault}
 use Rattle.ta_check.proofs.Refusing.{no_certificate}
 use Rattle.ta_check.proofs.Pieces.{end_fails}

@@ -1,28 +1,6 @@
 -- lines behind the pairs of a certificate: its proofs
-use Rattle.std.proofs.Common.{◌≡◌, inl, inr, ℕ, ◌<◌, ◌^◌, true, List, [], ◌∷◌, ◌++◌, map, reverse, None, Some, sym, ap, ◌∙◌, refl, subst}
-use Rattle.std.specs.List.{AllByRecursion}
-use Rattle.std.proofs.lemmas.Bool.{false≢true}
-use Rattle.std.proofs.lemmas.Option.{slice_get_within}
-use Rattle.ta_base.proofs.Each.{older_new, others, still_new}
-use Rattle.ta_base.proofs.Lists.{reverse_first, some_at}
-use Rattle.ta_base.proofs.Options.{not_waiting}
-use Rattle.ta_automaton.specs.declared.pattern.Pattern.{Pattern}
-use Rattle.ta_base.specs.Lists.{Distinct}
-use Rattle.ta_base.specs.Masks.{In}
-use Rattle.ta_cert.specs.declared.line.Line.{Line}
+use Rattle.ta_check.proofs.Common.{◌≡◌, inl, inr, ℕ, ◌<◌, ◌^◌, true, List, [], ◌∷◌, ◌++◌, map, reverse, None, Some, sym, ap, ◌∙◌, refl, subst, AllByRecursion, false≢true, slice_get_within, older_new, others, still_new, reverse_first, some_at, not_waiting, Pattern, Distinct, In, Line, Node, Tree, all_preorder, IsNode, has_end, AreLater, AreWritable, proof_lines, proofs_of, Pending, Search, all_starts, parts, RefutedInOrder, in_order, IsJudged, search_for, Subject, search_at, ProvesClaim, proof_number, Standing, AtWord, NothingIsLeft, BeginsProof, Stands, EndsCertificate, LeadThrough}
 use Rattle.ta_cert.specs.declared.line.Line.TheVariants as line
-use Rattle.ta_cert.specs.declared.line.Node.{Node}
-use Rattle.ta_cert.specs.Tree.{Tree, all_preorder}
-use Rattle.ta_cert.specs.Lines.{IsNode, has_end}
-use Rattle.ta_cert.specs.Streams.{AreLater}
-use Rattle.ta_cert.specs.Certificates.{AreWritable, proof_lines, proofs_of}
-use Rattle.ta_encode.specs.InPreorder.{Pending, Search, all_starts, parts, RefutedInOrder}
-use Rattle.ta_encode.proofs.Preorders.{in_order}
-use Rattle.ta_cursor.specs.Range.{IsJudged}
-use Rattle.ta_claim.specs.Claims.{search_for}
-use Rattle.ta_check.specs.Subjects.{Subject, search_at}
-use Rattle.ta_check.specs.Certificate.{ProvesClaim, proof_number}
-use Rattle.ta_check.specs.Lines.{Standing, AtWord, NothingIsLeft, BeginsProof, Stands, EndsCertificate, LeadThrough}
 use Rattle.ta_check.proofs.Searches.{same_roots, searched, search_named}
 
 -- where a certificate stands where no pair waits

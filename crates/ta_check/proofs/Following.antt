@@ -1,23 +1,8 @@
 -- Lines lead to one standing, and those that lead on are not at fault
-use Rattle.std.proofs.Common.{◌≡◌, ◌⊎◌, inl, inr, ℕ, ◌<◌, ℤ, List, [], ◌∷◌, ◌++◌, length, false, None, Some, refl, sym, ap, subst, ◌∙◌, arith}
-use Rattle.std.proofs.lemmas.Bool.{false≢true}
-use Rattle.ta_base.proofs.Options.{not_waiting}
-use Rattle.ta_cert.specs.declared.line.Line.{Line}
+use Rattle.ta_check.proofs.Common.{◌≡◌, ◌⊎◌, inl, inr, ℕ, ◌<◌, ℤ, List, [], ◌∷◌, ◌++◌, length, false, None, Some, refl, sym, ap, subst, ◌∙◌, arith, false≢true, not_waiting, Line, Node, CertFault, IsShown, Pending, Search, parts, MayStand, leaf_back, LeafFault, no_fault, IsJudged, Subject, search_at, Standing, AtWord, ShowsWaiting, Stands, Leads, LeadThrough, AtSomeWord, IsMisplaced, IsNoLeaf, FirstLeafFault, LeafFails, PairFails, IsAtFault, check_stays}
 use Rattle.ta_cert.specs.declared.line.Line.TheVariants as line
-use Rattle.ta_cert.specs.declared.line.Node.{Node}
 use Rattle.ta_cert.specs.declared.line.Node.TheVariants as node
-use Rattle.ta_cert.specs.declared.fault.CertFault.{CertFault}
 use Rattle.ta_cert.specs.declared.fault.CertFault.TheVariants as fault
-use Rattle.ta_implied.specs.Orders.{IsShown}
-use Rattle.ta_encode.specs.InPreorder.{Pending, Search, parts, MayStand}
-use Rattle.ta_encode.proofs.CodeRows.{leaf_back}
-use Rattle.ta_farkas.specs.declared.LeafFault.{LeafFault}
-use Rattle.ta_farkas.proofs.Judging.{no_fault}
-use Rattle.ta_cursor.specs.Range.{IsJudged}
-use Rattle.ta_check.specs.Subjects.{Subject, search_at}
-use Rattle.ta_check.specs.Lines.{Standing, AtWord, ShowsWaiting, Stands, Leads, LeadThrough}
-use Rattle.ta_check.specs.Faults.{AtSomeWord, IsMisplaced, IsNoLeaf, FirstLeafFault, LeafFails, PairFails, IsAtFault}
-use Rattle.ta_cursor.proofs.Ranges.{check_stays}
 use Rattle.ta_check.proofs.LeafFaults.{shows_or_fails}
 
 -- one word is the first that is left

@@ -1,26 +1,8 @@
 -- lines behind the first line of a certificate: its pairs with their leaves, and then its proofs
-use Rattle.std.proofs.Common.{◌≡◌, inl, inr, ℕ, suc, ℤ, true, List, [], ◌∷◌, ◌++◌, map, None, Some, sym, ap, ◌∙◌, refl, subst, append_assoc, append-nil}
-use Rattle.std.proofs.lemmas.Bool.{false≢true}
-use Rattle.std.specs.List.{AllByRecursion}
-use Rattle.ta_base.proofs.Each.{apart_before, each_at_head}
-use Rattle.ta_base.proofs.Members.{In-left, In-right}
-use Rattle.ta_base.proofs.Options.{not_waiting}
-use Rattle.ta_cert.specs.declared.line.Line.{Line}
+use Rattle.ta_check.proofs.Common.{◌≡◌, inl, inr, ℕ, suc, ℤ, true, List, [], ◌∷◌, ◌++◌, map, None, Some, sym, ap, ◌∙◌, refl, subst, append_assoc, append-nil, false≢true, AllByRecursion, apart_before, each_at_head, In-left, In-right, not_waiting, Line, Node, Order, IsLine, IsNode, has_end, AreLater, AreOrders, order_lines, pair_of, Automaton, Good, IsPair, IsShown, MayJoin, leads_along, Subject, ShowsPair, Standing, NothingIsLeft, ShowsWaiting, TakesOrder, Waits, LeadThrough}
 use Rattle.ta_cert.specs.declared.line.Line.TheVariants as line
-use Rattle.ta_cert.specs.declared.line.Node.{Node}
 use Rattle.ta_cert.specs.declared.line.Node.TheVariants as node
-use Rattle.ta_cert.specs.declared.line.Order.{Order}
-use Rattle.ta_cert.specs.Lines.{IsLine, IsNode, has_end}
-use Rattle.ta_cert.specs.Streams.{AreLater}
-use Rattle.ta_cert.specs.Certificates.{AreOrders, order_lines, pair_of}
-use Rattle.ta_automaton.specs.declared.automaton.Automaton.{Automaton}
-use Rattle.ta_implied.specs.Implied.{Good, IsPair}
-use Rattle.ta_implied.specs.Orders.{IsShown, MayJoin}
-use Rattle.ta_implied.proofs.Chains.{leads_along}
 use Rattle.ta_implied.proofs.Joining.{good_behind}
-use Rattle.ta_check.specs.Subjects.{Subject}
-use Rattle.ta_check.specs.Certificate.{ShowsPair}
-use Rattle.ta_check.specs.Lines.{Standing, NothingIsLeft, ShowsWaiting, TakesOrder, Waits, LeadThrough}
 use Rattle.ta_check.proofs.Following.{waits_once}
 use Rattle.ta_check.proofs.Behind.{Behind, behind, behind_last, behind_pattern, standing}
 

@@ -1,20 +1,9 @@
 -- a position before the proofs: the first line, the pairs and their leaves
-use Rattle.std.proofs.Common.{◌≡◌, ◌≢◌, inl, inr, ℕ, ℤ, List, [], ◌∷◌, ◌++◌, None, Some, Ok, Err, sym, ◌∙◌, subst, refl}
-use Rattle.ta_base.proofs.Members.{In-left, In-right, in_append}
-use Rattle.ta_automaton.specs.declared.automaton.Automaton.{Automaton}
-use Rattle.ta_base.specs.Masks.{In}
+use Rattle.ta_check.proofs.Common.{◌≡◌, ◌≢◌, inl, inr, ℕ, ℤ, List, [], ◌∷◌, ◌++◌, None, Some, Ok, Err, sym, ◌∙◌, subst, refl, In-left, In-right, in_append, Automaton, In, JoinsPair, MayJoin, with_pair, leads_along, here_is, search_for, HasVersion, Subject, Position, Standing, NothingIsLeft, ShowsWaiting, TakesOrder, Waits, Between, IsPositionAt, SamePairs, LineAnswers}
 use Rattle.ta_cert.specs.declared.line.Line.TheVariants as line
 use Rattle.ta_cert.specs.declared.line.Node.TheVariants as node
 use Rattle.ta_cert.specs.declared.fault.CertFault.TheVariants as fault
-use Rattle.ta_implied.specs.Orders.{JoinsPair, MayJoin, with_pair}
 use Rattle.ta_implied.proofs.Placing.{in_placed, placed_in}
-use Rattle.ta_implied.proofs.Chains.{leads_along}
-use Rattle.ta_cursor.proofs.TreesLeft.{here_is}
-use Rattle.ta_claim.specs.Claims.{search_for}
-use Rattle.ta_check.specs.Subjects.{HasVersion, Subject}
-use Rattle.ta_check.specs.declared.position.Position.{Position}
-use Rattle.ta_check.specs.Lines.{Standing, NothingIsLeft, ShowsWaiting, TakesOrder, Waits}
-use Rattle.ta_check.specs.Positions.{Between, IsPositionAt, SamePairs, LineAnswers}
 
 -- the first line
 pub header_taken : (subject : Subject) (s : Position) (at : Standing) (number version : ℕ) → HasVersion subject.claim version → IsPositionAt subject s at → LineAnswers subject at number (line.Header version) (record s { version = version }) (Ok tt)

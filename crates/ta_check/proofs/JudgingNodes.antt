@@ -1,31 +1,9 @@
 -- a position that takes a node
-use Rattle.std.proofs.Common.{◌≡◌, ◌⊎◌, ◌<◌, length, slice_get, inl, inr, ℕ, ℤ, Bool, true, false, List, [], ◌∷◌, ◌++◌, reverse, Option, None, Some, Result, Ok, Err, sym, ap, ◌∙◌, subst, refl}
-use Rattle.std.proofs.lemmas.Option.{slice_get_within}
-use Rattle.ta_base.proofs.Options.{not_waiting}
-use Rattle.ta_automaton.specs.declared.pattern.Pattern.{Pattern}
-use Rattle.ta_cert.specs.declared.line.Line.{Line}
+use Rattle.ta_check.proofs.Common.{◌≡◌, ◌⊎◌, ◌<◌, length, slice_get, inl, inr, ℕ, ℤ, Bool, true, false, List, [], ◌∷◌, ◌++◌, reverse, Option, None, Some, Result, Ok, Err, sym, ap, ◌∙◌, subst, refl, slice_get_within, not_waiting, Pattern, Line, Node, CertFault, Element, Pending, Search, parts, MayStand, IsEncoding, Place, IsWord, here, Cursor, AllGoOn, AllWithin, IsAllWithin, here_at, here_first, here_is, later_words, LeafFault, search_for, Subject, Position, IsJudged, Standing, AtWord, Stands, AtSomeWord, FirstLeafFault, LeafFails, Between, InNewest, IsPositionAt, IsSomewhere, LeafTaken, SamePairs, LineAnswers, fault_at}
 use Rattle.ta_cert.specs.declared.line.Line.TheVariants as line
-use Rattle.ta_cert.specs.declared.line.Node.{Node}
 use Rattle.ta_cert.specs.declared.line.Node.TheVariants as node
-use Rattle.ta_cert.specs.declared.fault.CertFault.{CertFault}
-use Rattle.ta_words.specs.declared.element.Element.{Element}
-use Rattle.ta_encode.specs.InPreorder.{Pending, Search, parts, MayStand}
-use Rattle.ta_encode.specs.Marks.{IsEncoding}
-use Rattle.ta_cursor.specs.declared.place.Place.{Place}
-use Rattle.ta_cursor.specs.Cursors.{IsWord, here}
-use Rattle.ta_cursor.specs.declared.cursor.Cursor.{Cursor}
-use Rattle.ta_cursor.specs.InTrees.{AllGoOn, AllWithin, IsAllWithin, here_at}
-use Rattle.ta_cursor.proofs.TreesLeft.{here_first, here_is, later_words}
-use Rattle.ta_farkas.specs.declared.LeafFault.{LeafFault}
 use Rattle.ta_farkas.specs.declared.LeafFault.TheVariants as leaf
-use Rattle.ta_claim.specs.Claims.{search_for}
-use Rattle.ta_check.specs.Subjects.{Subject}
-use Rattle.ta_check.specs.declared.position.Position.{Position}
-use Rattle.ta_cursor.specs.Range.{IsJudged}
-use Rattle.ta_check.specs.Lines.{Standing, AtWord, Stands}
-use Rattle.ta_check.specs.Faults.{AtSomeWord, FirstLeafFault, LeafFails}
 use Rattle.ta_check.proofs.Searches.{search_same}
-use Rattle.ta_check.specs.Positions.{Between, InNewest, IsPositionAt, IsSomewhere, LeafTaken, SamePairs, LineAnswers, fault_at}
 
 -- what a position keeps of the first line and the pairs, where no pair waits
 pub record Head (s : Position) (at : Standing) : Type 0 where

@@ -1,22 +1,6 @@
 -- a position that begins a proof
-use Rattle.std.proofs.Common.{◌≡◌, inl, inr, ℕ, ◌<◌, List, [], ◌∷◌, ◌++◌, length, reverse, Some, slice_get, sym, ap, ◌∙◌, subst, refl, arith}
-use Rattle.std.proofs.lemmas.List.{reverse-append}
-use Rattle.std.proofs.lemmas.Option.{slice_get_cases}
-use Rattle.ta_base.specs.Masks.{In}
-use Rattle.ta_base.proofs.Options.{not_waiting}
-use Rattle.ta_automaton.specs.declared.pattern.Pattern.{Pattern}
-use Rattle.ta_automaton.specs.declared.automaton.Automaton.{Automaton}
-use Rattle.ta_claim.specs.declared.claim.Claim.{Claim}
-use Rattle.ta_cursor.specs.declared.place.Place.{Place}
-use Rattle.ta_encode.specs.InPreorder.{Search, all_starts}
+use Rattle.ta_check.proofs.Common.{◌≡◌, inl, inr, ℕ, ◌<◌, List, [], ◌∷◌, ◌++◌, length, reverse, Some, slice_get, sym, ap, ◌∙◌, subst, refl, arith, reverse-append, slice_get_cases, In, not_waiting, Pattern, Automaton, Claim, Place, Search, all_starts, IsEncoding, AllWithin, search_for, Subject, Position, Standing, BeginsProof, NothingIsLeft, IsPositionAt}
 use Rattle.ta_check.proofs.Searches.{same_roots}
-use Rattle.ta_encode.specs.Marks.{IsEncoding}
-use Rattle.ta_cursor.specs.InTrees.{AllWithin}
-use Rattle.ta_claim.specs.Claims.{search_for}
-use Rattle.ta_check.specs.Subjects.{Subject}
-use Rattle.ta_check.specs.declared.position.Position.{Position}
-use Rattle.ta_check.specs.Lines.{Standing, BeginsProof, NothingIsLeft}
-use Rattle.ta_check.specs.Positions.{IsPositionAt}
 use Rattle.ta_check.proofs.JudgingHeads.{free_back}
 use Rattle.ta_check.proofs.JudgingNodes.{Head, SameHead, head_kept, head_of}
 

@@ -1,13 +1,6 @@
 -- A fault that lasts
-use Rattle.std.proofs.Common.{◌∙◌, ℕ, List, [], ◌∷◌, ◌++◌, inl, inr, ap, append_assoc}
-use Rattle.ta_cert.specs.declared.fault.CertFault.{CertFault}
+use Rattle.ta_check.proofs.Common.{◌∙◌, ℕ, List, [], ◌∷◌, ◌++◌, inl, inr, ap, append_assoc, CertFault, Line, cert_lines_text, AreNoLine, IsMalformed, IsTrailing, Subject, CertificateFor, IsLastingFor, LastingFaultsLast, LineAtFault}
 use Rattle.ta_cert.specs.declared.fault.CertFault.TheVariants as fault
-use Rattle.ta_cert.specs.declared.line.Line.{Line}
-use Rattle.ta_cert.specs.Lines.{cert_lines_text}
-use Rattle.ta_cert.specs.Streams.{AreNoLine, IsMalformed, IsTrailing}
-use Rattle.ta_check.specs.Subjects.{Subject}
-use Rattle.ta_check.specs.Certificate.{CertificateFor}
-use Rattle.ta_check.specs.Faults.{IsLastingFor, LastingFaultsLast, LineAtFault}
 use Rattle.ta_check.proofs.Refusing.{no_certificate}
 
 -- bytes that are no line are none in a longer text

@@ -1,23 +1,7 @@
 -- A leaf has one first fault
-use Rattle.std.proofs.Common.{◌≡◌, ℕ, ◌<◌, ◌≤◌, ◌⊎◌, List, cond, nat_lt, ℤ, pos, ◌≤ℤ◌, ◌<ℤ◌, slice_get, inl, inr, refl, sym, ap, subst, ◌∙◌, arith}
-use Rattle.std.proofs.lemmas.Bool.{cases_lt}
-use Rattle.std.proofs.lemmas.Int.{ints}
-use Rattle.ta_linear.specs.Leaf.{coefficient_in, constant_in}
-use Rattle.ta_linear.specs.declared.row.System.{System}
-use Rattle.ta_automaton.specs.declared.automaton.Automaton.{Automaton}
-use Rattle.ta_implied.specs.Refused.{FailsToShow}
-use Rattle.ta_implied.specs.Orders.{IsShown}
-use Rattle.ta_farkas.proofs.Judging.{no_fault}
+use Rattle.ta_check.proofs.Common.{◌≡◌, ℕ, ◌<◌, ◌≤◌, ◌⊎◌, List, cond, nat_lt, ℤ, pos, ◌≤ℤ◌, ◌<ℤ◌, slice_get, inl, inr, refl, sym, ap, subst, ◌∙◌, arith, cases_lt, ints, coefficient_in, constant_in, System, Automaton, FailsToShow, IsShown, no_fault, bounded_rows, SystemAt, coefficient_same, constant_same, rows_count, weighted_same, part_in, entry, column_sum, ColumnStays, row_at, FirstMissing, FineBefore, IsFirstFaultOfLeaf, LeafFault, RowNumber, Overflow, Positive, NotNegative, FirstLeafFault, stays_same}
 use Rattle.ta_check.proofs.PairSystems.{SameColumns, imply_columns}
-use Rattle.ta_encode.specs.Search.{Pending, Search, bounded_rows}
-use Rattle.ta_encode.specs.Code.{SystemAt}
-use Rattle.ta_encode.proofs.CodeRows.{coefficient_same, constant_same, rows_count, weighted_same}
-use Rattle.ta_farkas.specs.Columns.{part_in, entry, column_sum, ColumnStays}
-use Rattle.ta_farkas.specs.Faults.{row_at, FirstMissing, FineBefore, IsFirstFaultOfLeaf}
-use Rattle.ta_farkas.specs.declared.LeafFault.{LeafFault}
-use Rattle.ta_farkas.specs.declared.LeafFault.TheVariants.{RowNumber, Overflow, Positive, NotNegative}
-use Rattle.ta_check.specs.Faults.{FirstLeafFault}
-use Rattle.ta_cursor.proofs.Ranges.{stays_same}
+use Rattle.ta_encode.specs.Search.{Pending, Search}
 
 -- systems of one word are the same column by column
 same_columns : (search : Search) (w : Pending) (s z : System) → SystemAt search w s → SystemAt search w z → SameColumns s z

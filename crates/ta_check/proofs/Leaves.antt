@@ -1,17 +1,6 @@
 -- the judge of a leaf
-use Rattle.std.proofs.Common.{◌≡◌, ℕ, zero, suc, ◌+◌, ◌<◌, ◌≤◌, ◌^◌, ℤ, pos, unsigned_abs, List, [], ◌∷◌, ◌++◌, length, take, get_or, to_z, of_z, FitsSigned, ap, ◌∙◌, arith}
-use Rattle.std.specs.Int.{w128}
-use Rattle.std.proofs.lemmas.Int.{ints, to_z-of_z, fits_signed_from_abs}
-use Rattle.ta_linear.specs.Leaf.{AreMultipliers, LeafOf}
-use Rattle.ta_linear.specs.declared.row.System.{System}
-use Rattle.ta_cert.specs.Lines.{ArePairs}
+use Rattle.ta_check.proofs.Common.{◌≡◌, ℕ, zero, suc, ◌+◌, ◌<◌, ◌≤◌, ◌^◌, ℤ, pos, unsigned_abs, List, [], ◌∷◌, ◌++◌, length, take, get_or, to_z, of_z, FitsSigned, ap, ◌∙◌, arith, w128, ints, to_z-of_z, fits_signed_from_abs, AreMultipliers, LeafOf, System, ArePairs, SystemAt, leaf_of, CheckStays, renumbered, IsJudged, leaf_stays}
 use Rattle.ta_encode.specs.Search.{Pending, Search}
-use Rattle.ta_encode.specs.Code.{SystemAt}
-use Rattle.ta_encode.proofs.CodeRows.{leaf_of}
-use Rattle.ta_farkas.specs.Columns.{CheckStays}
-use Rattle.ta_check.specs.Inside.Leaves.{renumbered}
-use Rattle.ta_cursor.specs.Range.{IsJudged}
-use Rattle.ta_cursor.proofs.Ranges.{leaf_stays}
 
 -- pairs of a line are multipliers
 pub pairs_rise : (low : ℕ) (ts : List (ℕ × ℤ)) → ArePairs low ts → AreMultipliers low (2 ^ 32) ts

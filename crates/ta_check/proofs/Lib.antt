@@ -19,3 +19,4 @@ mod JudgingNodes
 mod JudgingProofs
 mod JudgingHeads
 pub mod OwnPatterns
+mod Common

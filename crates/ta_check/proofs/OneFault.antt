@@ -1,13 +1,6 @@
 -- Two first faults of a text are one
-use Rattle.std.proofs.Common.{◌≡◌, ℕ, List, ◌∷◌, ◌++◌, length, inl, inr, sym, ap, subst, ◌∙◌}
-use Rattle.ta_cert.specs.declared.fault.CertFault.{CertFault}
+use Rattle.ta_check.proofs.Common.{◌≡◌, ℕ, List, ◌∷◌, ◌++◌, length, inl, inr, sym, ap, subst, ◌∙◌, CertFault, line_text, line_number, reads_unique, reads_malformed, reads_trailing, malformed_trailing, malformed_place, trailing_place, Subject, first_standing, LeadThrough, IsAtFault, LineAtFault, TextAtFault, IsFirstFaultFor}
 use Rattle.ta_cert.specs.declared.fault.CertFault.TheVariants as fault
-use Rattle.ta_cert.specs.Lines.{line_text}
-use Rattle.ta_cert.specs.Streams.{line_number}
-use Rattle.ta_cert.proofs.Unique.{reads_unique, reads_malformed, reads_trailing, malformed_trailing, malformed_place, trailing_place}
-use Rattle.ta_check.specs.Subjects.{Subject}
-use Rattle.ta_check.specs.Lines.{first_standing, LeadThrough}
-use Rattle.ta_check.specs.Faults.{IsAtFault, LineAtFault, TextAtFault, IsFirstFaultFor}
 use Rattle.ta_check.proofs.Following.{leads_through_once}
 use Rattle.ta_check.proofs.Stopping.{stops_once, line_stops, line_at_front, text_breaks, line_or_text}
 use Rattle.ta_check.proofs.Reasons.{known_through, at_fault_once}

@@ -1,13 +1,7 @@
 -- what is shown of endings holds of the file's own patterns
-use Rattle.std.proofs.Common.{◌≡◌, ℕ, zero, suc, List, [], ◌∷◌, Some, slice_get, refl, subst}
-use Rattle.ta_automaton.specs.declared.automaton.Automaton.{Automaton}
-use Rattle.ta_automaton.specs.declared.file.File.{File}
-use Rattle.ta_automaton.specs.declared.pattern.Pattern.{Pattern}
-use Rattle.ta_rest.specs.Endings.{Endings, IsEnding}
-use Rattle.ta_rest.specs.Faults.{EndingsOf}
+use Rattle.ta_check.proofs.Common.{◌≡◌, ℕ, zero, suc, List, [], ◌∷◌, Some, slice_get, refl, subst, Automaton, File, Pattern, Endings, IsEnding, EndingsOf, AllRestSafe}
 use Rattle.ta_rest.specs.Rest.{RestSafe}
 use Rattle.ta_rest.proofs.EndingLaws.{endings_rest}
-use Rattle.ta_check.specs.Certificate.{AllRestSafe}
 
 -- a pattern, and its ending of this number
 record Own (ps : List Pattern) (number : ℕ) (ending : Pattern) : Type 0 where

@@ -1,12 +1,6 @@
 -- the systems of a pair of guards are the same column by column
-use Rattle.std.proofs.Common.{◌≡◌, ℕ, zero, suc, List, [], ◌∷◌, ◌++◌, length, cond, nat_lt, ℤ, pos, neg_ℤ, ◌-ℤ◌, slice_get, Some, refl, sym, ap, ◌∙◌}
+use Rattle.ta_check.proofs.Common.{◌≡◌, ℕ, zero, suc, List, [], ◌∷◌, ◌++◌, length, cond, nat_lt, ℤ, pos, neg_ℤ, ◌-ℤ◌, slice_get, Some, refl, sym, ap, ◌∙◌, coefficient_in, constant_in, Row, System, Automaton, AreCopies, ImplySystem, IsCopy, resilience_rows, entry}
 use Rattle.ta_linear.specs.Terms.{coefficient}
-use Rattle.ta_linear.specs.Leaf.{coefficient_in, constant_in}
-use Rattle.ta_linear.specs.declared.row.Row.{Row}
-use Rattle.ta_linear.specs.declared.row.System.{System}
-use Rattle.ta_automaton.specs.declared.automaton.Automaton.{Automaton}
-use Rattle.ta_implied.specs.Implied.{AreCopies, ImplySystem, IsCopy, resilience_rows}
-use Rattle.ta_farkas.specs.Columns.{entry}
 
 -- as many unknowns, as many rows, and the same numbers in each column
 pub record SameColumns (s z : System) : Type 0 where

@@ -1,29 +1,11 @@
 -- the rows that a leaf names, judged apart from the others
-use Rattle.std.proofs.Common.{◌≡◌, ℕ, zero, suc, ◌+◌, ◌<◌, ◌≤◌, ◌^◌, ℤ, pos, ◌+ℤ◌, ◌*ℤ◌, ◌≤ℤ◌, ◌<ℤ◌, cond, nat_lt, List, [], ◌∷◌, ◌++◌, length, map, reverse, slice_get, Option, Some, refl, sym, ap, subst, ◌∙◌, arith}
+use Rattle.ta_check.proofs.Common.{◌≡◌, ℕ, zero, suc, ◌+◌, ◌<◌, ◌≤◌, ◌^◌, ℤ, pos, ◌+ℤ◌, ◌*ℤ◌, ◌≤ℤ◌, ◌<ℤ◌, cond, nat_lt, List, [], ◌∷◌, ◌++◌, length, map, reverse, slice_get, Option, Some, refl, sym, ap, subst, ◌∙◌, arith, weighted, AreMultipliers, LeafOf, coefficient_in, constant_in, Row, System, ArePairs, LinearRow, bound_row, IsRowOf, AreRowsOf, SystemAt, bounded_rows, BoundsWithin, rows_count, whole_system, Cursor, IsWord, here, IsJudged, part_in, column_sum, ColumnStays, CheckStays, row_at, FirstMissing, FineBefore, IsFirstFaultOfLeaf, LeafFault, RowNumber, Overflow, Positive, NotNegative, FirstLeafFault, WithoutBounds, renumbered}
 use Rattle.ta_linear.specs.Numbers.{InRange}
 use Rattle.ta_linear.specs.Sums.{StaysInRange}
-use Rattle.ta_linear.specs.Leaf.{weighted, AreMultipliers, LeafOf, coefficient_in, constant_in}
-use Rattle.ta_linear.specs.declared.row.Row.{Row}
-use Rattle.ta_linear.specs.declared.row.System.{System}
-use Rattle.ta_cert.specs.Lines.{ArePairs}
-use Rattle.ta_encode.specs.System.{LinearRow, bound_row}
-use Rattle.ta_encode.specs.Code.{IsRowOf, AreRowsOf, SystemAt}
 use Rattle.ta_encode.specs.Named.{row_numbered, rows_named, row_number_at, AreThere, FirstAbsent, NamesRows}
 use Rattle.ta_encode.specs.declared.meaning.Bound.{Bound}
 use Rattle.ta_encode.specs.declared.named.Named.TheVariants.{Rows, Absent}
-use Rattle.ta_encode.specs.Search.{Pending, Search, bounded_rows}
-use Rattle.ta_encode.specs.Lines.{BoundsWithin}
-use Rattle.ta_encode.proofs.CodeRows.{rows_count}
-use Rattle.ta_encode.proofs.Whole.{whole_system}
-use Rattle.ta_cursor.specs.declared.cursor.Cursor.{Cursor}
-use Rattle.ta_cursor.specs.Cursors.{IsWord, here}
-use Rattle.ta_cursor.specs.Range.{IsJudged}
-use Rattle.ta_farkas.specs.Columns.{part_in, column_sum, ColumnStays, CheckStays}
-use Rattle.ta_farkas.specs.Faults.{row_at, FirstMissing, FineBefore, IsFirstFaultOfLeaf}
-use Rattle.ta_farkas.specs.declared.LeafFault.{LeafFault}
-use Rattle.ta_farkas.specs.declared.LeafFault.TheVariants.{RowNumber, Overflow, Positive, NotNegative}
-use Rattle.ta_check.specs.Faults.{FirstLeafFault}
-use Rattle.ta_check.specs.Inside.Leaves.{WithoutBounds, renumbered}
+use Rattle.ta_encode.specs.Search.{Pending, Search}
 use Rattle.ta_check.proofs.Leaves.{judged}
 
 -- one list names rows of a system and another those of another, and what a function takes of them is the same one by one

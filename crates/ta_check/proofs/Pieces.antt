@@ -1,23 +1,8 @@
 -- a certificate that is judged piece by piece
-use Rattle.std.proofs.Common.{ℕ, ◌<◌, ◌≤◌, ◌≡◌, ◌⊎◌, List, [], ◌∷◌, ◌++◌, length, take, drop, reverse, Option, Some, Result, Ok, Err, refl, sym, ap, subst, ◌∙◌, inl, inr, append_assoc, take-append-drop, arith}
-use Rattle.std.proofs.lemmas.List.{reverse-reverse}
-use Rattle.ta_cert.specs.Lines.{IsLine, cert_lines_text}
-use Rattle.ta_cert.specs.Streams.{IsComplete, ReadsLines, StandsAt, StandsFor as ReaderStandsFor, IsRefusedBehind, FeedLineAnswers, FinishAnswers as ReaderFinished}
-use Rattle.ta_cert.specs.declared.line.Line.{Line}
-use Rattle.ta_cert.specs.declared.fault.CertFault.{CertFault}
+use Rattle.ta_check.proofs.Common.{ℕ, ◌<◌, ◌≤◌, ◌≡◌, ◌⊎◌, List, [], ◌∷◌, ◌++◌, length, take, drop, reverse, Option, Some, Result, Ok, Err, refl, sym, ap, subst, ◌∙◌, inl, inr, append_assoc, take-append-drop, arith, reverse-reverse, IsLine, cert_lines_text, IsComplete, ReadsLines, StandsAt, IsRefusedBehind, FeedLineAnswers, Line, CertFault, Reader, legal_last, reads_unique, Subject, Position, CertificateFor, StandBehind, IsAtFault, LineAtFault, IsFirstFaultFor, IsLastingFor, NextTaken, StandSomewhere, TakenTo, Standing, first_standing, Leads, LeadThrough, MayFollow, IsPositionAt, LineAnswers}
+use Rattle.ta_cert.specs.Streams.{StandsFor as ReaderStandsFor, FinishAnswers as ReaderFinished}
 use Rattle.ta_cert.specs.declared.fault.CertFault.TheVariants as fault
-use Rattle.ta_cert.specs.declared.reader.Reader.{Reader}
 use Rattle.ta_cert.specs.declared.reader.Ended.{Ended}
-use Rattle.ta_cert.proofs.Standing.{legal_last}
-use Rattle.ta_cert.proofs.Unique.{reads_unique}
-use Rattle.ta_check.specs.Subjects.{Subject}
-use Rattle.ta_check.specs.declared.position.Position.{Position}
-use Rattle.ta_check.specs.Certificate.{CertificateFor}
-use Rattle.ta_check.specs.Checkers.{StandBehind}
-use Rattle.ta_check.specs.Faults.{IsAtFault, LineAtFault, IsFirstFaultFor, IsLastingFor}
-use Rattle.ta_check.specs.Inside.Pieces.{NextTaken, StandSomewhere, TakenTo}
-use Rattle.ta_check.specs.Lines.{Standing, first_standing, Leads, LeadThrough, MayFollow}
-use Rattle.ta_check.specs.Positions.{IsPositionAt, LineAnswers}
 use Rattle.ta_check.proofs.Accepting.{certificate_of}
 
 -- before the first piece

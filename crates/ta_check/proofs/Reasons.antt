@@ -1,22 +1,9 @@
 -- A line that can't follow has one fault
-use Rattle.std.proofs.Common.{◌≡◌, ℕ, ℤ, ◌<◌, ◌≤◌, ◌⊎◌, List, [], ◌∷◌, length, Some, inl, inr, refl, sym, ap, subst, ◌∙◌, arith}
-use Rattle.ta_base.specs.Masks.{In}
-use Rattle.ta_base.proofs.Members.{known_first}
-use Rattle.ta_base.proofs.Options.{not_waiting}
-use Rattle.ta_cert.specs.declared.line.Line.{Line}
+use Rattle.ta_check.proofs.Common.{◌≡◌, ℕ, ℤ, ◌<◌, ◌≤◌, ◌⊎◌, List, [], ◌∷◌, length, Some, inl, inr, refl, sym, ap, subst, ◌∙◌, arith, In, known_first, not_waiting, Line, Node, CertFault, FailsToShow, Pending, Search, LeafFault, Subject, Standing, NothingIsLeft, TakesOrder, Leads, LeadThrough, IsMisplaced, IsNoLeaf, AtSomeWord, FirstLeafFault, LeafFails, IsAtFault, fault_at}
 use Rattle.ta_cert.specs.declared.line.Line.TheVariants as line
-use Rattle.ta_cert.specs.declared.line.Node.{Node}
 use Rattle.ta_cert.specs.declared.line.Node.TheVariants as node
-use Rattle.ta_cert.specs.declared.fault.CertFault.{CertFault}
 use Rattle.ta_cert.specs.declared.fault.CertFault.TheVariants as fault
-use Rattle.ta_implied.specs.Refused.{FailsToShow}
-use Rattle.ta_encode.specs.InPreorder.{Pending, Search}
-use Rattle.ta_farkas.specs.declared.LeafFault.{LeafFault}
 use Rattle.ta_farkas.specs.declared.LeafFault.TheVariants as leaf
-use Rattle.ta_check.specs.Subjects.{Subject}
-use Rattle.ta_check.specs.Lines.{Standing, NothingIsLeft, TakesOrder, Leads, LeadThrough}
-use Rattle.ta_check.specs.Faults.{IsMisplaced, IsNoLeaf, AtSomeWord, FirstLeafFault, LeafFails, IsAtFault}
-use Rattle.ta_check.specs.Positions.{fault_at}
 use Rattle.ta_check.proofs.Following.{word_once, leaf_of_leaf}
 use Rattle.ta_check.proofs.LeafFaults.{leaf_fault_once, pair_fault_once}
 

@@ -1,16 +1,6 @@
 -- A text with a first fault is no certificate
-use Rattle.std.proofs.Common.{ℕ, List, [], inl, inr, sym, ap, ◌∙◌}
-use Rattle.std.proofs.lemmas.Bool.{false≢true}
-use Rattle.ta_cert.specs.declared.line.Line.{Line}
-use Rattle.ta_cert.specs.declared.fault.CertFault.{CertFault}
+use Rattle.ta_check.proofs.Common.{ℕ, List, [], inl, inr, sym, ap, ◌∙◌, false≢true, Line, CertFault, has_end, IsComplete, reads_unique, reads_malformed, reads_trailing, Subject, MayFollow, TextAtFault, IsFirstFaultFor, CertificateFor}
 use Rattle.ta_cert.specs.declared.fault.CertFault.TheVariants as fault
-use Rattle.ta_cert.specs.Lines.{has_end}
-use Rattle.ta_cert.specs.Streams.{IsComplete}
-use Rattle.ta_cert.proofs.Unique.{reads_unique, reads_malformed, reads_trailing}
-use Rattle.ta_check.specs.Subjects.{Subject}
-use Rattle.ta_check.specs.Lines.{MayFollow}
-use Rattle.ta_check.specs.Faults.{TextAtFault, IsFirstFaultFor}
-use Rattle.ta_check.specs.Certificate.{CertificateFor}
 use Rattle.ta_check.proofs.Accepting.{lines_of}
 use Rattle.ta_check.proofs.Stopping.{read_breaks, line_or_text}
 

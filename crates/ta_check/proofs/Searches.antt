@@ -1,19 +1,9 @@
 -- the search for a claim on a pattern, by its number, under pairs in whatever order
-use Rattle.std.proofs.Common.{◌≡◌, ℕ, List, length, Option, None, Some, slice_get, ap, ◌∙◌, refl}
+use Rattle.ta_check.proofs.Common.{◌≡◌, ℕ, List, length, Option, None, Some, slice_get, ap, ◌∙◌, refl, Automaton, Pattern, Element, Search, all_starts, word_rows, search_for, Claim, Safe, RestSafe, Subject, search_in, search_at, SamePairs}
 use Rattle.std.proofs.Math.Path.{fun_ext}
-use Rattle.ta_automaton.specs.declared.automaton.Automaton.{Automaton}
-use Rattle.ta_automaton.specs.declared.pattern.Pattern.{Pattern}
-use Rattle.ta_words.specs.declared.element.Element.{Element}
 use Rattle.ta_words.specs.Words.{is_complete}
 use Rattle.ta_words.proofs.Pairs.{same_children}
-use Rattle.ta_encode.specs.InPreorder.{Search, all_starts}
-use Rattle.ta_encode.specs.System.{word_rows}
 use Rattle.ta_encode.specs.Unknowns.{meanings}
-use Rattle.ta_claim.specs.Claims.{search_for}
-use Rattle.ta_claim.specs.declared.claim.Claim.{Claim}
-use Rattle.ta_claim.specs.declared.claim.Claim.TheVariants.{Safe, RestSafe}
-use Rattle.ta_check.specs.Subjects.{Subject, search_in, search_at}
-use Rattle.ta_check.specs.Positions.{SamePairs}
 
 -- the same pairs make one search
 pub same_search : (claim : Claim) (a : Automaton) (p : Pattern) (xs ys : List (ℕ × ℕ)) → SamePairs xs ys → search_for claim a p xs ≡ search_for claim a p ys

@@ -1,16 +1,6 @@
 -- A text stops behind one list of lines: no line that may follow them comes next
-use Rattle.std.proofs.Common.{◌≡◌, ℕ, List, [], ◌∷◌, ◌++◌, inl, inr, refl, sym, ap, subst, ◌∙◌, append_assoc, append-nil}
-use Rattle.ta_base.proofs.Lists.{first_byte}
-use Rattle.ta_cert.specs.declared.line.Line.{Line}
-use Rattle.ta_cert.specs.declared.fault.CertFault.{CertFault}
+use Rattle.ta_check.proofs.Common.{◌≡◌, ℕ, List, [], ◌∷◌, ◌++◌, inl, inr, refl, sym, ap, subst, ◌∙◌, append_assoc, append-nil, first_byte, Line, CertFault, line_text, cert_lines_text, AreLater, AreLines, ReadsLines, lines_text-append, legal_last, line_unique, line_unbroken, legal_forms, legal_prefix, GoesOn, compare, Stuck, reads_stuck, malformed_stuck, trailing_stuck, Subject, Standing, first_standing, Leads, LeadThrough, MayFollow, LineAtFault, TextAtFault}
 use Rattle.ta_cert.specs.declared.fault.CertFault.TheVariants as fault
-use Rattle.ta_cert.specs.Lines.{line_text, cert_lines_text}
-use Rattle.ta_cert.specs.Streams.{AreLater, AreLines, ReadsLines}
-use Rattle.ta_cert.proofs.Standing.{lines_text-append, legal_last}
-use Rattle.ta_cert.proofs.Unique.{line_unique, line_unbroken, legal_forms, legal_prefix, GoesOn, compare, Stuck, reads_stuck, malformed_stuck, trailing_stuck}
-use Rattle.ta_check.specs.Subjects.{Subject}
-use Rattle.ta_check.specs.Lines.{Standing, first_standing, Leads, LeadThrough, MayFollow}
-use Rattle.ta_check.specs.Faults.{LineAtFault, TextAtFault}
 use Rattle.ta_check.proofs.Following.{leads_through_once, through_parts, not_both}
 
 -- lines each of which may follow, and bytes that begin with no further one

@@ -119,7 +119,10 @@ impl Position {
         ensures { (at : Standing) → IsPositionAt (claiming claim file.now) self.old at → LineAnswers (claiming claim file.now) at number (Tree node.now) self.new result }
     {
         let Some((before, after)) = self.waiting else {
-            return self.take_node(alloc, claim, file, number, node);
+            return match self.current {
+                Some(pattern) => self.take_node(alloc, claim, file, number, pattern, node),
+                None => Err(CertFault::Line(number)),
+            };
         };
         match node {
             Node::Leaf(multipliers) => self.take_shown(
@@ -219,23 +222,22 @@ impl Position {
         }
     }
 
-    /// Takes the line of a node, where no pair waits.
+    /// Takes the line of a node in the proof of a pattern.
     fn take_node(
         &mut self,
         alloc: Global,
         claim: Claim,
         file: &File,
         number: u64,
+        pattern: u32,
         node: &Node,
     ) -> Result<(), CertFault>
         requires somewhere { IsSomewhere (claiming claim file.now) self.old }
         requires none { self.old.waiting ≡ None }
+        requires current { self.old.current ≡ Some pattern }
         requires form { IsNode node.now }
         ensures { (at : Standing) → IsPositionAt (claiming claim file.now) self.old at → LineAnswers (claiming claim file.now) at number (Tree node.now) self.new result }
     {
-        let Some(pattern) = self.current else {
-            return Err(CertFault::Line(number));
-        };
         match node {
             Node::Extend => self.take_extend(alloc, claim, file, number, pattern),
             Node::Split { unknown, floor } => {

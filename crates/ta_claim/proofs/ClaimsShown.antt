@@ -1,7 +1,5 @@
 -- the proofs of a claim show it
-use Rattle.std.proofs.Common.{◌≡◌, ℕ, ◌+◌, length, slice_get, Some}
-use Rattle.ta_automaton.specs.declared.file.File.{File}
-use Rattle.ta_automaton.specs.declared.pattern.Pattern.{Pattern}
+use Rattle.ta_claim.proofs.Common.{◌≡◌, ℕ, ◌+◌, length, slice_get, Some, File, Pattern}
 use Rattle.ta_automaton.proofs.Thresholds.{after_earlier, pattern_within}
 use Rattle.ta_encode.proofs.Theorems.{safety}
 use Rattle.ta_rest.specs.Rest.{ComeAfterEarlier}

@@ -2,3 +2,4 @@
 pub mod RestRows
 pub mod ClaimsShown
 mod RestMasks
+mod Common

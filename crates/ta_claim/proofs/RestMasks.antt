@@ -1,14 +1,6 @@
 -- masks of what is asked at a word's end
-use Rattle.std.proofs.Common.{◌≡◌, ℕ, suc, ◌+◌, ◌*◌, ◌%◌, ◌<◌, ◌^◌, List, length, Bool, true, false, not, ◌&&◌, ◌||◌, Some, bit_or, arith, sym, ap, ◌∙◌, refl}
-use Rattle.std.specs.Prelude.{◌==◌}
-use Rattle.ta_base.specs.Masks.{has_bit, all_below, implies}
-use Rattle.ta_base.proofs.Bits.{with_bit}
+use Rattle.ta_claim.proofs.Common.{◌≡◌, ℕ, suc, ◌+◌, ◌*◌, ◌%◌, ◌<◌, ◌^◌, List, length, Bool, true, false, not, ◌&&◌, ◌||◌, Some, bit_or, arith, sym, ap, ◌∙◌, refl, ◌==◌, has_bit, all_below, implies, with_bit, Automaton, Rule, leads_out, some_below, Element, has_fallen, has_rise}
 use Rattle.ta_base.proofs.Booleans.{and_right, either_way}
-use Rattle.ta_automaton.specs.declared.automaton.Automaton.{Automaton}
-use Rattle.ta_automaton.specs.declared.rule.Rule.{Rule}
-use Rattle.ta_rest.specs.RestSearch.{leads_out, some_below}
-use Rattle.ta_words.specs.declared.element.Element.{Element}
-use Rattle.ta_words.specs.Words.{has_fallen, has_rise}
 
 some_next : (n : ℕ) (test : ℕ → Bool) → some_below (suc n) test ≡ (test n || some_below n test)
 unfolding all_below

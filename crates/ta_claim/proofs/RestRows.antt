@@ -1,31 +1,18 @@
 -- words of rest are words under no pairs, and the rows of their ends
-use Rattle.std.proofs.Common.{◌≡◌, inl, inr, ℕ, ◌≤◌, List, [], ◌∷◌, ◌++◌, length, map, cond, Bool, true, false, not, Option, Some, None, slice_get, arith, sym, ap, ◌∙◌, subst, length-append}
-use Rattle.std.specs.Prelude.{filter}
+use Rattle.ta_claim.proofs.Common.{◌≡◌, inl, inr, ℕ, ◌≤◌, List, [], ◌∷◌, ◌++◌, length, map, cond, Bool, true, false, not, Option, Some, None, slice_get, arith, sym, ap, ◌∙◌, subst, length-append, filter, Automaton, File, Pattern, has_bit, numbers_from, Element, LegalWord, has_rise, is_complete, same_pattern, pattern_search, Comes, Pending, IsRoot, IsSmall, PushAnswers, end_rows, must_be_left, rest_rows, rest_search}
 use Rattle.std.proofs.lemmas.List.{length-map}
 use Rattle.ta_base.proofs.Ranges.{count_few, filter_numbers_same}
 use Rattle.ta_linear.specs.declared.row.System.{System}
-use Rattle.ta_automaton.specs.declared.automaton.Automaton.{Automaton}
-use Rattle.ta_automaton.specs.declared.file.File.{File}
-use Rattle.ta_automaton.specs.declared.pattern.Pattern.{Pattern}
-use Rattle.ta_base.specs.Masks.{has_bit, numbers_from}
-use Rattle.ta_words.specs.declared.element.Element.{Element}
-use Rattle.ta_words.specs.Words.{LegalWord, has_rise, is_complete}
-use Rattle.ta_words.proofs.Lists.{same_pattern}
 use Rattle.ta_encode.specs.declared.ending.WordEnd.{WordEnd}
 use Rattle.ta_encode.specs.Code.{AreRowsOf, SystemAt}
 use Rattle.ta_encode.specs.Ends.{EndedSystem, ended_rows}
-use Rattle.ta_encode.specs.PatternSearch.{pattern_search}
-use Rattle.ta_encode.specs.Search.{Comes, Pending}
 use Rattle.ta_encode.specs.System.{LinearRow, bound_row, counter_row, guard_rows, negated, opposite, word_rows}
 use Rattle.ta_encode.specs.Unknowns.{meanings}
-use Rattle.ta_encode.proofs.CodeRows.{rows_count}
 use Rattle.ta_encode.proofs.Ended.{guards_same}
-use Rattle.ta_cursor.specs.TreeCalls.{IsRoot, IsSmall, PushAnswers}
 use Rattle.ta_cursor.specs.declared.pattern_tree.PatternTree.{PatternTree}
 use Rattle.ta_cursor.specs.declared.root.Root.{Root}
 use Rattle.ta_cursor.proofs.PatternWords.{comes_legal}
-use Rattle.ta_cursor.proofs.RowCounts.{few_rows, few_unknowns, guards_few}
-use Rattle.ta_rest.specs.RestSearch.{end_rows, must_be_left, rest_rows, rest_search}
+use Rattle.ta_cursor.proofs.RowCounts.{few_rows, few_unknowns, guards_few, small_of}
 use Rattle.ta_claim.specs.RestEnds.{IsRestEnd}
 
 -- the search of rest begins with the same words
@@ -108,16 +95,4 @@ rest_few file number p start past at legal =
 
 -- the unknowns and the rows of its system
 pub rest_small : (file : File) (number : ℕ) (p : Pattern) (w : Pending) (s : System) → slice_get file.patterns number ≡ Some p → LegalWord file.automaton p w.start w.past → SystemAt (rest_search file.automaton p) w s → IsSmall w.bounds s
-rest_small file number p w s at legal is =
-    let a = file.automaton in
-    let words = rest_rows a p w.start w.past in
-    let bounds = map bound_row w.bounds in
-    omega (
-      arith,
-      is.unknowns,
-      few_unknowns file number p w.start w.past at legal,
-      rows_count (words ++ bounds) s.rows is.rows,
-      length-append words bounds,
-      length-map w.bounds bound_row,
-      rest_few file number p w.start w.past at legal,
-    )
+rest_small file number p w s at legal is = small_of (rest_search file.automaton p) w s (few_unknowns file number p w.start w.past at legal) (rest_few file number p w.start w.past at legal) is

@@ -1,18 +1,9 @@
 -- a run that was replayed starts
-use Rattle.std.proofs.Common.{refl, sym, subst, ◌∙◌}
-use Rattle.std.proofs.lemmas.Option.{same_Some}
-use Rattle.ta_automaton.specs.declared.pattern.Pattern.{Pattern}
-use Rattle.ta_automaton.specs.declared.file.File.{File}
-use Rattle.ta_counter.specs.Starts.{StartFails}
+use Rattle.ta_compress.proofs.Common.{refl, sym, subst, ◌∙◌, same_Some, Pattern, File, StartFails, Fits, ShowsPattern, FitsPattern, Run, ReplaysInRange}
 use Rattle.ta_counter.specs.declared.fault.StartFault.{StartFault}
 use Rattle.ta_counter.specs.declared.fault.StartFault.TheVariants as start
-use Rattle.ta_replay.specs.Fits.{Fits}
-use Rattle.ta_replay.specs.Shows.{ShowsPattern}
-use Rattle.ta_replay.specs.Inside.Following.{FitsPattern}
 use Rattle.ta_replay.specs.declared.fault.RunFault.TheVariants as runs
-use Rattle.ta_replay.specs.declared.run.Run.{Run}
 use Rattle.ta_replay.proofs.Refusing.{config_denied}
-use Rattle.ta_compress.specs.Faults.{ReplaysInRange}
 
 pub always_starts : (file : File) (run : Run) (fault : StartFault) → Fits file run → ReplaysInRange file run → StartFails file.automaton run.parameters run.counts fault → ⊥
 always_starts file run fault fits replayed h = by_fault fault h where

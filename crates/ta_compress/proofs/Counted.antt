@@ -1,31 +1,8 @@
 -- what a unit step does to counts and lines
-use Rattle.std.proofs.Common.{◌≡◌, inl, inr, ℕ, zero, suc, ◌+◌, ◌-◌, ◌<◌, ◌≤◌, ℤ, pos, ◌+ℤ◌, ◌*ℤ◌, ◌≤ℤ◌, List, [], ◌∷◌, ◌++◌, length, map, set, replicate, arith, sym, ap, ◌∙◌, refl, subst, slice_get, append_assoc, append-nil}
-use mathlib.Core.Path.{fun_ext}
-use Rattle.std.proofs.lemmas.Int.{ints}
-use Rattle.std.proofs.lemmas.Bool.{cases_lt}
-use Rattle.std.proofs.lemmas.Bool.Decides.{eqb_tells}
-use Rattle.std.proofs.lemmas.List.{get_or-set_same, get_or-set_other, length-set}
-use Rattle.ta_base.proofs.Integers.{next_value}
+use Rattle.ta_compress.proofs.Common.{◌≡◌, inl, inr, ℕ, zero, suc, ◌+◌, ◌-◌, ◌<◌, ◌≤◌, ℤ, pos, ◌+ℤ◌, ◌*ℤ◌, ◌≤ℤ◌, List, [], ◌∷◌, ◌++◌, length, map, set, replicate, arith, sym, ap, ◌∙◌, refl, subst, slice_get, append_assoc, append-nil, fun_ext, ints, cases_lt, eqb_tells, get_or-set_same, get_or-set_other, length-set, next_value, point_of, zero-*ℤ, Automaton, one_if, rule_change, one_if-ne, one_if-natural, Guards, IsOf, GuardsAre, GuardsStay, ArrangedOf, AreRuleCounts, count_at, RunFault, RunLine, step_line, Draft, CompressFault, Replay, TooManySteps, Memory, unit, Advances, Closes, CountsStep, DraftAt, HasFallen, GuardsOutOfRangeWithin, MayRepeat, MayStep, OneMore, DraftIsReady, RepeatsRule, RepeatStops, Room, SameGuards, repeated, zeros}
 use Rattle.ta_counter.proofs.Moving.{one_if-one}
-use Rattle.ta_linear.specs.Values.{point_of}
-use Rattle.std.proofs.Math.IntN.{zero-*ℤ}
-use Rattle.ta_automaton.specs.declared.automaton.Automaton.{Automaton}
-use Rattle.ta_automaton.specs.Places.{one_if, rule_change}
-use Rattle.ta_automaton.proofs.Moves.{one_if-ne}
 use Rattle.ta_counter.specs.declared.config.Config.{Config}
-use Rattle.ta_counter.specs.declared.holding.Guards.{Guards}
-use Rattle.ta_counter.specs.Configs.{IsOf}
-use Rattle.ta_counter.specs.Holding.{GuardsAre, GuardsStay}
-use Rattle.ta_scope.specs.Arranged.{ArrangedOf, AreRuleCounts, count_at}
-use Rattle.ta_replay.specs.declared.fault.RunFault.{RunFault}
 use Rattle.ta_replay.specs.declared.fault.RunFault.TheVariants as runs
-use Rattle.ta_replay.specs.declared.run.RunLine.{RunLine}
-use Rattle.ta_replay.specs.Pieces.{step_line}
-use Rattle.ta_compress.specs.declared.draft.Draft.{Draft}
-use Rattle.ta_compress.specs.declared.fault.CompressFault.{CompressFault}
-use Rattle.ta_compress.specs.declared.fault.CompressFault.TheVariants.{Replay, TooManySteps, Memory}
-use Rattle.ta_compress.specs.Units.{unit}
-use Rattle.ta_compress.specs.Inside.Drafts.{Advances, Closes, CountsStep, DraftAt, HasFallen, GuardsOutOfRangeWithin, MayRepeat, MayStep, OneMore, DraftIsReady, RepeatsRule, RepeatStops, Room, SameGuards, repeated, zeros}
 use Rattle.ta_compress.proofs.Drafting.{advance, no_counts, zero_counts}
 use Rattle.ta_compress.proofs.Masks.{same_still, other_switches, fallen_drops, drops_fallen}
 
@@ -46,16 +23,13 @@ one_more_set r counts z b is = record {
   ];
 }
 
-one_natural : (r q : ℕ) → pos 0 ≤ℤ one_if r q
-one_natural r q = elim (eqb_tells r q) [ inl e ↦ rw e.0 (omega (arith, ints)) | inr ne ↦ rw ne.0 (omega (arith, ints)) ]
-
 one_most : (r q : ℕ) → one_if r q ≤ℤ pos 1
 one_most r q = elim (eqb_tells r q) [ inl e ↦ rw e.0 (omega (arith, ints)) | inr ne ↦ rw ne.0 (omega (arith, ints)) ]
 
 pub one_more_counts : (a : Automaton) (r : ℕ) (counts more : List ℤ) → AreRuleCounts a counts → OneMore r counts more → AreRuleCounts a more
 one_more_counts a r counts more c one = record {
   each_rule = one.each_rule ∙ c.each_rule;
-  natural = λ q. omega (arith, ints, one.counted q, c.natural q, one_natural r q);
+  natural = λ q. omega (arith, ints, one.counted q, c.natural q, one_if-natural r q);
 }
 
 pub goes_on : (a : Automaton) (r : ℕ) (f g : ℕ → ℤ) (old new : Draft) (now : Guards) → GuardsAre a f old.guards → GuardsAre a g now → SameGuards old.guards now → OneMore r old.counts.items new.counts.items → new.lines.items ≡ old.lines.items → CountsStep a r f g old new

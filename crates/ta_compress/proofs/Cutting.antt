@@ -1,18 +1,5 @@
 -- a compressed run tells the same
-use Rattle.std.proofs.Common.{◌≡◌, inl, inr, ℕ, ℤ, List, [], ◌∷◌, ◌++◌, length, arith, sym, ap, ◌∙◌, subst, append_assoc, append-nil}
-use Rattle.std.proofs.lemmas.Int.{ints}
-use Rattle.ta_automaton.specs.declared.automaton.Automaton.{Automaton}
-use Rattle.ta_automaton.specs.declared.pattern.Pattern.{Pattern}
-use Rattle.ta_automaton.specs.Runs.{Config, InScope}
-use Rattle.ta_automaton.specs.Sums.{total}
-use Rattle.ta_automaton.proofs.Sums.{total-append}
-use Rattle.ta_pattern.specs.Empty.{KeepsEmpty}
-use Rattle.ta_replay.specs.declared.run.RunLine.{RunLine}
-use Rattle.ta_replay.specs.declared.run.RunLine.TheVariants.{Mark}
-use Rattle.ta_replay.specs.Replays.{line_change}
-use Rattle.ta_compress.specs.Units.{unit, value_after}
-use Rattle.ta_compress.specs.Pieces.{CutPiece, AreCut, IsPiece, units, lines_in}
-use Rattle.ta_compress.specs.Tales.{LinesTell}
+use Rattle.ta_compress.proofs.Common.{◌≡◌, inl, inr, ℕ, ℤ, List, [], ◌∷◌, ◌++◌, length, arith, sym, ap, ◌∙◌, subst, append_assoc, append-nil, ints, Automaton, Pattern, Config, InScope, total, total-append, KeepsEmpty, RunLine, Mark, line_change, unit, value_after, CutPiece, AreCut, IsPiece, units, lines_in, LinesTell}
 use Rattle.ta_compress.proofs.Telling.{units_told, tell_steps}
 use Rattle.ta_compress.proofs.Steady.{piece_steady}
 use Rattle.ta_compress.proofs.Rearranging.{Stands, stands_after, rearranged}

@@ -1,30 +1,6 @@
 -- a draft grows line by line
-use Rattle.std.proofs.Common.{◌≡◌, inl, inr, ℕ, ◌+◌, ◌<◌, ℤ, pos, ◌+ℤ◌, List, [], ◌∷◌, ◌++◌, length, map, eqb, cond, arith, sym, ap, ◌∙◌, refl, subst, slice_get, append_assoc, append-nil}
-use mathlib.Core.Path.{fun_ext}
-use Rattle.std.proofs.lemmas.Int.{ints}
-use Rattle.std.proofs.lemmas.Bool.Decides.{eqb_tells}
-use Rattle.std.proofs.lemmas.List.{ext_get_or, length-replicate}
-use Rattle.ta_base.proofs.Integers.{one_times, replicate_zeros}
-use Rattle.ta_base.proofs.Lists.{split_last}
-use Rattle.ta_linear.specs.Values.{point_of}
-use Rattle.ta_automaton.specs.declared.automaton.Automaton.{Automaton}
-use Rattle.ta_automaton.specs.Places.{one_if, rule_change}
-use Rattle.ta_automaton.specs.Sums.{total, times_in}
-use Rattle.ta_automaton.proofs.Sums.{total-append}
+use Rattle.ta_compress.proofs.Common.{◌≡◌, inl, inr, ℕ, ◌+◌, ◌<◌, ℤ, pos, ◌+ℤ◌, List, [], ◌∷◌, ◌++◌, length, map, eqb, cond, arith, sym, ap, ◌∙◌, refl, subst, slice_get, append_assoc, append-nil, fun_ext, ints, eqb_tells, ext_get_or, length-replicate, one_times, replicate_zeros, split_last, point_of, Automaton, one_if, rule_change, total, times_in, total-append, IsOf, GuardsAre, StartsAt, ArrangedOf, AreRuleCounts, count_at, Run, RunLine, Mark, line_change, Draft, unit, value_after, Switches, Drops, step_line, CutPiece, AreCut, IsPiece, IsShortened, Still, SwitchesAt, DropsAt, units, lines_in, counts_of, Advances, IsFirstDraft, Closes, CountsStep, DraftAt, OneMore, DraftIsReady, RepeatsRule, zeros}
 use Rattle.ta_counter.specs.declared.config.Config.{Config}
-use Rattle.ta_counter.specs.Configs.{IsOf}
-use Rattle.ta_counter.specs.Holding.{GuardsAre}
-use Rattle.ta_counter.specs.Starts.{StartsAt}
-use Rattle.ta_scope.specs.Arranged.{ArrangedOf, AreRuleCounts, count_at}
-use Rattle.ta_replay.specs.declared.run.Run.{Run}
-use Rattle.ta_replay.specs.declared.run.RunLine.{RunLine}
-use Rattle.ta_replay.specs.declared.run.RunLine.TheVariants.{Mark}
-use Rattle.ta_replay.specs.Replays.{line_change}
-use Rattle.ta_compress.specs.declared.draft.Draft.{Draft}
-use Rattle.ta_compress.specs.Units.{unit, value_after, Switches, Drops}
-use Rattle.ta_replay.specs.Pieces.{step_line}
-use Rattle.ta_compress.specs.Pieces.{CutPiece, AreCut, IsPiece, IsShortened, Still, SwitchesAt, DropsAt, units, lines_in, counts_of}
-use Rattle.ta_compress.specs.Inside.Drafts.{Advances, IsFirstDraft, Closes, CountsStep, DraftAt, OneMore, DraftIsReady, RepeatsRule, zeros}
 use Rattle.ta_compress.proofs.Cutting.{mark-value}
 use Rattle.ta_compress.proofs.Rearranging.{count_in, counts_length}
 use Rattle.ta_compress.proofs.Steady.{units-append}

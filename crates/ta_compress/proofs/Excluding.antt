@@ -1,22 +1,5 @@
 -- what can be compressed isn't refused
-use Rattle.std.proofs.Common.{◌≡◌, inl, inr, ℕ, ◌≤◌, ℤ, List, arith, sym, ◌∙◌, refl, subst}
-use mathlib.Core.Path.{fun_ext}
-use Rattle.std.proofs.lemmas.Int.{ints}
-use Rattle.std.proofs.lemmas.Bool.{cases_lt}
-use Rattle.ta_linear.specs.Values.{point_of}
-use Rattle.ta_automaton.specs.declared.automaton.Automaton.{Automaton}
-use Rattle.ta_automaton.specs.declared.file.File.{File}
-use Rattle.ta_counter.specs.Holding.{GuardsStay}
-use Rattle.ta_counter.specs.Starts.{StartsAt}
-use Rattle.ta_replay.specs.declared.run.Run.{Run}
-use Rattle.ta_replay.specs.declared.run.RunLine.{RunLine}
-use Rattle.ta_replay.specs.Fits.{Fits}
-use Rattle.ta_replay.specs.Shows.{ShowsPattern}
-use Rattle.ta_replay.proofs.Showing.{shown_first}
-use Rattle.ta_compress.specs.declared.fault.CompressFault.{CompressFault}
-use Rattle.ta_compress.specs.declared.fault.CompressFault.TheVariants.{Replay, TooManySteps, Memory}
-use Rattle.ta_compress.specs.Faults.{IsSmallReplay, Compressible, CompressFaultOf, GuardsOutOfRangeAt, GuardsOutOfRangeIn}
-use Rattle.ta_compress.specs.Units.{EndsAtLastMark}
+use Rattle.ta_compress.proofs.Common.{◌≡◌, inl, inr, ℕ, ◌≤◌, ℤ, List, arith, sym, ◌∙◌, refl, subst, fun_ext, ints, cases_lt, point_of, Automaton, File, GuardsStay, StartsAt, Run, RunLine, Fits, ShowsPattern, shown_first, CompressFault, Replay, TooManySteps, Memory, IsSmallReplay, Compressible, CompressFaultOf, GuardsOutOfRangeAt, GuardsOutOfRangeIn, EndsAtLastMark}
 use Rattle.ta_compress.proofs.Finishing.{shown_named}
 use Rattle.ta_compress.proofs.Shortening.{fits_named}
 

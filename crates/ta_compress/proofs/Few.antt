@@ -1,22 +1,5 @@
 -- how many pieces there are
-use Rattle.std.proofs.Common.{◌≡◌, inl, inr, ℕ, zero, suc, ◌+◌, ◌-◌, ◌<◌, ◌≤◌, ℤ, pos, negsuc, ◌≤ℤ◌, List, [], ◌∷◌, ◌++◌, length, arith, sym, ap, ◌∙◌, refl, subst, slice_get, Some, append_assoc, append-nil}
-use mathlib.Core.Path.{fun_ext}
-use Rattle.std.proofs.lemmas.Int.{ints}
-use Rattle.std.specs.List.{AllByRecursion}
-use Rattle.ta_base.proofs.Each.{each_back, each_front}
-use Rattle.ta_base.proofs.Lists.{some_at}
-use Rattle.ta_linear.specs.Values.{value_of, RowHolds}
-use Rattle.ta_linear.specs.declared.row.Row.{Row}
-use Rattle.ta_automaton.specs.declared.automaton.Automaton.{Automaton}
-use Rattle.ta_automaton.specs.declared.pattern.Pattern.{Pattern}
-use Rattle.ta_automaton.proofs.Onward.{EachRule, later_after}
-use Rattle.ta_automaton.proofs.Thresholds.{Later, falls, fall_back, stays_true}
-use Rattle.ta_replay.specs.declared.run.RunLine.{RunLine}
-use Rattle.ta_replay.specs.declared.run.RunLine.TheVariants.{Step, Mark}
-use Rattle.ta_replay.specs.Fits.{LineFits}
-use Rattle.ta_replay.specs.Shows.{marks_count}
-use Rattle.ta_compress.specs.Units.{unit, value_after, Switches, Drops}
-use Rattle.ta_compress.specs.Pieces.{CutPiece, AreCut, IsPiece, units, lines_in}
+use Rattle.ta_compress.proofs.Common.{◌≡◌, inl, inr, ℕ, zero, suc, ◌+◌, ◌-◌, ◌<◌, ◌≤◌, ℤ, pos, negsuc, ◌≤ℤ◌, List, [], ◌∷◌, ◌++◌, length, arith, sym, ap, ◌∙◌, refl, subst, slice_get, Some, append_assoc, append-nil, fun_ext, ints, AllByRecursion, each_back, each_front, some_at, value_of, RowHolds, Row, Automaton, Pattern, EachRule, later_after, Later, falls, fall_back, stays_true, RunLine, Step, Mark, LineFits, marks_count, unit, value_after, Switches, Drops, CutPiece, AreCut, IsPiece, units, lines_in}
 use Rattle.ta_compress.proofs.Steady.{holds_or, units-value, units-append, done_append}
 use Rattle.ta_compress.proofs.Cutting.{mark-value}
 

@@ -1,38 +1,10 @@
 -- the compressed run
-use Rattle.std.proofs.Common.{◌≡◌, inl, inr, ℕ, suc, ◌+◌, ◌<◌, ◌≤◌, ℤ, pos, negsuc, ◌≤ℤ◌, List, [], ◌∷◌, ◌++◌, length, map, take, arith, sym, ap, ◌∙◌, refl, subst, slice_get, get_or, Some, None, Option, append_assoc, length-append}
-use Rattle.std.proofs.lemmas.Int.{ints}
+use Rattle.ta_compress.proofs.Common.{◌≡◌, inl, inr, ℕ, suc, ◌+◌, ◌<◌, ◌≤◌, ℤ, pos, negsuc, ◌≤ℤ◌, List, [], ◌∷◌, ◌++◌, length, map, take, arith, sym, ap, ◌∙◌, refl, subst, slice_get, get_or, Some, None, Option, append_assoc, length-append, ints, eqb_tells, length-map, same_Some, AllByRecursion, each_append, each_back, each_front, each_take, InRange, Automaton, File, Pattern, Config, InScope, total, times_in, pattern_within, naturals, Value, count_at, StepsWithin, Run, RunLine, Mark, Fits, LineFits, OncePerRule, step_line, last_lines, piece_lines, pieces_lines, steps_count, IsFirstConfig, Shows, ShowsPattern, marks_count, shown_first, IsSmallReplay, IsShortRun, unit, unfolded, value_after, CutPiece, CompressOf, AreCut, IsPiece, IsShortened, counts_of, lines_in, units, SameTale, LinesTell}
 use Rattle.std.proofs.lemmas.Nat.{mul-le}
-use Rattle.std.proofs.lemmas.Bool.Decides.{eqb_tells}
-use Rattle.std.proofs.lemmas.List.{length-map}
-use Rattle.std.proofs.lemmas.Option.{same_Some}
-use Rattle.std.specs.List.{AllByRecursion}
-use Rattle.ta_base.proofs.Each.{each_append, each_back, each_front, each_take}
-use Rattle.ta_linear.specs.Numbers.{InRange}
-use Rattle.ta_automaton.specs.declared.automaton.Automaton.{Automaton}
-use Rattle.ta_automaton.specs.declared.file.File.{File}
-use Rattle.ta_automaton.specs.declared.pattern.Pattern.{Pattern}
-use Rattle.ta_automaton.specs.Runs.{Config, InScope}
-use Rattle.ta_automaton.specs.Sums.{total, times_in}
-use Rattle.ta_automaton.proofs.Thresholds.{pattern_within}
-use Rattle.ta_counter.specs.Configs.{naturals}
-use Rattle.ta_counter.specs.Values.{Value}
-use Rattle.ta_scope.specs.Arranged.{count_at}
-use Rattle.ta_scope.specs.Legal.{StepsWithin}
 use Rattle.ta_scope.proofs.Arranging.{arranged_within}
-use Rattle.ta_replay.specs.declared.run.Run.{Run}
-use Rattle.ta_replay.specs.declared.run.RunLine.{RunLine}
-use Rattle.ta_replay.specs.declared.run.RunLine.TheVariants.{Mark}
-use Rattle.ta_replay.specs.Fits.{Fits, LineFits}
 use Rattle.ta_replay.specs.Pieces as pieces
-use Rattle.ta_replay.specs.Pieces.{OncePerRule, step_line, last_lines, piece_lines, pieces_lines, steps_count}
-use Rattle.ta_replay.specs.Shows.{IsFirstConfig, Shows, ShowsPattern, marks_count}
 use Rattle.ta_replay.proofs.Counting.{marks_are_events}
 use Rattle.ta_replay.proofs.PieceLines.{are_short}
-use Rattle.ta_replay.proofs.Showing.{shown_first}
-use Rattle.ta_compress.specs.Faults.{IsSmallReplay, IsShortRun}
-use Rattle.ta_compress.specs.Units.{unit, unfolded, value_after}
-use Rattle.ta_compress.specs.Pieces.{CutPiece, CompressOf, AreCut, IsPiece, IsShortened, counts_of, lines_in, units}
-use Rattle.ta_compress.specs.Tales.{SameTale, LinesTell}
 use Rattle.ta_compress.proofs.Cutting.{pieces_retell}
 use Rattle.ta_compress.proofs.Few.{left_most, pieces_few}
 use Rattle.ta_compress.proofs.Rearranging.{Stands, count_in, counts_natural}

@@ -1,11 +1,5 @@
 -- the last mark so far
-use Rattle.std.proofs.Common.{◌≡◌, ◌⊎◌, inl, inr, ℕ, ◌+◌, ◌<◌, ◌≤◌, List, length, arith, sym, ap, ◌∙◌, refl, slice_get, Some}
-use Rattle.std.proofs.lemmas.Bool.{cases_lt}
-use Rattle.std.proofs.lemmas.Option.{same_Some, slice_get_within}
-use Rattle.ta_replay.specs.declared.run.RunLine.{RunLine}
-use Rattle.ta_replay.specs.declared.run.RunLine.TheVariants.{Step, Mark}
-use Rattle.ta_replay.specs.Shows.{MarksAt}
-use Rattle.ta_compress.specs.Units.{EndsAtLastMark}
+use Rattle.ta_compress.proofs.Common.{◌≡◌, ◌⊎◌, inl, inr, ℕ, ◌+◌, ◌<◌, ◌≤◌, List, length, arith, sym, ap, ◌∙◌, refl, slice_get, Some, cases_lt, same_Some, slice_get_within, RunLine, Step, Mark, MarksAt, EndsAtLastMark}
 
 -- n lines end with the last mark of the first i lines
 pub record LastSoFar (lines : List RunLine) (i n : ℕ) : Type 0 where

@@ -1,17 +1,7 @@
 -- unit steps that lead from one configuration to another
-use Rattle.std.proofs.Common.{◌≡◌, ℕ, zero, suc, ◌+ℤ◌, List, [], ◌∷◌, ◌++◌, length, arith, sym, ap, ◌∙◌, refl, subst}
-use Rattle.std.proofs.lemmas.Int.{ints}
-use Rattle.std.proofs.lemmas.Option.{same_Some}
-use Rattle.ta_automaton.specs.declared.automaton.Automaton.{Automaton}
-use Rattle.ta_automaton.specs.declared.pattern.Pattern.{Pattern}
-use Rattle.ta_automaton.specs.Places.{Whole}
-use Rattle.ta_automaton.specs.Runs.{Config, Step, Steps, At, value_at}
-use Rattle.ta_automaton.specs.Sums.{total}
-use Rattle.ta_automaton.proofs.Moves.{move_at}
-use Rattle.ta_automaton.proofs.Onward.{change_of}
-use Rattle.ta_counter.proofs.Models.{same_model, whole_fits}
-use Rattle.ta_pattern.specs.Empty.{KeepsEmpty}
-use Rattle.ta_compress.specs.Tales.{StepsLead}
+use Rattle.ta_compress.proofs.Common.{◌≡◌, ℕ, zero, suc, ◌+ℤ◌, List, [], ◌∷◌, ◌++◌, length, arith, sym, ap, ◌∙◌, refl, subst, ints, same_Some, Automaton, Pattern, Whole, Config, Steps, At, value_at, total, move_at, change_of, same_model, KeepsEmpty, StepsLead}
+use Rattle.ta_automaton.specs.Runs.{Step}
+use Rattle.ta_automaton.proofs.Fire.{step_whole, fits_whole}
 
 pub only_one : (p : Pattern) (c : Config) → KeepsEmpty p.empty c → (k : ℕ) (e : Config) → At c [] k e → KeepsEmpty p.empty e
 only_one p c kept zero e at = subst (KeepsEmpty p.empty) (same_Some c e at) kept
@@ -70,15 +60,8 @@ leads_split a p c (x ∷ xs) ys e l =
     let parts = leads_split a p f.next xs ys e f.rest in
     record { middle = parts.middle; left = leads_cons a p c f.next parts.middle x xs f.kept f.step parts.left; right = parts.right }
 
-pub step_whole : (a : Automaton) (r : ℕ) (c d : Config) → Whole a c → Step a r c d → Whole a d
-step_whole a r c d w step = record {
-  parameters = ap (λ (ps : List ℕ). length ps) step.move.parameters ∙ w.parameters;
-  shared = step.move.shared_count ∙ w.shared;
-  counters = step.move.counters_count ∙ w.counters;
-}
-
 pub step_value : (a : Automaton) (r : ℕ) (c d : Config) → Whole a c → Step a r c d → (i : ℕ) → value_at d i ≡ (value_at c i +ℤ change_of a i r)
-step_value a r c d w step i = move_at a r c d (whole_fits a c w) (whole_fits a d (step_whole a r c d w step)) step i
+step_value a r c d w step i = move_at a r c d (fits_whole a c w) (fits_whole a d (step_whole a r c d w step)) step i
 
 pub leads_whole : (a : Automaton) (p : Pattern) (c : Config) (rs : List ℕ) (e : Config) → Whole a c → StepsLead a p c rs e → Whole a e
 leads_whole a p c [] e w l = subst (Whole a) (leads_nowhere a p c e l) w

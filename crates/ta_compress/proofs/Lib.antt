@@ -16,3 +16,4 @@ mod Counted
 mod Excluding
 pub mod Once
 mod AlwaysStarts
+mod Common

@@ -1,17 +1,8 @@
 -- guards that hold before a unit step and behind it
-use Rattle.std.proofs.Common.{◌≡◌, ◌⊎◌, inl, inr, ℕ, zero, suc, ℤ, List, [], ◌∷◌, arith, sym, refl, subst, slice_get, Some, IsBitSet}
+use Rattle.ta_compress.proofs.Common.{◌≡◌, ◌⊎◌, inl, inr, ℕ, zero, suc, ℤ, List, [], ◌∷◌, arith, sym, refl, subst, slice_get, Some, IsBitSet, at_set, set_at, two_bits, RowHolds, Row, Automaton, Guards, GuardsAre, HoldsThere, MaskAt, SomeDiffers, Switches, Drops, HasFallen, SameGuards}
 use Rattle.std.specs.Int.{bit_at}
 use Rattle.std.proofs.lemmas.Nat.Bits.{same_from_bits}
-use Rattle.ta_base.proofs.Bits.{at_set, set_at}
-use Rattle.ta_base.proofs.Naturals.{two_bits}
 use Rattle.ta_counter.proofs.Holdings.{this_row}
-use Rattle.ta_linear.specs.Values.{RowHolds}
-use Rattle.ta_linear.specs.declared.row.Row.{Row}
-use Rattle.ta_automaton.specs.declared.automaton.Automaton.{Automaton}
-use Rattle.ta_counter.specs.declared.holding.Guards.{Guards}
-use Rattle.ta_counter.specs.Holding.{GuardsAre, HoldsThere, MaskAt}
-use Rattle.ta_compress.specs.Units.{SomeDiffers, Switches, Drops}
-use Rattle.ta_compress.specs.Inside.Drafts.{HasFallen, SameGuards}
 use Rattle.ta_compress.proofs.Steady.{holds_or}
 
 -- a row that holds at both points or at neither, for all rows

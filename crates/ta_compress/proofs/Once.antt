@@ -1,22 +1,9 @@
 -- A run is refused in one way.
-use Rattle.std.proofs.Common.{◌≡◌, inl, inr, ℕ, ◌<◌, ℤ, List, arith, refl, sym, ap, ◌∙◌, subst}
-use mathlib.Core.Path.{fun_ext}
+use Rattle.ta_compress.proofs.Common.{◌≡◌, inl, inr, ℕ, ◌<◌, ℤ, List, arith, refl, sym, ap, ◌∙◌, subst, fun_ext, cases_order, point_of, Automaton, File, GuardsStay, StartsAt, Run, Fits, run_line_number, CompressFault, Replay, TooManySteps, Memory, CompressFaultOf, GuardsOutOfRangeAt, GuardsOutOfRangeFirstIn}
 use Rattle.std.specs.Prelude.{◌≢◌}
-use Rattle.std.proofs.lemmas.Bool.{cases_order}
-use Rattle.ta_linear.specs.Values.{point_of}
-use Rattle.ta_automaton.specs.declared.automaton.Automaton.{Automaton}
-use Rattle.ta_automaton.specs.declared.file.File.{File}
-use Rattle.ta_counter.specs.Holding.{GuardsStay}
-use Rattle.ta_counter.specs.Starts.{StartsAt}
 use Rattle.ta_replay.specs.declared.fault.RunFault.TheVariants as runs
-use Rattle.ta_replay.specs.declared.run.Run.{Run}
-use Rattle.ta_replay.specs.Fits.{Fits}
-use Rattle.ta_replay.specs.ReplayFaults.{run_line_number}
 use Rattle.ta_replay.proofs.OneRefusal.{one_refusal}
-use Rattle.ta_compress.specs.declared.fault.CompressFault.{CompressFault}
-use Rattle.ta_compress.specs.declared.fault.CompressFault.TheVariants.{Replay, TooManySteps, Memory}
 use Rattle.ta_compress.specs.Determined.{CompressFaultsAreDetermined}
-use Rattle.ta_compress.specs.Faults.{CompressFaultOf, GuardsOutOfRangeAt, GuardsOutOfRangeFirstIn}
 use Rattle.ta_compress.proofs.Excluding.{leaves_same, only_memory, same_start}
 
 -- a run has one list of values to start with

@@ -1,34 +1,11 @@
 -- the arranged steps of a piece lead where the piece leads
-use Rattle.std.proofs.Common.{◌≡◌, inl, inr, ℕ, zero, suc, ◌+◌, ◌<◌, ◌≤◌, ℤ, pos, ◌*ℤ◌, ◌≤ℤ◌, List, [], ◌∷◌, ◌++◌, length, true, arith, sym, ap, ◌∙◌, refl, subst, slice_get, get_or, Some, IsBitSet}
-use mathlib.Core.Path.{fun_ext}
-use Rattle.std.proofs.lemmas.Int.{ints}
-use Rattle.std.proofs.lemmas.Bool.{cases_lt}
-use Rattle.std.proofs.lemmas.Bool.Decides.{eqb_tells}
-use Rattle.std.proofs.lemmas.List.{length-map, get_or_past}
-use Rattle.std.proofs.lemmas.Option.{same_Some, slice_get_within}
-use Rattle.ta_base.proofs.Lists.{filter_all}
+use Rattle.ta_compress.proofs.Common.{◌≡◌, inl, inr, ℕ, zero, suc, ◌+◌, ◌<◌, ◌≤◌, ℤ, pos, ◌*ℤ◌, ◌≤ℤ◌, List, [], ◌∷◌, ◌++◌, length, true, arith, sym, ap, ◌∙◌, refl, subst, slice_get, get_or, Some, IsBitSet, fun_ext, ints, cases_lt, eqb_tells, length-map, get_or_past, same_Some, slice_get_within, filter_all, RowHolds, Row, Automaton, Pattern, Rule, Whole, location_place, Config, InScope, Steps, At, value_at, total, times_in, change_of, same_model, KeepsEmpty, ArrangedOf, AreRuleCounts, count_at, GuardsHold, LeadsToEnd, rise_mask, fall_mask, value_at_end, RunLine, value_after, units, counts_of, StepsLead}
 use Rattle.ta_base.proofs.Ranges.{length_numbers, number_get}
-use Rattle.ta_linear.specs.Values.{RowHolds}
-use Rattle.ta_linear.specs.declared.row.Row.{Row}
-use Rattle.ta_automaton.specs.declared.automaton.Automaton.{Automaton}
-use Rattle.ta_automaton.specs.declared.pattern.Pattern.{Pattern}
-use Rattle.ta_automaton.specs.declared.rule.Rule.{Rule}
 use Rattle.ta_base.specs.Masks.{In, numbers_from}
-use Rattle.ta_automaton.specs.Places.{Whole, location_place}
-use Rattle.ta_automaton.specs.Runs.{Config, InScope, Step, Steps, At, value_at}
-use Rattle.ta_automaton.specs.Sums.{total, times_in}
+use Rattle.ta_automaton.specs.Runs.{Step}
 use Rattle.ta_automaton.proofs.Fired.{EachOnce, firings, once}
-use Rattle.ta_automaton.proofs.Onward.{change_of}
-use Rattle.ta_counter.proofs.Models.{same_model}
-use Rattle.ta_pattern.specs.Empty.{KeepsEmpty}
-use Rattle.ta_scope.specs.Arranged.{ArrangedOf, AreRuleCounts, count_at}
 use Rattle.ta_scope.specs.Legal as legal
-use Rattle.ta_scope.specs.Legal.{GuardsHold, LeadsToEnd, rise_mask, fall_mask, value_at_end}
 use Rattle.ta_scope.proofs.ArrangedLaws.{FromCounts, from_counts, arranged_end}
-use Rattle.ta_replay.specs.declared.run.RunLine.{RunLine}
-use Rattle.ta_compress.specs.Units.{value_after}
-use Rattle.ta_compress.specs.Pieces.{units, counts_of}
-use Rattle.ta_compress.specs.Tales.{StepsLead}
 use Rattle.ta_compress.proofs.Leading.{leads_first, leads_split, leads_value, leads_whole}
 use Rattle.ta_compress.proofs.Steady.{Steady, units-value}
 

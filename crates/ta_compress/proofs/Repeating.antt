@@ -1,46 +1,16 @@
 -- the unit steps of a run that shows its pattern pass every check, where all guards stay in range
-use Rattle.std.proofs.Common.{◌≡◌, inl, inr, ℕ, zero, suc, ◌+◌, ◌-◌, ◌<◌, ℤ, pos, ◌+ℤ◌, ◌-ℤ◌, ◌*ℤ◌, List, [], ◌∷◌, ◌++◌, length, map, take, drop, replicate, unsigned_abs, arith, sym, ap, ◌∙◌, refl, subst, slice_get, Some, Option, append_assoc}
-use mathlib.Core.Path.{fun_ext}
-use Rattle.std.proofs.lemmas.Int.{ints}
-use Rattle.std.proofs.lemmas.Bool.Decides.{eqb_tells}
-use Rattle.std.proofs.Math.IntN.{zero-*ℤ}
-use Rattle.std.specs.List.{AllByRecursion}
-use Rattle.ta_base.proofs.Each.{each_at, each_point, each_take}
-use Rattle.ta_base.proofs.Integers.{abs_natural, distributes_right, minus_times, mul-ge-zero, one_times}
-use Rattle.ta_base.proofs.Lists.{cut_at, replicate_cut, some_at}
+use Rattle.ta_compress.proofs.Common.{◌≡◌, inl, inr, ℕ, zero, suc, ◌+◌, ◌-◌, ◌<◌, ℤ, pos, ◌+ℤ◌, ◌-ℤ◌, ◌*ℤ◌, List, [], ◌∷◌, ◌++◌, length, map, take, drop, replicate, unsigned_abs, arith, sym, ap, ◌∙◌, refl, subst, slice_get, Some, Option, append_assoc, fun_ext, ints, eqb_tells, zero-*ℤ, AllByRecursion, each_at, each_point, each_take, abs_natural, distributes_right, minus_times, mul-ge-zero, one_times, cut_at, replicate_cut, some_at, point_of, Automaton, Pattern, Rule, Whole, location_place, rule_change, shared_change, Config, value_at, one_if-ne, shared_change-shared, change_of, rule_within, run_length, IsOf, config_of, GuardsStay, Value, model_at, model_whole, same_model, Run, LineFits, NumbersStay, ValuesAfter, ShowsPattern, unit_steps, FitsPattern, unit_steps-append, lines-change, total-replicate, shown_first, MayRepeat, MayStep, RepeatsRule, StepsLead}
 use Rattle.ta_counter.proofs.Adding.{range_below}
 use Rattle.ta_linear.specs.Sums.{StaysInRange}
 use Rattle.ta_linear.specs.Terms.{coefficient}
-use Rattle.ta_linear.specs.Values.{point_of}
-use Rattle.ta_automaton.specs.declared.automaton.Automaton.{Automaton}
-use Rattle.ta_automaton.specs.declared.pattern.Pattern.{Pattern}
-use Rattle.ta_automaton.specs.declared.rule.Rule.{Rule}
 use Rattle.ta_base.specs.Lists.{Distinct}
-use Rattle.ta_automaton.specs.Places.{Whole, location_place, rule_change, shared_change}
-use Rattle.ta_automaton.specs.Runs.{Config, Step, value_at}
+use Rattle.ta_automaton.specs.Runs.{Step}
 use Rattle.ta_automaton.specs.Shape.{Update, variable_of}
-use Rattle.ta_automaton.proofs.Moves.{one_if-ne, shared_change-shared}
-use Rattle.ta_automaton.proofs.Onward.{change_of}
-use Rattle.ta_automaton.proofs.Thresholds.{rule_within}
-use Rattle.ta_automaton.proofs.Trails.{run_length}
 use Rattle.ta_counter.specs.declared.config.Config as counter
 use Rattle.ta_counter.specs.declared.fault.StepFault.TheVariants.{Count, OutOfRange, Guard}
-use Rattle.ta_counter.specs.Configs.{IsOf, config_of}
-use Rattle.ta_counter.specs.Holding.{GuardsStay}
 use Rattle.ta_counter.specs.Steps.{Fires, AllGrow, before_last}
-use Rattle.ta_counter.specs.Values.{Value}
-use Rattle.ta_counter.proofs.Models.{model_at, model_whole, same_model}
 use Rattle.ta_counter.proofs.Stepping.{no_steps}
-use Rattle.ta_replay.specs.declared.run.Run.{Run}
 use Rattle.ta_replay.specs.declared.run.RunLine.TheVariants as line
-use Rattle.ta_replay.specs.Fits.{LineFits}
-use Rattle.ta_replay.specs.Replays.{NumbersStay, ValuesAfter}
-use Rattle.ta_replay.specs.Shows.{ShowsPattern, unit_steps}
-use Rattle.ta_replay.specs.Inside.Following.{FitsPattern}
-use Rattle.ta_replay.proofs.Lines.{unit_steps-append}
-use Rattle.ta_replay.proofs.Showing.{lines-change, total-replicate, shown_first}
-use Rattle.ta_compress.specs.Inside.Drafts.{MayRepeat, MayStep, RepeatsRule}
-use Rattle.ta_compress.specs.Tales.{StepsLead}
 use Rattle.ta_compress.proofs.Leading.{First, leads_first, leads_split, leads_value, leads_whole}
 
 -- the whole run as steps that lead somewhere

@@ -1,19 +1,5 @@
 -- runs that tell the same show the same
-use Rattle.std.proofs.Common.{◌≡◌, inl, inr, ℕ, zero, suc, ◌+◌, ◌<◌, ◌≤◌, ℤ, List, [], ◌∷◌, ◌++◌, length, take, replicate, unsigned_abs, arith, sym, ap, ◌∙◌, refl, subst, slice_get, Some, length-append}
-use Rattle.std.proofs.lemmas.List.{length-replicate}
-use Rattle.std.proofs.lemmas.Bool.{cases_lt}
-use Rattle.std.proofs.lemmas.Option.{same_Some}
-use Rattle.ta_automaton.specs.declared.automaton.Automaton.{Automaton}
-use Rattle.ta_automaton.specs.declared.pattern.Pattern.{Pattern}
-use Rattle.ta_automaton.specs.Places.{Whole}
-use Rattle.ta_automaton.specs.Runs.{Config, Steps, At, Holds}
-use Rattle.ta_pattern.specs.Empty.{KeepsEmpty}
-use Rattle.ta_replay.specs.declared.run.Run.{Run}
-use Rattle.ta_replay.specs.declared.run.RunLine.{RunLine}
-use Rattle.ta_replay.specs.declared.run.RunLine.TheVariants.{Step, Mark}
-use Rattle.ta_replay.specs.Shows.{unit_steps, steps_before, marks_count, MarksAt, IsFirstConfig, ShowsPattern}
-use Rattle.ta_automaton.proofs.Trails.{run_length}
-use Rattle.ta_compress.specs.Tales.{StepsLead, LinesTell}
+use Rattle.ta_compress.proofs.Common.{◌≡◌, inl, inr, ℕ, zero, suc, ◌+◌, ◌<◌, ◌≤◌, ℤ, List, [], ◌∷◌, ◌++◌, length, take, replicate, unsigned_abs, arith, sym, ap, ◌∙◌, refl, subst, slice_get, Some, length-append, length-replicate, cases_lt, same_Some, Automaton, Pattern, Whole, Config, Steps, At, Holds, KeepsEmpty, Run, RunLine, Step, Mark, unit_steps, steps_before, marks_count, MarksAt, IsFirstConfig, ShowsPattern, run_length, StepsLead, LinesTell}
 use Rattle.ta_replay.proofs.Paths.{steps-append, at_further, at_either}
 use Rattle.ta_compress.proofs.Leading.{steps_same, only_one}
 

@@ -1,34 +1,6 @@
 -- a run is followed line by line
-use Rattle.std.proofs.Common.{◌≡◌, inl, inr, ℕ, ◌+◌, ◌<◌, ℤ, pos, List, [], ◌∷◌, ◌++◌, take, drop, unsigned_abs, arith, sym, ap, ◌∙◌, refl, subst, slice_get, Some, append-nil}
-use mathlib.Core.Path.{fun_ext}
-use Rattle.std.proofs.lemmas.Int.{ints}
-use Rattle.std.proofs.lemmas.Bool.{cases_lt}
-use Rattle.std.proofs.lemmas.Option.{same_Some}
-use Rattle.ta_base.proofs.Each.{each_at, each_take}
-use Rattle.ta_linear.specs.Values.{point_of}
-use Rattle.ta_automaton.specs.declared.file.File.{File}
-use Rattle.ta_automaton.specs.declared.pattern.Pattern.{Pattern}
-use Rattle.ta_automaton.specs.Sums.{total}
-use Rattle.ta_automaton.proofs.Sums.{total-append}
-use Rattle.ta_counter.specs.Holding.{GuardsStay}
-use Rattle.ta_counter.specs.Starts.{StartsAt}
+use Rattle.ta_compress.proofs.Common.{◌≡◌, inl, inr, ℕ, ◌+◌, ◌<◌, ℤ, pos, List, [], ◌∷◌, ◌++◌, take, drop, unsigned_abs, arith, sym, ap, ◌∙◌, refl, subst, slice_get, Some, append-nil, fun_ext, ints, cases_lt, same_Some, each_at, each_take, point_of, File, Pattern, total, total-append, GuardsStay, StartsAt, RunFault, Run, RunLine, Step, Mark, Fits, LineFits, run_line_number, ValuesAfter, line_change, ShowsPattern, factor_of, factors_sum, FitsPattern, Draft, CompressFault, Replay, TooManySteps, Memory, IsSmallReplay, CompressFaultOf, GuardsStayed, GuardsOutOfRangeIn, AreCut, CutOf, units, EndsAtLastMark, unfolded, value_after, DraftAt, LineKeeps, LineMay, DraftStops, RepeatStops, Room, repeated}
 use Rattle.ta_replay.specs.declared.fault.RunFault.TheVariants as runs
-use Rattle.ta_replay.specs.declared.fault.RunFault.{RunFault}
-use Rattle.ta_replay.specs.declared.run.Run.{Run}
-use Rattle.ta_replay.specs.declared.run.RunLine.{RunLine}
-use Rattle.ta_replay.specs.declared.run.RunLine.TheVariants.{Step, Mark}
-use Rattle.ta_replay.specs.Fits.{Fits, LineFits}
-use Rattle.ta_replay.specs.ReplayFaults.{run_line_number}
-use Rattle.ta_replay.specs.Replays.{ValuesAfter, line_change}
-use Rattle.ta_replay.specs.Shows.{ShowsPattern, factor_of, factors_sum}
-use Rattle.ta_replay.specs.Inside.Following.{FitsPattern}
-use Rattle.ta_compress.specs.declared.draft.Draft.{Draft}
-use Rattle.ta_compress.specs.declared.fault.CompressFault.{CompressFault}
-use Rattle.ta_compress.specs.declared.fault.CompressFault.TheVariants.{Replay, TooManySteps, Memory}
-use Rattle.ta_compress.specs.Faults.{IsSmallReplay, CompressFaultOf, GuardsStayed, GuardsOutOfRangeIn}
-use Rattle.ta_compress.specs.Pieces.{AreCut, CutOf, units}
-use Rattle.ta_compress.specs.Units.{EndsAtLastMark, unfolded, value_after}
-use Rattle.ta_compress.specs.Inside.Drafts.{DraftAt, LineKeeps, LineMay, DraftStops, RepeatStops, Room, repeated}
 use Rattle.ta_compress.proofs.Repeating.{may_repeat}
 use Rattle.ta_compress.proofs.Unfolding.{unfold-next, unfold-value, factors_at, factors_behind, nothing_open}
 

@@ -1,19 +1,5 @@
 -- guards within a piece
-use Rattle.std.proofs.Common.{◌≡◌, ◌⊎◌, inl, inr, ℕ, ℤ, ◌+ℤ◌, List, [], ◌∷◌, ◌++◌, arith, sym, ap, ◌∙◌, refl, subst, slice_get, Some, append-nil, append_assoc}
-use Rattle.std.proofs.lemmas.Int.{ints}
-use Rattle.ta_base.proofs.Integers.{natural_or_not, one_times}
-use Rattle.ta_base.proofs.Lists.{split_last}
-use Rattle.ta_linear.specs.Values.{value_of, RowHolds}
-use Rattle.ta_linear.specs.declared.row.Row.{Row}
-use Rattle.ta_automaton.specs.declared.automaton.Automaton.{Automaton}
-use Rattle.ta_automaton.specs.Places.{rule_change}
-use Rattle.ta_automaton.specs.Sums.{total}
-use Rattle.ta_automaton.proofs.Onward.{change_of}
-use Rattle.ta_automaton.proofs.Sums.{total-append}
-use Rattle.ta_replay.specs.declared.run.RunLine.{RunLine}
-use Rattle.ta_replay.specs.Replays.{line_change}
-use Rattle.ta_compress.specs.Units.{unit, value_after, SomeDiffers, Drops}
-use Rattle.ta_compress.specs.Pieces.{CutPiece, units, Still, DropsAt, IsPiece}
+use Rattle.ta_compress.proofs.Common.{◌≡◌, ◌⊎◌, inl, inr, ℕ, ℤ, ◌+ℤ◌, List, [], ◌∷◌, ◌++◌, arith, sym, ap, ◌∙◌, refl, subst, slice_get, Some, append-nil, append_assoc, ints, natural_or_not, one_times, split_last, value_of, RowHolds, Row, Automaton, rule_change, total, change_of, total-append, RunLine, line_change, unit, value_after, SomeDiffers, Drops, CutPiece, units, Still, DropsAt, IsPiece}
 
 pub holds_or : (f : ℕ → ℤ) (row : Row) → RowHolds f row ⊎ (RowHolds f row → ⊥)
 holds_or f row = natural_or_not (value_of f row.form)

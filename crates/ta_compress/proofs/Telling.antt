@@ -1,19 +1,7 @@
 -- what lines tell
-use Rattle.std.proofs.Common.{◌≡◌, ℕ, zero, suc, ◌+◌, ℤ, List, [], ◌∷◌, ◌++◌, map, take, drop, replicate, unsigned_abs, arith, sym, ap, refl, subst, take-append-drop}
-use Rattle.ta_base.proofs.Lists.{get_of_drop_at}
-use Rattle.ta_automaton.specs.declared.automaton.Automaton.{Automaton}
-use Rattle.ta_automaton.specs.declared.pattern.Pattern.{Pattern}
+use Rattle.ta_compress.proofs.Common.{◌≡◌, ℕ, zero, suc, ◌+◌, ℤ, List, [], ◌∷◌, ◌++◌, map, take, drop, replicate, unsigned_abs, arith, sym, ap, refl, subst, take-append-drop, get_of_drop_at, Automaton, Pattern, Config, KeepsEmpty, RunLine, Step, Mark, unit_steps, MarksAt, unit, unfolded, EndsAtLastMark, step_line, units, StepsLead, LinesTell}
 use Rattle.ta_automaton.specs.Runs as runs
-use Rattle.ta_automaton.specs.Runs.{Config}
-use Rattle.ta_pattern.specs.Empty.{KeepsEmpty}
 use Rattle.ta_scope.specs.Legal as legal
-use Rattle.ta_replay.specs.declared.run.RunLine.{RunLine}
-use Rattle.ta_replay.specs.declared.run.RunLine.TheVariants.{Step, Mark}
-use Rattle.ta_replay.specs.Shows.{unit_steps, MarksAt}
-use Rattle.ta_compress.specs.Units.{unit, unfolded, EndsAtLastMark}
-use Rattle.ta_replay.specs.Pieces.{step_line}
-use Rattle.ta_compress.specs.Pieces.{units}
-use Rattle.ta_compress.specs.Tales.{StepsLead, LinesTell}
 use Rattle.ta_compress.proofs.Leading.{leads_none, leads_cons, leads_first, leads_nowhere, leads_split}
 
 -- legal steps tell something

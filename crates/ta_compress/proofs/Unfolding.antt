@@ -1,25 +1,5 @@
 -- a run unfolded
-use Rattle.std.proofs.Common.{◌≡◌, inl, inr, ℕ, zero, suc, ◌+◌, ◌≤◌, ℤ, pos, ◌+ℤ◌, ◌*ℤ◌, List, [], ◌∷◌, ◌++◌, length, take, drop, replicate, unsigned_abs, arith, sym, ap, ◌∙◌, refl, slice_get, Some, append_assoc, length-append}
-use Rattle.std.proofs.lemmas.List.{length-replicate}
-use Rattle.std.proofs.lemmas.Int.{ints}
-use Rattle.std.proofs.Math.IntN.{zero-*ℤ}
-use Rattle.std.specs.List.{AllByRecursion}
-use Rattle.ta_base.proofs.Each.{each_append, each_copies}
-use Rattle.ta_base.proofs.Integers.{abs_natural, distributes_right, one_times}
-use Rattle.ta_base.proofs.Lists.{take_next}
-use Rattle.ta_automaton.specs.declared.automaton.Automaton.{Automaton}
-use Rattle.ta_automaton.specs.declared.pattern.Pattern.{Pattern}
-use Rattle.ta_automaton.specs.Places.{rule_change}
-use Rattle.ta_automaton.specs.Sums.{total}
-use Rattle.ta_automaton.proofs.Sums.{total-append}
-use Rattle.ta_replay.specs.declared.run.RunLine.{RunLine}
-use Rattle.ta_replay.specs.declared.run.RunLine.TheVariants.{Step, Mark}
-use Rattle.ta_replay.specs.Fits.{LineFits}
-use Rattle.ta_replay.specs.Replays.{line_change}
-use Rattle.ta_replay.specs.Shows.{factor_of, factors_sum, marks_count}
-use Rattle.ta_linear.specs.Numbers.{InRange}
-use Rattle.ta_compress.specs.Units.{unit, unfolded, value_after, EndsAtLastMark}
-use Rattle.ta_compress.specs.Pieces.{units}
+use Rattle.ta_compress.proofs.Common.{◌≡◌, inl, inr, ℕ, zero, suc, ◌+◌, ◌≤◌, ℤ, pos, ◌+ℤ◌, ◌*ℤ◌, List, [], ◌∷◌, ◌++◌, length, take, drop, replicate, unsigned_abs, arith, sym, ap, ◌∙◌, refl, slice_get, Some, append_assoc, length-append, length-replicate, ints, zero-*ℤ, AllByRecursion, each_append, each_copies, abs_natural, distributes_right, one_times, take_next, Automaton, Pattern, rule_change, total, total-append, RunLine, Step, Mark, LineFits, line_change, factor_of, factors_sum, marks_count, InRange, unit, unfolded, value_after, EndsAtLastMark, units}
 
 pub unfold-append : (xs ys : List RunLine) → unfolded (xs ++ ys) ≡ unfolded xs ++ unfolded ys
 unfold-append [] ys = refl

@@ -19,12 +19,10 @@ use crate::fault::CompressFault;
 use std::alloc::{AllocError, Global};
 use ta_automaton::File;
 use ta_base::List;
+use ta_base::limits::MOST_UNIT_STEPS;
 use ta_counter::{Config, guards_at};
 use ta_replay::{Run, RunFault, RunLine, replay};
 use ta_scope::ScopedFile;
-
-/// The most unit steps that a run is unfolded to.
-const UNIT_STEPS: i128 = 1_000_000;
 
 /// Shortens a run that shows its pattern: between two cuts at most one step of each rule is left,
 /// and one that makes a fall guard false. Cuts are the marks and the switches of guards.
@@ -38,20 +36,6 @@ pub fn compress(alloc: Global, scoped: &ScopedFile, run: &Run) -> Result<Run, Co
     ensures short { IfOk result (IsShortRun scoped.now.file) }
     ensures fault { IfErr result (CompressFaultOf scoped.now.file run.now) }
     ensures only { Compressible scoped.now.file run.now → IfErr result (λ fault. fault ≡ Memory) }
-{
-    shortened(alloc, scoped, run)
-}
-
-/// The shortened run.
-fn shortened(alloc: Global, scoped: &ScopedFile, run: &Run) -> Result<Run, CompressFault>
-    requires { Fits scoped.now.file run.now }
-    ensures admits { OnOk result (Compressible scoped.now.file run.now) }
-    ensures exact { IfOk result (CompressOf scoped.now.file run.now) }
-    ensures fits { IfOk result (Fits scoped.now.file) }
-    ensures shows { IfOk result (Shows scoped.now.file) }
-    ensures same { IfOk result (SameTale scoped.now.file run.now) }
-    ensures short { IfOk result (IsShortRun scoped.now.file) }
-    ensures fault { IfErr result (CompressFaultOf scoped.now.file run.now) }
 {
     admit(scoped.file(), run)?;
     let lines = shorten(alloc, scoped, run)?;
@@ -95,7 +79,7 @@ fn few_steps(lines: &[RunLine]) -> Result<(), CompressFault>
     ensures many { IfErr result (StepsStop lines.now) }
 {
     let steps = steps_of(lines);
-    if steps > UNIT_STEPS {
+    if steps > MOST_UNIT_STEPS {
         return Err(CompressFault::TooManySteps(steps));
     }
     Ok(())

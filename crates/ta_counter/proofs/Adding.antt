@@ -1,13 +1,5 @@
 -- sums of natural numbers, from left to right
-use Rattle.std.proofs.Common.{◌≡◌, ℕ, zero, suc, ◌+◌, ◌<◌, ◌≤◌, ◌^◌, ℤ, pos, ◌+ℤ◌, ◌≤ℤ◌, List, [], ◌∷◌, length, drop, arith, ap, refl, subst, get_or}
-use Rattle.std.proofs.lemmas.Int.{ints}
-use Rattle.std.proofs.lemmas.List.{drop_more, drop_all}
-use Rattle.std.specs.List.{AllByRecursion}
-use Rattle.ta_base.proofs.Integers.{abs_below}
-use Rattle.ta_linear.specs.Numbers.{InRange}
-use Rattle.ta_automaton.specs.Sums.{total}
-use Rattle.ta_counter.specs.Values.{Value}
-use Rattle.ta_counter.specs.Configs.{sum_of}
+use Rattle.ta_counter.proofs.Common.{◌≡◌, ℕ, zero, suc, ◌+◌, ◌<◌, ◌≤◌, ◌^◌, ℤ, pos, ◌+ℤ◌, ◌≤ℤ◌, List, [], ◌∷◌, length, drop, arith, ap, refl, subst, get_or, ints, drop_more, drop_all, AllByRecursion, abs_below, InRange, total, Value, sum_of}
 
 -- a natural number that isn't above a number in range is in range
 pub range_below : (x y : ℤ) → pos 0 ≤ℤ x → x ≤ℤ y → InRange y → InRange x

@@ -1,20 +1,8 @@
 -- the values at the start, count by count
-use Rattle.std.proofs.Common.{◌≡◌, inl, inr, ℕ, ◌+◌, ◌<◌, ◌≤◌, ℤ, pos, List, ◌++◌, length, set, replicate, arith, sym, ap, ◌∙◌, get_or, slice_get, Some, length-append}
-use Rattle.std.proofs.lemmas.Int.{ints}
-use Rattle.std.proofs.lemmas.Bool.{cases_lt}
-use Rattle.std.proofs.lemmas.List.{get_or-set_same, get_or-set_other, length-set, take-set-le, take_at, length-replicate}
-use Rattle.std.proofs.lemmas.Option.{same_Some, slice_get_within, get_or_from_slice_get}
-use Rattle.std.specs.List.{AllByRecursion}
-use Rattle.ta_base.proofs.Each.{each_append, each_copies, each_set}
-use Rattle.ta_base.proofs.Lists.{zeros_past}
+use Rattle.ta_counter.proofs.Common.{◌≡◌, inl, inr, ℕ, ◌+◌, ◌<◌, ◌≤◌, ℤ, pos, List, ◌++◌, length, set, replicate, arith, sym, ap, ◌∙◌, get_or, slice_get, Some, length-append, ints, cases_lt, get_or-set_same, get_or-set_other, length-set, take-set-le, take_at, length-replicate, same_Some, slice_get_within, get_or_from_slice_get, AllByRecursion, each_append, each_copies, each_set, zeros_past, Automaton, location_place, Value, StartsAt, Filling}
 use Rattle.ta_base.proofs.Ranges.{rises_apart, rises_within}
-use Rattle.ta_automaton.specs.declared.automaton.Automaton.{Automaton}
-use Rattle.ta_automaton.specs.Places.{location_place}
-use Rattle.ta_counter.specs.Values.{Value}
-use Rattle.ta_counter.specs.Starts.{StartsAt}
-use Rattle.ta_counter.specs.Inside.Filling.{Filling}
 
-zero_value : Value (pos 0)
+pub zero_value : Value (pos 0)
 zero_value = record { natural = omega (arith, ints); fits = omega arith }
 
 pub fill_start : (a : Automaton) (parameters counts : List ℤ) (n : ℕ) → length parameters ≡ length a.parameters → AllByRecursion Value parameters → n ≡ length a.shared + length a.locations → Filling a parameters counts (parameters ++ replicate n (pos 0)) 0

@@ -1,23 +1,5 @@
 -- firing a rule several times in a row
-use Rattle.std.proofs.Common.{◌≡◌, ◌≢◌, inl, inr, ℕ, zero, suc, ◌+◌, ◌<◌, ◌≤◌, ℤ, pos, negsuc, ◌+ℤ◌, ◌*ℤ◌, ◌≤ℤ◌, List, [], ◌∷◌, length, replicate, eqb, cond, arith, sym, ap, ◌∙◌, refl, subst, get_or, slice_get, Some, Option, IsBitSet}
-use Rattle.std.proofs.lemmas.Int.{ints}
-use Rattle.std.proofs.lemmas.Bool.Decides.{nat_tests, eqb_tells}
-use Rattle.std.proofs.lemmas.Option.{same_Some}
-use Rattle.std.proofs.Math.IntN.{zero-*ℤ, *ℤ-zero}
-use Rattle.ta_base.proofs.Each.{each_at}
-use Rattle.ta_base.proofs.Integers.{one_times, suc_times, times_natural}
-use Rattle.ta_linear.specs.Values.{value_of, RowHolds}
-use Rattle.ta_linear.specs.declared.row.Row.{Row}
-use Rattle.ta_automaton.specs.declared.rule.Rule.{Rule}
-use Rattle.ta_automaton.specs.declared.automaton.Automaton.{Automaton}
-use Rattle.ta_automaton.specs.Forms.{FallRow}
-use Rattle.ta_automaton.specs.Runs.{Config, Step, Steps, MaskedHold, value_at}
-use Rattle.ta_automaton.specs.Places.{one_if, location_place, shared_change, rule_change}
-use Rattle.ta_automaton.proofs.Thresholds.{Later, falls, fall_back, form_same, stays_true, updates_natural}
-use Rattle.ta_automaton.proofs.Moves.{Fits, fits_after, step_later, move_at, one_if-shift, one_if-ne, value_at-location, shared_change-parameter, shared_change-shared, shared_change-location, place_cases}
-use Rattle.ta_automaton.proofs.Fire.{Whole, fire, fire_whole, fire_step}
-use Rattle.ta_counter.specs.Steps.{Fires}
-use Rattle.ta_counter.proofs.Models.{whole_fits}
+use Rattle.ta_counter.proofs.Common.{◌≡◌, ◌≢◌, inl, inr, ℕ, zero, suc, ◌+◌, ◌<◌, ◌≤◌, ℤ, pos, negsuc, ◌+ℤ◌, ◌*ℤ◌, ◌≤ℤ◌, List, [], ◌∷◌, length, replicate, eqb, cond, arith, sym, ap, ◌∙◌, refl, subst, get_or, slice_get, Some, Option, IsBitSet, ints, nat_tests, eqb_tells, same_Some, zero-*ℤ, *ℤ-zero, each_at, one_times, suc_times, times_natural, value_of, RowHolds, Row, Rule, Automaton, FallRow, Config, Step, Steps, MaskedHold, value_at, one_if, location_place, shared_change, rule_change, Later, falls, fall_back, form_same, stays_true, updates_natural, Fits, fits_after, step_later, move_at, one_if-shift, one_if-ne, value_at-location, shared_change-parameter, shared_change-shared, shared_change-location, place_cases, Whole, fire, fire_whole, fire_step, fits_whole, Fires}
 
 -- so many processes at the source; one is enough for a self-loop
 abbrev pub EnoughAt : Automaton → Rule → ℤ → (ℕ → ℤ) → Type 0
@@ -124,7 +106,7 @@ some_source a rule c f h = omega (arith, ints, value_at-location a c rule.from f
 pub fire_times : (a : Automaton) (r : ℕ) (rule : Rule) → slice_get a.rules r ≡ Some rule → (k : ℕ) (c : Config) → Whole a c → EnoughAt a rule (pos (suc k)) (value_at c) → MaskedHold rule.rise a.rise c → FallAt a rule (after_updates a rule k (value_at c)) → Fired a r rule (suc k) c
 fire_times a r rule named zero c w enough rise fall =
     let d = fire a rule c in
-    let f = whole_fits a c w in
+    let f = fits_whole a c w in
     let now = fall_agree a rule (after_updates a rule 0 (value_at c)) (value_at c) (λ i b. omega (arith, ints, zero-*ℤ (shared_change a rule i))) fall in
     let step = fire_step a r rule c named w rise now (some_source a rule c f (enough_one a rule 0 (value_at c) enough)) in
     let x = fire_whole a rule c w in
@@ -132,15 +114,15 @@ fire_times a r rule named zero c w enough rise fall =
       after = d;
       fires = record { later = d ∷ []; steps = (step, tt); last = refl };
       whole = x;
-      change = λ i. omega (arith, ints, one_change a r rule c d named f (whole_fits a d x) step i, one_times (rule_change a (Some rule) i));
+      change = λ i. omega (arith, ints, one_change a r rule c d named f (fits_whole a d x) step i, one_times (rule_change a (Some rule) i));
     }
 fire_times a r rule named (suc k) c w enough rise fall =
     let d = fire a rule c in
-    let f = whole_fits a c w in
+    let f = fits_whole a c w in
     let now = fall_earlier a rule (value_at c) (after_updates a rule (suc k) (value_at c)) (later_updates a r rule named (suc k) (value_at c)) fall in
     let step = fire_step a r rule c named w rise now (some_source a rule c f (enough_one a rule (suc k) (value_at c) enough)) in
     let x = fire_whole a rule c w in
-    let g = whole_fits a d x in
+    let g = fits_whole a d x in
     let change = one_change a r rule c d named f g step in
     let still : MaskedHold rule.rise a.rise d = λ i row at bit. stays_true a (value_at c) (value_at d) (step_later a r c d f g step) i row at (rise i row at bit) in
     let ahead = fall_agree a rule (after_updates a rule (suc k) (value_at c)) (after_updates a rule k (value_at d)) (λ i b. omega (arith, ints, change i, shared_part a rule i b, suc_times k (shared_change a rule i))) fall in

@@ -1,18 +1,6 @@
 -- guards one after another
-use Rattle.std.proofs.Common.{◌≡◌, inl, inr, ℕ, ◌+◌, ◌≤◌, ℤ, List, [], ◌∷◌, length, arith, refl, subst, slice_get, Some, IsBitSet}
-use Rattle.std.specs.List.{AllByRecursion}
-use Rattle.ta_base.proofs.Lists.{PassedTo}
-use Rattle.ta_linear.specs.declared.row.Row.{Row}
+use Rattle.ta_counter.proofs.Common.{◌≡◌, inl, inr, ℕ, ◌+◌, ◌≤◌, ℤ, List, [], ◌∷◌, length, arith, refl, subst, slice_get, Some, IsBitSet, AllByRecursion, PassedTo, Row, Rule, Automaton, RiseRow, FallRow, StepFault, Count, OutOfRange, Guard, RowPasses, RowFails, RowsOver, places_of, MaskedPass, MaskedStop, GuardRowFault, MaskedFault, GuardFault}
 use Rattle.ta_linear.proofs.TermLemmas.{IsNormal-higher}
-use Rattle.ta_automaton.specs.declared.rule.Rule.{Rule}
-use Rattle.ta_automaton.specs.declared.automaton.Automaton.{Automaton}
-use Rattle.ta_automaton.specs.Forms.{RiseRow, FallRow}
-use Rattle.ta_counter.specs.declared.fault.StepFault.{StepFault}
-use Rattle.ta_counter.specs.declared.fault.StepFault.TheVariants.{Count, OutOfRange, Guard}
-use Rattle.ta_counter.specs.Checks.{RowPasses, RowFails, RowsOver}
-use Rattle.ta_counter.specs.Configs.{places_of}
-use Rattle.ta_counter.specs.Guards.{MaskedPass, MaskedStop}
-use Rattle.ta_counter.specs.Inside.Guards.{GuardRowFault, MaskedFault, GuardFault}
 
 pub masked_fault : (point : ℕ → ℤ) (mask : ℕ) (rows : List Row) (places first number : ℕ) (row : Row) (fault : StepFault) → PassedTo (λ j (other : Row). IsBitSet mask j → RowPasses point other) rows number → slice_get rows number ≡ Some row → IsBitSet mask number → GuardRowFault point row places (first + number) fault → MaskedFault point mask rows places first fault
 masked_fault point mask rows places first number row Count before at bit h = h

@@ -1,11 +1,5 @@
 -- masks of the rows that hold
-use Rattle.std.proofs.Common.{◌≡◌, ◌⊎◌, inl, inr, ℕ, ◌+◌, ◌<◌, ◌≤◌, ◌↔◌, ℤ, Bool, true, false, List, length, arith, sym, ◌∙◌, refl, subst, slice_get, Some, IsTrue, IsBitSet, Ok}
-use Rattle.std.proofs.lemmas.Bool.{cases_lt, false≢true}
-use Rattle.std.proofs.lemmas.Option.{same_Some, slice_get_within}
-use Rattle.ta_linear.specs.Sums.{StaysInRange}
-use Rattle.ta_linear.specs.Values.{RowHolds}
-use Rattle.ta_linear.specs.declared.row.Row.{Row}
-use Rattle.ta_counter.specs.Checks.{RowAnswer}
+use Rattle.ta_counter.proofs.Common.{◌≡◌, ◌⊎◌, inl, inr, ℕ, ◌+◌, ◌<◌, ◌≤◌, ◌↔◌, ℤ, Bool, true, false, List, length, arith, sym, ◌∙◌, refl, subst, slice_get, Some, IsTrue, IsBitSet, Ok, cases_lt, false≢true, same_Some, slice_get_within, StaysInRange, RowHolds, Row, RowAnswer}
 use Rattle.ta_counter.specs.Holding.{HoldsThere, MaskAt}
 
 -- a mask names those of the first n rows that hold

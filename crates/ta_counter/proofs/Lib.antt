@@ -10,3 +10,4 @@ mod Updating
 pub mod Moving
 mod Guarding
 pub mod Holdings
+mod Common

@@ -1,21 +1,6 @@
 -- the model's configuration with given values
-use Rattle.std.proofs.Common.{◌≡◌, ℕ, zero, suc, ◌+◌, ◌<◌, ℤ, pos, List, [], ◌∷◌, ◌++◌, length, map, take, drop, sum, arith, sym, ap, ◌∙◌, refl, get_or, length-drop, unsigned_abs}
-use mathlib.Core.Path.{fun_ext}
-use Rattle.std.proofs.lemmas.Int.{ints}
-use Rattle.std.proofs.lemmas.List.{map-append, length-map, length-take-le}
+use Rattle.ta_counter.proofs.Common.{◌≡◌, ℕ, zero, suc, ◌+◌, ◌<◌, ℤ, pos, List, [], ◌∷◌, ◌++◌, length, map, take, drop, sum, arith, sym, ap, ◌∙◌, refl, get_or, length-drop, unsigned_abs, fun_ext, ints, map-append, length-map, length-take-le, AllByRecursion, abs_natural, pieces, same_numbers, point_of, Automaton, Config, value_at, total, location_place, Whole, fits_whole, value_at-parameter, value_at-shared, value_at-location, Value, places_of, naturals, model_of, sum_of}
 use Rattle.std.proofs.lemmas.List.Sums.{sum_by-cons}
-use Rattle.std.specs.List.{AllByRecursion}
-use Rattle.ta_base.proofs.Integers.{abs_natural}
-use Rattle.ta_base.proofs.Lists.{pieces, same_numbers}
-use Rattle.ta_linear.specs.Values.{point_of}
-use Rattle.ta_automaton.specs.declared.automaton.Automaton.{Automaton}
-use Rattle.ta_automaton.specs.Runs.{Config, value_at}
-use Rattle.ta_automaton.specs.Sums.{total}
-use Rattle.ta_automaton.specs.Places.{location_place}
-use Rattle.ta_automaton.proofs.Fire.{Whole}
-use Rattle.ta_automaton.proofs.Moves.{Fits, value_at-parameter, value_at-shared, value_at-location}
-use Rattle.ta_counter.specs.Values.{Value}
-use Rattle.ta_counter.specs.Configs.{places_of, naturals, model_of, sum_of}
 
 pub naturals_at : (values : List ℤ) → AllByRecursion Value values → (i : ℕ) → pos (get_or (map unsigned_abs values) i 0) ≡ get_or values i (pos 0)
 naturals_at [] h i = refl
@@ -45,17 +30,14 @@ model_whole a v same =
       counters = length-map (drop (p + s) v) unsigned_abs ∙ omega (arith, length-drop (p + s) v);
     }
 
-pub whole_fits : (a : Automaton) (c : Config) → Whole a c → Fits a c
-whole_fits a c w = record { parameters = w.parameters; shared = w.shared }
-
 same_parts : (p q s t k l : List ℕ) → p ≡ q → s ≡ t → k ≡ l → ◌≡◌ {A = Config} (record { parameters = p; shared = s; counters = k }) (record { parameters = q; shared = t; counters = l })
 same_parts p q s t k l e f g = rw (e, f, g) refl
 
 -- configurations with a value for each place that agree at each place are the same
 pub same_model : (a : Automaton) (c d : Config) → Whole a c → Whole a d → ((i : ℕ) → value_at c i ≡ value_at d i) → c ≡ d
 same_model a c d w x h =
-    let f = whole_fits a c w in
-    let g = whole_fits a d x in
+    let f = fits_whole a c w in
+    let g = fits_whole a d x in
     same_parts c.parameters d.parameters c.shared d.shared c.counters d.counters
     (same_numbers c.parameters d.parameters (w.parameters ∙ sym x.parameters) (λ i b.
     let l : i < length a.parameters = omega (arith, w.parameters) in

@@ -1,23 +1,6 @@
 -- the move of processes
-use Rattle.std.proofs.Common.{◌≡◌, ◌≢◌, inl, inr, ℕ, ◌+◌, ◌<◌, ℤ, pos, negsuc, ◌+ℤ◌, ◌-ℤ◌, ◌*ℤ◌, ◌≤ℤ◌, List, length, set, arith, sym, ap, ◌∙◌, subst, FitsSigned}
-use Rattle.std.proofs.lemmas.Int.{ints, fits_signed_from_abs}
-use Rattle.std.specs.Int.{w128}
-use Rattle.std.proofs.lemmas.Bool.Decides.{nat_tests, eqb_tells}
-use Rattle.std.proofs.lemmas.List.{get_or-set_same, get_or-set_other, length-set}
-use Rattle.std.proofs.Math.IntN.{*ℤ-zero}
-use Rattle.std.specs.List.{AllByRecursion}
-use Rattle.ta_base.proofs.Each.{each_drop, each_point, each_set}
-use Rattle.ta_base.proofs.Integers.{by_one, times_minus_one}
+use Rattle.ta_counter.proofs.Common.{◌≡◌, ◌≢◌, inl, inr, ℕ, ◌+◌, ◌<◌, ℤ, pos, negsuc, ◌+ℤ◌, ◌-ℤ◌, ◌*ℤ◌, ◌≤ℤ◌, List, length, set, arith, sym, ap, ◌∙◌, subst, FitsSigned, ints, fits_signed_from_abs, w128, nat_tests, eqb_tells, get_or-set_same, get_or-set_other, length-set, *ℤ-zero, AllByRecursion, each_drop, each_point, each_set, by_one, times_minus_one, InRange, point_of, Rule, Automaton, one_if, location_place, one_if-ne, Value, places_of, counters_of, sum_of, Enough}
 use Rattle.ta_counter.proofs.Starting.{counter_at}
-use Rattle.ta_linear.specs.Numbers.{InRange}
-use Rattle.ta_linear.specs.Values.{point_of}
-use Rattle.ta_automaton.specs.declared.rule.Rule.{Rule}
-use Rattle.ta_automaton.specs.declared.automaton.Automaton.{Automaton}
-use Rattle.ta_automaton.specs.Places.{one_if, location_place}
-use Rattle.ta_automaton.proofs.Moves.{one_if-ne}
-use Rattle.ta_counter.specs.Values.{Value}
-use Rattle.ta_counter.specs.Configs.{places_of, counters_of, sum_of}
-use Rattle.ta_counter.specs.Steps.{Enough}
 use Rattle.ta_counter.proofs.Adding.{range_below, item_below}
 use Rattle.ta_counter.proofs.Updating.{Within, moved_values, counters-set-sum}
 

@@ -1,13 +1,6 @@
 -- what the tests of rows and conditions say
-use Rattle.std.proofs.Common.{◌≡◌, ℕ, ℤ, Bool, true, false, List, subst, All, Ok}
-use Rattle.std.proofs.lemmas.Option.{slice_get-get_or}
-use Rattle.ta_base.proofs.Each.{all_at}
-use Rattle.ta_linear.specs.Values.{RowHolds}
-use Rattle.ta_linear.specs.declared.row.Row.{Row}
-use Rattle.ta_automaton.specs.declared.condition.Comparison.{Comparison}
+use Rattle.ta_counter.proofs.Common.{◌≡◌, ℕ, ℤ, Bool, true, false, List, subst, All, Ok, slice_get-get_or, all_at, RowHolds, Row, Comparison, HoldsAt, RowPasses, RowFails, RowAnswer, RowsAnswer, RowsPass, RowsStop, ConditionPasses, ConditionStopsAt}
 use Rattle.ta_automaton.specs.declared.condition.Condition.{Condition}
-use Rattle.ta_automaton.specs.Runs.{HoldsAt}
-use Rattle.ta_counter.specs.Checks.{RowPasses, RowFails, RowAnswer, RowsAnswer, RowsPass, RowsStop, ConditionPasses, ConditionStopsAt}
 
 pub row_passes : (point : ℕ → ℤ) (row : Row) (b : Bool) → RowAnswer point row (Ok b) → b ≡ true → RowPasses point row
 row_passes point row b told is = subst (λ (x : Bool). RowAnswer point row (Ok x)) is told

@@ -1,30 +1,12 @@
 -- the configuration at the start
-use Rattle.std.proofs.Common.{◌≡◌, ◌⊎◌, inl, inr, ℕ, zero, suc, ◌+◌, ◌<◌, ◌≤◌, ℤ, pos, ◌+ℤ◌, List, [], ◌∷◌, length, arith, sym, ap, ◌∙◌, refl, subst, get_or, slice_get, Some, Err, Contains, length-drop, add-one}
-use mathlib.Core.Path.{fun_ext}
-use Rattle.std.proofs.lemmas.Int.{ints}
-use Rattle.std.proofs.lemmas.Bool.{cases_lt}
-use Rattle.std.proofs.lemmas.Bool.Decides.{eqb_tells}
-use Rattle.std.proofs.lemmas.List.{get_or-drop, get_or-take, get_or_past}
-use Rattle.std.proofs.lemmas.Option.{slice_get-get_or, slice_get_within, same_Some}
-use Rattle.std.specs.List.{AllByRecursion}
-use Rattle.ta_base.proofs.Each.{each_drop, each_from_get_or, each_point}
-use Rattle.ta_linear.specs.Values.{point_of, value_of}
-use Rattle.ta_automaton.specs.declared.automaton.Automaton.{Automaton}
-use Rattle.ta_base.specs.Lists.{Rises}
+use Rattle.ta_counter.proofs.Common.{◌≡◌, ◌⊎◌, inl, inr, ℕ, zero, suc, ◌+◌, ◌<◌, ◌≤◌, ℤ, pos, ◌+ℤ◌, List, [], ◌∷◌, length, arith, sym, ap, ◌∙◌, refl, subst, get_or, slice_get, Some, Err, Contains, length-drop, add-one, fun_ext, ints, cases_lt, eqb_tells, get_or-drop, get_or-take, get_or_past, slice_get-get_or, slice_get_within, same_Some, AllByRecursion, each_drop, each_from_get_or, each_point, point_of, value_of, Automaton, Rises, Initial, HoldsAt, number_at, total, location_place, value_at-shared, value_at-location, place_cases, form_same, fits_whole, Value, places_of, naturals, counters_of, model_of, sum_of, AreOf, StartsAt, MayStart, StartChecked, NoStart}
 use Rattle.ta_base.specs.Masks.{numbers_from}
-use Rattle.ta_automaton.specs.Runs.{Initial, HoldsAt, number_at}
-use Rattle.ta_automaton.specs.Sums.{total}
-use Rattle.ta_automaton.specs.Places.{location_place}
 use Rattle.ta_automaton.proofs.Sums.{total-same}
-use Rattle.ta_automaton.proofs.Moves.{value_at-shared, value_at-location, place_cases}
-use Rattle.ta_automaton.proofs.Thresholds.{form_same}
-use Rattle.ta_counter.specs.Values.{Value}
-use Rattle.ta_counter.specs.Configs.{places_of, naturals, counters_of, model_of, sum_of, AreOf}
-use Rattle.ta_counter.specs.Starts.{StartsAt, MayStart, StartChecked, NoStart}
 use Rattle.ta_counter.specs.declared.fault.StartFault.{StartFault}
 use Rattle.ta_counter.specs.declared.fault.StartFault.TheVariants.{Resilience, Processes, OutOfRange}
 use Rattle.ta_counter.proofs.Rows.{holds_from, fails_from}
-use Rattle.ta_counter.proofs.Models.{naturals_at, model_at, model_whole, whole_fits, sum_naturals}
+use Rattle.ta_counter.proofs.Models.{naturals_at, model_at, model_whole, sum_naturals}
+use Rattle.ta_counter.proofs.Filling.{zero_value}
 
 abbrev pub NotIn : List ℕ → ℕ → Type 0
 NotIn ls l = (j : ℕ) → slice_get ls j ≡ Some l → ⊥
@@ -122,7 +104,7 @@ parameter_points a parameters counts values n s =
 pub starts_initial : (a : Automaton) (parameters counts values : List ℤ) → length counts ≡ length a.initial → AllByRecursion Value parameters → AllByRecursion Value values → StartsAt a parameters counts values → MayStart a parameters counts → Initial a (model_of a values)
 starts_initial a parameters counts values same n e s may =
     let whole = model_whole a values s.places in
-    let fits = whole_fits a (model_of a values) whole in
+    let fits = fits_whole a (model_of a values) whole in
     let points = parameter_points a parameters counts values n s in
     let sum = starts_sum a parameters counts values same s in
     record {
@@ -155,9 +137,6 @@ in_or_not (x ∷ ls) l = elim (eqb_tells x l) [
   neither : (x : ℕ) (ls : List ℕ) (l : ℕ) → (x ≡ l → ⊥) → NotIn ls l → NotIn (x ∷ ls) l
   neither x ls l h none zero e = h (same_Some x l e)
   neither x ls l h none (suc j) e = none j e
-
-zero_value : Value (pos 0)
-zero_value = record { natural = omega (arith, ints); fits = omega arith }
 
 -- values that start so are natural and in range
 pub starts_natural : (a : Automaton) (parameters counts values : List ℤ) → length parameters ≡ length a.parameters → length counts ≡ length a.initial → AllByRecursion Value parameters → AllByRecursion Value counts → StartsAt a parameters counts values → AllByRecursion Value values

@@ -1,29 +1,8 @@
 -- the checks of a step, and the steps of the model
-use Rattle.std.proofs.Common.{◌≡◌, inl, inr, ℕ, zero, suc, ◌+◌, ◌<◌, ℤ, pos, negsuc, ◌+ℤ◌, ◌-ℤ◌, ◌*ℤ◌, ◌≤ℤ◌, List, length, eqb, cond, unsigned_abs, arith, sym, ap, ◌∙◌, subst, slice_get, Some, length-drop}
-use Rattle.std.proofs.lemmas.Int.{ints}
-use Rattle.std.proofs.lemmas.List.{ext_get_or, get_or-drop}
-use Rattle.std.proofs.Math.IntN.{*ℤ-zero}
-use Rattle.std.specs.List.{AllByRecursion}
-use Rattle.ta_base.proofs.Each.{each_at, each_point}
-use Rattle.ta_base.proofs.Integers.{distributes, minus_times, mul-ge-zero, one_times}
-use Rattle.ta_linear.specs.Values.{point_of, RowHolds}
-use Rattle.ta_automaton.specs.declared.rule.Rule.{Rule}
-use Rattle.ta_automaton.specs.declared.automaton.Automaton.{Automaton}
+use Rattle.ta_counter.proofs.Common.{◌≡◌, inl, inr, ℕ, zero, suc, ◌+◌, ◌<◌, ℤ, pos, negsuc, ◌+ℤ◌, ◌-ℤ◌, ◌*ℤ◌, ◌≤ℤ◌, List, length, eqb, cond, unsigned_abs, arith, sym, ap, ◌∙◌, subst, slice_get, Some, length-drop, ints, ext_get_or, get_or-drop, *ℤ-zero, AllByRecursion, each_at, each_point, distributes, minus_times, mul-ge-zero, one_times, point_of, RowHolds, Rule, Automaton, value_at, MaskedHold, Update, one_if, location_place, shared_change, rule_change, form_same, one_if-ne, shared_change-parameter, shared_change-location, fits_whole, StepFault, Count, OutOfRange, Guard, Value, places_of, counters_of, sum_of, model_of, AreOf, MaskedPass, GuardFault, Fires, Enough, Grows, AllGrow, UpdateOutOfRange, shifted, before_last, StepFails, StepIsTaken, NoSteps}
 use Rattle.ta_automaton.specs.Runs as runs
-use Rattle.ta_automaton.specs.Runs.{value_at, MaskedHold}
-use Rattle.ta_automaton.specs.Shape.{Update}
-use Rattle.ta_automaton.specs.Places.{one_if, location_place, shared_change, rule_change}
-use Rattle.ta_automaton.proofs.Thresholds.{form_same}
-use Rattle.ta_automaton.proofs.Moves.{one_if-ne, shared_change-parameter, shared_change-location}
 use Rattle.ta_counter.specs.declared.config.Config.{Config}
-use Rattle.ta_counter.specs.declared.fault.StepFault.{StepFault}
-use Rattle.ta_counter.specs.declared.fault.StepFault.TheVariants.{Count, OutOfRange, Guard}
-use Rattle.ta_counter.specs.Values.{Value}
-use Rattle.ta_counter.specs.Configs.{places_of, counters_of, sum_of, model_of, AreOf}
-use Rattle.ta_counter.specs.Guards.{MaskedPass}
-use Rattle.ta_counter.specs.Inside.Guards.{GuardFault}
-use Rattle.ta_counter.specs.Steps.{Fires, Enough, Grows, AllGrow, UpdateOutOfRange, shifted, before_last, StepFails, StepIsTaken, NoSteps}
-use Rattle.ta_counter.proofs.Models.{model_at, model_point, model_whole, whole_fits, same_model}
+use Rattle.ta_counter.proofs.Models.{model_at, model_point, model_whole, same_model}
 use Rattle.ta_counter.proofs.Adding.{range_below}
 use Rattle.ta_counter.proofs.Updating.{Within}
 use Rattle.ta_counter.proofs.Firing.{EnoughAt, after_updates, fall_agree, fire_times, Checked, steps_checked}
@@ -125,7 +104,7 @@ taken_fires a r rule (pos (suc k)) values after named some n are m t =
 
 checked_at : (a : Automaton) (r : ℕ) (rule : Rule) (k : ℕ) (values : List ℤ) (d : runs.Config) → slice_get a.rules r ≡ Some rule → AreOf a values → Fires a r (suc k) (model_of a values) d → Checked a rule k (model_of a values)
 checked_at a r rule k values d named are f =
-    steps_checked a r rule named k (model_of a values) f.later (whole_fits a (model_of a values) (model_whole a values are.places)) f.steps
+    steps_checked a r rule named k (model_of a values) f.later (fits_whole a (model_of a values) (model_whole a values are.places)) f.steps
 
 -- a step that a count or a guard refuses isn't so many steps of the model
 refused_values : (a : Automaton) (r : ℕ) (rule : Rule) (k : ℕ) (values : List ℤ) (d : runs.Config) → slice_get a.rules r ≡ Some rule → AllByRecursion Value values → AreOf a values → Fires a r (suc k) (model_of a values) d → (guard : ℕ) → StepFails a rule (pos (suc k)) values (Guard guard) → ⊥

@@ -1,28 +1,6 @@
 -- updates one after another, and the move of processes
-use Rattle.std.proofs.Common.{◌≡◌, ◌≢◌, inl, inr, ℕ, zero, suc, ◌+◌, ◌<◌, ◌≤◌, ℤ, pos, ◌+ℤ◌, ◌-ℤ◌, ◌*ℤ◌, ◌≤ℤ◌, List, [], ◌∷◌, ◌++◌, length, map, take, set, eqb, cond, arith, sym, ap, ◌∙◌, refl, subst, get_or, slice_get, Some, length-drop}
-use Rattle.std.proofs.lemmas.Int.{ints}
-use Rattle.std.proofs.lemmas.Bool.Decides.{eqb_tells}
-use Rattle.std.proofs.lemmas.List.{get_or-set_same, get_or-set_other, length-set, take_more, take_all, drop-set-add}
-use Rattle.std.proofs.lemmas.Option.{get_or_from_slice_get, slice_get_within}
-use Rattle.std.proofs.Math.IntN.{*ℤ-zero}
-use Rattle.std.specs.List.{AllByRecursion}
-use Rattle.ta_base.proofs.Each.{each_at, each_point, each_set}
-use Rattle.ta_base.proofs.Integers.{mul-ge-zero}
-use Rattle.ta_base.proofs.Lists.{PassedTo, all_passed, none_passed, one_passed}
+use Rattle.ta_counter.proofs.Common.{◌≡◌, ◌≢◌, inl, inr, ℕ, zero, suc, ◌+◌, ◌<◌, ◌≤◌, ℤ, pos, ◌+ℤ◌, ◌-ℤ◌, ◌*ℤ◌, ◌≤ℤ◌, List, [], ◌∷◌, ◌++◌, length, map, take, set, eqb, cond, arith, sym, ap, ◌∙◌, refl, subst, get_or, slice_get, Some, length-drop, ints, eqb_tells, get_or-set_same, get_or-set_other, length-set, take_more, take_all, drop-set-add, get_or_from_slice_get, slice_get_within, *ℤ-zero, AllByRecursion, each_at, each_point, each_set, mul-ge-zero, PassedTo, all_passed, none_passed, one_passed, InRange, coefficient, point_of, Rule, Automaton, Distinct, Update, RuleWithin, variable_of, location_place, shared_change, total, place_cases, shared_change-parameter, shared_change-shared, shared_change-location, Value, places_of, counters_of, sum_of, Grows, AllGrow, UpdateOutOfRange, shifted}
 use Rattle.ta_counter.proofs.Starting.{counter_at}
-use Rattle.ta_linear.specs.Numbers.{InRange}
-use Rattle.ta_linear.specs.Terms.{coefficient}
-use Rattle.ta_linear.specs.Values.{point_of}
-use Rattle.ta_automaton.specs.declared.rule.Rule.{Rule}
-use Rattle.ta_automaton.specs.declared.automaton.Automaton.{Automaton}
-use Rattle.ta_base.specs.Lists.{Distinct}
-use Rattle.ta_automaton.specs.Shape.{Update, RuleWithin, variable_of}
-use Rattle.ta_automaton.specs.Places.{location_place, shared_change}
-use Rattle.ta_automaton.specs.Sums.{total}
-use Rattle.ta_automaton.proofs.Moves.{place_cases, shared_change-parameter, shared_change-shared, shared_change-location}
-use Rattle.ta_counter.specs.Values.{Value}
-use Rattle.ta_counter.specs.Configs.{places_of, counters_of, sum_of}
-use Rattle.ta_counter.specs.Steps.{Grows, AllGrow, UpdateOutOfRange, shifted}
 
 -- the rule's parts exist in the automaton
 abbrev pub Within : Automaton → Rule → Type 0

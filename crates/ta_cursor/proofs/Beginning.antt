@@ -1,10 +1,5 @@
 -- at a word with which a search begins, that word is left
-use Rattle.std.proofs.Common.{◌≡◌, inl, ℕ, List, [], ◌∷◌, length, reverse, sym, ap, refl, subst}
-use Rattle.ta_base.proofs.Members.{in_at}
-use Rattle.ta_words.specs.declared.element.Element.{Element}
-use Rattle.ta_encode.specs.Search.{Pending, Search, BeginsAtWord, Comes}
-use Rattle.ta_cursor.specs.declared.cursor.Cursor.{Cursor}
-use Rattle.ta_cursor.specs.Cursors.{here, word_at, all_behind, FramesFit, IsAtRoot, IsWord, Within, BeginsWithin}
+use Rattle.ta_cursor.proofs.Common.{◌≡◌, inl, ℕ, List, [], ◌∷◌, length, reverse, sym, ap, refl, subst, in_at, Element, Pending, Search, BeginsAtWord, Comes, Cursor, here, word_at, all_behind, FramesFit, IsAtRoot, IsWord, Within, BeginsWithin}
 
 pub comes_first : (s : Search) (start : ℕ) (past : List Element) → BeginsAtWord s start past → Comes s start past
 comes_first s start [] b = b

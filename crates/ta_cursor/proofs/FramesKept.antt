@@ -1,13 +1,5 @@
 -- what open nodes leave depends on the beginnings of the word and of the bounds alone
-use Rattle.std.proofs.Common.{◌≡◌, ℕ, ◌+◌, ◌≤◌, List, [], ◌∷◌, ◌++◌, length, take, drop, reverse, slice_get, Some, arith, sym, ap, ◌∙◌, refl, subst}
-use Rattle.std.proofs.lemmas.List.{length-take-le, reverse-append}
-use Rattle.ta_base.proofs.Lists.{all_taken, fewer_alike, longer_by, next_dropped, take_begins, take_take}
-use Rattle.ta_words.specs.declared.element.Element.{Element}
-use Rattle.ta_encode.specs.declared.meaning.Bound.{Bound}
-use Rattle.ta_encode.specs.Search.{Pending, Search, parts}
-use Rattle.ta_cursor.specs.declared.cursor.Frame.{Frame}
-use Rattle.ta_cursor.specs.declared.cursor.Cursor.{Cursor}
-use Rattle.ta_cursor.specs.Cursors.{here, word_of, node_of, behind, all_behind, IsWord, SplitFits, FrameFits, FramesFit, Inside, Within}
+use Rattle.ta_cursor.proofs.Common.{◌≡◌, ℕ, ◌+◌, ◌≤◌, List, [], ◌∷◌, ◌++◌, length, take, drop, reverse, slice_get, Some, arith, sym, ap, ◌∙◌, refl, subst, length-take-le, reverse-append, all_taken, fewer_alike, longer_by, next_dropped, take_begins, take_take, Element, Bound, Pending, Search, parts, Frame, Cursor, here, word_of, node_of, behind, all_behind, IsWord, SplitFits, FrameFits, FramesFit, Inside, Within}
 
 -- cursors under the same start set, with this many elements and bounds alike
 pub record BeginAlike (c d : Cursor) (n m : ℕ) : Type 0 where

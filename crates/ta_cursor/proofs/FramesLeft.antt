@@ -1,10 +1,5 @@
 -- a cursor whose open nodes are left one by one, until one has a child that is still to come
-use Rattle.std.proofs.Common.{◌≡◌, List, [], ◌∷◌, ◌++◌, length, take, reverse, sym, ap, ◌∙◌, subst}
-use Rattle.ta_words.specs.declared.element.Element.{Element}
-use Rattle.ta_encode.specs.declared.meaning.Bound.{Bound}
-use Rattle.ta_encode.specs.Search.{Pending, Search}
-use Rattle.ta_cursor.specs.declared.cursor.Cursor.{Cursor}
-use Rattle.ta_cursor.specs.Cursors.{here, all_behind, FramesFit, Inside, Within}
+use Rattle.ta_cursor.proofs.Common.{◌≡◌, List, [], ◌∷◌, ◌++◌, length, take, reverse, sym, ap, ◌∙◌, subst, Element, Bound, Pending, Search, Cursor, here, all_behind, FramesFit, Inside, Within}
 use Rattle.ta_cursor.proofs.FramesKept.{BeginAlike, frames_kept, left_kept}
 
 -- two cursors at the same word, with the same nodes open

@@ -1,22 +1,10 @@
 -- the parts of a node, one after another
-use Rattle.std.proofs.Common.{◌≡◌, ◌⊎◌, inl, inr, ℕ, ◌≤◌, ℤ, List, [], ◌∷◌, ◌++◌, length, map, drop, reverse, slice_get, Some, None, true, false, arith, sym, ap, ◌∙◌, refl, subst}
+use Rattle.ta_cursor.proofs.Common.{◌≡◌, ◌⊎◌, inl, inr, ℕ, ◌≤◌, ℤ, List, [], ◌∷◌, ◌++◌, length, map, drop, reverse, slice_get, Some, None, true, false, arith, sym, ap, ◌∙◌, refl, subst, AllocError, slice_get-map, none_dropped, in_at, Element, Bound, Low, High, Pending, Search, Comes, bound_at, bounded, longer, parts, Extend, Split, Frame, Cursor, here, IsWord, SplitFits, Within, GoesOn}
 use Rattle.std.specs.Prelude.{Ok, Err}
-use Rattle.std.specs.declared.alloc.AllocError.{AllocError}
-use Rattle.std.proofs.lemmas.Option.{slice_get-map}
 use Rattle.ta_base.proofs.Each.{each_push}
-use Rattle.ta_base.proofs.Lists.{none_dropped}
-use Rattle.ta_base.proofs.Members.{in_at}
-use Rattle.ta_words.specs.declared.element.Element.{Element}
 use Rattle.ta_encode.specs.Lines.{BoundWithin, BoundsWithin}
-use Rattle.ta_encode.specs.declared.meaning.Bound.{Bound}
 use Rattle.ta_encode.specs.declared.meaning.Side.{Side}
-use Rattle.ta_encode.specs.declared.meaning.Side.TheVariants.{Low, High}
-use Rattle.ta_encode.specs.Search.{Pending, Search, Comes, bound_at, bounded, longer, parts}
 use Rattle.ta_encode.proofs.InOrder.{past_push}
-use Rattle.ta_cert.specs.declared.line.Node.TheVariants.{Extend, Split}
-use Rattle.ta_cursor.specs.declared.cursor.Frame.{Frame}
-use Rattle.ta_cursor.specs.declared.cursor.Cursor.{Cursor}
-use Rattle.ta_cursor.specs.Cursors.{here, IsWord, SplitFits, Within, GoesOn}
 use Rattle.ta_cursor.proofs.FramesKept.{Opened, opened_on}
 
 bounds_more : (n m : ℕ) (bounds : List Bound) → n ≤ m → BoundsWithin n bounds → BoundsWithin m bounds

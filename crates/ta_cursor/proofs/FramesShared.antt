@@ -1,11 +1,5 @@
 -- open nodes of which the outermost go to another cursor
-use Rattle.std.proofs.Common.{◌≡◌, ℕ, ◌+◌, ◌≤◌, List, [], ◌∷◌, ◌++◌, length, take, drop, reverse, slice_get, Some, arith, sym, ap, ◌∙◌, refl, subst, append_assoc}
-use Rattle.std.proofs.lemmas.List.{length-take-le, reverse-append, take-append-drop}
-use Rattle.ta_base.proofs.Lists.{next_dropped, take_take, take_whole}
-use Rattle.ta_encode.specs.Search.{Pending, Search}
-use Rattle.ta_cursor.specs.declared.cursor.Frame.{Frame}
-use Rattle.ta_cursor.specs.declared.cursor.Cursor.{Cursor}
-use Rattle.ta_cursor.specs.Cursors.{here, word_of, behind, all_behind, left_at, FramesFit, Inside, IsBeforeWords, IsShared, IsWord, Within}
+use Rattle.ta_cursor.proofs.Common.{◌≡◌, ℕ, ◌+◌, ◌≤◌, List, [], ◌∷◌, ◌++◌, length, take, drop, reverse, slice_get, Some, arith, sym, ap, ◌∙◌, refl, subst, append_assoc, length-take-le, reverse-append, take-append-drop, next_dropped, take_take, take_whole, Pending, Search, Frame, Cursor, here, word_of, behind, all_behind, left_at, FramesFit, Inside, IsBeforeWords, IsShared, IsWord, Within}
 use Rattle.ta_cursor.proofs.FramesLeft.{SamePlace, inside_moved}
 use Rattle.ta_cursor.proofs.FramesKept.{BeginAlike, frames_kept, left_kept, same_pending}
 

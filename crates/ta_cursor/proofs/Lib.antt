@@ -8,3 +8,4 @@ pub mod FramesParts
 mod FramesLeft
 mod FramesShared
 pub mod TreesLeft
+mod Common

@@ -1,23 +1,8 @@
 -- the words of a pattern
-use Rattle.std.proofs.Common.{◌≡◌, inl, inr, ℕ, zero, suc, ◌+◌, ◌-◌, ◌*◌, ◌%◌, ◌^◌, ◌<◌, ◌≤◌, List, [], ◌∷◌, ◌++◌, length, map, reverse, slice_get, Some, None, cond, Bool, true, false, arith, sym, ap, ◌∙◌, refl, subst, length-append, lit<}
-use Rattle.std.specs.Prelude.{filter, if◌then◌else◌}
+use Rattle.ta_cursor.proofs.Common.{◌≡◌, inl, inr, ℕ, zero, suc, ◌+◌, ◌-◌, ◌*◌, ◌%◌, ◌^◌, ◌<◌, ◌≤◌, List, [], ◌∷◌, ◌++◌, length, map, reverse, slice_get, Some, None, cond, Bool, true, false, arith, sym, ap, ◌∙◌, refl, subst, length-append, lit<, filter, if◌then◌else◌, slice_get-map, slice_get_within, In, numbers_from, numbers_end, slice_numbers, Automaton, File, Pattern, Element, Event, Rise, Fall, LegalWord, LegalUnder, children, is_complete, is_ready, is_standing, may_rise, under_none, events_named, passed_length, Pending, BeginsAtWord, Comes, all_starts, empty_word, pattern_search, IsPushed, PushAnswers}
 use Rattle.std.proofs.Math.Nat.{pow-le-pow_right}
 use Rattle.std.proofs.lemmas.Nat.{one_shl}
-use Rattle.std.proofs.lemmas.Option.{slice_get-map, slice_get_within}
-use Rattle.ta_base.specs.Masks.{In, numbers_from}
-use Rattle.ta_base.proofs.Ranges.{numbers_end, slice_numbers}
-use Rattle.ta_automaton.specs.declared.automaton.Automaton.{Automaton}
-use Rattle.ta_automaton.specs.declared.file.File.{File}
-use Rattle.ta_automaton.specs.declared.pattern.Pattern.{Pattern}
-use Rattle.ta_words.specs.declared.element.Element.{Element}
-use Rattle.ta_words.specs.declared.element.Element.TheVariants.{Event, Rise, Fall}
-use Rattle.ta_words.specs.Words.{LegalWord, LegalUnder, children, is_complete, is_ready, is_standing, may_rise}
-use Rattle.ta_words.proofs.Counts.{under_none}
-use Rattle.ta_words.proofs.Lists.{events_named, passed_length}
-use Rattle.ta_encode.specs.Search.{Pending, BeginsAtWord, Comes}
-use Rattle.ta_encode.specs.PatternSearch.{all_starts, empty_word, pattern_search}
 use Rattle.ta_encode.proofs.Prefixes.{prefix_fewer}
-use Rattle.ta_cursor.specs.TreeCalls.{IsPushed, PushAnswers}
 
 either_most : (b : Bool) (xs : List Element) → length xs ≤ 87 → length (cond b [] xs) ≤ 87
 either_most true xs h = omega arith

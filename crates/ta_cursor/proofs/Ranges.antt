@@ -1,17 +1,11 @@
 -- the check of a leaf over a system of the code and over the rows of its word
-use Rattle.std.proofs.Common.{◌≡◌, ℕ, ◌<◌, ◌≤◌, ℤ, pos, ◌+ℤ◌, ◌*ℤ◌, List, [], ◌∷◌, true, false, cond, slice_get, nat_lt, arith, sym, ap, ◌∙◌, refl, subst, inl, inr}
+use Rattle.ta_cursor.proofs.Common.{◌≡◌, ℕ, ◌<◌, ◌≤◌, ℤ, pos, ◌+ℤ◌, ◌*ℤ◌, List, [], ◌∷◌, true, false, cond, slice_get, nat_lt, arith, sym, ap, ◌∙◌, refl, subst, inl, inr, cases_lt, ints, System, Pending, Search, bounded_rows, SystemAt, coefficient_same, constant_same}
 use Rattle.std.proofs.Math.IntN.{*ℤ-zero}
-use Rattle.std.proofs.lemmas.Bool.{cases_lt}
 use Rattle.std.proofs.lemmas.Bool.Decides.{nat_tests}
-use Rattle.std.proofs.lemmas.Int.{ints}
 use Rattle.ta_linear.specs.Numbers.{InRange}
 use Rattle.ta_linear.specs.Sums.{StaysInRange}
 use Rattle.ta_linear.specs.Leaf.{coefficient_in as code_coefficient, constant_in as code_constant}
-use Rattle.ta_linear.specs.declared.row.System.{System}
-use Rattle.ta_encode.specs.Search.{Pending, Search, bounded_rows}
 use Rattle.ta_encode.specs.Refutes.{linear_coefficient_in, linear_constant_in}
-use Rattle.ta_encode.specs.Code.{SystemAt}
-use Rattle.ta_encode.proofs.CodeRows.{coefficient_same, constant_same}
 use Rattle.ta_farkas.specs.Columns.{entry, CheckStays}
 use Rattle.ta_farkas.proofs.Judging.{none_beyond}
 use Rattle.ta_cursor.specs.Range.{LeafStays}

@@ -1,31 +1,13 @@
 -- a legal word has few unknowns, and its system few variables
-use Rattle.std.proofs.Common.{◌≡◌, inl, inr, ℕ, suc, ◌+◌, ◌*◌, ◌<◌, ◌≤◌, ◌^◌, List, [], ◌∷◌, ◌++◌, length, map, cond, Bool, true, false, not, slice_get, Option, None, Some, arith, ap, length-append}
-use Rattle.std.specs.Prelude.{filter, ◌==◌}
-use Rattle.std.proofs.lemmas.List.{length-map}
+use Rattle.ta_cursor.proofs.Common.{◌≡◌, inl, inr, ℕ, suc, ◌+◌, ◌*◌, ◌<◌, ◌≤◌, ◌^◌, List, [], ◌∷◌, ◌++◌, length, map, cond, Bool, true, false, not, slice_get, Option, None, Some, arith, ap, length-append, filter, ◌==◌, length-map, count_few, System, has_bit, numbers_from, Automaton, File, Pattern, Element, Event, Rise, Fall, LegalWord, allowed_rules, has_event, has_rise, has_fallen, is_ready, is_standing, in_children, event_new, rise_new, fall_new, legal_length, events_named, SystemAt, Pending, Search, pattern_search, rows_count, IsSmall}
 use Rattle.ta_base.proofs.Naturals.{count, count_most}
-use Rattle.ta_base.proofs.Ranges.{count_few}
 use Rattle.ta_linear.specs.declared.row.Row.{Row}
-use Rattle.ta_linear.specs.declared.row.System.{System}
-use Rattle.ta_base.specs.Masks.{has_bit, numbers_from}
-use Rattle.ta_automaton.specs.declared.automaton.Automaton.{Automaton}
 use Rattle.ta_automaton.specs.declared.condition.Comparison.{Comparison}
-use Rattle.ta_automaton.specs.declared.file.File.{File}
 use Rattle.ta_automaton.specs.declared.pattern.Event.{Event as PatternEvent}
-use Rattle.ta_automaton.specs.declared.pattern.Pattern.{Pattern}
-use Rattle.ta_words.specs.declared.element.Element.{Element}
-use Rattle.ta_words.specs.declared.element.Element.TheVariants.{Event, Rise, Fall}
-use Rattle.ta_words.specs.Words.{LegalWord, allowed_rules, has_event, has_rise, has_fallen, is_ready, is_standing}
-use Rattle.ta_words.proofs.Counts.{in_children, event_new, rise_new, fall_new, legal_length}
-use Rattle.ta_words.proofs.Lists.{events_named}
 use Rattle.ta_encode.specs.declared.meaning.Meaning.{Meaning}
 use Rattle.ta_encode.specs.Unknowns.{meanings, start_meanings, counts_after, singles_after}
 use Rattle.ta_encode.specs.System.{bound_row, form_row, counter_row, counter_rows, condition_rows, guard_rows, start_guard_rows, processes_row, opposite, negated, singles_row, event_rows, standing_rows, start_rows, rise_rows, happening_rows, fall_rows, word_rows}
-use Rattle.ta_encode.specs.Code.{SystemAt}
-use Rattle.ta_encode.specs.Search.{Pending}
-use Rattle.ta_encode.specs.PatternSearch.{pattern_search}
-use Rattle.ta_encode.proofs.CodeRows.{rows_count}
 use Rattle.ta_encode.proofs.Drafts.{start_few as start_meanings_few, counts_few, singles_few}
-use Rattle.ta_cursor.specs.TreeCalls.{IsSmall}
 
 -- a comparison has at most two rows
 pub condition_few : (a : Automaton) (ms : List Meaning) (ks : List Comparison) → length (condition_rows a ms ks) ≤ 2 * length ks
@@ -210,18 +192,14 @@ short file number p start past at legal = legal_length file.automaton p start pa
 pub few_rows : (file : File) (number : ℕ) (p : Pattern) (start : ℕ) (past : List Element) → slice_get file.patterns number ≡ Some p → LegalWord file.automaton p start past → length (word_rows file.automaton p start past) ≤ 2592
 few_rows file number p start past at legal = omega (arith, word_few file.automaton p start past, short file number p start past at legal)
 
--- the unknowns and the rows of its system
+-- the unknowns and the rows of a word's system
+pub small_of : (s : Search) (w : Pending) (system : System) → s.unknowns w.start w.past ≤ 4656 → length (s.rows w.start w.past) ≤ 2640 → SystemAt s w system → IsSmall w.bounds system
+small_of s w system unknowns few is =
+    let words = s.rows w.start w.past in
+    let bounds = map bound_row w.bounds in
+    omega (arith, is.unknowns, unknowns, rows_count (words ++ bounds) system.rows is.rows, length-append words bounds, length-map w.bounds bound_row, few)
+
 pub is_small : (file : File) (number : ℕ) (p : Pattern) (w : Pending) (s : System) → slice_get file.patterns number ≡ Some p → LegalWord file.automaton p w.start w.past → SystemAt (pattern_search file.automaton p []) w s → IsSmall w.bounds s
 is_small file number p w s at legal is =
-    let a = file.automaton in
-    let words = word_rows a p w.start w.past in
-    let bounds = map bound_row w.bounds in
-    omega (
-      arith,
-      is.unknowns,
-      few_unknowns file number p w.start w.past at legal,
-      rows_count (words ++ bounds) s.rows is.rows,
-      length-append words bounds,
-      length-map w.bounds bound_row,
-      few_rows file number p w.start w.past at legal,
-    )
+    let rows = few_rows file number p w.start w.past at legal in
+    small_of (pattern_search file.automaton p []) w s (few_unknowns file number p w.start w.past at legal) (omega arith) is

@@ -1,15 +1,8 @@
 -- a place goes on within its tree, or to the next
-use Rattle.std.proofs.Common.{◌≡◌, ℕ, ◌+◌, ◌^◌, ◌<◌, true, false, List, [], ◌∷◌, ◌++◌, drop, slice_get, Some, None, Ok, Err, IfOk, Result, Bool, sym, ap, ◌∙◌, refl, subst, append_assoc}
-use Rattle.std.specs.declared.alloc.AllocError.{AllocError}
-use Rattle.ta_base.proofs.Lists.{next_dropped, none_dropped}
+use Rattle.ta_cursor.proofs.Common.{◌≡◌, ℕ, ◌+◌, ◌^◌, ◌<◌, true, false, List, [], ◌∷◌, ◌++◌, drop, slice_get, Some, None, Ok, Err, IfOk, Result, Bool, sym, ap, ◌∙◌, refl, subst, append_assoc, AllocError, next_dropped, none_dropped, Pending, Search, parts, Cursor, word_at, GoesOn, Inside, IsAtRoot, WentOn, Within, here_at, AllWithin, AllGoOn, IsRoot}
 use Rattle.ta_cert.specs.declared.line.Node.{Node}
-use Rattle.ta_encode.specs.Search.{Pending, Search, parts}
-use Rattle.ta_cursor.specs.declared.cursor.Cursor.{Cursor}
 use Rattle.ta_cursor.specs.declared.place.Place.{Place}
 use Rattle.ta_cursor.specs.declared.root.Root.{Root}
-use Rattle.ta_cursor.specs.Cursors.{word_at, GoesOn, Inside, IsAtRoot, WentOn, Within}
-use Rattle.ta_cursor.specs.InTrees.{here_at, AllWithin, AllGoOn}
-use Rattle.ta_cursor.specs.TreeCalls.{IsRoot}
 use Rattle.ta_cursor.proofs.Beginning.{begins_within}
 
 -- the words behind the first

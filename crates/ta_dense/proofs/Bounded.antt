@@ -1,29 +1,12 @@
 -- bounds of rows, and what they keep
-use Rattle.std.proofs.Common.{◌≡◌, inl, inr, ℕ, ◌<◌, ◌≤◌, ◌+◌, ◌*◌, ◌^◌, List, ◌∷◌, length, map, set, get_or, arith, sym, refl, ap, ◌∙◌, ℤ, pos, negsuc, neg_ℤ, ◌-ℤ◌, ◌*ℤ◌, ◌<ℤ◌, unsigned_abs, get_or-set_same, get_or-set_other}
-use Rattle.std.specs.Prelude.{int_div}
+use Rattle.ta_dense.proofs.Common.{◌≡◌, inl, inr, ℕ, ◌<◌, ◌≤◌, ◌+◌, ◌*◌, ◌^◌, List, ◌∷◌, length, map, set, get_or, arith, sym, refl, ap, ◌∙◌, ℤ, pos, neg_ℤ, ◌-ℤ◌, ◌*ℤ◌, ◌<ℤ◌, unsigned_abs, get_or-set_same, get_or-set_other, int_div, cases_eq, fits_signed_from_abs, length-set, All-from_get_or, All-map, All-set, le_of_dvd, dvd_antisymm, one-dvd, SFits, abs_minus, abs_positive, div-one, product_le, quotient_le, unsigned_abs-neg, zero_minus, fits32, small_positive, InRange, TableauRow, combine, merged_by, divided, turned, divisor_of, factor_divisor, CombinesInRange, MergesByInRange, AreBounded, IsBound, CombinesIn32, AllCombineIn32, IsGcd-gcd_of}
 use Rattle.std.specs.Int.{w32}
-use Rattle.std.proofs.lemmas.Bool.{cases_eq}
-use Rattle.std.proofs.lemmas.Int.{ints, fits_signed_from_abs}
-use Rattle.std.proofs.lemmas.List.{length-set}
-use Rattle.std.proofs.lemmas.List.Elements.{All-from_get_or, All-map, All-set}
-use Rattle.std.proofs.lemmas.Nat.Gcd.{le_of_dvd, dvd_antisymm}
-use Rattle.std.proofs.Math.Nat.{one-dvd}
-use mir.Val.{SFits}
-use Rattle.ta_base.proofs.Integers.{abs_minus, abs_positive, div-one, product_le, quotient_le, unsigned_abs-neg, zero_minus}
-use Rattle.ta_linear.specs.Numbers.{InRange}
-use Rattle.ta_dense.specs.Tableau.{TableauRow, combine, merged_by, divided, turned, divisor_of, factor_divisor}
-use Rattle.ta_dense.specs.Merge.{CombinesInRange, MergesByInRange}
-use Rattle.ta_dense.specs.Bounds.{AreBounded, IsBound, CombinesIn32, AllCombineIn32}
-use Rattle.ta_linear.proofs.GcdLemmas.{IsGcd-gcd_of}
 use Rattle.ta_dense.proofs.Divide.{gcd_with_divides}
 use Rattle.ta_dense.proofs.PivotLaws.{length-combine, get_or-combine}
 use Rattle.ta_dense.proofs.ReduceFacts.{factors_positive}
 
 abbrev pub IsSmall : ℤ → Type 0
 IsSmall z = unsigned_abs z < 2 ^ 31
-
-pub fits32 : (z : ℤ) (t : ℕ) → unsigned_abs z ≤ t → t < 2 ^ 31 → SFits w32 z
-fits32 z t h k = fits_signed_from_abs w32 z (omega arith)
 
 pub fits_minus32 : (z : ℤ) → IsSmall z → SFits w32 (pos 0 -ℤ z)
 fits_minus32 z h =
@@ -123,10 +106,6 @@ IsBound-turned b entering column r h k = record {
   constant = rw (unsigned_abs-neg r.constant) k.constant;
   cells = All-set (λ x. unsigned_abs x ≤ b) (map neg_ℤ r.cells) column r.denominator k.denominator (All-map (λ x. unsigned_abs x ≤ b) neg_ℤ r.cells (λ i e inside. rw (unsigned_abs-neg (get_or r.cells i e)) (k.cells i e inside)));
 }
-
-small_positive : (z : ℤ) → SFits w32 z → pos 0 <ℤ z → unsigned_abs z < 2 ^ 31
-small_positive (pos n) f h = let s = f.sfits in omega arith
-small_positive (negsuc n) f h = absurd (omega (arith, ints, h))
 
 pub divisor_le : (r : TableauRow) → pos 0 <ℤ r.denominator → divisor_of r ≤ unsigned_abs r.denominator
 divisor_le r h = le_of_dvd (abs_positive r.denominator h) (gcd_with_divides (r.constant ∷ r.cells) (unsigned_abs r.denominator)).0

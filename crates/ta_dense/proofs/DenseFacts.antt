@@ -1,19 +1,4 @@
-use Rattle.std.proofs.Common.{◌≡◌, ℕ, zero, suc, ◌<◌, List, [], ◌∷◌, length, get_or, arith, sym, ap, ◌∙◌, subst, pos, ◌<ℤ◌}
-use Rattle.std.specs.List.{range_with_len}
-use Rattle.std.proofs.lemmas.Int.{ints}
-use Rattle.std.proofs.lemmas.List.Elements.{All-map}
-use Rattle.std.proofs.lemmas.List.FromFn.{length-range_with_len}
-use Rattle.ta_linear.specs.Numbers.{InRange}
-use Rattle.ta_linear.specs.Terms.{coefficient, IsNormal}
-use Rattle.ta_linear.specs.Rows.{AllBelow}
-use Rattle.ta_linear.specs.declared.row.Row.{Row}
-use Rattle.ta_linear.proofs.TermLemmas.{coefficient-fits}
-use Rattle.ta_dense.specs.Slack.{slack_row_of}
-use Rattle.std.proofs.lemmas.List.{length-map, get_or-map}
-use Rattle.ta_dense.specs.Tableau.{no_row, cell_of, pivoted_rows}
-use Rattle.ta_dense.specs.Merge.{IsProper, OthersMergeBelow}
-use Rattle.ta_dense.specs.Rows.{row_view, views, view_at, AreProper}
-use Rattle.ta_dense.specs.declared.rows.DenseRow.{DenseRow}
+use Rattle.ta_dense.proofs.Common.{◌≡◌, ℕ, zero, suc, ◌<◌, List, [], ◌∷◌, length, get_or, arith, sym, ap, ◌∙◌, subst, pos, ◌<ℤ◌, range_with_len, ints, All-map, length-range_with_len, InRange, coefficient, IsNormal, AllBelow, Row, coefficient-fits, slack_row_of, length-map, get_or-map, no_row, cell_of, pivoted_rows, IsProper, OthersMergeBelow, row_view, views, view_at, AreProper, DenseRow}
 use Rattle.ta_dense.proofs.ProperFacts.{proper_pivoted}
 
 pub proper_read : (n : ℕ) (rows : List DenseRow) (i : ℕ) (r : DenseRow) → AreProper n rows → i < length rows → r ≡ get_or rows i r → IsProper n (row_view r)

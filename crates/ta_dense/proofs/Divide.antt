@@ -1,14 +1,5 @@
-use Rattle.std.proofs.Common.{◌≡◌, ℕ, ◌<◌, List, [], ◌∷◌, map, arith, ap, ℤ, pos, ◌+ℤ◌, ◌*ℤ◌}
-use Rattle.std.specs.Prelude.{unsigned_abs, int_div}
-use Rattle.std.specs.Int.{◌∣◌}
-use Rattle.std.proofs.Math.Nat.{one-dvd}
-use Rattle.std.proofs.lemmas.Nat.Gcd.{dvd_refl, dvd_trans, dvd_antisymm}
-use Rattle.std.proofs.lemmas.Int.{ints}
-use Rattle.ta_base.proofs.Integers.{div_exact, divided_arith, expand, mul_cancel}
-use Rattle.ta_linear.proofs.GcdLemmas.{IsGcd-gcd_of}
-use Rattle.ta_linear.specs.Gcd.{gcd_of}
-use Rattle.ta_dense.specs.Tableau.{TableauRow, divided, gcd_with}
-use Rattle.ta_dense.specs.Valid.{dot, EquationHolds, AllDivided}
+use Rattle.ta_dense.proofs.Common.{◌≡◌, ℕ, ◌<◌, List, [], ◌∷◌, map, arith, ap, ℤ, pos, ◌+ℤ◌, ◌*ℤ◌, int_div, ◌∣◌, one-dvd, dvd_refl, dvd_trans, dvd_antisymm, ints, div_exact, divided_arith, expand, mul_cancel, IsGcd-gcd_of, gcd_of, TableauRow, divided, gcd_with, dot, EquationHolds, AllDivided}
+use Rattle.std.specs.Prelude.{unsigned_abs}
 
 pub gcd_with_divides : (xs : List ℤ) (g : ℕ) → (gcd_with g xs ∣ g) × AllDivided (gcd_with g xs) xs
 gcd_with_divides [] g = (dvd_refl g, tt)

@@ -1,8 +1,4 @@
-use Rattle.std.proofs.Common.{◌≡◌, ◌≢◌, ℕ, zero, suc, ◌<◌, List, [], ◌∷◌, length, map, set, get_or, arith, refl, ap, ℤ, pos, ◌+ℤ◌, ◌*ℤ◌, ◌-ℤ◌, neg_ℤ}
-use Rattle.std.proofs.lemmas.Int.{ints}
-use Rattle.ta_base.proofs.Integers.{expand}
-use Rattle.ta_dense.specs.Valid.{dot}
-use Rattle.ta_dense.specs.Tableau.{combine}
+use Rattle.ta_dense.proofs.Common.{◌≡◌, ◌≢◌, ℕ, zero, suc, ◌<◌, List, [], ◌∷◌, length, map, set, get_or, arith, refl, ap, ℤ, pos, ◌+ℤ◌, ◌*ℤ◌, ◌-ℤ◌, neg_ℤ, ints, expand, dot, combine}
 
 -- a cell and its variable replaced
 pub dot-set : (cs : List ℤ) (us : List ℕ) (value : ℕ → ℤ) (column : ℕ) (y : ℤ) (w : ℕ) → column < length cs → length us ≡ length cs →

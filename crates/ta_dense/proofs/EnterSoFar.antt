@@ -1,5 +1,4 @@
-use Rattle.std.proofs.Common.{ℕ, ◌<◌, length, pos, ◌<ℤ◌, ◌≤ℤ◌}
-use Rattle.ta_dense.specs.Tableau.{Tableau, row_of, cell_of, non_basic_of}
+use Rattle.ta_dense.proofs.Common.{ℕ, ◌<◌, length, pos, ◌<ℤ◌, ◌≤ℤ◌, Tableau, row_of, cell_of, non_basic_of}
 
 -- among the columns below k, this one's variable is the least with a positive cell
 pub record EntersBelow (t : Tableau) (row k column : ℕ) : Type 0 where

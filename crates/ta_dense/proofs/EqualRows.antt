@@ -1,14 +1,6 @@
 -- a system has a row twice: the slacks of both have one value
-use Rattle.std.proofs.Common.{◌≡◌, ◌≢◌, inl, inr, ℕ, suc, ◌+◌, ◌<◌, List, [], ◌∷◌, ◌++◌, length, arith, sym, ap, ◌∙◌, subst, ℤ, pos, ◌*ℤ◌, ◌<ℤ◌, ◌≤ℤ◌}
-use Rattle.std.proofs.lemmas.Int.{ints}
-use Rattle.std.proofs.lemmas.List.{length-append}
-use Rattle.ta_base.proofs.Integers.{ge-zero_of_mul, lt-zero_of_mul, mul-ge-zero, mul-lt-zero}
-use Rattle.ta_linear.specs.declared.row.Row.{Row}
-use Rattle.ta_linear.specs.declared.row.System.{System}
-use Rattle.ta_dense.specs.Tableau.{Tableau, row_of, basic_of, non_basic_of}
-use Rattle.ta_dense.specs.Valid.{IsDictionary, dot}
+use Rattle.ta_dense.proofs.Common.{◌≡◌, ◌≢◌, inl, inr, ℕ, suc, ◌+◌, ◌<◌, List, [], ◌∷◌, ◌++◌, length, arith, sym, ap, ◌∙◌, subst, ℤ, pos, ◌*ℤ◌, ◌<ℤ◌, ◌≤ℤ◌, ints, length-append, ge-zero_of_mul, lt-zero_of_mul, mul-ge-zero, mul-lt-zero, Row, System, Tableau, row_of, basic_of, non_basic_of, IsDictionary, dot, IsAssignment, SlacksFollow, variables}
 use Rattle.ta_dense.specs.Leaving.{Leaves}
-use Rattle.ta_dense.specs.Slack.{IsAssignment, SlacksFollow, variables}
 use Rattle.ta_dense.specs.Laws.{DictionaryOf}
 use Rattle.ta_dense.proofs.Dot.{dot-scaled}
 use Rattle.ta_dense.proofs.Unique.{dot-nothing}

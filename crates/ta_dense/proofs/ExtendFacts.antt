@@ -1,20 +1,6 @@
 -- rows with more columns
-use Rattle.std.proofs.Common.{◌≡◌, ℕ, zero, suc, ◌+◌, ◌-◌, ◌<◌, ◌≤◌, List, [], ◌∷◌, ◌++◌, length, get_or, take, drop, map, replicate, arith, refl, inl, inr, sym, ap, ◌∙◌, subst, pos}
-use Rattle.std.proofs.lemmas.List.{length-append, length-replicate, map-append, take_more, length-map, get_or_append_left, get_or-append_right}
-use Rattle.std.proofs.lemmas.Bool.{cases_lt}
-use Rattle.std.proofs.lemmas.List.Elements.{All-append, All-replicate}
-use Rattle.ta_linear.specs.Numbers.{InRange}
-use Rattle.ta_linear.specs.Rows.{AllBelow}
-use Rattle.ta_linear.specs.declared.row.Row.{Row}
-use Rattle.ta_dense.specs.Tableau.{TableauRow, Tableau, merged, no_row}
-use Rattle.ta_linear.specs.declared.row.System.{System}
-use Rattle.ta_dense.specs.Merge.{IsProper, FirstRefused}
-use Rattle.ta_dense.specs.Slack.{slack_rows}
-use Rattle.ta_dense.specs.Rows.{row_view, views, AreProper}
-use Rattle.ta_dense.specs.declared.rows.DenseRow.{DenseRow}
-use Rattle.ta_dense.specs.Extending.{raised, widened, new_rows, FirstLeaving}
-use Rattle.ta_dense.specs.Inside.Padded.{padded, zero_filled}
-use Rattle.ta_dense.specs.Kept.{KeptPivot, kept_at, chosen_row, carried, AreKept, StayInRange}
+use Rattle.ta_dense.proofs.Common.{◌≡◌, ℕ, zero, suc, ◌+◌, ◌-◌, ◌<◌, ◌≤◌, List, [], ◌∷◌, ◌++◌, length, get_or, take, drop, map, replicate, arith, refl, inl, inr, sym, ap, ◌∙◌, subst, pos, length-append, length-replicate, map-append, take_more, length-map, get_or_append_left, get_or-append_right, cases_lt, All-append, All-replicate, InRange, AllBelow, IsNormal, Row, TableauRow, Tableau, merged, no_row, System, IsProper, FirstRefused, slack_rows, row_view, views, AreProper, DenseRow, raised, widened, new_rows, FirstLeaving, padded, zero_filled, KeptPivot, kept_at, chosen_row, carried, AreKept, StayInRange}
+use Rattle.ta_dense.proofs.DenseFacts.{terms_at}
 
 pub IsProper-padded : (n basic columns : ℕ) (r : TableauRow) → IsProper n r → n ≤ columns → IsProper columns (padded basic columns r)
 IsProper-padded n basic columns r p h =
@@ -53,6 +39,12 @@ pub AllBelow-drop : (n k : ℕ) (rs : List Row) → AllBelow n rs → AllBelow n
 AllBelow-drop n zero rs all = all
 AllBelow-drop n (suc k) [] all = all
 AllBelow-drop n (suc k) (r ∷ rs) all = AllBelow-drop n k rs all.1
+
+-- a row behind the first ones of a system's
+pub dropped_normal : (u first k : ℕ) (rows whole list : List Row) (r : Row) → whole ≡ rows → list ≡ drop first whole → AllBelow u rows → k < length list → r ≡ get_or list k r → IsNormal 0 u r.form.terms
+dropped_normal u first k rows whole list r all behind below inside is =
+    let they : AllBelow u list = subst (AllBelow u) (sym (behind ∙ ap (drop first) all)) (AllBelow-drop u first rows below) in
+    subst (λ (q : Row). IsNormal 0 u q.form.terms) (sym is) (terms_at u list k r they inside)
 
 -- one more pivot
 pub carried_more : (columns j : ℕ) (ks : List KeptPivot) (rows : List TableauRow) → carried columns ks (j + 1) rows ≡ map (merged (kept_at ks j).column (chosen_row columns (kept_at ks j))) (carried columns ks j rows)

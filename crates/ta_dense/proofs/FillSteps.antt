@@ -1,15 +1,6 @@
 -- one more coefficient is written into the cell of its unknown
-use Rattle.std.proofs.Common.{◌≡◌, ◌≢◌, ℕ, ◌+◌, ◌<◌, ◌≤◌, List, [], length, set, get_or, drop, arith, ap, ◌∙◌, ℤ, pos, ◌+ℤ◌, get_or-set_other, replicate}
-use Rattle.std.proofs.lemmas.Int.{ints}
-use Rattle.std.proofs.lemmas.List.{ext_get_or, length-map, length-set, get_or-map}
-use Rattle.std.proofs.lemmas.List.FromFn.{length-range_with_len, get_or-range_with_len}
+use Rattle.ta_dense.proofs.Common.{◌≡◌, ◌≢◌, ℕ, ◌+◌, ◌<◌, ◌≤◌, List, [], length, set, get_or, drop, arith, ap, ◌∙◌, ℤ, pos, ◌+ℤ◌, get_or-set_other, replicate, ints, ext_get_or, length-map, length-set, get_or-map, length-range_with_len, get_or-range_with_len, range_with_len, replicate_zeros, at_drop, get_set_added, coefficient, IsNormal, IsNormal-le, coefficients}
 use Rattle.std.proofs.Math.ListN.{drop_of_length-le}
-use Rattle.std.specs.List.{range_with_len}
-use Rattle.ta_base.proofs.Integers.{replicate_zeros}
-use Rattle.ta_base.proofs.Lists.{at_drop, get_set_added}
-use Rattle.ta_linear.specs.Terms.{coefficient, IsNormal}
-use Rattle.ta_linear.proofs.TermLemmas.{IsNormal-le}
-use Rattle.ta_dense.specs.Slack.{coefficients}
 
 -- what is written and what is left make up the coefficients; nothing is written from a place on
 pub record Filling (n : ℕ) (all left : List (ℕ × ℤ)) (cells : List ℤ) : Type 0 where

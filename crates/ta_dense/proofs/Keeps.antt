@@ -1,12 +1,6 @@
-use Rattle.std.proofs.Common.{◌≡◌, ◌≢◌, ◌⊎◌, inl, inr, ℕ, suc, ◌+◌, ◌*◌, ◌<◌, length, map, arith, refl, sym, ap, ◌∙◌, subst, ℤ, pos, ◌+ℤ◌, ◌*ℤ◌, ◌-ℤ◌, neg_ℤ, ◌<ℤ◌, get_or-set_same, get_or-set_other}
-use Rattle.std.proofs.lemmas.Bool.{cases_eq}
-use Rattle.std.proofs.lemmas.List.{length-map, length-set, get_or-map}
-use Rattle.ta_base.proofs.Integers.{cancel_positive, leaving_arith, pos_out, product_positive, times_assoc}
-use Rattle.ta_dense.specs.Tableau.{factor_divisor, TableauRow, Tableau, cell_of, turned, merged, row_of, no_row, pivoted, basic_of, non_basic_of}
-use Rattle.ta_dense.specs.Valid.{IsPrimitive, dot, IsDictionary}
+use Rattle.ta_dense.proofs.Common.{◌≡◌, ◌≢◌, ◌⊎◌, inl, inr, ℕ, suc, ◌+◌, ◌*◌, ◌<◌, length, map, arith, refl, sym, ap, ◌∙◌, subst, ℤ, pos, ◌+ℤ◌, ◌*ℤ◌, ◌-ℤ◌, neg_ℤ, ◌<ℤ◌, get_or-set_same, get_or-set_other, cases_eq, length-map, length-set, get_or-map, cancel_positive, leaving_arith, pos_out, product_positive, times_assoc, factor_divisor, TableauRow, Tableau, cell_of, turned, merged, row_of, no_row, pivoted, basic_of, non_basic_of, IsPrimitive, dot, IsDictionary, int_div}
 use Rattle.ta_dense.proofs.Dot.{dot-change, dot-scaled}
 use Rattle.ta_dense.proofs.PivotLaws.{Holds-turned}
-use Rattle.std.specs.Prelude.{int_div}
 use Rattle.ta_dense.proofs.MergedRow.{Good, Good-merged, merged_cases, merged_with}
 use Rattle.ta_dense.proofs.ReduceFacts.{factors_positive}
 use Rattle.ta_dense.proofs.Primitive.{IsPrimitive-turned, IsPrimitive-merged}

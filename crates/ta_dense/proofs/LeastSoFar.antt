@@ -1,5 +1,4 @@
-use Rattle.std.proofs.Common.{ℕ, ◌<◌, length, pos, ◌<ℤ◌, ◌≤ℤ◌}
-use Rattle.ta_dense.specs.Tableau.{Tableau, row_of, basic_of}
+use Rattle.ta_dense.proofs.Common.{ℕ, ◌<◌, length, pos, ◌<ℤ◌, ◌≤ℤ◌, Tableau, row_of, basic_of}
 
 -- among the rows below k, this one's variable is the least with a negative constant
 pub record LeastBelow (t : Tableau) (k row : ℕ) : Type 0 where

@@ -25,4 +25,4 @@ mod SharedFacts
 mod ExtendFacts
 mod Halves
 mod EqualRows
-mod KeptSteps
+mod Common

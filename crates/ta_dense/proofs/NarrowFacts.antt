@@ -1,14 +1,5 @@
 -- rows of 32-bit numbers before and after a merge
-use Rattle.std.proofs.Common.{◌≡◌, ℕ, ◌<◌, ◌+◌, ◌-◌, ◌*◌, ◌^◌, List, ◌∷◌, ◌++◌, length, get_or, arith, sym, refl, ap, ◌∙◌, subst, ℤ, pos, ◌<ℤ◌, unsigned_abs}
-use Rattle.std.proofs.lemmas.List.{length-map, length-append, get_or-map, get_or_append_left, get_or-append_right}
-use Rattle.std.proofs.lemmas.List.Elements.{All-append, All-cons, All-head, All-tail}
-use Rattle.std.specs.Prelude.{int_div}
-use Rattle.ta_base.proofs.Integers.{factors_below}
-use Rattle.ta_dense.specs.Tableau.{TableauRow, cell_of, merged_by, reduced, turned, divisor_of, factor_divisor, no_row}
-use Rattle.ta_dense.specs.Merge.{IsProper, MergesInRange, RowsMergeBelow}
-use Rattle.ta_dense.specs.Bounds.{IsBound}
-use Rattle.ta_dense.specs.Narrow.{narrow_view, narrow_views, IsNarrow, AreNarrow, MergesIn32, AllMergeIn32, narrow_at}
-use Rattle.ta_dense.specs.declared.narrow_rows.NarrowRow.{NarrowRow}
+use Rattle.ta_dense.proofs.Common.{◌≡◌, ℕ, ◌<◌, ◌+◌, ◌-◌, ◌*◌, ◌^◌, List, ◌∷◌, ◌++◌, length, get_or, arith, sym, refl, ap, ◌∙◌, subst, ℤ, pos, ◌<ℤ◌, unsigned_abs, length-map, length-append, get_or-map, get_or_append_left, get_or-append_right, All-append, All-cons, All-head, All-tail, int_div, factors_below, TableauRow, cell_of, merged_by, reduced, turned, divisor_of, factor_divisor, no_row, IsProper, MergesInRange, RowsMergeBelow, IsBound, narrow_view, narrow_views, IsNarrow, AreNarrow, MergesIn32, AllMergeIn32, narrow_at, NarrowRow}
 use Rattle.ta_dense.proofs.ProperFacts.{IsProper-reduced, IsProper-merged_by, IsProper-turned}
 use Rattle.ta_dense.proofs.PivotParts.{Cut, cut_by, at_row}
 use Rattle.ta_dense.proofs.Bounded.{IsBound-merged_by, IsBound-divided, IsBound-turned, merges_by_in_range}

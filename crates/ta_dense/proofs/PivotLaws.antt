@@ -1,10 +1,4 @@
-use Rattle.std.proofs.Common.{◌≡◌, ℕ, zero, suc, ◌<◌, List, [], ◌∷◌, length, map, set, get_or, arith, refl, sym, ap, ℤ, pos, ◌*ℤ◌, ◌-ℤ◌, neg_ℤ}
-use Rattle.std.proofs.lemmas.Int.{ints}
-use Rattle.std.proofs.lemmas.List.{length-map}
-use Rattle.ta_base.proofs.Integers.{merged_arith, turned_arith}
-use Rattle.ta_base.proofs.Lists.{get_or-neg}
-use Rattle.ta_dense.specs.Tableau.{TableauRow, combine, cell_of, turned, merged_by}
-use Rattle.ta_dense.specs.Valid.{dot, EquationHolds}
+use Rattle.ta_dense.proofs.Common.{◌≡◌, ℕ, zero, suc, ◌<◌, List, [], ◌∷◌, length, map, set, get_or, arith, refl, sym, ap, ℤ, pos, ◌*ℤ◌, ◌-ℤ◌, neg_ℤ, ints, length-map, merged_arith, turned_arith, get_or-neg, TableauRow, combine, cell_of, turned, merged_by, dot, EquationHolds}
 use Rattle.ta_dense.proofs.Dot.{dot-set, dot-neg, dot-combine}
 
 pub get_or-combine : (p q : ℤ) (xs cs : List ℤ) (column : ℕ) → length xs ≡ length cs → get_or (combine p q xs cs) column (pos 0) ≡ p *ℤ get_or xs column (pos 0) -ℤ q *ℤ get_or cs column (pos 0)

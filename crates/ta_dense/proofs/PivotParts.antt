@@ -1,10 +1,4 @@
-use Rattle.std.proofs.Common.{◌≡◌, inl, inr, ℕ, suc, ◌+◌, ◌-◌, ◌<◌, List, ◌∷◌, ◌++◌, length, map, get_or, arith, sym, ap, ◌∙◌, subst}
-use Rattle.std.proofs.lemmas.Bool.{cases_order}
-use Rattle.std.proofs.lemmas.List.{map-append, length-append, length-map, set_at, get_or_at, get_or_append_left, get_or-append_right}
-use Rattle.ta_dense.specs.Tableau.{TableauRow, merged, turned, no_row, pivoted_rows}
-use Rattle.ta_dense.specs.Merge.{IsProper, MergesInRange, RowsMergeBelow, FirstRefused, OthersMergeBelow, FirstOtherRefused}
-use Rattle.ta_dense.specs.Rows.{row_view, views}
-use Rattle.ta_dense.specs.declared.rows.DenseRow.{DenseRow}
+use Rattle.ta_dense.proofs.Common.{◌≡◌, inl, inr, ℕ, suc, ◌+◌, ◌-◌, ◌<◌, List, ◌∷◌, ◌++◌, length, map, get_or, arith, sym, ap, ◌∙◌, subst, cases_order, map-append, length-append, length-map, set_at, get_or_at, get_or_append_left, get_or-append_right, TableauRow, merged, turned, no_row, pivoted_rows, IsProper, MergesInRange, RowsMergeBelow, FirstRefused, OthersMergeBelow, FirstOtherRefused, row_view, views, DenseRow}
 
 -- rows that are cut at one of them
 pub record Cut (rows : List TableauRow) (row : ℕ) (before : List TableauRow) (chosen : TableauRow) (after : List TableauRow) : Type 0 where

@@ -1,13 +1,5 @@
-use Rattle.std.proofs.Common.{◌≡◌, inl, inr, ℕ, zero, suc, ◌*◌, ◌<◌, List, [], ◌∷◌, length, map, set, get_or, arith, subst, ℤ, pos, neg_ℤ, ◌<ℤ◌, get_or-set_same}
-use Rattle.std.specs.Prelude.{unsigned_abs, int_div}
-use Rattle.std.specs.Int.{◌∣◌}
-use Rattle.std.proofs.lemmas.List.{length-map, length-set}
-use Rattle.std.proofs.Math.Nat.{dvd_of_mul-dvd-mul_left, eq-one_of_dvd-one}
-use Rattle.ta_base.proofs.Integers.{dvd_times, unsigned_abs-neg}
-use Rattle.ta_linear.proofs.GcdLemmas.{IsGcd-gcd_of}
-use Rattle.ta_linear.specs.Gcd.{gcd_of}
-use Rattle.ta_dense.specs.Valid.{IsPrimitive, AllDivided}
-use Rattle.ta_dense.specs.Tableau.{TableauRow, cell_of, turned, merged, reduced, divisor_of, gcd_with}
+use Rattle.ta_dense.proofs.Common.{◌≡◌, inl, inr, ℕ, zero, suc, ◌*◌, ◌<◌, List, [], ◌∷◌, length, map, set, get_or, arith, subst, ℤ, pos, neg_ℤ, ◌<ℤ◌, get_or-set_same, int_div, ◌∣◌, length-map, length-set, dvd_of_mul-dvd-mul_left, eq-one_of_dvd-one, dvd_times, unsigned_abs-neg, IsGcd-gcd_of, gcd_of, IsPrimitive, AllDivided, TableauRow, cell_of, turned, merged, reduced, divisor_of, gcd_with}
+use Rattle.std.specs.Prelude.{unsigned_abs}
 use Rattle.ta_dense.proofs.Divide.{gcd_with_divides}
 use Rattle.ta_dense.proofs.MergedRow.{merged_cases, merged_with}
 use Rattle.ta_dense.proofs.ReduceFacts.{divisor_positive}

@@ -1,15 +1,5 @@
-use Rattle.std.proofs.Common.{◌≡◌, ◌≢◌, inl, inr, ℕ, suc, ◌/◌, ◌<◌, List, ◌∷◌, length, map, set, get_or, arith, refl, sym, ap, ◌∙◌, ℤ, pos, negsuc, neg_ℤ, ◌<ℤ◌, ◌*ℤ◌, get_or-set_same, get_or-set_other}
-use Rattle.std.specs.Prelude.{unsigned_abs, int_div}
-use Rattle.std.proofs.lemmas.Bool.{cases_eq}
-use Rattle.std.proofs.lemmas.List.{length-map, length-set, get_or-map}
-use Rattle.std.proofs.lemmas.List.Elements.{All-from_get_or, All-get_or, All-map, All-set}
-use Rattle.std.proofs.Math.Nat.{div-le_self}
-use Rattle.ta_base.proofs.Integers.{div_exact, factor_positive, product_positive, unsigned_abs-neg, zero_or_not}
-use Rattle.ta_linear.specs.Numbers.{InRange}
-use mir.Val.{SFits, of_z}
-use mir.Syntax.{w128}
-use Rattle.ta_dense.specs.Tableau.{TableauRow, cell_of, combine, merged, merged_at, turned, pivoted_rows, no_row, merged_by, divisor_of, reduced, factor_divisor}
-use Rattle.ta_dense.specs.Merge.{IsProper, MergesByInRange, MergesInRange, OthersMergeBelow}
+use Rattle.ta_dense.proofs.Common.{◌≡◌, ◌≢◌, inl, inr, ℕ, suc, ◌/◌, ◌<◌, List, ◌∷◌, length, map, set, get_or, arith, refl, sym, ap, ◌∙◌, ℤ, pos, negsuc, neg_ℤ, ◌<ℤ◌, ◌*ℤ◌, get_or-set_same, get_or-set_other, int_div, cases_eq, length-map, length-set, get_or-map, All-from_get_or, All-get_or, All-map, All-set, div-le_self, div_exact, factor_positive, product_positive, unsigned_abs-neg, zero_or_not, InRange, TableauRow, cell_of, combine, merged, merged_at, turned, pivoted_rows, no_row, merged_by, divisor_of, reduced, factor_divisor, IsProper, MergesByInRange, MergesInRange, OthersMergeBelow}
+use Rattle.std.specs.Prelude.{unsigned_abs}
 use Rattle.ta_dense.proofs.PivotLaws.{length-combine, get_or-combine}
 use Rattle.ta_dense.proofs.Divide.{gcd_with_divides}
 use Rattle.ta_dense.proofs.ReduceFacts.{factors_positive}
@@ -75,10 +65,6 @@ IsProper-self n r p = record { positive = p.positive; denominator = p.denominato
 pub merged-zero : (column : ℕ) (chosen r : TableauRow) → cell_of r column ≡ pos 0 → merged column chosen r ≡ r
 unfolding merged
 merged-zero column chosen r e = ap (λ (a : ℤ). merged_at a column chosen r) e
-
-pub zero_from_bits : (z : ℤ) → SFits w128 z → of_z w128 z ≡ 0 → z ≡ pos 0
-zero_from_bits (pos n) f e = ap pos e
-zero_from_bits (negsuc n) f e = let s = f.sfits in absurd (omega arith)
 
 -- a merged row is proper where its products and differences are in range
 pub IsProper-merged : (n column : ℕ) (chosen r : TableauRow) → column < n → pos 0 <ℤ cell_of chosen column → IsProper n chosen → IsProper n r → MergesInRange column chosen r → IsProper n (merged column chosen r)

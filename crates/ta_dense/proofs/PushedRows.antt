@@ -1,8 +1,5 @@
 -- a system whose rows are written one by one
-use Rattle.std.proofs.Common.{ℕ, List, [], ◌∷◌, ◌++◌}
-use Rattle.ta_linear.specs.Terms.{IsNormal}
-use Rattle.ta_linear.specs.Rows.{AllBelow}
-use Rattle.ta_linear.specs.declared.row.Row.{Row}
+use Rattle.ta_dense.proofs.Common.{ℕ, List, [], ◌∷◌, ◌++◌, IsNormal, AllBelow, Row}
 
 pub AllBelow-push : (n : ℕ) (rs : List Row) (r : Row) → AllBelow n rs → IsNormal 0 n r.form.terms → AllBelow n (rs ++ r ∷ [])
 AllBelow-push n [] r all h = (h, tt)

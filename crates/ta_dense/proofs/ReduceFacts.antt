@@ -1,14 +1,6 @@
-use Rattle.std.proofs.Common.{◌≡◌, zero, suc, ◌<◌, ◌∷◌, map, arith, sym, ap, ◌∙◌, ℤ, pos, negsuc, ◌-ℤ◌, ◌<ℤ◌, ◌≤ℤ◌}
-use Rattle.std.specs.Prelude.{unsigned_abs, int_div}
-use mir.Val.{SFits}
-use mir.Syntax.{w128}
-use Rattle.ta_base.proofs.Integers.{abs_natural, div-one, div_exact, factor_positive, zero_minus}
-use Rattle.ta_base.proofs.Lists.{map-div-one}
-use Rattle.ta_linear.specs.Numbers.{InRange}
-use Rattle.ta_dense.specs.Tableau.{TableauRow, divided, divisor_of, factor_divisor}
+use Rattle.ta_dense.proofs.Common.{◌≡◌, zero, suc, ◌<◌, ◌∷◌, map, arith, sym, ap, ◌∙◌, ℤ, pos, negsuc, ◌-ℤ◌, ◌<ℤ◌, ◌≤ℤ◌, int_div, SFits, w128, abs_natural, div-one, div_exact, factor_positive, zero_minus, map-div-one, InRange, TableauRow, divided, divisor_of, factor_divisor, IsGcd, IsGcd-gcd_of, gcd_of_is}
+use Rattle.std.specs.Prelude.{unsigned_abs}
 use Rattle.ta_dense.proofs.Divide.{gcd_with_divides}
-use Rattle.std.specs.Int.{IsGcd}
-use Rattle.ta_linear.proofs.GcdLemmas.{IsGcd-gcd_of, gcd_of_is}
 use Rattle.ta_dense.proofs.RowFacts.{row_same}
 
 pub divisor_positive : (r : TableauRow) → pos 0 <ℤ r.denominator → 0 < divisor_of r

@@ -1,5 +1,4 @@
-use Rattle.std.proofs.Common.{◌≡◌, ℕ, List, refl, ℤ}
-use Rattle.ta_dense.specs.Tableau.{TableauRow}
+use Rattle.ta_dense.proofs.Common.{◌≡◌, ℕ, List, refl, ℤ, TableauRow}
 
 pub row_same : (basic : ℕ) (d d' b b' : ℤ) (cs cs' : List ℤ) → d ≡ d' → b ≡ b' → cs ≡ cs' →
     let left : TableauRow = record { basic = basic; denominator = d; constant = b; cells = cs } in

@@ -1,8 +1,4 @@
-use Rattle.std.proofs.Common.{◌≡◌, inl, inr, ℕ, ◌<◌, List, length, map, set, get_or, arith, sym, ◌∙◌, get_or-set_other, get_or-set_same}
-use Rattle.std.proofs.lemmas.Bool.{cases_eq}
-use Rattle.std.proofs.lemmas.List.{ext_get_or, length-set, length-map, get_or-map}
-use Rattle.ta_dense.specs.Tableau.{TableauRow, no_row}
-use Rattle.ta_dense.specs.Merge.{IsProper}
+use Rattle.ta_dense.proofs.Common.{◌≡◌, inl, inr, ℕ, ◌<◌, List, length, map, set, get_or, arith, sym, ◌∙◌, get_or-set_other, get_or-set_same, cases_eq, ext_get_or, length-set, length-map, get_or-map, TableauRow, no_row, IsProper}
 
 pub rows_proper_more : (n : ℕ) (cells : List TableauRow) (j : ℕ) (x : TableauRow) → IsProper n x → ((i : ℕ) → i < length cells → IsProper n (get_or cells i no_row)) →
     (i : ℕ) → i < length (set cells j x) → IsProper n (get_or (set cells j x) i no_row)

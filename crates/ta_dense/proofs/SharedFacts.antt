@@ -1,19 +1,6 @@
 -- rows that are stored once where their numbers are equal
-use Rattle.std.proofs.Common.{◌≡◌, ◌≢◌, inl, inr, ℕ, zero, suc, ◌+◌, ◌-◌, ◌<◌, ◌≤◌, List, [], ◌∷◌, ◌++◌, length, get_or, set, map, replicate, arith, refl, sym, ap, ◌∙◌, subst, ℤ, pos, negsuc}
-use Rattle.std.specs.Prelude.{All}
-use Rattle.std.proofs.lemmas.Bool.{cases_eq}
-use Rattle.std.proofs.lemmas.List.{length-map, length-append, length-set, map-append, map-set, get_or-map, get_or_append_left, get_or_at, get_or-set_same, get_or-set_other, set-get_or}
-use Rattle.std.proofs.lemmas.List.Elements.{All-head, All-tail, All-push}
-use Rattle.ta_dense.specs.Tableau.{TableauRow, cell_of, merged, merged_at, turned, no_row, pivoted_rows}
-use Rattle.ta_dense.specs.Merge.{IsProper, MergesInRange, OthersMergeBelow}
-use Rattle.ta_dense.specs.Rows.{row_view, views, AreProper}
-use Rattle.ta_dense.specs.declared.rows.DenseRow.{DenseRow}
-use Rattle.ta_dense.specs.Extending.{raised, widened}
-use Rattle.ta_dense.specs.Inside.Padded.{zero_filled}
-use Rattle.ta_dense.specs.Narrow.{narrow_view, narrow_views, narrow_at, IsNarrow, AreNarrow}
-use Rattle.ta_dense.specs.Shared.{named, row_at_place, rows_at_places, shared_at, widened_place, ArePlaced, AreShared, no_place, at_place, IsAlone, IsSameAt, KeepRows}
-use Rattle.ta_dense.specs.declared.narrow_rows.NarrowRow.{NarrowRow}
-use Rattle.ta_dense.specs.declared.shared.Place.{Place}
+use Rattle.ta_dense.proofs.Common.{◌≡◌, ◌≢◌, ℕ, zero, suc, ◌+◌, ◌-◌, ◌<◌, ◌≤◌, List, [], ◌∷◌, ◌++◌, length, get_or, set, map, arith, refl, sym, ap, ◌∙◌, subst, ℤ, pos, negsuc, length-map, length-append, length-set, map-append, map-set, get_or-map, get_or_append_left, get_or_at, set-get_or, All-head, All-tail, TableauRow, cell_of, merged, merged_at, turned, no_row, pivoted_rows, IsProper, MergesInRange, OthersMergeBelow, row_view, views, AreProper, DenseRow, raised, widened, zero_filled, narrow_view, narrow_views, narrow_at, IsNarrow, AreNarrow, named, row_at_place, rows_at_places, shared_at, widened_place, ArePlaced, AreShared, no_place, at_place, IsAlone, IsSameAt, KeepRows, NarrowRow, Place}
+use Rattle.std.proofs.lemmas.List.{get_or-set_same, get_or-set_other}
 use Rattle.ta_dense.specs.declared.shared.SharedRows.{SharedRows}
 
 -- the stored rows and one more
@@ -26,14 +13,8 @@ pub at_last : (rows : List NarrowRow) (r : NarrowRow) → narrow_at (rows ++ r �
 at_last rows r =
     ap (λ (xs : List TableauRow). get_or xs (length rows) no_row) (map-append narrow_view rows (r ∷ [])) ∙ get_or_at (narrow_views rows) (narrow_view r) [] no_row (length rows) (length-map rows narrow_view)
 
-pub keep_all : (rows : List NarrowRow) → KeepRows rows rows
-keep_all rows = record { longer = omega arith; same = λ i h. refl }
-
 pub keep_pushed : (rows : List NarrowRow) (r : NarrowRow) → KeepRows rows (rows ++ r ∷ [])
 keep_pushed rows r = let l = length-append rows (r ∷ []) in record { longer = omega arith; same = λ i h. at_first rows r i h }
-
-pub same_last : (rows : List NarrowRow) (r : NarrowRow) → IsSameAt (rows ++ r ∷ []) r (length rows)
-same_last rows r = let l = length-append rows (r ∷ []) in record { below = omega arith; same = ap (named 0) (at_last rows r) }
 
 pub placed_longer : (n m : ℕ) (places : List Place) → n ≤ m → ArePlaced n places → ArePlaced m places
 placed_longer n m places h all k d inside = let below = all k d inside in omega arith
@@ -51,10 +32,6 @@ pub pushed_value : (old new : List NarrowRow) (places : List Place) (r : NarrowR
 pushed_value old new places r p all keep same name =
     let last : row_at_place new p ≡ narrow_view r = ap (named p.basic) same.same ∙ ap (λ (v : ℕ). named v (narrow_view r)) name in
     map-append (row_at_place new) places (p ∷ []) ∙ ap (λ (rs : List TableauRow). rs ++ row_at_place new p ∷ []) (placed_kept old new places all keep) ∙ ap (λ (x : TableauRow). rows_at_places old places ++ x ∷ []) last
-
-pub pushed_inside : (old new : List NarrowRow) (places : List Place) (r : NarrowRow) (p : Place) → ArePlaced (length old) places → KeepRows old new → IsSameAt new r p.at → ArePlaced (length new) (places ++ p ∷ [])
-pushed_inside old new places r p all keep same =
-    All-push (λ (q : Place). q.at < length new) places p (placed_longer (length old) (length new) places keep.longer all) same.below
 
 pub at_number : (rows : List NarrowRow) (places : List Place) (row : ℕ) → row < length places → get_or (rows_at_places rows places) row no_row ≡ row_at_place rows (get_or places row no_place)
 at_number rows places row h = get_or-map (row_at_place rows) places row no_place no_row h

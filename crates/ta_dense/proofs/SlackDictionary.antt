@@ -1,22 +1,6 @@
-use Rattle.std.proofs.Common.{◌≡◌, ◌⊎◌, inl, inr, ℕ, zero, suc, ◌+◌, ◌-◌, ◌<◌, ◌≤◌, List, [], ◌∷◌, length, map, get_or, arith, refl, sym, ap, ◌∙◌, subst, ℤ, pos, ◌+ℤ◌, ◌*ℤ◌}
-use Rattle.std.specs.List.{range_with_len}
-use Rattle.std.proofs.lemmas.Bool.{cases_lt, cases_eq}
-use Rattle.std.proofs.lemmas.Int.{ints}
-use Rattle.std.proofs.lemmas.List.{length-map}
-use Rattle.std.proofs.lemmas.List.FromFn.{length-range_with_len, get_or-range_with_len}
-use Rattle.std.proofs.Math.Nat.{eq-one_of_dvd-one}
-use Rattle.ta_base.proofs.Integers.{expand, single, single-at, single-elsewhere}
-use Rattle.ta_linear.specs.Terms.{coefficient, IsNormal}
+use Rattle.ta_dense.proofs.Common.{◌≡◌, ◌⊎◌, inl, inr, ℕ, zero, suc, ◌+◌, ◌-◌, ◌<◌, ◌≤◌, List, [], ◌∷◌, length, map, get_or, arith, refl, sym, ap, ◌∙◌, subst, ℤ, pos, ◌+ℤ◌, ◌*ℤ◌, range_with_len, cases_lt, cases_eq, ints, length-map, length-range_with_len, get_or-range_with_len, eq-one_of_dvd-one, expand, single, single-at, single-elsewhere, coefficient, IsNormal, AllBelow, IsNormal-le, Row, System, ◌∣◌, TableauRow, no_row, IsPrimitive, dot, IsDictionary, EquationHolds, slack_tableau, slack_rows, coefficients, variables, IsAssignment, SlacksFollow, slack_at}
 use Rattle.ta_linear.specs.Values.{terms_value}
-use Rattle.ta_linear.specs.Rows.{AllBelow}
-use Rattle.ta_linear.proofs.TermLemmas.{IsNormal-le}
-use Rattle.ta_linear.specs.declared.row.Row.{Row}
-use Rattle.ta_linear.specs.declared.row.System.{System}
 use Rattle.std.specs.Prelude.{unsigned_abs}
-use Rattle.std.specs.Int.{◌∣◌}
-use Rattle.ta_dense.specs.Tableau.{TableauRow, no_row}
-use Rattle.ta_dense.specs.Valid.{IsPrimitive, dot, IsDictionary, EquationHolds}
-use Rattle.ta_dense.specs.Slack.{slack_tableau, slack_rows, coefficients, variables, IsAssignment, SlacksFollow, slack_at}
 
 dot-map-add : (f g : ℕ → ℤ) (us : List ℕ) (value : ℕ → ℤ) → dot (map (λ v. f v +ℤ g v) us) us value ≡ dot (map f us) us value +ℤ dot (map g us) us value
 dot-map-add f g [] value = refl

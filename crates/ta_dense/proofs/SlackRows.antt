@@ -1,14 +1,4 @@
-use Rattle.std.proofs.Common.{◌≡◌, inl, inr, ℕ, suc, ◌+◌, ◌<◌, List, [], ◌∷◌, ◌++◌, length, get_or, take, arith, ap, ◌∙◌}
-use Rattle.std.proofs.lemmas.Bool.{cases_lt}
-use Rattle.std.proofs.lemmas.List.{map-append, length-append, length-map, get_or_append_left, get_or_push, take_more, length-take-le}
-use Rattle.std.specs.List.{range_with_len}
-use Rattle.ta_linear.specs.declared.row.Row.{Row}
-use Rattle.ta_linear.specs.declared.row.System.{System}
-use Rattle.ta_dense.specs.Tableau.{TableauRow, Tableau, no_row}
-use Rattle.ta_dense.specs.Merge.{IsProper}
-use Rattle.ta_dense.specs.Slack.{slack_row_of, slack_rows, slack_tableau}
-use Rattle.ta_dense.specs.Rows.{row_view, views, AreProper}
-use Rattle.ta_dense.specs.declared.rows.DenseRow.{DenseRow}
+use Rattle.ta_dense.proofs.Common.{◌≡◌, inl, inr, ℕ, suc, ◌+◌, ◌<◌, List, [], ◌∷◌, ◌++◌, length, get_or, take, arith, ap, ◌∙◌, cases_lt, map-append, length-append, length-map, get_or_append_left, get_or_push, take_more, length-take-le, range_with_len, Row, System, TableauRow, Tableau, no_row, IsProper, slack_row_of, slack_rows, slack_tableau, row_view, views, AreProper, DenseRow}
 
 pub slack_rows-push : (n v : ℕ) (rs : List Row) (r : Row) → slack_rows n v (rs ++ r ∷ []) ≡ slack_rows n v rs ++ slack_row_of n (v + length rs) r ∷ []
 slack_rows-push n v [] r = ap (λ (x : ℕ). slack_row_of n x r ∷ []) (omega arith)

@@ -1,19 +1,9 @@
-use Rattle.std.proofs.Common.{◌≡◌, ◌≢◌, ℕ, zero, suc, ◌+◌, ◌*◌, ◌/◌, ◌%◌, ◌<◌, List, [], ◌∷◌, length, get_or, arith, refl, sym, ap, ◌∙◌, subst, ℤ, pos, ◌+ℤ◌, ◌*ℤ◌}
+use Rattle.ta_dense.proofs.Common.{◌≡◌, ◌≢◌, ℕ, zero, suc, ◌+◌, ◌*◌, ◌/◌, ◌%◌, ◌<◌, List, [], ◌∷◌, length, get_or, arith, refl, sym, ap, ◌∙◌, subst, ℤ, pos, ◌+ℤ◌, ◌*ℤ◌, ◌∣◌, ints, ext_get_or, div-add-mod', dvd_antisymm, dvd-mul_right_of_dvd, dvd-add_iff_right, cancel_positive, cross_arith, dvd_cross, mul_cancel, same_positive, single, single-at, single-elsewhere, TableauRow, Tableau, non_basic_of, gcd_with, IsDictionaryRow, dot, IsDictionary, gcd_within, gcd_of}
 use Rattle.std.specs.Prelude.{unsigned_abs}
-use Rattle.std.specs.Int.{◌∣◌}
-use Rattle.std.proofs.lemmas.Int.{ints}
-use Rattle.std.proofs.lemmas.List.{ext_get_or}
-use Rattle.std.proofs.lemmas.Nat.{div-add-mod'}
-use Rattle.std.proofs.lemmas.Nat.Gcd.{dvd_antisymm}
-use Rattle.std.proofs.Math.Nat.{dvd-mul_right_of_dvd, dvd-add_iff_right}
 use Rattle.std.proofs.Math.IntN.{*ℤ_comm}
-use Rattle.ta_base.proofs.Integers.{cancel_positive, cross_arith, dvd_cross, mul_cancel, same_positive, single, single-at, single-elsewhere}
-use Rattle.ta_dense.specs.Tableau.{TableauRow, Tableau, non_basic_of, gcd_with}
-use Rattle.ta_dense.specs.Valid.{IsDictionaryRow, dot, IsDictionary}
 use Rattle.ta_dense.proofs.Dot.{dot-change, dot-scaled}
 use Rattle.ta_dense.proofs.Primitive.{primitive_divisor}
 use Rattle.ta_dense.proofs.RowFacts.{record_same}
-use Rattle.ta_linear.specs.Gcd.{gcd_within, gcd_of}
 
 -- what divides the products with two numbers divides that with their greatest common divisor
 dvd-gcd_within : (k x n a b : ℕ) → k ∣ x * a → k ∣ x * b → k ∣ x * gcd_within n a b

@@ -135,19 +135,6 @@ impl Dictionary for DenseDictionary {
         true
     }
 
-    fn leaving(&self) -> Option<u32> {
-        let mut least = None;
-        for row in 0..self.rows() {
-            if self.constant(row) < 0 {
-                least = match least {
-                    Some(best) if self.basic(best) < self.basic(row) => Some(best),
-                    _ => Some(row),
-                };
-            }
-        }
-        least
-    }
-
     fn entering(&self, row: u32) -> Option<u32> {
         let mut least = None;
         for column in 0..self.columns() {

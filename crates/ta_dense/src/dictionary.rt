@@ -96,7 +96,19 @@ pub trait Dictionary: Sized + Drop + Send {
     /// The row of the least basic variable with a negative constant. It takes no memory.
     fn leaving(&self) -> Option<u32>
         ensures found { IfSome result (Leaves (tableau self.now)) }
-        ensures none { IfNone result (NoneLeaves (tableau self.now)) };
+        ensures none { IfNone result (NoneLeaves (tableau self.now)) }
+    {
+        let mut least = None;
+        for row in 0..self.rows() {
+            if self.constant(row) < 0 {
+                least = match least {
+                    Some(best) if self.basic(best) < self.basic(row) => Some(best),
+                    _ => Some(row),
+                };
+            }
+        }
+        least
+    }
 
     /// The column of the least non-basic variable with a positive cell in the row.
     fn entering(&self, row: u32) -> Option<u32>

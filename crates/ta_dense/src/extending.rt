@@ -38,14 +38,19 @@ pub(crate) fn new_slack_rows(
     Ok(rows)
 }
 
-// The cells with zeros up to a number of columns.
-fn padded_cells(alloc: Global, cells: &[i128], columns: usize) -> Result<Vec<i128>, AllocError>
-    requires { length cells.now ≤ columns }
-    ensures { IfOk result (λ v. v.items ≡ cells.now ++ replicate (columns - length cells.now) (pos 0)) }
+/// A copy of the items, with more of one kind up to a number of them.
+pub fn padded_items<T: Copy>(
+    alloc: Global,
+    items: &[T],
+    count: usize,
+    more: T,
+) -> Result<Vec<T>, AllocError>
+    requires { length items.now ≤ count }
+    ensures { IfOk result (λ v. v.items ≡ items.now ++ replicate (count - length items.now) more) }
 {
-    let mut all = Vec::with_capacity(alloc, columns)?;
-    all.extend_from_slice(cells)?;
-    all.resize(columns, 0)?;
+    let mut all = Vec::with_capacity(alloc, count)?;
+    all.extend_from_slice(items)?;
+    all.resize(count, more)?;
     Ok(all)
 }
 
@@ -63,12 +68,12 @@ pub(crate) fn padded_row(
         basic,
         denominator: row.denominator,
         constant: row.constant,
-        cells: padded_cells(alloc, &row.cells, columns)?,
+        cells: padded_items(alloc, &row.cells, columns, 0)?,
     })
 }
 
-// A variable's number where there are more unknowns.
-pub(crate) fn raised_variable(variable: u32, unknowns: u32, new: u32) -> u32
+/// A variable's number where there are more unknowns.
+pub fn raised_variable(variable: u32, unknowns: u32, new: u32) -> u32
     requires { variable + new < 2 ^ 32 }
     ensures { result ≡ raised unknowns new variable }
 {
@@ -90,8 +95,8 @@ pub(crate) fn first_columns(alloc: Global, unknowns: u32) -> Result<Vec<u32>, Al
     Ok(columns)
 }
 
-// The non-basic variables where there are more unknowns, and then these.
-pub(crate) fn raised_columns(
+/// The non-basic variables where there are more unknowns, and then these.
+pub fn raised_columns(
     alloc: Global,
     non_basic: &[u32],
     unknowns: u32,

@@ -3,7 +3,7 @@
 ghost use Rattle.std.specs.Prelude.{◌≡◌, ◌≤◌, ◌-◌, ◌++◌, pos, length, drop, replicate, IfOk, IfSome};
 ghost use Rattle.ta_dense.specs.KeptCells.{kept_cells};
 
-use crate::small::padded_narrow_cells;
+use crate::extending::padded_items;
 use std::alloc::{AllocError, Global};
 
 /// Cells in 16 bits where all of them fit, for a branch keeps thousands of pivots; else in 32.
@@ -63,7 +63,7 @@ impl KeptCells {
     {
         match self {
             KeptCells::Short(cells) => padded_short(alloc, cells, columns),
-            KeptCells::Long(cells) => padded_narrow_cells(alloc, cells, columns),
+            KeptCells::Long(cells) => padded_items(alloc, cells, columns, 0),
         }
     }
 }

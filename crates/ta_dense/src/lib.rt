@@ -20,6 +20,7 @@ mod small_pivot;
 
 pub use dense::DenseDictionary;
 pub use dictionary::{Dictionary, ExtendFault, PivotFault};
+pub use extending::{padded_items, raised_columns, raised_variable};
 pub use kept::DensePivot;
 pub use laws::{
     equal_rows_never_leave, pivots_keep_dictionaries, rows_are_unique, slacks_are_a_dictionary,

@@ -17,7 +17,7 @@ ghost use Rattle.ta_dense.specs.Shared.{AreShared, row_at_place, shared_views};
 
 use crate::dense::DenseDictionary;
 use crate::dictionary::Dictionary;
-use crate::extending::{first_columns, raised_columns};
+use crate::extending::{first_columns, padded_items, raised_columns};
 use crate::narrow_extending::carry_narrow_rows;
 use crate::narrow_rows::NarrowRow;
 use crate::narrow_slack::narrow_slack_rows;
@@ -100,21 +100,6 @@ fn widened_all(
     Ok(rows)
 }
 
-// The cells with zeros up to a number of columns.
-pub(crate) fn padded_narrow_cells(
-    alloc: Global,
-    cells: &[i32],
-    columns: usize,
-) -> Result<Vec<i32>, AllocError>
-    requires { length cells.now ≤ columns }
-    ensures { IfOk result (λ v. v.items ≡ cells.now ++ replicate (columns - length cells.now) (pos 0)) }
-{
-    let mut all = Vec::with_capacity(alloc, columns)?;
-    all.extend_from_slice(cells)?;
-    all.resize(columns, 0)?;
-    Ok(all)
-}
-
 // A copy of the row for a variable, with zeros up to a number of columns.
 pub(crate) fn padded_narrow(
     alloc: Global,
@@ -131,7 +116,7 @@ pub(crate) fn padded_narrow(
         basic,
         denominator: row.denominator,
         constant: row.constant,
-        cells: padded_narrow_cells(alloc, &row.cells, columns)?,
+        cells: padded_items(alloc, &row.cells, columns, 0)?,
         bound: row.bound,
         sum: row.sum,
     })

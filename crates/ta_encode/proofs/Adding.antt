@@ -1,55 +1,26 @@
 -- rows that are written one after another
-use Rattle.std.proofs.Common.{◌≡◌, ℕ, suc, ℤ, pos, ◌+◌, ◌<◌, ◌≤◌, ◌-ℤ◌, List, [], ◌∷◌, ◌++◌, length, map, get_or, take, Bool, true, false, cond, arith, sym, ap, ◌∙◌, refl, subst, append_assoc}
-use Rattle.std.specs.Prelude.{flat_map}
-use Rattle.std.proofs.lemmas.List.{take_more, map-append}
+use Rattle.ta_encode.proofs.Common.{◌≡◌, ℕ, suc, ℤ, pos, ◌+◌, ◌<◌, ◌≤◌, ◌-ℤ◌, List, [], ◌∷◌, ◌++◌, length, map, get_or, take, Bool, true, false, cond, arith, sym, ap, ◌∙◌, refl, subst, append_assoc, flat_map, take_more, map-append, has_bit, less_none, one_term_value, append_nil, length_take, map_same, map_twice, below_append, AllBelow, IsNormal, terms_value, Form, Row, Automaton, location_place, Meaning, place_coefficient, LinearRow, negated, form_row, counter_row, guard_rows, start_guard_rows, IsRowOf, AreRowsOf, line_row, line_coefficient, Adds, Draft, AreWritten, IsBehind, AddsRows, in_sense, constant_in_sense, start_sense, Sense, Plain, Opposite, Negated}
 use Rattle.std.proofs.lemmas.Grind.{flat_map-append}
-use Rattle.ta_base.specs.Masks.{has_bit}
-use Rattle.ta_base.proofs.Integers.{less_none, one_term_value}
-use Rattle.ta_base.proofs.Lists.{append_nil, length_take, map_same, map_twice}
-use Rattle.ta_implied.proofs.Copying.{below_append}
-use Rattle.ta_linear.specs.Rows.{AllBelow}
-use Rattle.ta_linear.specs.Terms.{IsNormal}
-use Rattle.ta_linear.specs.Values.{terms_value}
-use Rattle.ta_linear.specs.declared.form.Form.{Form}
-use Rattle.ta_linear.specs.declared.row.Row.{Row}
-use Rattle.ta_automaton.specs.declared.automaton.Automaton.{Automaton}
-use Rattle.ta_automaton.specs.Places.{location_place}
-use Rattle.ta_encode.specs.Unknowns.{Meaning, place_coefficient}
-use Rattle.ta_encode.specs.System.{LinearRow, negated, form_row, counter_row, processes_row, guard_rows, start_guard_rows}
-use Rattle.ta_encode.specs.Code.{IsRowOf, AreRowsOf}
-use Rattle.ta_encode.specs.Lines.{line_row, line_coefficient}
-use Rattle.ta_encode.specs.Inside.Lines.{AreWritten, IsBehind, AddsRows, in_sense, constant_in_sense, start_sense}
-use Rattle.ta_encode.specs.declared.line.Sense.{Sense}
-use Rattle.ta_encode.specs.declared.line.Sense.TheVariants.{Plain, Opposite, Negated}
 
 with_coefficients : (c : ℤ) (xs ys : List ℤ) (row : Row) → xs ≡ ys → IsRowOf (record { constant = c; coefficients = xs }) row → IsRowOf (record { constant = c; coefficients = ys }) row
 with_coefficients c xs ys row e h = subst (λ zs. IsRowOf (record { constant = c; coefficients = zs }) row) e h
 
 -- a line that is written in a sense is the plain one's row in this sense
-line_in_sense : (a : Automaton) (ms : List Meaning) (ts : List (ℕ × ℤ)) (less_starts : Bool) (sense : Sense) (constant : ℤ) (row : Row) → IsRowOf (line_row a ms ts less_starts sense (constant_in_sense sense constant)) row
+pub line_in_sense : (a : Automaton) (ms : List Meaning) (ts : List (ℕ × ℤ)) (less_starts : Bool) (sense : Sense) (constant : ℤ) (row : Row) → IsRowOf (line_row a ms ts less_starts sense (constant_in_sense sense constant)) row
     → IsRowOf (in_sense sense (line_row a ms ts less_starts Plain constant)) row
 line_in_sense a ms ts less_starts Plain constant row h = h
 line_in_sense a ms ts less_starts Opposite constant row h = with_coefficients (pos 0 -ℤ constant) _ _ row (sym (map_twice (λ c. pos 0 -ℤ c) (line_coefficient a ts less_starts Plain) ms)) h
 line_in_sense a ms ts less_starts Negated constant row h = with_coefficients ((pos 0 -ℤ constant) -ℤ pos 1) _ _ row (sym (map_twice (λ c. pos 0 -ℤ c) (line_coefficient a ts less_starts Plain) ms)) h
 
-form_plain : (a : Automaton) (ms : List Meaning) (f : Form) → line_row a ms f.terms false Plain f.constant ≡ form_row a ms f
+pub form_plain : (a : Automaton) (ms : List Meaning) (f : Form) → line_row a ms f.terms false Plain f.constant ≡ form_row a ms f
 form_plain a ms f =
     ap (λ (zs : List ℤ). record { constant = f.constant; coefficients = zs })
     (map_same (line_coefficient a f.terms false Plain) (λ m. terms_value (place_coefficient a m) f.terms) ms (λ m. less_none (terms_value (place_coefficient a m) f.terms)))
 
-pub form_line : (a : Automaton) (ms : List Meaning) (f : Form) (sense : Sense) (row : Row) → IsRowOf (line_row a ms f.terms false sense (constant_in_sense sense f.constant)) row → IsRowOf (in_sense sense (form_row a ms f)) row
-form_line a ms f sense row h = subst (λ (l : LinearRow). IsRowOf (in_sense sense l) row) (form_plain a ms f) (line_in_sense a ms f.terms false sense f.constant row h)
-
-pub processes_line : (a : Automaton) (ms : List Meaning) (sense : Sense) (row : Row) → IsRowOf (line_row a ms a.processes.terms true sense (constant_in_sense sense a.processes.constant)) row → IsRowOf (in_sense sense (processes_row a ms)) row
-processes_line a ms sense row h = line_in_sense a ms a.processes.terms true sense a.processes.constant row h
-
-counter_plain : (a : Automaton) (ms : List Meaning) (l place : ℕ) → place ≡ location_place a l → line_row a ms ((place, pos 1) ∷ []) false Plain (pos 0) ≡ counter_row a ms l
+pub counter_plain : (a : Automaton) (ms : List Meaning) (l place : ℕ) → place ≡ location_place a l → line_row a ms ((place, pos 1) ∷ []) false Plain (pos 0) ≡ counter_row a ms l
 counter_plain a ms l place e =
     ap (λ (zs : List ℤ). record { constant = pos 0; coefficients = zs })
     (map_same (line_coefficient a ((place, pos 1) ∷ []) false Plain) (λ m. place_coefficient a m (location_place a l)) ms (λ m. one_term_value (place_coefficient a m place) ∙ ap (place_coefficient a m) e))
-
-pub counter_line : (a : Automaton) (ms : List Meaning) (l place : ℕ) (sense : Sense) (row : Row) → place ≡ location_place a l → IsRowOf (line_row a ms ((place, pos 1) ∷ []) false sense (constant_in_sense sense (pos 0))) row → IsRowOf (in_sense sense (counter_row a ms l)) row
-counter_line a ms l place sense row e h = subst (λ (x : LinearRow). IsRowOf (in_sense sense x) row) (counter_plain a ms l place e) (line_in_sense a ms ((place, pos 1) ∷ []) false sense (pos 0) row h)
 
 pub RowsOf-append : (ls ms : List LinearRow) (xs ys : List Row) → AreRowsOf ls xs → AreRowsOf ms ys → AreRowsOf (ls ++ ms) (xs ++ ys)
 RowsOf-append [] ms [] ys h g = g
@@ -77,9 +48,6 @@ adds_join ls ms n before middle after h g = record { rows = λ done w. subst (λ
 
 pub adds_same : (ls ms : List LinearRow) (n : ℕ) (before after : List Row) → ls ≡ ms → AddsRows ls n before after → AddsRows ms n before after
 adds_same ls ms n before after e h = subst (λ xs. AddsRows xs n before after) e h
-
-pub line_with : (a : Automaton) (ms : List Meaning) (ts us : List (ℕ × ℤ)) (less_starts : Bool) (sense : Sense) (c d : ℤ) (row : Row) → ts ≡ us → c ≡ d → IsRowOf (line_row a ms ts less_starts sense c) row → IsRowOf (line_row a ms us less_starts sense d) row
-line_with a ms ts us less_starts sense c d row e f h = subst (λ z. IsRowOf (line_row a ms us less_starts sense z) row) f (subst (λ xs. IsRowOf (line_row a ms xs less_starts sense c) row) e h)
 
 -- the steps of loops over rows and comparisons
 pub map_more : {X : Type 0} (f : X → LinearRow) (xs : List X) (i : ℕ) (d : X) → i < length xs → map f (take i xs) ++ f (get_or xs i d) ∷ [] ≡ map f (take (i + 1) xs)
@@ -141,3 +109,43 @@ guards_same a ms f g k n (r ∷ rs) h b =
 pub as_they_are : (ls : List LinearRow) → map (in_sense Plain) ls ≡ ls
 as_they_are [] = refl
 as_they_are (l ∷ ls) = ap (λ ks. l ∷ ks) (as_they_are ls)
+
+-- what a draft gains, at its automaton and unknowns
+pub adds_at : {f : Automaton → List Meaning → List LinearRow} {before after : Draft} (a : Automaton) (ms : List Meaning) → before.automaton.now ≡ a → before.meanings.items ≡ ms → Adds f before after → AddsRows (f a ms) (length ms) before.rows.items after.rows.items
+adds_at {f = f} {before = before} {after = after} a ms e g h =
+    subst (λ (us : List Meaning). AddsRows (f a us) (length us) before.rows.items after.rows.items) g
+    (subst (λ (b : Automaton). AddsRows (f b before.meanings.items) (length before.meanings.items) before.rows.items after.rows.items) e h.rows)
+
+pub adds_nothing : (f : Automaton → List Meaning → List LinearRow) (draft : Draft) → f draft.automaton.now draft.meanings.items ≡ [] → Adds f draft draft
+adds_nothing f draft e = record {
+  automaton = refl;
+  unknowns = refl;
+  rows = adds_same [] _ (length draft.meanings.items) draft.rows.items draft.rows.items (sym e) (adds_none (length draft.meanings.items) draft.rows.items);
+}
+
+pub adds_both : {f g : Automaton → List Meaning → List LinearRow} {before middle after : Draft} → Adds f before middle → Adds g middle after → Adds (λ a ms. f a ms ++ g a ms) before after
+adds_both {f = f} {g = g} {before = before} {middle = middle} {after = after} h k =
+    let a = before.automaton.now in
+    let ms = before.meanings.items in
+    record {
+      automaton = k.automaton ∙ h.automaton;
+      unknowns = k.unknowns ∙ h.unknowns;
+      rows = adds_join (f a ms) (g a ms) (length ms) before.rows.items middle.rows.items after.rows.items h.rows (adds_at a ms h.automaton h.unknowns k);
+    }
+
+pub adds_alike : {f g : Automaton → List Meaning → List LinearRow} {before after : Draft} → f before.automaton.now before.meanings.items ≡ g before.automaton.now before.meanings.items → Adds f before after → Adds g before after
+adds_alike {before = before} {after = after} e h = record { automaton = h.automaton; unknowns = h.unknowns; rows = adds_same _ _ (length before.meanings.items) before.rows.items after.rows.items e h.rows }
+
+-- one step of a loop
+pub adds_more : {f g h : Automaton → List Meaning → List LinearRow} {before middle after : Draft} → f before.automaton.now before.meanings.items ++ g before.automaton.now before.meanings.items ≡ h before.automaton.now before.meanings.items → Adds f before middle → Adds g middle after → Adds h before after
+adds_more e k l = adds_alike e (adds_both k l)
+
+pub nothing_written : (n : ℕ) (rows : List Row) → rows ≡ [] → AreWritten [] n rows
+nothing_written n rows e = subst (AreWritten [] n) (sym e) (record { rows_of = tt; below = tt })
+
+-- rows behind those that a draft has
+pub adds_behind : (a : Automaton) (ms : List Meaning) (done : List LinearRow) {f : Automaton → List Meaning → List LinearRow} {before after : Draft} → before.automaton.now ≡ a → before.meanings.items ≡ ms → AreWritten done (length before.meanings.items) before.rows.items → Adds f before after
+    → (after.meanings.items ≡ ms) × AreWritten (done ++ f a ms) (length after.meanings.items) after.rows.items
+adds_behind a ms done {f = f} {before = before} {after = after} e g w h =
+    let are = h.unknowns ∙ g in
+    (are, subst (λ (us : List Meaning). AreWritten (done ++ f a ms) (length us) after.rows.items) (sym are) ((adds_at a ms e g h).rows done (subst (λ (us : List Meaning). AreWritten done (length us) before.rows.items) g w)))

@@ -1,10 +1,5 @@
 -- steps behind steps, and lists behind lists
-use Rattle.std.proofs.Common.{◌≡◌, inl, inr, ℕ, zero, suc, ◌+◌, List, [], ◌∷◌, ◌++◌, length, arith, refl, sym, ◌∙◌, subst, slice_get, Some, length-append}
-use Rattle.std.proofs.lemmas.Option.{same_Some}
-use Rattle.ta_base.proofs.Lists.{get_parts, get_right, slice_get_left}
-use Rattle.ta_automaton.specs.declared.automaton.Automaton.{Automaton}
-use Rattle.ta_automaton.specs.Runs.{Config, Steps}
-use Rattle.ta_automaton.proofs.Trails.{Trail, Grows, run_length}
+use Rattle.ta_encode.proofs.Common.{◌≡◌, inl, inr, ℕ, zero, suc, ◌+◌, List, [], ◌∷◌, ◌++◌, length, arith, refl, sym, ◌∙◌, subst, slice_get, Some, length-append, same_Some, get_parts, get_right, slice_get_left, Automaton, Config, Steps, Trail, Grows, run_length}
 
 steps_append : (a : Automaton) (c : Config) (rules : List ℕ) (later : List Config) (d : Config) (more : List ℕ) (latest : List Config) → Steps a c rules later → slice_get (c ∷ later) (length rules) ≡ Some d → Steps a d more latest → Steps a c (rules ++ more) (later ++ latest)
 steps_append a c [] [] d more latest run last steps = subst (λ (x : Config). Steps a x more latest) (sym (same_Some c d last)) steps

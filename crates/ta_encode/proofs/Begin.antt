@@ -1,34 +1,11 @@
 -- the first configuration of a solution is initial, and its values are those of the empty word
-use Rattle.std.proofs.Common.{◌≡◌, ◌≢◌, ◌⊎◌, inl, inr, ℕ, ◌+◌, ◌<◌, ℤ, pos, ◌*ℤ◌, ◌≤ℤ◌, List, [], ◌∷◌, ◌++◌, map, length, not, arith, sym, ap, ◌∙◌, refl, subst, get_or, sum}
-use Rattle.std.proofs.lemmas.List.{length-map}
-use Rattle.std.proofs.lemmas.Int.{ints}
-use Rattle.std.proofs.lemmas.Bool.{false≢true, cases_lt, not-true}
-use Rattle.std.proofs.lemmas.Bool.Decides.{eqb_tells}
-use Rattle.std.proofs.Math.IntN.{zero-*ℤ}
-use Rattle.ta_base.proofs.Integers.{by_one, mul-ge-zero, natural, pos_natural}
-use Rattle.ta_base.proofs.Members.{contains_of, filter_passes, in_all, in_append, in_map}
-use Rattle.ta_base.proofs.Ranges.{at_index, in_numbers, length_numbers, past_numbers, rises_below}
-use Rattle.ta_linear.specs.Values.{terms_value}
-use Rattle.ta_automaton.specs.declared.automaton.Automaton.{Automaton}
-use Rattle.ta_automaton.specs.declared.pattern.Pattern.{Pattern}
-use Rattle.ta_automaton.specs.Runs.{Config, value_at, Initial}
-use Rattle.ta_base.specs.Masks.{has_bit, numbers_from, In}
-use Rattle.ta_words.specs.declared.element.Element.{Element}
-use Rattle.ta_words.specs.Words.{has_event, has_rise}
-use Rattle.ta_encode.specs.Unknowns.{Meaning, Parameter, Start, start_locations, start_meanings, meanings, place_coefficient}
-use Rattle.ta_automaton.specs.Places.{one_if, location_place}
-use Rattle.ta_encode.specs.System.{opposite, processes_row, start_coefficient, condition_rows, start_guard_rows, start_rows, word_rows, sum_of_products, AllHold}
-use Rattle.ta_automaton.specs.Sums.{total}
-use Rattle.ta_automaton.proofs.Sums.{total-zero, total-same, one_inside, terms_value-same}
+use Rattle.ta_encode.proofs.Common.{◌≡◌, ◌≢◌, ◌⊎◌, inl, inr, ℕ, ◌+◌, ◌<◌, ℤ, pos, ◌*ℤ◌, ◌≤ℤ◌, List, [], ◌∷◌, ◌++◌, map, length, not, arith, sym, ap, ◌∙◌, refl, subst, get_or, sum, length-map, ints, false≢true, cases_lt, not-true, zero-*ℤ, by_one, mul-ge-zero, natural, pos_natural, contains_of, filter_passes, in_all, in_append, in_map, at_index, in_numbers, length_numbers, past_numbers, rises_below, terms_value, Automaton, Pattern, Config, value_at, Initial, has_bit, numbers_from, In, Element, has_event, has_rise, Meaning, Parameter, Start, start_locations, start_meanings, meanings, place_coefficient, one_if, location_place, opposite, processes_row, start_coefficient, condition_rows, start_guard_rows, start_rows, word_rows, sum_of_products, AllHold, total, total-zero, total-same, one_inside, terms_value-same, place_cases, value_at-parameter, value_at-shared, value_at-location, one_if-ne, one_if-shift, one_if-natural, Whole, fits_whole, resilience_at}
 use Rattle.ta_encode.proofs.Combine.{combine-zero, combine-add, combine-minus, combine-terms}
 use Rattle.ta_encode.proofs.Moments.{opposite_value, AllHold-left}
-use Rattle.ta_automaton.proofs.Moves.{place_cases, value_at-parameter, value_at-shared, value_at-location, one_if-ne, one_if-shift}
 use Rattle.ta_encode.proofs.Start.{sum_total, one_if_comm, start_rises}
 use Rattle.ta_encode.proofs.Switch.{KeptEmpty}
-use Rattle.ta_automaton.proofs.Fire.{Whole}
-use Rattle.ta_automaton.proofs.Thresholds.{processes_value as processes_at, resilience_at}
+use Rattle.ta_automaton.proofs.Thresholds.{processes_value as processes_at}
 use Rattle.ta_encode.proofs.Appending.{trail_begun}
-use Rattle.ta_encode.proofs.Segment.{fits_whole}
 use Rattle.ta_encode.proofs.Values.{place_value, AllHold-right, condition_back}
 use Rattle.ta_encode.proofs.Safety.{prefix_rows, take_apart}
 use Rattle.ta_encode.proofs.Unwind.{At}
@@ -69,9 +46,6 @@ zero_place a p vs i f g = combine-on_zero (λ m. place_coefficient a m i) (start
   | inl w ↦ ap (λ k. place_coefficient a k i) w.2 ∙ one_if-ne w.0 i (f w.0 w.1)
   | inr w ↦ ap (λ k. place_coefficient a k i) w.2 ∙ one_if-ne (location_place a w.0) i (g w.0 w.1)
 ])
-
-one_if-natural : (x y : ℕ) → pos 0 ≤ℤ one_if x y
-one_if-natural x y = elim (eqb_tells x y) [ inl e ↦ rw e.0 (omega (arith, ints)) | inr e ↦ rw e.0 (omega (arith, ints)) ]
 
 natural_place : (a : Automaton) (p : Pattern) (vs : List ℕ) (i : ℕ) → pos 0 ≤ℤ place_value a (start_meanings a p) vs i
 natural_place a p vs i = combine-on_natural (λ m. place_coefficient a m i) (start_meanings a p) vs (λ m h. elim (in_start a p m h) [

@@ -1,16 +1,5 @@
 -- rows of a block of unknowns, and of bounds
-use Rattle.std.proofs.Common.{◌≡◌, ℕ, zero, suc, ℤ, pos, ◌-ℤ◌, ◌+◌, ◌-◌, ◌<◌, ◌≤◌, List, [], ◌∷◌, ◌++◌, length, map, get_or, arith, sym, ap, ◌∙◌, refl, subst, length-append}
-use Rattle.std.proofs.lemmas.List.{length-map}
-use Rattle.ta_base.proofs.Lists.{map_itself}
-use Rattle.ta_base.proofs.Ranges.{after_zeros, before_block, in_block, length_numbers}
-use Rattle.ta_linear.specs.Terms.{coefficient}
-use Rattle.ta_base.specs.Masks.{numbers_from}
-use Rattle.ta_encode.specs.System.{Bound, Side, Low, High, only_at, side_row, bound_row}
-use Rattle.ta_encode.specs.Lines.{coefficient_in_sense}
-use Rattle.ta_encode.specs.Inside.Lines.{block_row, bound_constant, bound_sense}
-use Rattle.ta_encode.specs.declared.line.Sense.{Sense}
-use Rattle.ta_encode.specs.declared.line.Sense.TheVariants.{Plain, Opposite, Negated}
-use Rattle.std.proofs.lemmas.Int.{ints}
+use Rattle.ta_encode.proofs.Common.{◌≡◌, ℕ, zero, suc, ℤ, pos, ◌-ℤ◌, ◌+◌, ◌-◌, ◌<◌, ◌≤◌, List, [], ◌∷◌, ◌++◌, length, map, get_or, arith, sym, ap, ◌∙◌, refl, subst, length-append, length-map, map_itself, after_zeros, before_block, in_block, length_numbers, coefficient, numbers_from, Bound, Side, Low, High, only_at, side_row, bound_row, coefficient_in_sense, block_row, bound_constant, bound_sense, Sense, Plain, Opposite, Negated, ints}
 use Rattle.ta_encode.proofs.Sparse.{Sparse, sparse_all}
 
 -- the coefficients of a block

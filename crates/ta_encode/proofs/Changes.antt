@@ -1,16 +1,6 @@
 -- what a rule adds at a place, by the kind of the place
-use Rattle.std.proofs.Common.{◌≡◌, ◌≢◌, ℕ, ℤ, pos, ◌+◌, ◌-◌, ◌<◌, ◌≤◌, ◌-ℤ◌, unsigned_abs, List, [], ◌∷◌, length, Some, Bool, true, false, arith, sym, ap, ◌∙◌, subst, to_z, of_z}
-use Rattle.std.specs.Int.{w128}
-use Rattle.std.specs.Prelude.{◌==◌, if◌then◌else◌}
-use Rattle.std.proofs.lemmas.Int.{ints}
-use Rattle.std.specs.List.{AllByRecursion}
-use Rattle.ta_base.proofs.Integers.{abs_minus, to_z_abs}
-use Rattle.ta_linear.specs.Terms.{coefficient}
-use Rattle.ta_automaton.specs.declared.automaton.Automaton.{Automaton}
-use Rattle.ta_automaton.specs.declared.rule.Rule.{Rule}
-use Rattle.ta_automaton.specs.Places.{one_if, location_place, shared_change, rule_change}
+use Rattle.ta_encode.proofs.Common.{◌≡◌, ◌≢◌, ℕ, ℤ, pos, ◌+◌, ◌-◌, ◌<◌, ◌≤◌, ◌-ℤ◌, unsigned_abs, List, [], ◌∷◌, length, Some, Bool, true, false, arith, sym, ap, ◌∙◌, subst, to_z, of_z, w128, ◌==◌, if◌then◌else◌, ints, AllByRecursion, abs_minus, to_z_abs, coefficient, Automaton, Rule, one_if, location_place, shared_change, rule_change, one_if-shift, one_if-ne, shared_change-parameter, shared_change-shared, shared_change-location}
 use Rattle.ta_automaton.specs.Shape.{Update}
-use Rattle.ta_automaton.proofs.Moves.{one_if-shift, one_if-ne, shared_change-parameter, shared_change-shared, shared_change-location}
 use Rattle.ta_encode.proofs.Running.{Small}
 
 moved : (a : Automaton) (rule : Rule) (place : ℕ) → place < length a.parameters + length a.shared → (one_if (location_place a rule.to) place -ℤ one_if (location_place a rule.from) place) ≡ pos 0

@@ -1,22 +1,7 @@
 -- leaves and solutions of a system of the code are those of the word
-use Rattle.std.proofs.Common.{◌≡◌, ℕ, zero, suc, ℤ, pos, ◌*ℤ◌, ◌≤ℤ◌, ◌<ℤ◌, List, [], ◌∷◌, map, length, slice_get, get_or, Option, None, Some, arith, sym, ap, ◌∙◌, refl, subst}
-use Rattle.std.specs.List.{All}
-use Rattle.std.proofs.lemmas.Int.{ints}
-use Rattle.ta_base.proofs.Sums.{range_sum-same}
-use Rattle.ta_linear.specs.Terms.{coefficient, IsNormal}
-use Rattle.ta_linear.specs.Rows.{AllBelow}
-use Rattle.ta_linear.specs.Values.{value_of, RowHolds, Solves}
+use Rattle.ta_encode.proofs.Common.{◌≡◌, ℕ, zero, suc, ℤ, pos, ◌*ℤ◌, ◌≤ℤ◌, ◌<ℤ◌, List, [], ◌∷◌, map, length, slice_get, get_or, Option, None, Some, arith, sym, ap, ◌∙◌, refl, subst, All, ints, range_sum-same, coefficient, IsNormal, AllBelow, value_of, RowHolds, Solves, Row, System, Automaton, Pattern, LinearRow, bound_row, word_rows, row_value, AllHold, SolvesWord, Pending, Search, SolvesAt, bounded_rows, pattern_search, linear_coefficient_in, linear_constant_in, IsLeaf, IsRowOf, AreRowsOf, SystemAt}
 use Rattle.ta_linear.specs.Leaf.{weighted, AreMultipliers, LeafOf, coefficient_in as code_coefficient, constant_in as code_constant}
-use Rattle.ta_linear.specs.declared.row.Row.{Row}
-use Rattle.ta_linear.specs.declared.row.System.{System}
 use Rattle.ta_linear.proofs.RangeSum.{terms_value-sum}
-use Rattle.ta_automaton.specs.declared.automaton.Automaton.{Automaton}
-use Rattle.ta_automaton.specs.declared.pattern.Pattern.{Pattern}
-use Rattle.ta_encode.specs.System.{LinearRow, bound_row, word_rows, row_value, AllHold, SolvesWord}
-use Rattle.ta_encode.specs.Search.{Pending, Search, SolvesAt, bounded_rows}
-use Rattle.ta_encode.specs.PatternSearch.{pattern_search}
-use Rattle.ta_encode.specs.Refutes.{linear_coefficient_in, linear_constant_in, IsLeaf}
-use Rattle.ta_encode.specs.Code.{IsRowOf, AreRowsOf, SystemAt}
 use Rattle.ta_encode.proofs.Moments.{AllHold-append, AllHold-left}
 use Rattle.ta_encode.proofs.RowSums.{value_at, combine-range}
 

@@ -1,11 +1,5 @@
 -- coefficients times values
-use Rattle.std.proofs.Common.{◌≡◌, ℕ, ℤ, pos, ◌+ℤ◌, ◌-ℤ◌, ◌*ℤ◌, List, [], ◌∷◌, ◌++◌, map, length, arith, sym, refl}
-use Rattle.std.proofs.lemmas.Int.{ints}
-use Rattle.std.proofs.Math.IntN.{zero-*ℤ, *ℤ-zero}
-use Rattle.ta_base.proofs.Integers.{distributes, distributes_right, minus_times, times_assoc}
-use Rattle.ta_linear.specs.Values.{terms_value}
-use Rattle.ta_encode.specs.System.{sum_of_products}
-use Rattle.ta_automaton.specs.Sums.{total}
+use Rattle.ta_encode.proofs.Common.{◌≡◌, ℕ, ℤ, pos, ◌+ℤ◌, ◌-ℤ◌, ◌*ℤ◌, List, [], ◌∷◌, ◌++◌, map, length, arith, sym, refl, ints, zero-*ℤ, *ℤ-zero, distributes, distributes_right, minus_times, times_assoc, terms_value, sum_of_products, total}
 
 pub combine-append : {X : Type 0} (g : X → ℤ) (ms ns : List X) (vs ws : List ℕ) → length vs ≡ length ms → sum_of_products (map g (ms ++ ns)) (vs ++ ws) ≡ (sum_of_products (map g ms) vs +ℤ sum_of_products (map g ns) ws)
 unfolding sum_of_products

@@ -1,16 +1,5 @@
 -- how many unknowns a word has
-use Rattle.std.proofs.Common.{◌≡◌, ℕ, ◌+◌, ◌*◌, List, ◌∷◌, ◌++◌, length, map, not, slice_get, arith, ap, ◌∙◌, length-append}
-use Rattle.std.specs.Prelude.{filter}
-use Rattle.std.proofs.lemmas.List.{length-map}
-use Rattle.ta_base.specs.Masks.{has_bit, numbers_from}
-use Rattle.ta_base.proofs.Lists.{filter_same}
-use Rattle.ta_base.proofs.Ranges.{length_numbers}
-use Rattle.ta_automaton.specs.declared.automaton.Automaton.{Automaton}
-use Rattle.ta_automaton.specs.declared.pattern.Pattern.{Pattern}
-use Rattle.ta_words.specs.declared.element.Element.{Element}
-use Rattle.ta_words.specs.declared.element.Element.TheVariants.{Event, Rise, Fall}
-use Rattle.ta_words.specs.Words.{may_fire, allowed_rules}
-use Rattle.ta_encode.specs.Unknowns.{Parameter, Start, Count, Single, meanings, start_meanings, start_locations, counts_after, singles_after}
+use Rattle.ta_encode.proofs.Common.{◌≡◌, ℕ, ◌+◌, ◌*◌, List, ◌∷◌, ◌++◌, length, map, not, slice_get, arith, ap, ◌∙◌, length-append, filter, length-map, has_bit, numbers_from, filter_same, length_numbers, Automaton, Pattern, Element, Event, Rise, Fall, may_fire, allowed_rules, Parameter, Start, Count, Single, meanings, start_meanings, start_locations, counts_after, singles_after}
 
 pub start_length : (a : Automaton) (p : Pattern) → length (start_meanings a p) ≡ length a.parameters + length (filter (λ l. not (has_bit p.empty l)) a.initial)
 unfolding start_meanings

@@ -1,30 +1,8 @@
 -- the unknowns and rows of a word, element by element
-use Rattle.std.proofs.Common.{◌≡◌, ℕ, pos, negsuc, ◌+◌, ◌-◌, ◌*◌, ◌<◌, ◌≤◌, ◌-ℤ◌, List, [], ◌∷◌, ◌++◌, length, map, reverse, true, false, not, ◌||◌, bit_or, slice_get, Some, arith, sym, ap, ◌∙◌, refl, subst, append_assoc, length-append}
-use Rattle.std.specs.Prelude.{filter, ◌==◌}
-use Rattle.std.proofs.lemmas.List.{map-append, length-map, length-reverse}
-use Rattle.ta_base.proofs.Bits.{has_or}
-use Rattle.ta_base.proofs.Each.{each_from_at}
-use Rattle.ta_base.proofs.Lists.{filter_same, filter_shorter, longer, map_constant, map_twice}
-use Rattle.ta_base.proofs.Ranges.{length_numbers, rises_length}
-use Rattle.ta_linear.specs.Rows.{AllBelow}
-use Rattle.ta_linear.specs.declared.row.Row.{Row}
-use Rattle.ta_linear.proofs.TermLemmas.{IsNormal-higher}
-use Rattle.ta_base.specs.Masks.{has_bit, numbers_from}
-use Rattle.ta_automaton.specs.declared.automaton.Automaton.{Automaton}
-use Rattle.ta_automaton.specs.declared.file.File.{File}
-use Rattle.ta_automaton.specs.declared.pattern.Pattern.{Pattern}
+use Rattle.ta_encode.proofs.Common.{Bool, ◌≡◌, ℕ, pos, negsuc, ◌+◌, ◌-◌, ◌*◌, ◌≤◌, ◌-ℤ◌, List, [], ◌∷◌, ◌++◌, length, map, reverse, not, ◌||◌, bit_or, slice_get, Some, arith, sym, ap, ◌∙◌, refl, subst, append_assoc, length-append, filter, ◌==◌, map-append, length-map, length-reverse, has_or, each_from_at, filter_same, filter_shorter, map_constant, map_twice, length_numbers, rises_length, AllBelow, Row, IsNormal-higher, has_bit, numbers_from, Automaton, File, Pattern, pattern_within, Element, Event, Rise, Fall, LegalWord, may_fire, allowed_rules, has_fallen, legal_length, events_named, Meaning, Count, Single, Start, Parameter, meanings, start_meanings, start_locations, counts_after, singles_after, LinearRow, opposite, negated, singles_row, start_rows, event_rows, guard_rows, standing_rows, rise_rows, happening_rows, fall_rows, word_rows, condition_rows, processes_row, start_guard_rows, AreWritten, IsBehind, SmallCondition, SmallEvents, block_row, counters_outside, firing, Adds, AddsUnknowns, Continues, IsDraft, Draft, Origin, Plain, Opposite}
+use Rattle.ta_base.proofs.Lists.{longer}
 use Rattle.ta_automaton.specs.Patterns.{EventWithin}
-use Rattle.ta_automaton.proofs.Thresholds.{pattern_within}
-use Rattle.ta_words.specs.declared.element.Element.{Element}
-use Rattle.ta_words.specs.declared.element.Element.TheVariants.{Event, Rise, Fall}
-use Rattle.ta_words.specs.Words.{may_fire, allowed_rules, has_fallen}
-use Rattle.ta_encode.specs.Unknowns.{Meaning, Count, Single, Start, Parameter, meanings, start_meanings, start_locations, counts_after, singles_after}
-use Rattle.ta_encode.specs.System.{LinearRow, Bound, bound_row, system_rows, opposite, negated, singles_row, start_rows, event_rows, guard_rows, standing_rows, rise_rows, happening_rows, fall_rows, word_rows, condition_rows, processes_row, start_guard_rows}
-use Rattle.ta_encode.specs.Inside.Lines.{AreWritten, AddsRows, SmallEvents, block_row, counters_outside}
-use Rattle.ta_encode.specs.Inside.Firings.{firing}
-use Rattle.ta_encode.specs.Inside.Draft.{IsDraftOf}
-use Rattle.ta_encode.specs.declared.line.Sense.TheVariants.{Plain, Opposite}
-use Rattle.ta_encode.proofs.Adding.{guards_same}
+use Rattle.ta_encode.proofs.Adding.{adds_at, adds_behind, adds_both, behind_join, guards_same, nothing_written}
 use Rattle.ta_encode.proofs.Smallness.{small_condition, places_most}
 
 below_more : (n m : ℕ) (rows : List Row) → n ≤ m → AllBelow n rows → AllBelow m rows
@@ -35,21 +13,16 @@ widen : (ls : List LinearRow) (n m : ℕ) (rows : List Row) → n ≤ m → AreW
 widen ls n m rows h w = record { rows_of = w.rows_of; below = below_more n m rows h w.below }
 
 -- the firings of a mask of allowed rules
-pub counted : (a : Automaton) (p : Pattern) (start : ℕ) (before : List Element) (allowed rules number : ℕ) → ((r : ℕ) → has_bit allowed r ≡ may_fire a p start (reverse before) (slice_get a.rules r)) → rules ≡ length a.rules → number ≡ length before
-    → map (firing false number) (filter (has_bit allowed) (numbers_from 0 rules)) ≡ counts_after a p start (reverse before)
+pub fired_after : (single : Bool) (o : Origin) (before : List Element) (allowed : ℕ) {draft grown : Draft} → ((r : ℕ) → has_bit allowed r ≡ may_fire o.file.now.automaton o.pattern.now o.start_mask (reverse before) (slice_get o.file.now.automaton.rules r)) → draft.automaton.now ≡ o.file.now.automaton
+    → AddsUnknowns (map (firing single (length before)) (filter (has_bit allowed) (numbers_from 0 (length draft.automaton.now.rules)))) draft grown
+    → AddsUnknowns (map (firing single (length (reverse before))) (allowed_rules o.file.now.automaton o.pattern.now o.start_mask (reverse before))) draft grown
 unfolding allowed_rules
-counted a p start before allowed rules number h e f =
-    ap (λ n. map (firing false number) (filter (has_bit allowed) (numbers_from 0 n))) e
-    ∙ ap (map (firing false number)) (filter_same (has_bit allowed) (λ r. may_fire a p start (reverse before) (slice_get a.rules r)) (numbers_from 0 (length a.rules)) h)
-    ∙ ap (λ n. map (Count n) (allowed_rules a p start (reverse before))) (f ∙ sym (length-reverse before))
-
-pub singled : (a : Automaton) (p : Pattern) (start : ℕ) (before : List Element) (allowed rules number : ℕ) → ((r : ℕ) → has_bit allowed r ≡ may_fire a p start (reverse before) (slice_get a.rules r)) → rules ≡ length a.rules → number ≡ length before
-    → map (firing true number) (filter (has_bit allowed) (numbers_from 0 rules)) ≡ singles_after a p start (reverse before)
-unfolding allowed_rules
-singled a p start before allowed rules number h e f =
-    ap (λ n. map (firing true number) (filter (has_bit allowed) (numbers_from 0 n))) e
-    ∙ ap (map (firing true number)) (filter_same (has_bit allowed) (λ r. may_fire a p start (reverse before) (slice_get a.rules r)) (numbers_from 0 (length a.rules)) h)
-    ∙ ap (λ n. map (Single n) (allowed_rules a p start (reverse before))) (f ∙ sym (length-reverse before))
+fired_after single o before allowed {draft = draft} {grown = grown} may e added =
+    let a = o.file.now.automaton in
+    let same = ap (λ (b : Automaton). map (firing single (length before)) (filter (has_bit allowed) (numbers_from 0 (length b.rules)))) e
+    ∙ ap (map (firing single (length before))) (filter_same (has_bit allowed) (λ r. may_fire a o.pattern.now o.start_mask (reverse before) (slice_get a.rules r)) (numbers_from 0 (length a.rules)) may)
+    ∙ ap (λ n. map (firing single n) (allowed_rules a o.pattern.now o.start_mask (reverse before))) (sym (length-reverse before)) in
+    subst (λ (ms : List Meaning). AddsUnknowns ms draft grown) same added
 
 allowed_few : (a : Automaton) (p : Pattern) (start : ℕ) (past : List Element) → length (allowed_rules a p start past) ≤ 128
 unfolding allowed_rules
@@ -85,40 +58,70 @@ meanings_few a p start (Rise i ∷ past) = omega (arith, length-append (meanings
 meanings_few a p start (Fall m ∷ past) =
     omega (arith, length-append (meanings a p start past ++ counts_after a p start past) (singles_after a p start past), length-append (meanings a p start past) (counts_after a p start past), counts_few a p start past, singles_few a p start past, meanings_few a p start past)
 
-pub drafted_few : (a : Automaton) (p : Pattern) (start : ℕ) (past : List Element) (ms : List Meaning) (rows : List Row) → IsDraftOf a p start past ms rows → length ms ≤ 48 + 256 * length past
-drafted_few a p start past ms rows d = omega (arith, ap length d.unknowns_are, meanings_few a p start past)
+pub draft_few : (o : Origin) (past : List Element) (draft : Draft) → IsDraft o past draft → length draft.meanings.items ≤ 48 + 256 * length past
+draft_few o past draft d = omega (arith, ap length d.is.unknowns_are, meanings_few o.file.now.automaton o.pattern.now o.start_mask past)
+
+pub word_few : (file : File) (k : ℕ) (p : Pattern) (start : ℕ) (elements word : List Element) → slice_get file.patterns k ≡ Some p → LegalWord file.automaton p start (reverse word) → elements ≡ word → length elements ≤ 30
+word_few file k p start elements word at legal same = omega (arith, ap length same, length-reverse word, legal_length file.automaton p start (reverse word) (events_named file k p at).limit legal)
+
+-- the conditions of a file's pattern have small numbers
+pub start_small : (file : File) (k : ℕ) (p : Pattern) → slice_get file.patterns k ≡ Some p → SmallCondition p.start
+start_small file k p at =
+    let a = file.automaton in
+    small_condition (length a.parameters + length a.shared + length a.locations) p.start (places_most a) (pattern_within file k p at).start
 
 pub events_small : (file : File) (k : ℕ) (p : Pattern) → slice_get file.patterns k ≡ Some p → SmallEvents p
-events_small file k p at = record {
-  small = λ e event here.
-      small_condition (length file.automaton.parameters + length file.automaton.shared + length file.automaton.locations) event.condition (places_most file.automaton)
-      (each_from_at (EventWithin (length file.automaton.parameters + length file.automaton.shared + length file.automaton.locations)) 0 p.events e event (pattern_within file k p at).events here).condition;
-}
+events_small file k p at =
+    let a = file.automaton in
+    let places = length a.parameters + length a.shared + length a.locations in
+    record { small = λ e event here. small_condition places event.condition (places_most a) (each_from_at (EventWithin places) 0 p.events e event (pattern_within file k p at).events here).condition }
 
 standing_is : (a : Automaton) (start : ℕ) (past : List Element) (ms : List Meaning) (fallen : ℕ) → ((j : ℕ) → has_bit fallen j ≡ has_fallen start past j) → guard_rows a ms (λ j. not (has_bit fallen j)) 0 a.fall ≡ standing_rows a start past ms
 standing_is a start past ms fallen h =
     let few : 0 + length a.fall ≤ 6 = (let limit = a.shape.limits.fall_limit in omega arith) in
     guards_same a ms (λ j. not (has_bit fallen j)) (λ j. not (has_fallen start past j)) 0 6 a.fall (λ j b. ap not (h j)) few
 
-pub rise_drafted : (a : Automaton) (p : Pattern) (start : ℕ) (past : List Element) (i fallen : ℕ) (ms ns : List Meaning) (before after : List Row) → IsDraftOf a p start past ms before → ns ≡ ms ++ counts_after a p start past → ((j : ℕ) → has_bit fallen j ≡ has_fallen start past j)
-    → AddsRows (counters_outside a ns p.empty ++ (guard_rows a ns (λ k. k == i) 0 a.rise ++ guard_rows a ns (λ j. not (has_bit fallen j)) 0 a.fall)) (length ns) before after → IsDraftOf a p start (Rise i ∷ past) ns after
-unfolding meanings word_rows rise_rows
-rise_drafted a p start past i fallen ms ns before after d e h added =
-    let are : ns ≡ meanings a p start past ++ counts_after a p start past = e ∙ ap (λ xs. xs ++ counts_after a p start past) d.unknowns_are in
-    let whole = added.rows (word_rows a p start past) (widen (word_rows a p start past) (length ms) (length ns) before (longer ms (counts_after a p start past) ns e) d.rows_are) in
-    let same : word_rows a p start past ++ (counters_outside a ns p.empty ++ (guard_rows a ns (λ k. k == i) 0 a.rise ++ guard_rows a ns (λ j. not (has_bit fallen j)) 0 a.fall)) ≡ word_rows a p start (Rise i ∷ past) =
-    ap (λ rs. word_rows a p start past ++ (counters_outside a ns p.empty ++ (guard_rows a ns (λ k. k == i) 0 a.rise ++ rs))) (standing_is a start past ns fallen h) ∙ ap (λ us. word_rows a p start past ++ rise_rows a p start past us i) are in
-    record { unknowns_are = are; rows_are = subst (λ (ls : List LinearRow). AreWritten ls (length ns) after) same whole }
+-- rows that make a word's, behind some of them
+adds_drafted : (o : Origin) (past : List Element) (done : List LinearRow) {f : Automaton → List Meaning → List LinearRow} {before after : Draft} → before.automaton.now ≡ o.file.now.automaton → before.meanings.items ≡ meanings o.file.now.automaton o.pattern.now o.start_mask past → AreWritten done (length before.meanings.items) before.rows.items
+    → done ++ f o.file.now.automaton (meanings o.file.now.automaton o.pattern.now o.start_mask past) ≡ word_rows o.file.now.automaton o.pattern.now o.start_mask past → Adds f before after → IsDraft o past after
+adds_drafted o past done {after = after} e g w same h =
+    let all = adds_behind o.file.now.automaton (meanings o.file.now.automaton o.pattern.now o.start_mask past) done e g w h in
+    record { automaton_is = h.automaton ∙ e; is = record { unknowns_are = all.0; rows_are = subst (λ (ls : List LinearRow). AreWritten ls (length after.meanings.items) after.rows.items) same all.1 } }
 
-pub event_drafted : (a : Automaton) (p : Pattern) (start : ℕ) (past : List Element) (x fallen : ℕ) (ms ns : List Meaning) (before after : List Row) → IsDraftOf a p start past ms before → ns ≡ ms ++ counts_after a p start past → ((j : ℕ) → has_bit fallen j ≡ has_fallen start past j)
-    → AddsRows (counters_outside a ns p.empty ++ (event_rows a ns (slice_get p.events x) ++ guard_rows a ns (λ j. not (has_bit fallen j)) 0 a.fall)) (length ns) before after → IsDraftOf a p start (Event x ∷ past) ns after
+-- rows stay written where unknowns come behind
+written_on : {more : List Meaning} {before grown : Draft} (ls : List LinearRow) → AddsUnknowns more before grown → AreWritten ls (length before.meanings.items) before.rows.items → AreWritten ls (length grown.meanings.items) grown.rows.items
+written_on {more = more} {before = before} {grown = grown} ls h w =
+    subst (AreWritten ls (length grown.meanings.items)) (sym h.rows) (widen ls (length before.meanings.items) (length grown.meanings.items) before.rows.items (longer before.meanings.items more grown.meanings.items h.unknowns) w)
+
+-- an element whose only unknowns are its Counts
+step_drafted : (o : Origin) (past : List Element) (element : Element) {f : Automaton → List Meaning → List LinearRow} {before grown after : Draft} → IsDraft o past before → AddsUnknowns (counts_after o.file.now.automaton o.pattern.now o.start_mask past) before grown
+    → meanings o.file.now.automaton o.pattern.now o.start_mask past ++ counts_after o.file.now.automaton o.pattern.now o.start_mask past ≡ meanings o.file.now.automaton o.pattern.now o.start_mask (element ∷ past)
+    → word_rows o.file.now.automaton o.pattern.now o.start_mask past ++ f o.file.now.automaton (meanings o.file.now.automaton o.pattern.now o.start_mask (element ∷ past)) ≡ word_rows o.file.now.automaton o.pattern.now o.start_mask (element ∷ past)
+    → Adds f grown after → Continues o (element ∷ past) before after
+step_drafted o past element {after = after} d h unknowns same added =
+    let a = o.file.now.automaton in
+    let counts = counts_after a o.pattern.now o.start_mask past in
+    record {
+      drafted = adds_drafted o (element ∷ past) (word_rows a o.pattern.now o.start_mask past) (h.automaton ∙ d.automaton_is) (h.unknowns ∙ ap (λ xs. xs ++ counts) d.is.unknowns_are ∙ unknowns) (written_on _ h d.is.rows_are) same added;
+      unknowns = record { more = counts; is = added.unknowns ∙ h.unknowns };
+      rows = subst (λ (rs : List Row). IsBehind rs after.rows.items) h.rows added.rows.behind;
+    }
+
+pub rise_drafted : (o : Origin) (past : List Element) (i fallen : ℕ) {before grown after : Draft} → IsDraft o past before → AddsUnknowns (counts_after o.file.now.automaton o.pattern.now o.start_mask past) before grown → ((j : ℕ) → has_bit fallen j ≡ has_fallen o.start_mask past j)
+    → Adds (λ a ms. counters_outside a ms o.pattern.now.empty ++ (guard_rows a ms (λ k. k == i) 0 a.rise ++ guard_rows a ms (λ j. not (has_bit fallen j)) 0 a.fall)) grown after → Continues o (Rise i ∷ past) before after
+unfolding meanings word_rows rise_rows
+rise_drafted o past i fallen d h stand added =
+    let a = o.file.now.automaton in
+    let ns = meanings a o.pattern.now o.start_mask (Rise i ∷ past) in
+    step_drafted o past (Rise i) d h refl (ap (λ rs. word_rows a o.pattern.now o.start_mask past ++ (counters_outside a ns o.pattern.now.empty ++ (guard_rows a ns (λ k. k == i) 0 a.rise ++ rs))) (standing_is a o.start_mask past ns fallen stand)) added
+
+pub event_drafted : (o : Origin) (past : List Element) (x fallen : ℕ) {before grown after : Draft} → IsDraft o past before → AddsUnknowns (counts_after o.file.now.automaton o.pattern.now o.start_mask past) before grown → ((j : ℕ) → has_bit fallen j ≡ has_fallen o.start_mask past j)
+    → Adds (λ a ms. counters_outside a ms o.pattern.now.empty ++ (event_rows a ms (slice_get o.pattern.now.events x) ++ guard_rows a ms (λ j. not (has_bit fallen j)) 0 a.fall)) grown after → Continues o (Event x ∷ past) before after
 unfolding meanings word_rows happening_rows
-event_drafted a p start past x fallen ms ns before after d e h added =
-    let are : ns ≡ meanings a p start past ++ counts_after a p start past = e ∙ ap (λ xs. xs ++ counts_after a p start past) d.unknowns_are in
-    let whole = added.rows (word_rows a p start past) (widen (word_rows a p start past) (length ms) (length ns) before (longer ms (counts_after a p start past) ns e) d.rows_are) in
-    let same : word_rows a p start past ++ (counters_outside a ns p.empty ++ (event_rows a ns (slice_get p.events x) ++ guard_rows a ns (λ j. not (has_bit fallen j)) 0 a.fall)) ≡ word_rows a p start (Event x ∷ past) =
-    ap (λ rs. word_rows a p start past ++ (counters_outside a ns p.empty ++ (event_rows a ns (slice_get p.events x) ++ rs))) (standing_is a start past ns fallen h) ∙ ap (λ us. word_rows a p start past ++ happening_rows a p start past us x) are in
-    record { unknowns_are = are; rows_are = subst (λ (ls : List LinearRow). AreWritten ls (length ns) after) same whole }
+event_drafted o past x fallen d h stand added =
+    let a = o.file.now.automaton in
+    let ns = meanings a o.pattern.now o.start_mask (Event x ∷ past) in
+    step_drafted o past (Event x) d h refl (ap (λ rs. word_rows a o.pattern.now o.start_mask past ++ (counters_outside a ns o.pattern.now.empty ++ (event_rows a ns (slice_get o.pattern.now.events x) ++ rs))) (standing_is a o.start_mask past ns fallen stand)) added
 
 -- the two rows of Singles
 singles_block : (before : List Meaning) (rules : List ℕ) (from to : ℕ) → from ≡ length before → to ≡ from + length rules → block_row (negsuc 0) from to Plain ≡ singles_row before rules
@@ -137,75 +140,60 @@ opposite_block before rules from to e f =
     map-append (λ c. pos 0 -ℤ c) (map (λ m. pos 0) before) (map (λ r. pos 1) rules) ∙ ap (λ cs. cs ++ map (λ c. pos 0 -ℤ c) (map (λ r. pos 1) rules)) (map_twice (λ c. pos 0 -ℤ c) (λ m. pos 0) before) ∙ ap (λ cs. map (λ m. pos 0) before ++ cs) (map_twice (λ c. pos 0 -ℤ c) (λ r. pos 1) rules) in
     ap (λ cs. record { constant = pos 1; coefficients = cs }) (ap (λ cs. cs ++ map (λ k. negsuc 0) (numbers_from from (to - from))) first ∙ ap (λ cs. map (λ m. pos 0) before ++ cs) second ∙ sym turned_parts)
 
-regroup : (w c g : List LinearRow) (s o : LinearRow) (ce ng st : List LinearRow) → (((w ++ (c ++ g)) ++ (s ∷ o ∷ [])) ++ (ce ++ (ng ++ st))) ≡ w ++ (c ++ (g ++ ((s ∷ o ∷ []) ++ (ce ++ (ng ++ st)))))
-regroup w c g s o ce ng st =
-    append_assoc (w ++ (c ++ g)) (s ∷ o ∷ []) (ce ++ (ng ++ st)) ∙ append_assoc w (c ++ g) ((s ∷ o ∷ []) ++ (ce ++ (ng ++ st))) ∙ ap (λ xs. w ++ xs) (append_assoc c g ((s ∷ o ∷ []) ++ (ce ++ (ng ++ st))))
-
-pub fall_drafted : (a : Automaton) (p : Pattern) (start : ℕ) (past : List Element) (falls fallen : ℕ) (ms ns us : List Meaning) (zeroth first second third : List Row) → IsDraftOf a p start past ms zeroth → ns ≡ ms ++ counts_after a p start past → us ≡ ns ++ singles_after a p start past
-    → ((j : ℕ) → has_bit fallen j ≡ has_fallen start (Fall falls ∷ past) j)
-    → AddsRows (counters_outside a ns p.empty ++ guard_rows a ns (has_bit falls) 0 a.fall) (length ns) zeroth first
-    → AddsRows (block_row (negsuc 0) (length ns) (length us) Plain ∷ block_row (pos 1) (length ns) (length us) Opposite ∷ []) (length us) first second
-    → AddsRows (counters_outside a us p.empty ++ (map negated (guard_rows a us (has_bit falls) 0 a.fall) ++ guard_rows a us (λ j. not (has_bit fallen j)) 0 a.fall)) (length us) second third
-    → IsDraftOf a p start (Fall falls ∷ past) us third
+pub fall_drafted : (o : Origin) (past : List Element) (falls fallen from : ℕ) {before grown fell more block after : Draft} → IsDraft o past before → AddsUnknowns (counts_after o.file.now.automaton o.pattern.now o.start_mask past) before grown → AddsUnknowns (singles_after o.file.now.automaton o.pattern.now o.start_mask past) fell more
+    → ((j : ℕ) → has_bit fallen j ≡ has_fallen o.start_mask (Fall falls ∷ past) j) → from ≡ length grown.meanings.items
+    → Adds (λ a ms. counters_outside a ms o.pattern.now.empty ++ guard_rows a ms (has_bit falls) 0 a.fall) grown fell
+    → Adds (λ a ms. block_row (negsuc 0) from (length ms) Plain ∷ block_row (pos 1) from (length ms) Opposite ∷ []) more block
+    → Adds (λ a ms. counters_outside a ms o.pattern.now.empty ++ (map negated (guard_rows a ms (has_bit falls) 0 a.fall) ++ guard_rows a ms (λ j. not (has_bit fallen j)) 0 a.fall)) block after
+    → Continues o (Fall falls ∷ past) before after
 unfolding meanings word_rows fall_rows
-fall_drafted a p start past falls fallen ms ns us zeroth first second third d e f h one two three =
+fall_drafted o past falls fallen from {before = before} {grown = grown} {fell = fell} {more = more} {block = block} {after = after} d h g stand e one two three =
+    let a = o.file.now.automaton in
+    let p = o.pattern.now in
+    let start = o.start_mask in
     let rules = allowed_rules a p start past in
-    let were : ns ≡ meanings a p start past ++ counts_after a p start past = e ∙ ap (λ xs. xs ++ counts_after a p start past) d.unknowns_are in
-    let are : us ≡ (meanings a p start past ++ counts_after a p start past) ++ singles_after a p start past = f ∙ ap (λ xs. xs ++ singles_after a p start past) were in
+    let ns = meanings a p start past ++ counts_after a p start past in
+    let us = meanings a p start (Fall falls ∷ past) in
     let w = word_rows a p start past in
     let c = counters_outside a ns p.empty in
-    let g = guard_rows a ns (has_bit falls) 0 a.fall in
-    let s = block_row (negsuc 0) (length ns) (length us) Plain in
-    let o = block_row (pos 1) (length ns) (length us) Opposite in
-    let ce = counters_outside a us p.empty in
-    let ng = map negated (guard_rows a us (has_bit falls) 0 a.fall) in
-    let st = guard_rows a us (λ j. not (has_bit fallen j)) 0 a.fall in
-    let after_one = one.rows w (widen w (length ms) (length ns) zeroth (longer ms (counts_after a p start past) ns e) d.rows_are) in
-    let after_two = two.rows (w ++ (c ++ g)) (widen (w ++ (c ++ g)) (length ns) (length us) first (longer ns (singles_after a p start past) us f) after_one) in
-    let after_three = three.rows ((w ++ (c ++ g)) ++ (s ∷ o ∷ [])) after_two in
-    let count : length us ≡ length ns + length rules = ap length f ∙ length-append ns (singles_after a p start past) ∙ ap (λ n. length ns + n) (length-map rules (λ r. Single (length past) r)) in
-    let singles : s ≡ singles_row ns rules = singles_block ns rules (length ns) (length us) refl count in
-    let others : o ≡ opposite (singles_row ns rules) = opposite_block ns rules (length ns) (length us) refl count in
-    let same : (((w ++ (c ++ g)) ++ (s ∷ o ∷ [])) ++ (ce ++ (ng ++ st))) ≡ word_rows a p start (Fall falls ∷ past) =
-    regroup w c g s o ce ng st
-    ∙ ap (λ x. w ++ (c ++ (g ++ ((x ∷ o ∷ []) ++ (ce ++ (ng ++ st)))))) singles
-    ∙ ap (λ x. w ++ (c ++ (g ++ ((singles_row ns rules ∷ x ∷ []) ++ (ce ++ (ng ++ st)))))) others
-    ∙ ap (λ xs. w ++ (c ++ (g ++ ((singles_row ns rules ∷ opposite (singles_row ns rules) ∷ []) ++ (ce ++ (ng ++ xs)))))) (standing_is a start (Fall falls ∷ past) us fallen h)
-    ∙ ap (λ xs. w ++ fall_rows a p start past xs us falls) were
-    ∙ ap (λ xs. w ++ fall_rows a p start past (meanings a p start past ++ counts_after a p start past) xs falls) are in
-    record { unknowns_are = are; rows_are = subst (λ (ls : List LinearRow). AreWritten ls (length us) third) same after_three }
+    let falling = guard_rows a ns (has_bit falls) 0 a.fall in
+    let after_rows : List LinearRow → List LinearRow = λ standing. counters_outside a us p.empty ++ (map negated (guard_rows a us (has_bit falls) 0 a.fall) ++ standing) in
+    let s = block_row (negsuc 0) from (length us) Plain in
+    let t = block_row (pos 1) from (length us) Opposite in
+    let standing = guard_rows a us (λ j. not (has_bit fallen j)) 0 a.fall in
+    let here : grown.automaton.now ≡ a = h.automaton ∙ d.automaton_is in
+    let were : grown.meanings.items ≡ ns = h.unknowns ∙ ap (λ xs. xs ++ counts_after a p start past) d.is.unknowns_are in
+    let are : more.meanings.items ≡ us = g.unknowns ∙ ap (λ xs. xs ++ singles_after a p start past) (one.unknowns ∙ were) in
+    let first = adds_at a ns here were one in
+    let fallen_rows = first.rows w (subst (λ (xs : List Meaning). AreWritten w (length xs) grown.rows.items) were (written_on w h d.is.rows_are)) in
+    let written = written_on (w ++ (c ++ falling)) g (subst (λ (xs : List Meaning). AreWritten (w ++ (c ++ falling)) (length xs) fell.rows.items) (sym (one.unknowns ∙ were)) fallen_rows) in
+    let long = e ∙ ap length were in
+    let count : length us ≡ from + length rules = (let l = length-append ns (singles_after a p start past) in let m = length-map rules (λ r. Single (length past) r) in omega arith) in
+    let same : (w ++ (c ++ falling)) ++ ((s ∷ t ∷ []) ++ after_rows standing) ≡ word_rows a p start (Fall falls ∷ past) =
+    append_assoc w (c ++ falling) ((s ∷ t ∷ []) ++ after_rows standing) ∙ ap (λ xs. w ++ xs) (append_assoc c falling ((s ∷ t ∷ []) ++ after_rows standing)
+    ∙ ap (λ x. c ++ (falling ++ ((x ∷ t ∷ []) ++ after_rows standing))) (singles_block ns rules from (length us) long count)
+    ∙ ap (λ x. c ++ (falling ++ ((singles_row ns rules ∷ x ∷ []) ++ after_rows standing))) (opposite_block ns rules from (length us) long count)
+    ∙ ap (λ xs. c ++ (falling ++ ((singles_row ns rules ∷ opposite (singles_row ns rules) ∷ []) ++ after_rows xs))) (standing_is a start (Fall falls ∷ past) us fallen stand)) in
+    let last = adds_both two three in
+    record {
+      drafted = adds_drafted o (Fall falls ∷ past) (w ++ (c ++ falling)) (g.automaton ∙ one.automaton ∙ here) are written same last;
+      unknowns = record { more = counts_after a p start past ++ singles_after a p start past; is = last.unknowns ∙ g.unknowns ∙ ap (λ xs. xs ++ singles_after a p start past) (one.unknowns ∙ h.unknowns) ∙ append_assoc before.meanings.items (counts_after a p start past) (singles_after a p start past) };
+      rows = behind_join before.rows.items fell.rows.items after.rows.items (subst (λ (rs : List Row). IsBehind rs fell.rows.items) h.rows one.rows.behind) (subst (λ (rs : List Row). IsBehind rs after.rows.items) g.rows last.rows.behind);
+    }
 
-pub start_drafted : (a : Automaton) (p : Pattern) (start : ℕ) (ms : List Meaning) (before first second third fourth : List Row) → ms ≡ start_meanings a p → before ≡ []
-    → AddsRows (condition_rows a ms a.resilience.comparisons) (length ms) before first
-    → AddsRows (processes_row a ms ∷ opposite (processes_row a ms) ∷ []) (length ms) first second
-    → AddsRows (condition_rows a ms p.start.comparisons) (length ms) second third
-    → AddsRows (start_guard_rows a ms start 0 a.fall) (length ms) third fourth
-    → IsDraftOf a p start [] ms fourth
+pub start_drafted : (o : Origin) {zeroth first second third fourth : Draft} → zeroth.automaton.now ≡ o.file.now.automaton → zeroth.meanings.items ≡ start_meanings o.file.now.automaton o.pattern.now → zeroth.rows.items ≡ []
+    → Adds (λ a ms. condition_rows a ms o.file.now.automaton.resilience.comparisons) zeroth first
+    → Adds (λ a ms. processes_row a ms ∷ opposite (processes_row a ms) ∷ []) first second
+    → Adds (λ a ms. condition_rows a ms o.pattern.now.start.comparisons) second third
+    → Adds (λ a ms. start_guard_rows a ms o.start_mask 0 a.fall) third fourth
+    → IsDraft o [] fourth
 unfolding meanings word_rows start_rows
-start_drafted a p start ms before first second third fourth e none one two three four =
-    let r = condition_rows a ms a.resilience.comparisons in
-    let q = processes_row a ms ∷ opposite (processes_row a ms) ∷ [] in
-    let c = condition_rows a ms p.start.comparisons in
-    let g = start_guard_rows a ms start 0 a.fall in
-    let nothing : AreWritten [] (length ms) before = subst (AreWritten [] (length ms)) (sym none) (record { rows_of = tt; below = tt }) in
-    let whole = four.rows ((r ++ q) ++ c) (three.rows (r ++ q) (two.rows r (one.rows [] nothing))) in
-    let same : (((r ++ q) ++ c) ++ g) ≡ start_rows a p start =
-    append_assoc (r ++ q) c g ∙ append_assoc r q (c ++ g)
-    ∙ ap (λ us. condition_rows a us a.resilience.comparisons ++ ((processes_row a us ∷ opposite (processes_row a us) ∷ []) ++ (condition_rows a us p.start.comparisons ++ start_guard_rows a us start 0 a.fall))) e in
-    record { unknowns_are = e; rows_are = subst (λ (ls : List LinearRow). AreWritten ls (length ms) fourth) same whole }
-
-pub step_few : (a : Automaton) (p : Pattern) (start : ℕ) (past : List Element) (ms ns : List Meaning) (rows : List Row) → IsDraftOf a p start past ms rows → length past < 30 → ns ≡ ms ++ counts_after a p start past → length ns ≤ 8000
-step_few a p start past ms ns rows d b e = omega (arith, drafted_few a p start past ms rows d, ap length e, length-append ms (counts_after a p start past), counts_few a p start past)
-
-pub fall_few : (a : Automaton) (p : Pattern) (start : ℕ) (past : List Element) (ns us : List Meaning) → length ns ≤ 8000 → us ≡ ns ++ singles_after a p start past → length us ≤ 8200
-fall_few a p start past ns us b e = omega (arith, ap length e, length-append ns (singles_after a p start past), singles_few a p start past)
+start_drafted o {zeroth = zeroth} e g none one two three four =
+    adds_drafted o [] [] e g (nothing_written (length zeroth.meanings.items) zeroth.rows.items none) refl (adds_both one (adds_both two (adds_both three four)))
 
 pub fallen_more : (start : ℕ) (past : List Element) (fallen falls from : ℕ) → from ≡ falls → ((j : ℕ) → has_bit fallen j ≡ has_fallen start past j) → (j : ℕ) → has_bit (bit_or fallen from) j ≡ has_fallen start (Fall falls ∷ past) j
 unfolding has_fallen
 fallen_more start past fallen falls from e h j = has_or fallen from j ∙ ap (λ m. has_bit m j || has_bit fallen j) e ∙ ap (λ b. has_bit falls j || b) (h j)
-
-pub with_bounds : (a : Automaton) (p : Pattern) (start : ℕ) (past : List Element) (bounds : List Bound) (ms : List Meaning) (n : ℕ) (rows after : List Row) → IsDraftOf a p start past ms rows → n ≡ length ms → AddsRows (map bound_row bounds) n rows after → AreWritten (system_rows a p start past bounds) n after
-with_bounds a p start past bounds ms n rows after d e added = added.rows (word_rows a p start past) (widen (word_rows a p start past) (length ms) n rows (omega arith) d.rows_are)
 
 pub initial_few : (a : Automaton) → length a.initial ≤ 32
 initial_few a = let least : 0 ≤ length a.locations = omega arith in omega (arith, rises_length 0 (length a.locations) a.initial least a.shape.initial_rises, a.shape.limits.locations_limit)

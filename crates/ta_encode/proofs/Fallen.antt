@@ -1,20 +1,5 @@
 -- guards that have fallen fail at a word's end, since shared variables never fall
-use Rattle.std.proofs.Common.{◌≡◌, inl, inr, ℕ, zero, suc, ◌+◌, pos, ◌+ℤ◌, ◌≤ℤ◌, List, [], ◌∷◌, ◌++◌, map, length, drop, cond, Bool, true, false, arith, sym, ap, ◌∙◌, refl, subst, slice_get, Some, zero-add}
-use Rattle.std.proofs.lemmas.Int.{ints}
-use Rattle.std.proofs.lemmas.Bool.{or_cases}
-use Rattle.ta_linear.specs.declared.row.Row.{Row}
-use Rattle.ta_automaton.specs.declared.automaton.Automaton.{Automaton}
-use Rattle.ta_automaton.specs.declared.pattern.Pattern.{Pattern}
-use Rattle.ta_base.specs.Masks.{has_bit}
-use Rattle.ta_automaton.specs.Sums.{total}
-use Rattle.ta_automaton.proofs.Onward.{change_of, later_after}
-use Rattle.ta_automaton.proofs.Sums.{total-same}
-use Rattle.ta_automaton.proofs.Thresholds.{Later, stays_below}
-use Rattle.ta_words.specs.declared.element.Element.{Element}
-use Rattle.ta_words.specs.declared.element.Element.TheVariants.{Event, Rise, Fall}
-use Rattle.ta_words.specs.Words.{allowed_rules, has_fallen}
-use Rattle.ta_encode.specs.Unknowns.{Meaning, Count, Single, meanings, counts_after, singles_after, place_coefficient, start_meanings}
-use Rattle.ta_encode.specs.System.{AllHold, condition_rows, counter_rows, fall_rows, form_row, guard_rows, negated, opposite, processes_row, row_value, singles_row, standing_rows, start_guard_rows, start_rows, word_rows}
+use Rattle.ta_encode.proofs.Common.{◌≡◌, inl, inr, ℕ, zero, suc, ◌+◌, pos, ◌+ℤ◌, ◌≤ℤ◌, List, [], ◌∷◌, ◌++◌, map, length, drop, cond, Bool, true, false, arith, sym, ap, ◌∙◌, refl, subst, slice_get, Some, zero-add, ints, or_cases, Row, Automaton, Pattern, has_bit, total, change_of, later_after, total-same, Later, stays_below, Element, Event, Rise, Fall, allowed_rules, has_fallen, Meaning, Count, Single, meanings, counts_after, singles_after, place_coefficient, start_meanings, AllHold, condition_rows, counter_rows, fall_rows, form_row, guard_rows, negated, opposite, processes_row, row_value, singles_row, standing_rows, start_guard_rows, start_rows, word_rows}
 use Rattle.ta_encode.proofs.Moments.{RowFails, negated_value, AllHold-left}
 use Rattle.ta_encode.proofs.Segment.{may_rules}
 use Rattle.ta_encode.proofs.Values.{AllHold-right, allowed_may, combine-split, form_at, place_value, unfolded, unfolded-may, unfolded-total}

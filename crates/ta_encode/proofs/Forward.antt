@@ -1,9 +1,5 @@
 -- steps that go forward: where one leaves, neither it nor a later one arrives
-use Rattle.std.proofs.Common.{◌≡◌, ◌≢◌, ℕ, zero, suc, List, [], ◌∷◌, arith, sym, ap, ◌∙◌, refl, slice_get, Some}
-use Rattle.ta_automaton.specs.declared.rule.Rule.{Rule}
-use Rattle.ta_automaton.specs.declared.automaton.Automaton.{Automaton}
-use Rattle.ta_automaton.proofs.Onward.{NoneInto, Onward}
-use Rattle.ta_encode.specs.Laws.{GoesForward}
+use Rattle.ta_encode.proofs.Common.{◌≡◌, ◌≢◌, ℕ, zero, suc, List, [], ◌∷◌, arith, sym, ap, ◌∙◌, refl, slice_get, Some, Rule, Automaton, NoneInto, Onward, GoesForward}
 
 none_into : (a : Automaton) (l : ℕ) (os : List ℕ) → ((j r : ℕ) (late : Rule) → slice_get os j ≡ Some r → slice_get a.rules r ≡ Some late → l ≢ late.to) → NoneInto a l os
 none_into a l [] h = tt

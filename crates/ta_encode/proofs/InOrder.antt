@@ -1,11 +1,5 @@
 -- words in order: a word is the reverse of its past
-use Rattle.std.proofs.Common.{◌≡◌, ℕ, List, [], ◌∷◌, ◌++◌, take, drop, reverse, sym, ap, ◌∙◌, refl, subst, append_assoc}
-use Rattle.std.proofs.lemmas.List.{reverse-append, take-append-drop}
-use Rattle.ta_automaton.specs.declared.automaton.Automaton.{Automaton}
-use Rattle.ta_automaton.specs.declared.pattern.Pattern.{Pattern}
-use Rattle.ta_words.specs.declared.element.Element.{Element}
-use Rattle.ta_words.specs.Words.{LegalWord}
-use Rattle.ta_encode.specs.System.{word_rows, AllHold}
+use Rattle.ta_encode.proofs.Common.{◌≡◌, ℕ, List, [], ◌∷◌, ◌++◌, take, drop, reverse, sym, ap, ◌∙◌, refl, subst, append_assoc, reverse-append, take-append-drop, Automaton, Pattern, Element, LegalWord, word_rows, AllHold}
 use Rattle.ta_encode.proofs.Safety.{extend, prefix_rows, prefix_legal}
 
 -- the past after one more element

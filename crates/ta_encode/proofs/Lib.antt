@@ -37,3 +37,4 @@ mod Naming
 pub mod Samples
 pub mod SystemsExist
 pub mod Ended
+mod Common

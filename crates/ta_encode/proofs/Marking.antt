@@ -1,18 +1,6 @@
 -- marks: one more, and fewer
-use Rattle.std.proofs.Common.{◌≡◌, inl, inr, ℕ, ◌+◌, ◌<◌, ◌≤◌, List, [], ◌∷◌, ◌++◌, length, reverse, take, arith, refl, sym, ap, ◌∙◌, subst}
-use Rattle.std.proofs.Math.Seq.{take-length}
-use Rattle.std.proofs.lemmas.Bool.{cases_lt}
-use Rattle.std.proofs.lemmas.List.{append-nil, length-append, length-take-le, get_or_append_left, get_or_push, get_or-take, take-append-le}
-use Rattle.ta_base.proofs.Lists.{take_take}
-use Rattle.ta_linear.specs.declared.row.Row.{Row}
-use Rattle.ta_automaton.specs.declared.automaton.Automaton.{Automaton}
-use Rattle.ta_automaton.specs.declared.pattern.Pattern.{Pattern}
-use Rattle.ta_words.specs.declared.element.Element.{Element}
-use Rattle.ta_encode.specs.Unknowns.{Meaning}
-use Rattle.ta_encode.specs.Inside.Draft.{IsDraftOf}
-use Rattle.ta_encode.specs.Inside.Lines.{IsBehind}
-use Rattle.ta_encode.specs.Marks.{AreMarks, IsPart, MarkHolds, SameRows, mark_at, no_mark}
-use Rattle.ta_encode.specs.declared.growing.Mark.{Mark}
+use Rattle.ta_encode.proofs.Common.{◌≡◌, inl, inr, ℕ, ◌+◌, ◌<◌, ◌≤◌, List, [], ◌∷◌, ◌++◌, length, reverse, take, arith, refl, sym, ap, ◌∙◌, subst, take-length, cases_lt, append-nil, length-take-le, get_or_append_left, get_or_push, get_or-take, take-append-le, take_take, Row, Automaton, Pattern, Element, Meaning, IsDraftOf, IsBehind, AreMarks, IsPart, MarkHolds, SameRows, mark_at, no_mark, Mark, Origin}
+use Rattle.std.proofs.lemmas.List.{length-append}
 use Rattle.ta_encode.specs.declared.growing.Part.{Part}
 
 behind_take : {X : Type 0} (n : ℕ) (before after : List X) → IsBehind before after → n ≤ length before → take n after ≡ take n before
@@ -132,30 +120,36 @@ marks_first a p start elements ms rows none marks mark empty e f g d =
     marks_push a p start elements ms ms rows rows [] marks mark record { holds = λ i h. absurd (omega arith); rise = λ i j low h. absurd (omega arith) } (behind_none ms) (behind_none rows) (e ∙ ap (λ (xs : List Mark). xs ++ mark ∷ []) empty) f g d
 
 -- what stays of a word before
-pub part_kept : (a : Automaton) (p : Pattern) (start : ℕ) (drafted elements : List Element) (ms : List Meaning) (rows : List Row) (marks : List Mark) (part : Part) (shared : ℕ) → AreMarks a p start drafted ms rows marks → shared < length marks → shared ≤ length elements → take shared drafted ≡ take shared elements →
-    part.marks.items ≡ take (shared + 1) marks → part.meanings.items ≡ take (mark_at marks shared).unknowns ms → part.rows.items ≡ take (mark_at marks shared).rows rows → part.from ≡ shared → part.same ≡ length part.rows.items → IsPart a p start elements rows part
-part_kept a p start drafted elements ms rows marks part shared are h k e marks_are ms_are rows_are from same =
+pub part_kept : (o : Origin) (drafted elements : List Element) (ms : List Meaning) (rows : List Row) (marks : List Mark) (part : Part) → AreMarks o.file.now.automaton o.pattern.now o.start_mask drafted ms rows marks → part.from < length marks → part.from ≤ length elements → take part.from drafted ≡ take part.from elements →
+    part.draft.automaton.now ≡ o.file.now.automaton → part.marks.items ≡ take (part.from + 1) marks → part.draft.meanings.items ≡ take (mark_at marks part.from).unknowns ms → part.draft.rows.items ≡ take (mark_at marks part.from).rows rows → part.same ≡ length part.draft.rows.items → IsPart o elements rows part
+part_kept o drafted elements ms rows marks part are h k e automaton marks_are ms_are rows_are same =
+    let a = o.file.now.automaton in
+    let p = o.pattern.now in
+    let start = o.start_mask in
+    let shared = part.from in
+    let kept = part.draft in
     let cut = marks_cut a p start drafted elements ms rows marks shared are h e in
     let n = length-take-le (shared + 1) marks (omega arith) in
     let long = ap (λ (xs : List Mark). length xs) marks_are in
     let r = (mark_at marks shared).rows in
-    let within = (are.holds shared h).rows_within in
-    let l = length-take-le r rows within in
+    let l = length-take-le r rows (are.holds shared h).rows_within in
     let lengths = ap (λ (xs : List Row). length xs) rows_are in
     let count : part.same ≡ r = omega arith in
     record {
-      within = omega arith;
+      within = k;
       marked = omega arith;
       marks =
-          subst (λ (xs : List Mark). AreMarks a p start elements part.meanings.items part.rows.items xs) (sym marks_are)
-          (subst (λ (xs : List Meaning). AreMarks a p start elements xs part.rows.items (take (shared + 1) marks)) (sym ms_are)
+          subst (λ (xs : List Mark). AreMarks a p start elements kept.meanings.items kept.rows.items xs) (sym marks_are)
+          (subst (λ (xs : List Meaning). AreMarks a p start elements xs kept.rows.items (take (shared + 1) marks)) (sym ms_are)
           (subst (λ (xs : List Row). AreMarks a p start elements (take (mark_at marks shared).unknowns ms) xs (take (shared + 1) marks)) (sym rows_are) cut.0));
-      drafted =
-          subst (λ (i : ℕ). IsDraftOf a p start (reverse (take i elements)) part.meanings.items part.rows.items) (sym from)
-          (subst (λ (xs : List Meaning). IsDraftOf a p start (reverse (take shared elements)) xs part.rows.items) (sym ms_are)
-          (subst (λ (xs : List Row). IsDraftOf a p start (reverse (take shared elements)) (take (mark_at marks shared).unknowns ms) xs) (sym rows_are) cut.1));
+      drafted = record {
+        automaton_is = automaton;
+        is =
+            subst (λ (xs : List Meaning). IsDraftOf a p start (reverse (take shared elements)) xs kept.rows.items) (sym ms_are)
+            (subst (λ (xs : List Row). IsDraftOf a p start (reverse (take shared elements)) (take (mark_at marks shared).unknowns ms) xs) (sym rows_are) cut.1);
+      };
       same = omega arith;
-      rows_are = ap (λ (i : ℕ). take i rows) count ∙ sym rows_are ∙ sym (ap (λ (i : ℕ). take i part.rows.items) same ∙ take-length part.rows.items);
+      rows_are = ap (λ (i : ℕ). take i rows) count ∙ sym rows_are ∙ sym (ap (λ (i : ℕ). take i kept.rows.items) same ∙ take-length kept.rows.items);
     }
 
 -- marks where more rows come behind

@@ -1,8 +1,5 @@
 -- tests of bits in code, and numbers that pass
-use Rattle.std.proofs.Common.{◌≡◌, ℕ, ◌<◌, List, length, get_or, subst, arith, sym}
-use Rattle.ta_base.specs.Lists.{Rises}
-use Rattle.ta_base.proofs.Ranges.{rises_at}
-use Rattle.ta_automaton.specs.declared.automaton.Automaton.{Automaton}
+use Rattle.ta_encode.proofs.Common.{◌≡◌, ℕ, ◌<◌, List, length, get_or, subst, arith, sym, Rises, rises_at, Automaton}
 
 pub initial_within : (a : Automaton) (items : List ℕ) (i d : ℕ) → items ≡ a.initial → i < length items → get_or items i d < 32
 initial_within a items i d e b =

@@ -1,18 +1,5 @@
 -- rows at a moment at which the values so far give each place its value
-use Rattle.std.proofs.Common.{◌≡◌, ℕ, suc, ◌+◌, ℤ, pos, ◌-ℤ◌, ◌≤ℤ◌, ◌<ℤ◌, List, [], ◌∷◌, ◌++◌, map, length, cond, Bool, true, false, arith, sym, ap, ◌∙◌, refl, subst, slice_get, Some}
-use Rattle.std.specs.List.{All}
-use Rattle.std.proofs.lemmas.Int.{ints}
-use Rattle.ta_linear.specs.Values.{terms_value, value_of, RowHolds}
-use Rattle.ta_linear.specs.declared.form.Form.{Form}
-use Rattle.ta_linear.specs.declared.row.Row.{Row}
-use Rattle.ta_automaton.specs.declared.condition.Comparison.{Comparison}
-use Rattle.ta_automaton.specs.declared.automaton.Automaton.{Automaton}
-use Rattle.ta_automaton.proofs.Sums.{terms_value-same}
-use Rattle.ta_automaton.specs.Runs.{Config, value_at}
-use Rattle.ta_base.specs.Masks.{has_bit}
-use Rattle.ta_encode.specs.Unknowns.{Meaning, place_coefficient}
-use Rattle.ta_automaton.specs.Places.{location_place}
-use Rattle.ta_encode.specs.System.{LinearRow, opposite, negated, form_row, counter_row, condition_rows, guard_rows, start_guard_rows, sum_of_products, row_value, AllHold}
+use Rattle.ta_encode.proofs.Common.{◌≡◌, ℕ, suc, ◌+◌, ℤ, pos, ◌-ℤ◌, ◌≤ℤ◌, ◌<ℤ◌, List, [], ◌∷◌, ◌++◌, map, length, cond, Bool, true, false, arith, sym, ap, ◌∙◌, refl, subst, slice_get, Some, All, ints, terms_value, value_of, RowHolds, Form, Row, Comparison, Automaton, terms_value-same, Config, value_at, has_bit, Meaning, place_coefficient, location_place, LinearRow, opposite, negated, form_row, counter_row, condition_rows, guard_rows, start_guard_rows, sum_of_products, row_value, AllHold}
 use Rattle.ta_encode.proofs.Combine.{combine-extra, combine-terms, combine-opposite}
 
 -- the values so far give each place its value in a configuration

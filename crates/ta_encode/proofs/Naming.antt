@@ -1,16 +1,7 @@
 -- the rows of a system that a list of row numbers names
-use Rattle.std.proofs.Common.{◌≡◌, ℕ, zero, suc, ◌+◌, ◌-◌, ◌<◌, ◌≤◌, ℤ, pos, List, [], ◌∷◌, ◌++◌, length, map, take, slice_get, Some, arith, sym, ap, ◌∙◌, refl, subst, length-append, inl, inr}
-use Rattle.std.proofs.lemmas.Bool.{cases_lt}
-use Rattle.std.proofs.Math.Seq.{take-length}
+use Rattle.ta_encode.proofs.Common.{◌≡◌, ℕ, zero, suc, ◌+◌, ◌-◌, ◌<◌, ◌≤◌, ℤ, pos, List, [], ◌∷◌, ◌++◌, length, map, take, slice_get, Some, arith, sym, ap, ◌∙◌, refl, subst, length-append, inl, inr, cases_lt, take-length, IsNormal, coefficient, AllBelow, Row, LinearRow, Bound, bound_row, IsRowOf, AreRowsOf, row_numbered, rows_named, row_number_at, AreThere, NamesRows, AreWritten, AddsRows}
 use Rattle.ta_encode.proofs.CodeRows.{rows_count}
-use Rattle.ta_linear.specs.Terms.{IsNormal, coefficient}
-use Rattle.ta_linear.specs.Rows.{AllBelow}
-use Rattle.ta_linear.specs.declared.row.Row.{Row}
-use Rattle.ta_encode.specs.System.{LinearRow, Bound, bound_row}
-use Rattle.ta_encode.specs.Code.{IsRowOf, AreRowsOf}
 use Rattle.ta_encode.specs.declared.named.Named.TheVariants.{Absent}
-use Rattle.ta_encode.specs.Named.{row_numbered, rows_named, row_number_at, AreThere, NamesRows}
-use Rattle.ta_encode.specs.Inside.Lines.{AreWritten, AddsRows}
 use Rattle.ta_encode.proofs.Adding.{adds_one, map_more}
 
 -- the row of a number is that of the word, and is there

@@ -1,22 +1,7 @@
 -- the first values of a solution solve the systems of the prefixes
-use Rattle.std.proofs.Common.{◌≡◌, ℕ, zero, suc, ◌+◌, ◌≤◌, ℤ, pos, ◌+ℤ◌, ◌-ℤ◌, ◌*ℤ◌, List, [], ◌∷◌, ◌++◌, map, length, take, drop, reverse, cond, Bool, true, false, not, eqb, arith, ap, refl, subst, length-append, slice_get, Option, Some, None}
+use Rattle.ta_encode.proofs.Common.{◌≡◌, ℕ, zero, suc, ◌+◌, ◌≤◌, ℤ, pos, ◌+ℤ◌, ◌-ℤ◌, ◌*ℤ◌, List, [], ◌∷◌, ◌++◌, map, length, take, drop, reverse, cond, Bool, true, false, not, eqb, arith, ap, refl, subst, length-append, slice_get, Option, Some, None, length-map, length-take-le, ints, terms_value, Row, Comparison, Automaton, Pattern, has_bit, numbers_from, location_place, Element, Event, Rise, Fall, allowed_rules, has_fallen, Meaning, Single, place_coefficient, start_meanings, meanings, counts_after, singles_after, LinearRow, opposite, negated, form_row, counter_row, counter_rows, condition_rows, guard_rows, start_guard_rows, start_coefficient, processes_row, singles_row, event_rows, standing_rows, start_rows, rise_rows, happening_rows, fall_rows, word_rows, sum_of_products, AllHold, SolvesWord, values_of_prefix}
 use Rattle.std.specs.List.{filter}
-use Rattle.std.proofs.lemmas.List.{length-map, length-take-le}
-use Rattle.std.proofs.lemmas.Int.{ints}
-use Rattle.ta_linear.specs.Values.{terms_value}
-use Rattle.ta_linear.specs.declared.row.Row.{Row}
-use Rattle.ta_automaton.specs.declared.condition.Comparison.{Comparison}
-use Rattle.ta_automaton.specs.declared.automaton.Automaton.{Automaton}
 use Rattle.ta_automaton.specs.declared.pattern.Event.{Event as PatternEvent}
-use Rattle.ta_automaton.specs.declared.pattern.Pattern.{Pattern}
-use Rattle.ta_base.specs.Masks.{has_bit, numbers_from}
-use Rattle.ta_automaton.specs.Places.{location_place}
-use Rattle.ta_words.specs.declared.element.Element.{Element}
-use Rattle.ta_words.specs.declared.element.Element.TheVariants.{Event, Rise, Fall}
-use Rattle.ta_words.specs.Words.{allowed_rules, has_fallen}
-use Rattle.ta_encode.specs.Unknowns.{Meaning, Single, place_coefficient, start_meanings, meanings, counts_after, singles_after}
-use Rattle.ta_encode.specs.System.{LinearRow, opposite, negated, form_row, counter_row, counter_rows, condition_rows, guard_rows, start_guard_rows, start_coefficient, processes_row, singles_row, event_rows, standing_rows, start_rows, rise_rows, happening_rows, fall_rows, word_rows, sum_of_products, AllHold, SolvesWord}
-use Rattle.ta_encode.specs.Laws.{values_of_prefix}
 use Rattle.ta_encode.proofs.Moments.{AllHold-append, AllHold-left}
 use Rattle.ta_encode.proofs.Safety.{extend}
 use Rattle.ta_encode.proofs.InOrder.{cut_at, prefix_solved}

@@ -1,12 +1,7 @@
 -- reading a proof node by node
-use Rattle.std.proofs.Common.{◌≡◌, ℕ, zero, suc, ◌≤◌, ◌<◌, ℤ, List, [], ◌∷◌, ◌++◌, map, length, arith, sym, ap, ◌∙◌, refl, subst, append_assoc}
-use Rattle.ta_cert.specs.declared.line.Node.{Node}
+use Rattle.ta_encode.proofs.Common.{◌≡◌, ℕ, zero, suc, ◌≤◌, ◌<◌, ℤ, List, [], ◌∷◌, ◌++◌, map, length, arith, sym, ap, ◌∙◌, refl, subst, append_assoc, Node, Tree, Forest, Leaf, Extend, Split, Done, More, preorder, forest_preorder, all_preorder, Low, High, Pending, Search, bound_at, bounded, longer, IsLeaf, RefutesBy, RefuteEach, RefuteAll, ProofBy, RefutedInOrder, ProofsReadInOrder, ProofsAreDetermined}
 use Rattle.ta_cert.specs.declared.line.Node.TheVariants as node
-use Rattle.ta_cert.specs.Tree.{Tree, Forest, Leaf, Extend, Split, Done, More, preorder, forest_preorder, all_preorder}
-use Rattle.ta_encode.specs.System.{Low, High}
-use Rattle.ta_encode.specs.Search.{LeafTest, Pending, Search, bound_at, bounded, longer}
-use Rattle.ta_encode.specs.Refutes.{IsLeaf, RefutesBy, RefuteEach, RefuteAll, ProofBy}
-use Rattle.ta_encode.specs.InPreorder.{RefutedInOrder, ProofsReadInOrder, ProofsAreDetermined}
+use Rattle.ta_encode.specs.Search.{LeafTest}
 
 join : (ns xs mid ys rest : List Node) → ns ≡ xs ++ mid → mid ≡ ys ++ rest → ns ≡ (xs ++ ys) ++ rest
 join ns xs mid ys rest e f = e ∙ ap (λ (zs : List Node). xs ++ zs) f ∙ sym (append_assoc xs ys rest)

@@ -1,25 +1,20 @@
 -- a solution of a complete word gives a run in which the pattern occurs
-use Rattle.std.proofs.Common.{◌≡◌, ℕ, ◌<◌, ◌≤◌, List, [], ◌∷◌, ◌++◌, map, length, drop, true, arith, refl, sym, ap, ◌∙◌, subst, slice_get, get_or, Some}
-use Rattle.std.proofs.lemmas.List.{length-map}
-use Rattle.std.proofs.lemmas.Option.{slice_get_within, slice_get-get_or}
-use Rattle.ta_base.proofs.Bits.{all_below-at, bit_true}
-use Rattle.ta_base.proofs.Lists.{only_item}
-use Rattle.ta_base.proofs.Ranges.{at_index, length_numbers}
+--
+-- A solution says how often each rule fires before each element, but not in what order. Where no rule with an update lies on a
+-- cycle, an order can be made up: firings that go round a cycle change nothing together and are taken out, and the others are set
+-- forward, so that no firing into a location comes behind one out of it.
+--
+-- Such firings are steps of the automaton. A counter goes up first and down then, from a natural number to one that the rows at the
+-- element's end call natural, so it is never negative between. The rise guards that a rule asks for are in the word: their rows hold
+-- at an earlier moment, and shared variables only grow. The fall guards that it asks for stand in the word: their rows hold at the
+-- element's end, so they hold before it. At a Fall the one rule whose Single is 1 fires last: the guards that fall hold before it,
+-- and their negated rows say that they fail behind it.
+--
+-- The first configuration has the values of the parameters and start counts, and is initial by the rows at the start. `unwind` puts
+-- the firings of the elements behind each other. Each event happens at the end of its element, where its condition's rows hold.
+use Rattle.ta_encode.proofs.Common.{◌≡◌, ℕ, ◌<◌, ◌≤◌, List, [], ◌∷◌, ◌++◌, map, length, drop, true, arith, refl, sym, ap, ◌∙◌, subst, slice_get, get_or, Some, length-map, slice_get_within, slice_get-get_or, all_below-at, bit_true, only_item, at_index, length_numbers, RowHolds, Row, Automaton, Pattern, numbers_from, Config, InScope, Steps, value_at, Element, Event, Rise, Fall, LegalWord, allowed_rules, is_complete, has_event, has_rise, Count, start_meanings, meanings, counts_after, place_coefficient, word_rows, fall_rows, AllHold, FiresBefore, FiresFall, WordFires, RunsThrough, position_in, steps_of, Whole}
 use Rattle.ta_encode.proofs.Moments.{AllHold-left}
-use Rattle.ta_linear.specs.Values.{RowHolds}
-use Rattle.ta_linear.specs.declared.row.Row.{Row}
-use Rattle.ta_automaton.specs.declared.automaton.Automaton.{Automaton}
-use Rattle.ta_automaton.specs.declared.pattern.Pattern.{Pattern}
-use Rattle.ta_base.specs.Masks.{numbers_from}
-use Rattle.ta_automaton.specs.Runs.{Config, InScope, Steps, value_at}
 use Rattle.ta_automaton.proofs.Rearranged.{rearrange}
-use Rattle.ta_words.specs.declared.element.Element.{Element}
-use Rattle.ta_words.specs.declared.element.Element.TheVariants.{Event, Rise, Fall}
-use Rattle.ta_words.specs.Words.{LegalWord, allowed_rules, is_complete, has_event, has_rise}
-use Rattle.ta_encode.specs.Unknowns.{Count, start_meanings, meanings, counts_after, place_coefficient}
-use Rattle.ta_encode.specs.System.{word_rows, fall_rows, AllHold}
-use Rattle.ta_encode.specs.Laws.{FiresBefore, FiresFall, WordFires, RunsThrough, position_in, steps_of}
-use Rattle.ta_automaton.proofs.Fire.{Whole}
 use Rattle.ta_encode.proofs.Values.{place_value, condition_back, AllHold-right, unfolded, unfolded-total, unfolded-may, allowed_may}
 use Rattle.ta_encode.proofs.Forward.{forward_of}
 use Rattle.ta_encode.proofs.Singles.{one_single, single_one, singles_hold}

@@ -1,36 +1,23 @@
 -- reordering: a run in which a pattern occurs gives a complete legal word whose system has a solution
-use Rattle.std.proofs.Common.{◌≡◌, ◌⊎◌, inl, inr, ℕ, zero, suc, ◌+◌, ◌-◌, ◌^◌, ◌<◌, ◌≤◌, pos, ◌≤ℤ◌, ◌<ℤ◌, List, [], ◌∷◌, ◌++◌, length, eqb, true, arith, sym, ap, ◌∙◌, refl, subst, slice_get, get_or, Some, IsBitSet}
-use Rattle.std.proofs.lemmas.List.{append-nil}
-use Rattle.std.proofs.lemmas.Int.{ints}
-use Rattle.std.proofs.lemmas.Bool.{false≢true, cases_Bool, and_from, eq-eqb, eqb-true, or_cases, cases_lt, not_from_false, or_left, or_right}
-use Rattle.std.proofs.lemmas.Bool.Decides.{eqb_tells}
-use Rattle.std.proofs.lemmas.Option.{slice_get_within, slice_get-get_or, same_Some}
-use Rattle.ta_base.proofs.Bits.{all_below-at, all_below-from, bit_set}
-use Rattle.ta_base.proofs.Booleans.{implies-from}
-use Rattle.ta_base.proofs.Each.{each_in}
-use Rattle.ta_base.proofs.Integers.{is_negative, negative_false, negative_true}
-use Rattle.ta_base.proofs.Lists.{some_at}
-use Rattle.ta_base.proofs.Naturals.{mask_of-below}
-use Rattle.ta_base.proofs.Ranges.{In-numbers, in_numbers}
-use Rattle.ta_linear.specs.Values.{value_of, RowHolds}
-use Rattle.ta_automaton.specs.declared.automaton.Automaton.{Automaton}
+--
+-- Shared variables never fall. So along a run each rise guard turns true at most once, and each fall guard turns false at most once:
+-- the run is cut at finitely many moments, those of these switches and those of the pattern's events. Between two moments every
+-- guard keeps its value, and no row of the system sees in what order the rules fire there, but only how often each does. These
+-- numbers are the values of the Counts of the element that ends the stretch, so a word with values describes runs of any length.
+--
+-- The proof walks along the run and keeps a `State`: a word with values that solve its rows, and the steps since its last element.
+-- The word allows each of these steps, because it has the rise guards that hold by then, and no fall guard that still holds has fallen
+-- in it; a self-loop changes nothing and is left out. What switches or happens at a configuration becomes elements, in one order for
+-- all runs: first a Fall, whose Single is the step that leads there; then the rise guards, in an order that keeps the given pairs,
+-- where a guard that implies another comes behind it; then the events, those of a lower number first. Each new row holds, because
+-- the configuration at its moment meets it. With the last event the word is complete, and what is left of the run is dropped.
+use Rattle.ta_encode.proofs.Common.{◌≡◌, ◌⊎◌, inl, inr, ℕ, zero, suc, ◌+◌, ◌-◌, ◌^◌, ◌<◌, ◌≤◌, pos, ◌≤ℤ◌, ◌<ℤ◌, List, [], ◌∷◌, ◌++◌, length, eqb, true, arith, sym, ap, ◌∙◌, refl, subst, slice_get, get_or, Some, IsBitSet, append-nil, ints, false≢true, cases_Bool, and_from, eq-eqb, eqb-true, or_cases, cases_lt, not_from_false, or_left, or_right, eqb_tells, slice_get_within, slice_get-get_or, same_Some, all_below-at, all_below-from, bit_set, implies-from, each_in, is_negative, negative_false, negative_true, some_at, mask_of-below, In-numbers, in_numbers, value_of, RowHolds, Automaton, Pattern, Config, value_at, Holds, Steps, LoopsPure, Occurs, has_bit, implies, numbers_from, In, Good, IsPair, RiseHolds, Element, Event, Rise, LegalUnder, has_event, has_fallen, has_rise, is_complete, is_due, is_ready, follows, AllHold, word_rows, SolvesWord, EndsAt, total, Fits}
 use Rattle.ta_automaton.specs.declared.pattern.Event.{Event as PatternEvent}
-use Rattle.ta_automaton.specs.declared.pattern.Pattern.{Pattern}
-use Rattle.ta_automaton.specs.Runs.{Config, value_at, Holds, Steps, LoopsPure, Occurs}
-use Rattle.ta_base.specs.Masks.{has_bit, implies, numbers_from, In}
-use Rattle.ta_implied.specs.Implied.{Good, IsPair, RiseHolds}
 use Rattle.ta_implied.specs.Orders.{GuardsInOrder, LeadsSome}
 use Rattle.ta_implied.proofs.Implying.{guards_come_after}
 use Rattle.ta_implied.proofs.Ordering.{ordered}
-use Rattle.ta_words.specs.declared.element.Element.{Element}
-use Rattle.ta_words.specs.declared.element.Element.TheVariants.{Event, Rise}
-use Rattle.ta_words.specs.Words.{LegalUnder, has_event, has_fallen, has_rise, is_complete, is_due, is_ready, follows}
 use Rattle.ta_words.proofs.Pairs.{due_from}
-use Rattle.ta_encode.specs.System.{AllHold, word_rows, SolvesWord}
-use Rattle.ta_encode.specs.Laws.{EndsAt}
-use Rattle.ta_automaton.specs.Sums.{total}
 use Rattle.ta_encode.proofs.Moments.{AllHold-append}
-use Rattle.ta_automaton.proofs.Moves.{Fits}
 use Rattle.ta_encode.proofs.State.{State, counts_of, push_rise, push_event}
 use Rattle.ta_encode.proofs.Start.{row_fails, start_state, start_set, parameter_values, start_counts}
 use Rattle.ta_encode.proofs.Switch.{KeptEmpty, Begins, begins_more, Seen, Stage, after_step}

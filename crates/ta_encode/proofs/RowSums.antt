@@ -1,12 +1,6 @@
 -- a row's value as a sum over the unknowns, and Farkas' lemma for rows of words
-use Rattle.std.proofs.Common.{◌≡◌, ℕ, zero, suc, ℤ, pos, ◌+ℤ◌, ◌*ℤ◌, ◌≤ℤ◌, List, [], ◌∷◌, length, slice_get, get_or, Some, None, Option, arith, sym, ap, refl}
-use Rattle.std.proofs.lemmas.Int.{ints}
-use Rattle.std.proofs.Math.IntN.{zero-*ℤ}
-use Rattle.ta_base.proofs.Integers.{range_sum}
-use Rattle.ta_base.proofs.Sums.{range_sum-front, range_sum-zero}
+use Rattle.ta_encode.proofs.Common.{◌≡◌, ℕ, zero, suc, ℤ, pos, ◌+ℤ◌, ◌*ℤ◌, ◌≤ℤ◌, List, [], ◌∷◌, length, slice_get, get_or, Some, None, Option, arith, sym, ap, refl, ints, zero-*ℤ, range_sum, range_sum-front, range_sum-zero, LinearRow, sum_of_products, row_value, AllHold, linear_coefficient_in, linear_constant_in, LeafOfRows}
 use Rattle.ta_linear.proofs.Farkas.{leaf_refutes}
-use Rattle.ta_encode.specs.System.{LinearRow, sum_of_products, row_value, AllHold}
-use Rattle.ta_encode.specs.Refutes.{linear_coefficient_in, linear_constant_in, LeafOfRows}
 
 -- the values of a list, 0 past its end
 abbrev pub value_at : List ℕ → ℕ → ℤ

@@ -1,19 +1,5 @@
 -- sums over the first terms of a list
-use Rattle.std.proofs.Common.{◌≡◌, ◌≢◌, inl, inr, ℕ, ℤ, pos, ◌+◌, ◌*◌, ◌<◌, ◌≤◌, ◌+ℤ◌, ◌*ℤ◌, unsigned_abs, List, [], ◌∷◌, ◌++◌, length, take, get_or, Bool, true, false, arith, sym, ap, ◌∙◌, refl, subst}
-use Rattle.std.specs.Prelude.{◌==◌, if◌then◌else◌}
-use Rattle.std.proofs.Common.{FitsSigned, to_z, of_z}
-use Rattle.std.specs.Int.{w128}
-use Rattle.std.proofs.lemmas.Int.{ints, fits_signed_mul}
-use Rattle.std.proofs.lemmas.Bool.{false≢true, true≢false, eq-eqb}
-use Rattle.std.proofs.lemmas.Bool.Decides.{eqb_tells}
-use Rattle.std.proofs.lemmas.List.{take_more}
-use Rattle.std.proofs.Math.Seq.{take-length}
-use Rattle.std.specs.List.{AllByRecursion}
-use Rattle.ta_base.proofs.Each.{each_get_or}
-use Rattle.ta_base.proofs.Integers.{abs_product, abs_sum, fits_sum, to_z_abs}
-use Rattle.ta_linear.specs.Terms.{coefficient}
-use Rattle.ta_linear.specs.Values.{terms_value}
-use Rattle.ta_linear.proofs.TermLemmas.{coefficient-append}
+use Rattle.ta_encode.proofs.Common.{◌≡◌, ◌≢◌, inl, inr, ℕ, ℤ, pos, ◌+◌, ◌*◌, ◌<◌, ◌≤◌, ◌+ℤ◌, ◌*ℤ◌, unsigned_abs, List, [], ◌∷◌, ◌++◌, length, take, get_or, Bool, true, false, arith, sym, ap, ◌∙◌, refl, subst, ◌==◌, if◌then◌else◌, FitsSigned, to_z, of_z, w128, ints, fits_signed_mul, false≢true, true≢false, eq-eqb, eqb_tells, take_more, take-length, AllByRecursion, each_get_or, abs_product, abs_sum, fits_sum, to_z_abs, coefficient, terms_value, coefficient-append}
 
 abbrev pub at_variable : (ℕ × ℤ) → ℕ → ℤ
 at_variable t x = if t.0 == x then t.1 else pos 0

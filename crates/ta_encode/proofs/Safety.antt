@@ -1,23 +1,5 @@
 -- a proof of a pattern shows that the pattern is safe
-use Rattle.std.proofs.Common.{◌≡◌, ◌⊎◌, inl, inr, ℕ, zero, suc, ◌+◌, ◌<◌, ◌≤◌, ◌^◌, ℤ, pos, negsuc, ◌-ℤ◌, ◌≤ℤ◌, ◌<ℤ◌, List, [], ◌∷◌, ◌++◌, map, length, get_or, true, arith, sym, ap, ◌∙◌, refl, subst}
-use Rattle.std.proofs.lemmas.Int.{ints}
-use Rattle.std.proofs.lemmas.Bool.{false≢true, cases_Bool}
-use Rattle.std.proofs.Math.IntN.{zero-*ℤ}
-use Rattle.ta_base.proofs.Integers.{is_negative, negative_false, negative_true, one_times}
-use Rattle.ta_base.proofs.Naturals.{cases_start}
-use Rattle.ta_automaton.specs.declared.automaton.Automaton.{Automaton}
-use Rattle.ta_automaton.specs.declared.pattern.Pattern.{Pattern}
-use Rattle.ta_automaton.specs.Runs.{LoopsPure, Safe}
-use Rattle.ta_base.specs.Masks.{In, numbers_from}
-use Rattle.ta_implied.specs.Implied.{Good}
-use Rattle.ta_words.specs.declared.element.Element.{Element}
-use Rattle.ta_words.specs.declared.element.Element.TheVariants.{Event, Rise, Fall}
-use Rattle.ta_words.specs.Words.{LegalUnder, is_complete}
-use Rattle.ta_encode.specs.System.{Bound, Low, High, only_at, side_row, bound_row, word_rows, sum_of_products, row_value, AllHold}
-use Rattle.ta_cert.specs.Tree.{Tree, Forest, Leaf, Extend, Split, Done, More}
-use Rattle.ta_encode.specs.Search.{Pending, Search, bound_at, bounded, longer, bounded_rows}
-use Rattle.ta_encode.specs.PatternSearch.{empty_word, pattern_search}
-use Rattle.ta_encode.specs.Refutes.{IsLeaf, RefutesBy, RefuteEach, RefuteAll, ProofOf}
+use Rattle.ta_encode.proofs.Common.{◌≡◌, ◌⊎◌, inl, inr, ℕ, zero, suc, ◌+◌, ◌<◌, ◌≤◌, ◌^◌, ℤ, pos, negsuc, ◌-ℤ◌, ◌≤ℤ◌, ◌<ℤ◌, List, [], ◌∷◌, ◌++◌, map, length, get_or, true, arith, sym, ap, ◌∙◌, refl, subst, ints, false≢true, cases_Bool, zero-*ℤ, is_negative, negative_false, negative_true, one_times, cases_start, Automaton, Pattern, LoopsPure, Safe, In, numbers_from, Good, Element, Event, Rise, Fall, LegalUnder, is_complete, Bound, Low, High, only_at, side_row, bound_row, word_rows, sum_of_products, row_value, AllHold, Tree, Forest, Leaf, Extend, Split, Done, More, Pending, Search, bound_at, bounded, longer, bounded_rows, empty_word, pattern_search, IsLeaf, RefutesBy, RefuteEach, RefuteAll, ProofOf}
 use Rattle.ta_encode.proofs.Moments.{AllHold-append, AllHold-left}
 use Rattle.ta_encode.proofs.RowSums.{leaf_contradicts}
 use Rattle.ta_encode.proofs.Reorder.{AfterEarlier, describe}

@@ -1,27 +1,8 @@
 -- the sample system is what stands at the start of a pattern that asks for nothing
-use Rattle.std.proofs.Common.{◌≡◌, inl, inr, ℕ, ℤ, ◌+◌, ◌≤◌, List, [], ◌∷◌, ◌++◌, map, length, arith, sym, ap, ◌∙◌, refl, subst, append-nil, length-append, get_or}
-use Rattle.std.specs.Prelude.{slice_index}
-use Rattle.std.proofs.lemmas.Bool.{false≢true, true≢false}
-use Rattle.std.proofs.lemmas.Int.{ints}
-use Rattle.std.proofs.lemmas.List.{length-map}
-use Rattle.ta_base.proofs.Bits.{has_none, none_kept_empty}
-use Rattle.ta_base.proofs.Ranges.{each_index, length_numbers}
-use Rattle.ta_linear.specs.declared.row.Row.{Row}
-use Rattle.ta_automaton.specs.declared.automaton.Automaton.{Automaton}
-use Rattle.ta_automaton.specs.declared.pattern.Pattern.{Pattern}
-use Rattle.ta_base.specs.Masks.{In, numbers_from}
-use Rattle.ta_automaton.specs.Runs.{Config, Initial}
-use Rattle.ta_automaton.proofs.Moves.{Fits}
-use Rattle.ta_automaton.proofs.Thresholds.{resilience_holds}
-use Rattle.ta_cert.specs.declared.line.Node.{Node}
+use Rattle.ta_encode.proofs.Common.{◌≡◌, inl, inr, ℕ, ℤ, ◌+◌, ◌≤◌, List, [], ◌∷◌, ◌++◌, map, length, arith, sym, ap, ◌∙◌, refl, subst, length-append, get_or, slice_index, false≢true, true≢false, ints, length-map, has_none, none_kept_empty, each_index, length_numbers, Automaton, Pattern, In, numbers_from, Config, Initial, Fits, resilience_holds, Node, Meaning, Parameter, Start, start_locations, start_meanings, AllHold, High, LinearRow, Low, bound_row, condition_rows, opposite, processes_row, RefutedInOrder, IsLeaf, LeafTest, HasStart, SamplesStart, StartsAreSampled, sample_meanings, sample_rows, sample_search, sampled, Pending, bound_at, bounded, bounded_rows, Adds, AreWritten, Draft}
+use Rattle.std.proofs.Common.{append-nil}
 use Rattle.ta_cert.specs.declared.line.Node.TheVariants as node
-use Rattle.ta_encode.specs.Unknowns.{Meaning, Parameter, Start, start_locations, start_meanings}
-use Rattle.ta_encode.specs.System.{AllHold, Bound, High, LinearRow, Low, bound_row, condition_rows, opposite, processes_row}
-use Rattle.ta_encode.specs.InPreorder.{RefutedInOrder}
-use Rattle.ta_encode.specs.Refutes.{IsLeaf, LeafTest}
-use Rattle.ta_encode.specs.Sample.{HasStart, SamplesStart, StartsAreSampled, sample_meanings, sample_rows, sample_search, sampled}
-use Rattle.ta_encode.specs.Search.{Pending, bound_at, bounded, bounded_rows}
-use Rattle.ta_encode.specs.Inside.Lines.{AddsRows, AreWritten}
+use Rattle.ta_encode.proofs.Adding.{adds_behind, adds_both, nothing_written}
 use Rattle.ta_encode.proofs.Begin.{FirstRows, first_initial, first_of}
 use Rattle.ta_encode.proofs.Drafts.{start_few}
 use Rattle.ta_encode.proofs.Moments.{AllHold-append, AllHold-left, condition_holds, opposite_value}
@@ -95,18 +76,12 @@ starts_sampled a c start =
     }
 
 -- the rows of code
-pub sample_written : (a : Automaton) (bounds : List Bound) (ms : List Meaning) (n : ℕ) (before first second third : List Row) → ms ≡ sample_meanings a → n ≡ length ms → before ≡ []
-    → AddsRows (condition_rows a ms a.resilience.comparisons) (length ms) before first
-    → AddsRows (processes_row a ms ∷ opposite (processes_row a ms) ∷ []) (length ms) first second
-    → AddsRows (map bound_row bounds) n second third
-    → AreWritten (bounded_rows (sample_search a) (sampled bounds)) n third
+pub sample_written : (a : Automaton) {zeroth first second : Draft} → zeroth.automaton.now ≡ a → zeroth.meanings.items ≡ sample_meanings a → zeroth.rows.items ≡ []
+    → Adds (λ b ms. condition_rows b ms a.resilience.comparisons) zeroth first
+    → Adds (λ b ms. processes_row b ms ∷ opposite (processes_row b ms) ∷ []) first second
+    → (second.meanings.items ≡ sample_meanings a) × AreWritten (sample_rows a) (length second.meanings.items) second.rows.items
 unfolding sample_rows
-sample_written a bounds ms n before first second third e count none one two three =
-    let resilience = condition_rows a ms a.resilience.comparisons in
-    let nothing : AreWritten [] (length ms) before = subst (AreWritten [] (length ms)) (sym none) (record { rows_of = tt; below = tt }) in
-    let rows = two.rows resilience (one.rows [] nothing) in
-    let here : AreWritten (sample_rows a) n second = subst (λ (k : ℕ). AreWritten (sample_rows a) k second) (sym count) (subst (λ (us : List Meaning). AreWritten (rows_over a us) (length ms) second) e rows) in
-    three.rows (sample_rows a) here
+sample_written a {zeroth = zeroth} same e none one two = adds_behind a (sample_meanings a) [] same e (nothing_written (length zeroth.meanings.items) zeroth.rows.items none) (adds_both one two)
 
 -- where nodes refute words of the search for a sample, no natural values solve one of them
 pub none_solved : (a : Automaton) (test : LeafTest) → ((w : Pending) (ts : List (ℕ × ℤ)) → test w ts → IsLeaf (sample_search a) w ts) → (ws : List Pending) (nodes : List Node) → RefutedInOrder (sample_search a) test ws nodes → (w : Pending) → In w ws → (vs : List ℕ) → AllHold vs (bounded_rows (sample_search a) w) → ⊥

@@ -1,28 +1,6 @@
 -- the firings of an element, in an order that goes forward, are legal where their end is natural
-use Rattle.std.proofs.Common.{IsBitSet, ◌≡◌, ◌≢◌, inl, inr, ℕ, zero, suc, ◌<◌, ◌≤◌, pos, ◌+ℤ◌, ◌≤ℤ◌, List, [], ◌∷◌, ◌++◌, length, true, false, not, arith, sym, ap, ◌∙◌, refl, subst, slice_get, get_or, Some, None, Option}
-use Rattle.std.proofs.lemmas.Int.{ints}
-use Rattle.std.proofs.lemmas.Bool.{cases_Bool, and_parts, false≢true, eqb-false, not-true}
-use Rattle.std.proofs.lemmas.Option.{slice_get_within}
-use Rattle.std.specs.List.{AllByRecursion}
-use Rattle.ta_base.proofs.Bits.{all_below-at, bit_true}
-use Rattle.ta_base.proofs.Booleans.{implies-at}
-use Rattle.ta_base.proofs.Naturals.{untouched}
-use Rattle.ta_linear.specs.Values.{value_of, RowHolds}
-use Rattle.ta_linear.specs.declared.row.Row.{Row}
-use Rattle.ta_automaton.specs.declared.rule.Rule.{Rule}
-use Rattle.ta_automaton.specs.declared.automaton.Automaton.{Automaton}
-use Rattle.ta_automaton.specs.declared.pattern.Pattern.{Pattern}
-use Rattle.ta_automaton.specs.Runs.{Config, value_at, Step, Steps, MaskedHold}
-use Rattle.ta_base.specs.Masks.{has_bit, all_below, implies, In}
-use Rattle.ta_words.specs.declared.element.Element.{Element}
-use Rattle.ta_words.specs.Words.{has_rise, has_fallen, may_fire}
-use Rattle.ta_automaton.specs.Places.{one_if, location_place}
-use Rattle.ta_automaton.specs.Sums.{total}
-use Rattle.ta_automaton.proofs.Moves.{Fits, move_at, value_at-location, one_if-ne}
+use Rattle.ta_encode.proofs.Common.{IsBitSet, ◌≡◌, ◌≢◌, inl, inr, ℕ, zero, suc, ◌<◌, ◌≤◌, pos, ◌+ℤ◌, ◌≤ℤ◌, List, [], ◌∷◌, ◌++◌, length, true, false, not, arith, sym, ap, ◌∙◌, refl, subst, slice_get, get_or, Some, None, Option, ints, cases_Bool, and_parts, false≢true, eqb-false, not-true, slice_get_within, AllByRecursion, all_below-at, bit_true, implies-at, untouched, value_of, RowHolds, Row, Rule, Automaton, Pattern, Config, value_at, Step, Steps, MaskedHold, has_bit, all_below, implies, In, Element, has_rise, has_fallen, may_fire, one_if, location_place, total, move_at, value_at-location, one_if-ne, change_of, change_location, EachRule, Onward, Piece, holds_before_last, fire_in_order, Whole, fire, fire_whole, fire_step, fits_whole, Trail, Grows}
 use Rattle.ta_encode.proofs.Switch.{KeptEmpty}
-use Rattle.ta_automaton.proofs.Onward.{change_of, change_location, EachRule, Onward, Piece, holds_before_last, fire_in_order}
-use Rattle.ta_automaton.proofs.Fire.{Whole, fire, fire_whole, fire_step}
-use Rattle.ta_automaton.proofs.Trails.{Trail, Grows}
 use Rattle.ta_encode.proofs.Appending.{trail_append}
 
 -- a rule with this number
@@ -78,9 +56,6 @@ pub record Segment (a : Automaton) (p : Pattern) (start : ℕ) (past : List Elem
   pub falls : (j : ℕ) (row : Row) → slice_get a.fall j ≡ Some row → has_fallen start past j ≡ false → pos 0 ≤ℤ value_of (λ i. value_at d i +ℤ total (change_of a i) os) row.form
   pub ends : (l : ℕ) → l < length a.locations → has_bit p.empty l ≡ false → pos 0 ≤ℤ (value_at d (location_place a l) +ℤ total (change_of a (location_place a l)) os)
   pub empty : KeptEmpty p d
-
-pub fits_whole : (a : Automaton) (d : Config) → Whole a d → Fits a d
-fits_whole a d w = record { parameters = w.parameters; shared = w.shared }
 
 kept_after : (a : Automaton) (p : Pattern) (start : ℕ) (past : List Element) (d next : Config) (r : ℕ) → (step : Step a r d next) → may_fire a p start past (slice_get a.rules r) ≡ true → KeptEmpty p d → KeptEmpty p next
 kept_after a p start past d next r step may empty l t =

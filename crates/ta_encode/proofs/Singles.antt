@@ -1,20 +1,6 @@
 -- the unknowns of an element stand behind those of the elements before it, and one of the Singles of a Fall is 1
-use Rattle.std.proofs.Common.{◌≡◌, inl, inr, ℕ, zero, suc, ◌+◌, ◌<◌, ℤ, pos, ◌+ℤ◌, List, [], ◌∷◌, ◌++◌, map, length, drop, arith, sym, ap, ◌∙◌, refl, subst, slice_get, Some}
-use Rattle.std.proofs.lemmas.List.{length-map}
-use Rattle.std.proofs.lemmas.Int.{ints}
-use Rattle.std.specs.List.{AllByRecursion}
-use Rattle.ta_base.proofs.Each.{each_append, each_at, each_map_all}
-use Rattle.ta_base.proofs.Lists.{get_drop, get_map as map_get, get_of_drop, get_of_map, get_parts, get_right}
-use Rattle.ta_base.proofs.Members.{only_in}
-use Rattle.ta_automaton.specs.declared.automaton.Automaton.{Automaton}
-use Rattle.ta_automaton.specs.declared.pattern.Pattern.{Pattern}
-use Rattle.ta_base.specs.Masks.{has_bit, numbers_from, In}
-use Rattle.ta_words.specs.declared.element.Element.{Element}
-use Rattle.ta_words.specs.declared.element.Element.TheVariants.{Event, Rise, Fall}
-use Rattle.ta_words.specs.Words.{allowed_rules}
-use Rattle.ta_encode.specs.Unknowns.{Meaning, Parameter, Start, Count, Single, meanings, counts_after, singles_after, start_locations, start_meanings}
-use Rattle.ta_encode.specs.System.{opposite, counter_rows, guard_rows, singles_row, fall_rows, sum_of_products, AllHold}
-use Rattle.ta_encode.specs.Laws.{IsOne}
+use Rattle.ta_encode.proofs.Common.{◌≡◌, inl, inr, ℕ, zero, suc, ◌+◌, ◌<◌, ℤ, pos, ◌+ℤ◌, List, [], ◌∷◌, ◌++◌, map, length, drop, arith, sym, ap, ◌∙◌, refl, subst, slice_get, Some, length-map, ints, AllByRecursion, each_append, each_at, each_map_all, get_drop, get_of_drop, get_of_map, get_parts, get_right, only_in, Automaton, Pattern, has_bit, numbers_from, In, Element, Event, Rise, Fall, allowed_rules, Meaning, Parameter, Start, Count, Single, meanings, counts_after, singles_after, start_locations, start_meanings, opposite, counter_rows, guard_rows, singles_row, fall_rows, sum_of_products, AllHold, IsOne}
+use Rattle.ta_base.proofs.Lists.{get_map as map_get}
 use Rattle.ta_encode.proofs.Combine.{combine-zero}
 use Rattle.ta_encode.proofs.Moments.{opposite_value, AllHold-left}
 use Rattle.ta_encode.proofs.Values.{unfolded, repeat, unfolded-count, AllHold-right}

@@ -1,14 +1,7 @@
 -- the forms of a file have few terms and small numbers
-use Rattle.std.proofs.Common.{ℕ, ℤ, ◌+◌, ◌≤◌, List, [], ◌∷◌, length, arith}
-use Rattle.std.specs.List.{AllByRecursion}
-use Rattle.ta_linear.specs.Terms.{IsNormal}
-use Rattle.ta_linear.specs.declared.form.Form.{Form}
-use Rattle.ta_linear.specs.declared.row.Row.{Row}
-use Rattle.ta_automaton.specs.declared.automaton.Automaton.{Automaton}
-use Rattle.ta_automaton.specs.declared.condition.Comparison.{Comparison}
+use Rattle.ta_encode.proofs.Common.{ℕ, ℤ, ◌+◌, ◌≤◌, List, [], ◌∷◌, length, arith, AllByRecursion, IsNormal, Form, Row, Automaton, Comparison, SmallForm, SmallRows, SmallCondition}
 use Rattle.ta_automaton.specs.declared.condition.Condition.{Condition}
 use Rattle.ta_automaton.specs.Forms.{FormOver, RowOver, ConditionOver, RiseRow, FallRow}
-use Rattle.ta_encode.specs.Inside.Lines.{SmallForm, SmallRows, SmallCondition}
 
 normal_length : (low high : ℕ) (ts : List (ℕ × ℤ)) → IsNormal low high ts → low + length ts ≤ high
 normal_length low high [] h = omega (arith, h)

@@ -1,12 +1,5 @@
 -- a row's terms, unknown by unknown
-use Rattle.std.proofs.Common.{◌≡◌, ◌≢◌, ◌⊎◌, inl, inr, ℕ, zero, suc, ℤ, pos, ◌+◌, ◌<◌, ◌≤◌, List, [], ◌∷◌, ◌++◌, length, map, get_or, arith, sym, ap, ◌∙◌, subst}
-use Rattle.std.proofs.lemmas.Int.{ints}
-use Rattle.std.proofs.lemmas.Bool.Decides.{eqb_tells}
-use Rattle.ta_base.proofs.Lists.{get_or_map, get_past}
-use Rattle.ta_base.proofs.Naturals.{below_or_last}
-use Rattle.ta_linear.specs.Numbers.{InRange}
-use Rattle.ta_linear.specs.Terms.{coefficient, IsNormal}
-use Rattle.ta_linear.proofs.TermLemmas.{IsNormal-push, IsNormal-higher, coefficient-append, coefficient-above}
+use Rattle.ta_encode.proofs.Common.{◌≡◌, ◌≢◌, ◌⊎◌, inl, inr, ℕ, zero, suc, ℤ, pos, ◌+◌, ◌<◌, ◌≤◌, List, [], ◌∷◌, ◌++◌, length, map, get_or, arith, sym, ap, ◌∙◌, subst, ints, eqb_tells, get_or_map, get_past, below_or_last, InRange, coefficient, IsNormal, IsNormal-push, IsNormal-higher, coefficient-append, coefficient-above}
 use Rattle.ta_encode.proofs.Running.{if_same, if_other}
 
 -- terms of the first n unknowns whose coefficients are a function of the meanings

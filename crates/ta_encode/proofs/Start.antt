@@ -1,34 +1,9 @@
 -- the empty word at the start of a run
-use Rattle.std.proofs.Common.{◌≡◌, inl, inr, ℕ, zero, suc, ◌+◌, ◌<◌, ◌≤◌, ℤ, pos, ◌+ℤ◌, ◌-ℤ◌, ◌*ℤ◌, List, [], ◌∷◌, ◌++◌, map, length, Bool, true, false, not, arith, sym, ap, ◌∙◌, refl, subst, slice_get, get_or, Some, None, Option, length-append, zero-add, sum}
+use Rattle.ta_encode.proofs.Common.{◌≡◌, inl, inr, ℕ, zero, suc, ◌+◌, ◌<◌, ◌≤◌, ℤ, pos, ◌+ℤ◌, ◌-ℤ◌, ◌*ℤ◌, List, [], ◌∷◌, ◌++◌, map, length, Bool, true, false, not, arith, sym, ap, ◌∙◌, refl, subst, slice_get, get_or, Some, None, Option, length-append, zero-add, sum, ints, cases_Bool, not_from_false, nat_tests, eqb_tells, slice_get_within, zero-*ℤ, mask_of-bit, is_negative, negative_false, negative_true, one_times, maps_length, In-filter, in_of, mask_of, rises_filter, terms_value, value_of, RowHolds, Row, Automaton, Pattern, Config, value_at, Holds, Initial, Rises, has_bit, numbers_from, In, has_fallen, Meaning, Parameter, Start, start_locations, start_meanings, meanings, place_coefficient, one_if, location_place, opposite, processes_row, start_coefficient, condition_rows, start_guard_rows, start_rows, word_rows, sum_of_products, row_value, AllHold, total, total-zero, total-same, total-swap, one_inside, one_outside, one_if-same, one_if-other, terms_value-same, Fits, place_cases, value_at-parameter, value_at-shared, value_at-location, one_if-ne, one_if-shift, resilience_holds}
 use Rattle.std.proofs.lemmas.List.Sums.{sum_by-cons}
-use Rattle.std.proofs.lemmas.Int.{ints}
-use Rattle.std.proofs.lemmas.Bool.{cases_Bool, not_from_false}
-use Rattle.std.proofs.lemmas.Bool.Decides.{nat_tests, eqb_tells}
-use Rattle.std.proofs.lemmas.Option.{slice_get_within}
-use Rattle.std.proofs.Math.IntN.{zero-*ℤ}
-use Rattle.ta_base.proofs.Bits.{mask_of-bit}
-use Rattle.ta_base.proofs.Integers.{is_negative, negative_false, negative_true, one_times}
-use Rattle.ta_base.proofs.Lists.{maps_length}
-use Rattle.ta_base.proofs.Members.{In-filter, in_of}
-use Rattle.ta_base.proofs.Naturals.{mask_of}
-use Rattle.ta_base.proofs.Ranges.{rises_filter}
-use Rattle.ta_linear.specs.Values.{terms_value, value_of, RowHolds}
-use Rattle.ta_linear.specs.declared.row.Row.{Row}
-use Rattle.ta_automaton.specs.declared.automaton.Automaton.{Automaton}
-use Rattle.ta_automaton.specs.declared.pattern.Pattern.{Pattern}
-use Rattle.ta_automaton.specs.Runs.{Config, value_at, Holds, Initial}
-use Rattle.ta_base.specs.Lists.{Rises}
-use Rattle.ta_base.specs.Masks.{has_bit, numbers_from, In}
-use Rattle.ta_words.specs.Words.{has_fallen}
-use Rattle.ta_encode.specs.Unknowns.{Meaning, Parameter, Start, start_locations, start_meanings, meanings, place_coefficient}
-use Rattle.ta_automaton.specs.Places.{one_if, location_place}
-use Rattle.ta_encode.specs.System.{opposite, processes_row, start_coefficient, condition_rows, start_guard_rows, start_rows, word_rows, sum_of_products, row_value, AllHold}
-use Rattle.ta_automaton.specs.Sums.{total}
-use Rattle.ta_automaton.proofs.Sums.{total-zero, total-same, total-swap, one_inside, one_outside, one_if-same, one_if-other, terms_value-same}
 use Rattle.ta_encode.proofs.Combine.{combine-append, combine-extra, combine-map, combine-minus, combine-terms}
 use Rattle.ta_encode.proofs.Moments.{Moment, RowFails, AllHold-append, condition_holds, start_guards, opposite_value}
-use Rattle.ta_automaton.proofs.Moves.{Fits, place_cases, value_at-parameter, value_at-shared, value_at-location, one_if-ne, one_if-shift}
-use Rattle.ta_automaton.proofs.Thresholds.{processes_value as processes_at, resilience_holds}
+use Rattle.ta_automaton.proofs.Thresholds.{processes_value as processes_at}
 use Rattle.ta_encode.proofs.State.{State}
 
 -- whether a guard fails in a configuration

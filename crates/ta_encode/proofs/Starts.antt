@@ -1,22 +1,6 @@
 -- the first configuration of a solution has the solution's parameters and start counts
-use Rattle.std.proofs.Common.{◌≡◌, ℕ, ◌+◌, ◌<◌, ◌≤◌, ℤ, pos, ◌+ℤ◌, ◌*ℤ◌, List, [], ◌∷◌, ◌++◌, map, take, drop, length, get_or, arith, sym, ap, ◌∙◌, refl, subst, length-append}
+use Rattle.ta_encode.proofs.Common.{◌≡◌, ℕ, ◌+◌, ◌<◌, ◌≤◌, ℤ, pos, ◌+ℤ◌, ◌*ℤ◌, List, [], ◌∷◌, ◌++◌, map, take, drop, length, get_or, arith, sym, ap, ◌∙◌, refl, subst, length-append, length-map, length-drop, ints, zero-*ℤ, take-add, natural, at_index, in_numbers, length_numbers, map_rising, numbers_rise, Automaton, Pattern, Rises, numbers_from, one_if, location_place, one_if-ne, one_if-shift, one_if-same, Meaning, Parameter, Start, start_locations, start_meanings, place_coefficient, sum_of_products, start_values}
 use Rattle.std.proofs.lemmas.Simd.{map-map}
-use Rattle.std.proofs.lemmas.List.{length-map, length-drop}
-use Rattle.std.proofs.lemmas.Int.{ints}
-use Rattle.std.proofs.Math.IntN.{zero-*ℤ}
-use Rattle.std.proofs.Math.Seq.{take-add}
-use Rattle.ta_base.proofs.Integers.{natural}
-use Rattle.ta_base.proofs.Ranges.{at_index, in_numbers, length_numbers, map_rising, numbers_rise}
-use Rattle.ta_automaton.specs.declared.automaton.Automaton.{Automaton}
-use Rattle.ta_automaton.specs.declared.pattern.Pattern.{Pattern}
-use Rattle.ta_base.specs.Lists.{Rises}
-use Rattle.ta_base.specs.Masks.{numbers_from}
-use Rattle.ta_automaton.specs.Places.{one_if, location_place}
-use Rattle.ta_automaton.proofs.Moves.{one_if-ne, one_if-shift}
-use Rattle.ta_automaton.proofs.Sums.{one_if-same}
-use Rattle.ta_encode.specs.Unknowns.{Meaning, Parameter, Start, start_locations, start_meanings, place_coefficient}
-use Rattle.ta_encode.specs.System.{sum_of_products}
-use Rattle.ta_encode.specs.Laws.{start_values}
 use Rattle.ta_encode.proofs.Start.{start_rises}
 use Rattle.ta_encode.proofs.Values.{place_value, combine-split}
 use Rattle.ta_encode.proofs.Begin.{combine-on_zero, combine-on_same, first_of}

@@ -1,15 +1,6 @@
 -- a word that describes the first steps of a run, and the steps since its last element
-use Rattle.std.proofs.Common.{◌≡◌, inl, inr, ℕ, ◌+◌, ◌^◌, ◌<◌, ◌≤◌, pos, ◌+ℤ◌, ◌≤ℤ◌, ◌<ℤ◌, List, [], ◌∷◌, ◌++◌, map, length, eqb, true, false, not, arith, sym, ap, ◌∙◌, refl, subst, slice_get, Some, Option, append_assoc, length-append, zero-add}
-use Rattle.std.proofs.lemmas.List.{length-map}
+use Rattle.ta_encode.proofs.Common.{◌≡◌, inl, inr, ℕ, ◌+◌, ◌^◌, ◌<◌, ◌≤◌, pos, ◌+ℤ◌, ◌≤ℤ◌, ◌<ℤ◌, List, [], ◌∷◌, ◌++◌, map, length, eqb, true, false, not, arith, sym, ap, ◌∙◌, refl, subst, slice_get, Some, Option, append_assoc, length-append, zero-add, length-map, ints, eqb-true, or_cases, and_from, not-true, not_from_false, or_parts, slice_get_within, all_below-at, implies-at, value_of, RowHolds, Row, Automaton}
 use Rattle.std.specs.List.{filter}
-use Rattle.std.proofs.lemmas.Int.{ints}
-use Rattle.std.proofs.lemmas.Bool.{eqb-true, or_cases, and_from, not-true, not_from_false, or_parts}
-use Rattle.std.proofs.lemmas.Option.{slice_get_within}
-use Rattle.ta_base.proofs.Bits.{all_below-at}
-use Rattle.ta_base.proofs.Booleans.{implies-at}
-use Rattle.ta_linear.specs.Values.{value_of, RowHolds}
-use Rattle.ta_linear.specs.declared.row.Row.{Row}
-use Rattle.ta_automaton.specs.declared.automaton.Automaton.{Automaton}
 pub use Rattle.ta_automaton.proofs.Onward.{change_of}
 use Rattle.ta_automaton.proofs.Sums.{terms_value-same}
 use Rattle.ta_automaton.specs.declared.pattern.Event.{Event as PatternEvent}

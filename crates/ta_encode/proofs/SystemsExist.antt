@@ -1,44 +1,12 @@
 -- The numbers of a word's rows are in range, so each word has a system.
-use Rattle.std.proofs.Common.{◌≡◌, ◌≢◌, ⊎_elim, ℕ, zero, suc, ℤ, pos, negsuc, ◌+◌, ◌-◌, ◌*◌, ◌^◌, ◌<◌, ◌≤◌, ◌+ℤ◌, ◌-ℤ◌, ◌*ℤ◌, ◌≤ℤ◌, ◌<ℤ◌, unsigned_abs, Bool, true, false, not, eqb, cond, List, [], ◌∷◌, ◌++◌, length, length-append, map, get_or, slice_get, Option, Some, None, arith, refl, sym, ap, subst, ◌∙◌}
-use Rattle.std.specs.List.{filter, AllByRecursion}
-use Rattle.std.specs.Prelude.{◌==◌, if◌then◌else◌, nat_lt}
-use Rattle.std.proofs.lemmas.Int.{ints}
-use Rattle.std.proofs.lemmas.List.{length-map}
-use Rattle.ta_base.proofs.Each.{coefficients_turned, each_append, each_cond, each_map_all, each_turned, each_weaker}
-use Rattle.ta_base.proofs.Integers.{abs_minus, abs_product, abs_sum, choose_small, less_small, zero_or_not}
-use Rattle.ta_linear.specs.Numbers.{InRange}
-use Rattle.ta_linear.specs.Rows.{AllBelow}
-use Rattle.ta_linear.specs.Terms.{coefficient, IsNormal}
-use Rattle.ta_linear.specs.Values.{terms_value}
-use Rattle.ta_linear.specs.declared.form.Form.{Form}
-use Rattle.ta_linear.specs.declared.row.Row.{Row}
-use Rattle.ta_linear.specs.declared.row.System.{System}
-use Rattle.ta_linear.proofs.TermLemmas.{IsNormal-higher, IsNormal-lower, coefficient-below}
-use Rattle.ta_automaton.specs.declared.automaton.Automaton.{Automaton}
-use Rattle.ta_automaton.specs.declared.condition.Comparison.{Comparison}
-use Rattle.ta_automaton.specs.declared.file.File.{File}
+use Rattle.ta_encode.proofs.Common.{◌≡◌, ◌≢◌, ⊎_elim, ℕ, zero, suc, ℤ, pos, negsuc, ◌+◌, ◌-◌, ◌*◌, ◌^◌, ◌<◌, ◌≤◌, ◌+ℤ◌, ◌-ℤ◌, ◌*ℤ◌, ◌≤ℤ◌, ◌<ℤ◌, unsigned_abs, Bool, true, false, not, eqb, cond, List, [], ◌∷◌, ◌++◌, length, length-append, map, get_or, slice_get, Option, Some, None, arith, refl, sym, ap, subst, ◌∙◌, AllByRecursion, ◌==◌, if◌then◌else◌, nat_lt, ints, length-map, coefficients_turned, each_append, each_cond, each_map_all, each_turned, each_weaker, abs_minus, abs_product, abs_sum, choose_small, less_small, zero_or_not, InRange, AllBelow, coefficient, IsNormal, terms_value, Form, Row, System, IsNormal-higher, IsNormal-lower, coefficient-below, Automaton, Comparison, File, Pattern, Rule, has_bit, numbers_from, one_if, location_place, shared_change, rule_change, rule_within, Element, Event, Rise, Fall, allowed_rules, has_fallen, IsRowOf, AreRowsOf, SystemAt, BoundsWithin, pattern_search, sample_meanings, sample_rows, sample_search, Pending, Search, bounded_rows, Meaning, Parameter, Start, Count, Single, place_coefficient, start_meanings, meanings, counts_after, singles_after, LinearRow, Bound, Side, Low, High, bound_row, only_at, side_row, opposite, negated, form_row, counter_row, counter_rows, condition_rows, guard_rows, start_guard_rows, start_coefficient, processes_row, singles_row, event_rows, standing_rows, start_rows, rise_rows, happening_rows, fall_rows, word_rows, SmallForm, SmallRows, SmallCondition, SmallEvents}
+use Rattle.std.specs.List.{filter}
 use Rattle.ta_automaton.specs.declared.pattern.Event.{Event as PatternEvent}
-use Rattle.ta_automaton.specs.declared.pattern.Pattern.{Pattern}
-use Rattle.ta_automaton.specs.declared.rule.Rule.{Rule}
-use Rattle.ta_base.specs.Masks.{has_bit, numbers_from}
-use Rattle.ta_automaton.specs.Places.{one_if, location_place, shared_change, rule_change}
-use Rattle.ta_automaton.proofs.Thresholds.{pattern_within, rule_within}
-use Rattle.ta_words.specs.declared.element.Element.{Element}
-use Rattle.ta_words.specs.declared.element.Element.TheVariants.{Event, Rise, Fall}
-use Rattle.ta_words.specs.Words.{allowed_rules, has_fallen}
-use Rattle.ta_encode.specs.Code.{IsRowOf, AreRowsOf, SystemAt}
-use Rattle.ta_encode.specs.Lines.{BoundsWithin}
-use Rattle.ta_encode.specs.PatternSearch.{pattern_search}
-use Rattle.ta_encode.specs.Sample.{sample_meanings, sample_rows, sample_search}
-use Rattle.ta_encode.specs.Search.{Pending, Search, bounded_rows}
-use Rattle.ta_encode.specs.Unknowns.{Meaning, Parameter, Start, Count, Single, place_coefficient, start_meanings, meanings, counts_after, singles_after}
-use Rattle.ta_encode.specs.System.{LinearRow, Bound, Side, Low, High, bound_row, only_at, side_row, opposite, negated, form_row, counter_row, counter_rows, condition_rows, guard_rows, start_guard_rows, start_coefficient, processes_row, singles_row, event_rows, standing_rows, start_rows, rise_rows, happening_rows, fall_rows, word_rows}
-use Rattle.ta_encode.specs.Inside.Lines.{SmallForm, SmallRows, SmallCondition, SmallEvents}
 use Rattle.ta_encode.proofs.Changes.{small_updates, one_if-small}
-use Rattle.ta_encode.proofs.Drafts.{events_small}
+use Rattle.ta_encode.proofs.Drafts.{events_small, start_small as small_at_start}
 use Rattle.ta_encode.proofs.Running.{Small, if_other, if_same}
 use Rattle.ta_encode.proofs.Samples.{sample_few}
-use Rattle.ta_encode.proofs.Smallness.{fall_rows_small, places_most, processes_small, resilience_small, rise_rows_small, small_condition}
+use Rattle.ta_encode.proofs.Smallness.{fall_rows_small, processes_small, resilience_small, rise_rows_small}
 
 updates_small : (ts : List (ℕ × ℤ)) (x : ℕ) → AllByRecursion Small ts → unsigned_abs (coefficient ts x) ≤ length ts * 1000000000
 updates_small [] x h = omega arith
@@ -373,7 +341,7 @@ system_exists s w few mild bounds =
 pub word_system : (file : File) (number : ℕ) (p : Pattern) (pairs : List (ℕ × ℕ)) (w : Pending) → slice_get file.patterns number ≡ Some p → length (meanings file.automaton p w.start w.past) ≤ 2 ^ 32 → BoundsWithin (length (meanings file.automaton p w.start w.past)) w.bounds → (system : System) × SystemAt (pattern_search file.automaton p pairs) w system
 word_system file number p pairs w at few bounds =
     let a = file.automaton in
-    let start = small_condition (length a.parameters + length a.shared + length a.locations) p.start (places_most a) (pattern_within file number p at).start in
+    let start = small_at_start file number p at in
     system_exists (pattern_search a p pairs) w few (word_mild a p start (events_small file number p at) w.start w.past) bounds
 
 -- and so has each word of the search for a sample

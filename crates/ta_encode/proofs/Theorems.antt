@@ -1,22 +1,5 @@
 -- the laws of words, systems, refutations and runs
-use Rattle.std.proofs.Common.{◌≡◌, ◌≤◌, inl, inr, true, ℕ, ◌<◌, ◌+◌, List, [], ◌∷◌, ◌++◌, map, get_or, take, length, length-append, arith, reverse, sym, ap, ◌∙◌, subst, slice_get, Some}
-use Rattle.std.proofs.lemmas.List.{reverse-reverse, length-map}
-use Rattle.std.proofs.lemmas.Bool.{false≢true}
-use Rattle.ta_base.proofs.Bits.{all_below-at}
-use Rattle.ta_base.proofs.Lists.{take_first}
-use Rattle.ta_base.proofs.Ranges.{each_index}
-use Rattle.ta_automaton.specs.declared.automaton.Automaton.{Automaton}
-use Rattle.ta_automaton.specs.declared.pattern.Pattern.{Pattern}
-use Rattle.ta_automaton.specs.declared.file.File.{File}
-use Rattle.ta_automaton.specs.Runs.{Config, LoopsPure, Occurs}
-use Rattle.ta_base.specs.Masks.{numbers_from}
-use Rattle.ta_automaton.proofs.Thresholds.{pattern_within, after_earlier}
-use Rattle.ta_implied.specs.Implied.{Good}
-use Rattle.ta_words.specs.declared.element.Element.{Element}
-use Rattle.ta_words.specs.Words.{LegalUnder, has_event, is_complete}
-use Rattle.ta_encode.specs.Unknowns.{Parameter, Start, start_locations, start_meanings, meanings}
-use Rattle.ta_encode.specs.System.{word_rows, SolvesWord}
-use Rattle.ta_encode.specs.Laws.{EndsAt, IsReordered, ReorderedTo, RunsReorderTo, start_values, steps_of, RunsReorder, ProofsShowSafety, ProofsLeaveNoSolution, SolutionsBecomeRuns, StepsOfSolutionsRun}
+use Rattle.ta_encode.proofs.Common.{◌≡◌, ◌≤◌, inl, inr, true, ℕ, ◌<◌, ◌+◌, List, [], ◌∷◌, ◌++◌, map, get_or, take, length, length-append, arith, reverse, sym, ap, ◌∙◌, subst, slice_get, Some, reverse-reverse, length-map, false≢true, all_below-at, take_first, each_index, Automaton, Pattern, File, Config, LoopsPure, Occurs, numbers_from, pattern_within, after_earlier, Good, Element, LegalUnder, has_event, is_complete, Parameter, Start, start_locations, start_meanings, meanings, word_rows, SolvesWord, EndsAt, IsReordered, ReorderedTo, RunsReorderTo, start_values, steps_of, RunsReorder, ProofsShowSafety, ProofsLeaveNoSolution, SolutionsBecomeRuns, StepsOfSolutionsRun}
 use Rattle.ta_encode.proofs.Moments.{AllHold-left}
 use Rattle.ta_encode.proofs.Start.{parameter_values, start_counts}
 use Rattle.ta_encode.proofs.Switch.{Begins}

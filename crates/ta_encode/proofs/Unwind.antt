@@ -1,40 +1,13 @@
 -- the run of a word's solution, element by element
-use Rattle.std.proofs.Common.{◌≡◌, ◌≢◌, ◌⊎◌, inl, inr, ℕ, ◌+◌, ◌<◌, ◌≤◌, pos, ◌+ℤ◌, ◌≤ℤ◌, List, [], ◌∷◌, ◌++◌, map, length, drop, eqb, cond, true, false, not, ◌||◌, arith, sym, ap, ◌∙◌, refl, subst, slice_get, get_or, Some, Option, IsBitSet, zero-add, append_assoc}
-use Rattle.std.proofs.lemmas.Int.{ints}
-use Rattle.std.proofs.lemmas.Bool.{false≢true, cases_Bool, and_parts, eqb-true, or_cases, not-true, not_from_false, or_right}
-use Rattle.std.proofs.lemmas.Bool.Decides.{nat_tests, eqb_tells}
-use Rattle.ta_base.proofs.Bits.{all_below-at, bit_true}
-use Rattle.ta_base.proofs.Booleans.{implies-at}
-use Rattle.ta_base.proofs.Naturals.{position_here, position_other}
+use Rattle.ta_encode.proofs.Common.{◌≡◌, ◌≢◌, ◌⊎◌, inl, inr, ℕ, ◌+◌, ◌<◌, ◌≤◌, pos, ◌+ℤ◌, ◌≤ℤ◌, List, [], ◌∷◌, ◌++◌, map, length, drop, eqb, cond, true, false, not, ◌||◌, arith, sym, ap, ◌∙◌, refl, subst, slice_get, get_or, Some, Option, IsBitSet, zero-add, append_assoc, ints, false≢true, cases_Bool, and_parts, eqb-true, or_cases, not-true, not_from_false, or_right, nat_tests, eqb_tells, all_below-at, bit_true, implies-at, position_here, position_other, value_of, RowHolds, Row, Rule, Automaton, terms_value-same, Pattern, Config, value_at, Holds, has_bit, implies, In, Element, Event, Rise, Fall, has_event, has_rise, has_fallen, follows, children, LegalWord, allowed_rules, may_fire, one_if, location_place, Meaning, Single, meanings, counts_after, singles_after, place_coefficient, opposite, negated, counter_rows, guard_rows, standing_rows, singles_row, event_rows, rise_rows, happening_rows, fall_rows, word_rows, AllHold, total, value_at-location, one_if-ne, from_within, Whole, fits_whole, Trail, FiresBefore, FiresFall, WordFires, steps_of, position_in, later_after, change_location, fall_back, rise_on}
 use Rattle.ta_encode.proofs.Moments.{AllHold-left}
-use Rattle.ta_linear.specs.Values.{value_of, RowHolds}
-use Rattle.ta_linear.specs.declared.row.Row.{Row}
-use Rattle.ta_automaton.specs.declared.rule.Rule.{Rule}
-use Rattle.ta_automaton.specs.declared.automaton.Automaton.{Automaton}
-use Rattle.ta_automaton.proofs.Sums.{terms_value-same}
 use Rattle.ta_automaton.specs.declared.pattern.Event.{Event as PatternEvent}
-use Rattle.ta_automaton.specs.declared.pattern.Pattern.{Pattern}
-use Rattle.ta_automaton.specs.Runs.{Config, value_at, Holds}
-use Rattle.ta_base.specs.Masks.{has_bit, implies, In}
-use Rattle.ta_words.specs.declared.element.Element.{Element}
-use Rattle.ta_words.specs.declared.element.Element.TheVariants.{Event, Rise, Fall}
-use Rattle.ta_words.specs.Words.{has_event, has_rise, has_fallen, follows, children, LegalWord, allowed_rules, may_fire}
-use Rattle.ta_automaton.specs.Places.{one_if, location_place}
-use Rattle.ta_encode.specs.Unknowns.{Meaning, Single, meanings, counts_after, singles_after, place_coefficient}
-use Rattle.ta_encode.specs.System.{opposite, negated, counter_rows, guard_rows, standing_rows, singles_row, event_rows, rise_rows, happening_rows, fall_rows, word_rows, AllHold}
-use Rattle.ta_automaton.specs.Sums.{total}
-use Rattle.ta_automaton.proofs.Moves.{value_at-location, one_if-ne}
 use Rattle.ta_encode.proofs.State.{change_of}
 use Rattle.ta_encode.proofs.Switch.{KeptEmpty}
-use Rattle.ta_automaton.proofs.Thresholds.{falls as falls_rows, rises as rises_rows, from_within}
-use Rattle.ta_automaton.proofs.Fire.{Whole}
-use Rattle.ta_automaton.proofs.Trails.{Trail}
-use Rattle.ta_encode.specs.Laws.{FiresBefore, FiresFall, WordFires, steps_of, position_in}
+use Rattle.ta_automaton.proofs.Thresholds.{falls as falls_rows, rises as rises_rows}
 use Rattle.ta_encode.proofs.Forward.{onward_of}
 use Rattle.ta_encode.proofs.Singles.{one_single, only_single}
-use Rattle.ta_encode.proofs.Segment.{Segment, Fired, EachMay, may_rules, fire_all, fire_last, fits_whole, may_parts}
-use Rattle.ta_automaton.proofs.Onward.{later_after, change_location}
-use Rattle.ta_automaton.proofs.Thresholds.{fall_back, rise_on}
+use Rattle.ta_encode.proofs.Segment.{Segment, Fired, EachMay, may_rules, fire_all, fire_last, may_parts}
 use Rattle.ta_encode.proofs.Values.{place_value, counter_natural, guard_holds, condition_back, AllHold-right, combine-split, unfolded, unfolded-total, unfolded-may, allowed_may, event_ready}
 
 -- the run of some firings for a word, whose end has the values of a moment, and the events' positions in it

@@ -1,29 +1,7 @@
 -- what a solution says at a moment
-use Rattle.std.proofs.Common.{◌≡◌, inl, inr, ℕ, zero, suc, ◌+◌, ◌-◌, ◌^◌, ◌<◌, ℤ, pos, ◌+ℤ◌, ◌*ℤ◌, ◌≤ℤ◌, List, [], ◌∷◌, ◌++◌, map, length, drop, cond, Bool, true, false, not, arith, sym, ap, ◌∙◌, refl, subst, slice_get, Some}
-use Rattle.std.specs.List.{All, filter}
-use Rattle.std.proofs.lemmas.Int.{ints}
-use Rattle.std.proofs.lemmas.Bool.{false≢true, not_from_false}
-use Rattle.std.proofs.Math.IntN.{*ℤ-zero}
-use Rattle.ta_base.proofs.Integers.{one_times, times_next}
-use Rattle.ta_base.proofs.Members.{In-filter, filter_passes, in_append, in_more}
-use Rattle.ta_base.proofs.Ranges.{In-numbers}
+use Rattle.ta_encode.proofs.Common.{◌≡◌, inl, inr, ℕ, zero, suc, ◌+◌, ◌-◌, ◌^◌, ◌<◌, ℤ, pos, ◌+ℤ◌, ◌*ℤ◌, ◌≤ℤ◌, List, [], ◌∷◌, ◌++◌, map, length, drop, cond, Bool, true, false, not, arith, sym, ap, ◌∙◌, refl, subst, slice_get, Some, All, ints, false≢true, not_from_false, *ℤ-zero, one_times, times_next, In-filter, filter_passes, in_append, in_more, In-numbers, value_of, RowHolds, Form, Row, Comparison, Automaton, Pattern, Config, value_at, has_bit, numbers_from, In, Element, Event, Rise, Fall, may_fire, allowed_rules, children, is_complete, is_ready, is_standing, may_rise, Meaning, place_coefficient, location_place, LinearRow, form_row, counter_row, counter_rows, condition_rows, guard_rows, sum_of_products, row_value, AllHold, total, terms_value-same}
+use Rattle.std.specs.List.{filter}
 use Rattle.ta_encode.proofs.Moments.{AllHold-left}
-use Rattle.ta_linear.specs.Values.{value_of, RowHolds}
-use Rattle.ta_linear.specs.declared.form.Form.{Form}
-use Rattle.ta_linear.specs.declared.row.Row.{Row}
-use Rattle.ta_automaton.specs.declared.condition.Comparison.{Comparison}
-use Rattle.ta_automaton.specs.declared.automaton.Automaton.{Automaton}
-use Rattle.ta_automaton.specs.declared.pattern.Pattern.{Pattern}
-use Rattle.ta_automaton.specs.Runs.{Config, value_at}
-use Rattle.ta_base.specs.Masks.{has_bit, numbers_from, In}
-use Rattle.ta_words.specs.declared.element.Element.{Element}
-use Rattle.ta_words.specs.declared.element.Element.TheVariants.{Event, Rise, Fall}
-use Rattle.ta_words.specs.Words.{may_fire, allowed_rules, children, is_complete, is_ready, is_standing, may_rise}
-use Rattle.ta_encode.specs.Unknowns.{Meaning, place_coefficient}
-use Rattle.ta_automaton.specs.Places.{location_place}
-use Rattle.ta_encode.specs.System.{LinearRow, form_row, counter_row, counter_rows, condition_rows, guard_rows, sum_of_products, row_value, AllHold}
-use Rattle.ta_automaton.specs.Sums.{total}
-use Rattle.ta_automaton.proofs.Sums.{terms_value-same}
 use Rattle.ta_encode.proofs.Combine.{combine-terms}
 use Rattle.ta_encode.proofs.Segment.{EachMay}
 

@@ -1,19 +1,6 @@
 -- the system of a word with bounds, from that without
-use Rattle.std.proofs.Common.{◌≡◌, ◌≢◌, ℕ, zero, suc, ◌<◌, ◌≤◌, ◌^◌, ℤ, pos, negsuc, ◌+ℤ◌, ◌-ℤ◌, List, [], ◌∷◌, ◌++◌, map, get_or, arith, sym, ap, ◌∙◌, refl, subst, append-nil, inl, inr}
-use Rattle.std.proofs.lemmas.Bool.{cases_lt}
-use Rattle.std.proofs.lemmas.Int.{ints}
-use Rattle.ta_implied.proofs.Copying.{below_append}
-use Rattle.ta_linear.specs.Numbers.{InRange}
-use Rattle.ta_linear.specs.Terms.{IsNormal, coefficient}
-use Rattle.ta_linear.specs.Rows.{AllBelow}
-use Rattle.ta_linear.specs.declared.form.Form.{Form}
-use Rattle.ta_linear.specs.declared.row.Row.{Row}
-use Rattle.ta_linear.specs.declared.row.System.{System}
-use Rattle.ta_words.specs.declared.element.Element.{Element}
-use Rattle.ta_encode.specs.System.{LinearRow, Bound, Side, Low, High, only_at, bound_row}
-use Rattle.ta_encode.specs.Code.{IsRowOf, AreRowsOf, SystemAt}
-use Rattle.ta_encode.specs.Search.{Search}
-use Rattle.ta_encode.specs.Lines.{BoundWithin, BoundsWithin}
+use Rattle.ta_encode.proofs.Common.{◌≡◌, ◌≢◌, ℕ, zero, suc, ◌<◌, ◌≤◌, ◌^◌, ℤ, pos, negsuc, ◌+ℤ◌, ◌-ℤ◌, List, [], ◌∷◌, ◌++◌, map, get_or, arith, sym, ap, ◌∙◌, refl, subst, inl, inr, cases_lt, ints, below_append, InRange, IsNormal, coefficient, AllBelow, Form, Row, System, Element, LinearRow, Bound, Side, Low, High, only_at, bound_row, IsRowOf, AreRowsOf, SystemAt, Search, BoundWithin, BoundsWithin}
+use Rattle.std.proofs.Common.{append-nil}
 use Rattle.ta_encode.proofs.Running.{at_variable, if_same, if_other}
 use Rattle.ta_encode.proofs.Adding.{RowsOf-append}
 

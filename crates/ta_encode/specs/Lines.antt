@@ -1,6 +1,7 @@
 -- Rows written from terms over places
 use Rattle.std.specs.Prelude.{ℕ, ℤ, pos, ◌^◌, ◌<◌, ◌≤◌, ◌≤ℤ◌, ◌<ℤ◌, ◌-ℤ◌, unsigned_abs, if◌then◌else◌, Bool, List, length, map}
 use Rattle.std.specs.List.{AllByRecursion}
+use Rattle.ta_base.specs.declared.limits.TheConstants.{LARGEST_NUMBER}
 use Rattle.ta_linear.specs.Values.{terms_value}
 use Rattle.ta_automaton.specs.declared.automaton.Automaton.{Automaton}
 use Rattle.ta_encode.specs.Unknowns.{Meaning, place_coefficient}
@@ -11,7 +12,7 @@ use Rattle.ta_encode.specs.declared.line.Sense.TheVariants.{Plain, Opposite, Neg
 -- at most 64 terms, each coefficient at most 1,000,000,000 in absolute value
 pub record SmallTerms (terms : List (ℕ × ℤ)) : Type 0 where
   pub few : length terms ≤ 64
-  pub small : AllByRecursion (λ (t : ℕ × ℤ). unsigned_abs t.1 ≤ 1000000000) terms
+  pub small : AllByRecursion (λ (t : ℕ × ℤ). unsigned_abs t.1 ≤ LARGEST_NUMBER) terms
 
 -- a coefficient of a row that is written in a sense
 abbrev pub coefficient_in_sense : Sense → ℤ → ℤ

@@ -5,10 +5,11 @@ use Rattle.ta_automaton.specs.declared.automaton.Automaton.{Automaton}
 use Rattle.ta_automaton.specs.declared.pattern.Pattern.{Pattern}
 use Rattle.ta_words.specs.declared.element.Element.{Element}
 use Rattle.ta_encode.specs.Unknowns.{Meaning}
-use Rattle.ta_encode.specs.Inside.Draft.{IsDraftOf}
+use Rattle.ta_encode.specs.Inside.Draft.{IsDraft, IsDraftOf}
 use Rattle.ta_encode.specs.declared.growing.Mark.{Mark}
 use Rattle.ta_encode.specs.declared.growing.Encoding.{Encoding}
 use Rattle.ta_encode.specs.declared.growing.Part.{Part}
+use Rattle.ta_encode.specs.declared.origin.Origin.{Origin}
 
 -- no unknowns and rows
 abbrev pub no_mark : Mark
@@ -34,13 +35,13 @@ abbrev pub IsEncoding : Automaton → Pattern → Encoding → Type 0
 IsEncoding a p e = AreMarks a p e.start_mask e.elements.items e.meanings.items e.system.rows e.marks.items
 
 -- what is written of a word already, where `before` are the rows of the word before: it stands after `from` of the elements, and the first rows are the same
-pub record IsPart (a : Automaton) (p : Pattern) (start : ℕ) (elements : List Element) (before : List Row) (part : Part) : Type 0 where
+pub record IsPart (o : Origin) (elements : List Element) (before : List Row) (part : Part) : Type 0 where
   pub within : part.from ≤ length elements
   pub marked : length part.marks.items ≡ part.from + 1
-  pub marks : AreMarks a p start elements part.meanings.items part.rows.items part.marks.items
-  pub drafted : IsDraftOf a p start (reverse (take part.from elements)) part.meanings.items part.rows.items
-  pub same : part.same ≤ length part.rows.items
-  pub rows_are : take part.same before ≡ take part.same part.rows.items
+  pub marks : AreMarks o.file.now.automaton o.pattern.now o.start_mask elements part.draft.meanings.items part.draft.rows.items part.marks.items
+  pub drafted : IsDraft o (reverse (take part.from elements)) part.draft
+  pub same : part.same ≤ length part.draft.rows.items
+  pub rows_are : take part.same before ≡ take part.same part.draft.rows.items
 
 -- the rows of a system that are the same as before
 pub record SameRows (before : List Row) (same : ℕ) (after : List Row) : Type 0 where

@@ -5,13 +5,14 @@ ghost use Rattle.std.specs.Prelude.{◌≡◌, ◌<◌, IfOk, length, reverse};
 ghost use Rattle.ta_words.specs.Calls.{OfPattern};
 ghost use Rattle.ta_words.specs.Words.{LegalWord};
 ghost use Rattle.ta_encode.specs.Code.{SystemOf};
+ghost use Rattle.ta_encode.specs.Inside.Draft.{AreEncoded, HasWritten};
 ghost use Rattle.ta_encode.specs.Lines.{BoundsWithin};
 ghost use Rattle.ta_encode.specs.Unknowns.{meanings};
 
-use crate::draft::{push_elements, push_start};
+use crate::draft::Draft;
 use crate::meaning::{Bound, Meaning};
+use crate::origin::Origin;
 use crate::rows::push_bounds;
-use crate::unknowns::start_meanings;
 use std::alloc::{AllocError, Global};
 use ta_automaton::File;
 use ta_base::List;
@@ -50,35 +51,40 @@ pub fn encode(
     ensures system { IfOk result (λ encoded. OfPattern file.now pattern (λ p. SystemOf file.now.automaton p start_mask (reverse word.now) bounds.now encoded.system)) }
     ensures meanings { IfOk result (λ encoded. OfPattern file.now pattern (λ p. encoded.meanings ≡ meanings file.now.automaton p start_mask (reverse word.now))) }
 {
-    let automaton = &file.automaton;
     let item = &file.patterns.as_slice()[pattern as usize];
-    let elements = word.elements();
-    let mut meanings = start_meanings(alloc, automaton, item)?;
-    let mut rows = Vec::new(alloc);
-    push_start(
-        alloc,
-        automaton,
-        meanings.as_slice(),
-        item,
-        start_mask,
-        &mut rows,
-    )?;
-    push_elements(
-        alloc,
+    let origin = Origin {
         file,
-        pattern,
+        number: pattern,
+        pattern: item,
         start_mask,
-        elements,
-        &mut meanings,
-        &mut rows,
-    )?;
-    let unknowns = meanings.as_slice().len();
-    push_bounds(alloc, unknowns, bounds, &mut rows)?;
-    Ok(Encoded {
-        system: System {
-            unknowns: unknowns as u32,
-            rows: List::from_vec(rows),
-        },
-        meanings: List::from_vec(meanings),
-    })
+    };
+    let mut draft = Draft::start(alloc, &origin)?;
+    draft.push_elements(&origin, word.elements())?;
+    let encoded = draft.encoded(bounds)?;
+    Ok(encoded)
+}
+
+impl<'a> Draft<'a> {
+    /// The system of what is written, with bounds.
+    pub(crate) fn encoded(self, bounds: &[Bound]) -> Result<Encoded, AllocError>
+        requires bounds { BoundsWithin (length self.meanings.items) bounds.now }
+        requires written { HasWritten (length self.meanings.items) self.rows.items }
+        ensures { IfOk result (λ encoded. AreEncoded self.entry.meanings.items self.entry.rows.items bounds.now encoded.meanings encoded.system) }
+    {
+        let Draft {
+            alloc,
+            automaton: _,
+            meanings,
+            mut rows,
+        } = self;
+        let unknowns = meanings.len();
+        push_bounds(alloc, unknowns, bounds, &mut rows)?;
+        Ok(Encoded {
+            system: System {
+                unknowns: unknowns as u32,
+                rows: List::from_vec(rows),
+            },
+            meanings: List::from_vec(meanings),
+        })
+    }
 }

@@ -1,16 +1,13 @@
 //! Rows of a word's end.
 #![tactic(auto)]
 
-ghost use Rattle.std.specs.Prelude.{◌^◌, ◌≡◌, ◌<◌, OnOk, length};
+ghost use Rattle.std.specs.Prelude.{OnOk};
 ghost use Rattle.ta_encode.specs.Ends.{ended_rows};
-ghost use Rattle.ta_encode.specs.Inside.Lines.{AddsRows};
+ghost use Rattle.ta_encode.specs.Inside.Draft.{Adds};
 
+use crate::draft::Draft;
 use crate::line::Sense;
-use crate::meaning::Meaning;
-use crate::rows::{push_counters, push_guards};
-use std::alloc::{AllocError, Global};
-use ta_automaton::Automaton;
-use ta_linear::Row;
+use std::alloc::AllocError;
 
 /// What is asked of a word's end: which rise guards fail there, and in which locations anybody may
 /// be. Bit i stands for number i.
@@ -20,31 +17,18 @@ pub struct WordEnd {
     pub inhabited: u32,
 }
 
-/// The rows of a word's end, where anything is asked of it.
-pub(crate) fn push_end(
-    alloc: Global,
-    automaton: &Automaton,
-    meanings: &[Meaning],
-    end: Option<WordEnd>,
-    rows: &mut Vec<Row>,
-) -> Result<(), AllocError>
-    requires { length meanings.now < 2 ^ 32 }
-    ensures { OnOk result (AddsRows (ended_rows automaton.now meanings.now end) (length meanings.now) rows.old.items rows.new.items) }
-{
-    match end {
-        None => Ok(()),
-        Some(WordEnd { failing, inhabited }) => {
-            let guards = automaton.rise.as_slice();
-            push_guards(
-                alloc,
-                automaton,
-                meanings,
-                guards,
-                failing,
-                Sense::Negated,
-                rows,
-            )?;
-            push_counters(alloc, automaton, meanings, inhabited, Sense::Opposite, rows)
+impl<'a> Draft<'a> {
+    /// The rows of a word's end, where anything is asked of it.
+    pub(crate) fn push_end(&mut self, end: Option<WordEnd>) -> Result<(), AllocError>
+        ensures { OnOk result (Adds (λ a ms. ended_rows a ms end) self.old self.new) }
+    {
+        match end {
+            None => {}
+            Some(WordEnd { failing, inhabited }) => {
+                self.push_rises(failing, Sense::Negated)?;
+                self.push_counters(inhabited, Sense::Opposite)?;
+            }
         }
+        Ok(())
     }
 }

@@ -6,7 +6,7 @@ ghost use Rattle.ta_words.specs.Calls.{OfPattern};
 ghost use Rattle.ta_words.specs.Words.{LegalWord};
 ghost use Rattle.ta_encode.specs.Code.{SystemOf};
 ghost use Rattle.ta_encode.specs.Ends.{EndedSystem};
-ghost use Rattle.ta_encode.specs.Inside.Draft.{IsDraftOf};
+ghost use Rattle.ta_encode.specs.Inside.Draft.{IsDraft, IsNamed};
 ghost use Rattle.ta_encode.specs.Lines.{BoundsWithin};
 ghost use Rattle.ta_encode.specs.Inside.Lines.{IsBehind};
 ghost use Rattle.ta_encode.specs.Unknowns.{meanings};
@@ -16,14 +16,15 @@ ghost use Rattle.ta_automaton.specs.declared.automaton.Automaton.{Automaton};
 ghost use Rattle.ta_automaton.specs.declared.pattern.Pattern.{Pattern};
 ghost use Rattle.ta_words.specs.declared.element.Element.{Element};
 
-use crate::draft::{push_element, push_start};
-use crate::ending::{WordEnd, push_end};
+use crate::draft::Draft;
+use crate::encoded::Encoded;
+use crate::ending::WordEnd;
 use crate::meaning::{Bound, Meaning};
-use crate::rows::push_bounds;
-use crate::unknowns::start_meanings;
+use crate::origin::Origin;
 use std::alloc::{AllocError, Global};
 use ta_automaton::File;
 use ta_base::List;
+use ta_base::limits::LONGEST_WORD;
 use ta_linear::{Row, System};
 use ta_words::{Element, Word};
 
@@ -67,54 +68,47 @@ fn is_same(left: Element, right: Element) -> bool
     left == right
 }
 
+/// How many unknowns and rows a draft has.
+fn mark_of(draft: &Draft) -> Mark
+    ensures unknowns { result.unknowns ≡ length draft.now.meanings.items }
+    ensures rows { result.rows ≡ length draft.now.rows.items }
+{
+    Mark {
+        unknowns: draft.meanings.len(),
+        rows: draft.rows.len(),
+    }
+}
+
 /// The unknowns and rows of elements from a number on, and a mark after each.
 fn push_from(
-    alloc: Global,
-    file: &File,
-    pattern: u32,
-    start_mask: u8,
+    origin: &Origin,
     elements: &[Element],
     from: usize,
     marks: &mut Vec<Mark>,
-    meanings: &mut Vec<Meaning>,
-    rows: &mut Vec<Row>,
+    draft: &mut Draft,
 ) -> Result<(), AllocError>
-    requires exists { pattern < length file.now.patterns }
-    requires few { length elements.now ≤ 30 }
+    requires named { IsNamed origin.now }
+    requires few { length elements.now ≤ LONGEST_WORD }
     requires from { from ≤ length elements.now }
     requires marked { length marks.old.items ≡ from + 1 }
-    requires marks { OfPattern file.now pattern (λ p. AreMarks file.now.automaton p start_mask elements.now meanings.old.items rows.old.items marks.old.items) }
-    requires drafted { OfPattern file.now pattern (λ p. IsDraftOf file.now.automaton p start_mask (reverse (take from elements.now)) meanings.old.items rows.old.items) }
-    ensures marks { OnOk result (OfPattern file.now pattern (λ p. AreMarks file.now.automaton p start_mask elements.now meanings.new.items rows.new.items marks.new.items)) }
-    ensures drafted { OnOk result (OfPattern file.now pattern (λ p. IsDraftOf file.now.automaton p start_mask (reverse elements.now) meanings.new.items rows.new.items)) }
-    ensures rows { OnOk result (IsBehind rows.old.items rows.new.items) }
+    requires marks { AreMarks origin.now.file.now.automaton origin.now.pattern.now origin.now.start_mask elements.now draft.old.meanings.items draft.old.rows.items marks.old.items }
+    requires drafted { IsDraft origin.now (reverse (take from elements.now)) draft.old }
+    ensures marks { OnOk result (AreMarks origin.now.file.now.automaton origin.now.pattern.now origin.now.start_mask elements.now draft.new.meanings.items draft.new.rows.items marks.new.items) }
+    ensures drafted { OnOk result (IsDraft origin.now (reverse elements.now) draft.new) }
+    ensures rows { OnOk result (IsBehind draft.old.rows.items draft.new.rows.items) }
 {
     for number in from..elements.len() {
-        let before = &elements[..number];
-        push_element(
-            alloc,
-            file,
-            pattern,
-            start_mask,
-            before,
-            elements[number],
-            meanings,
-            rows,
-        )?;
-        marks.push(Mark {
-            unknowns: meanings.len(),
-            rows: rows.len(),
-        })?;
+        draft.push_element(origin, &elements[..number], elements[number])?;
+        marks.push(mark_of(draft))?;
     }
     Ok(())
 }
 
 /// What is written of a word already.
 #[derive(Drop)]
-pub(crate) struct Part {
+pub(crate) struct Part<'a> {
     marks: Vec<Mark>,
-    meanings: Vec<Meaning>,
-    rows: Vec<Row>,
+    draft: Draft<'a>,
     /// How many of its elements are written.
     from: usize,
     /// How many rows are those of the word before.
@@ -129,44 +123,32 @@ pub struct Grown {
 }
 
 /// What is written at the start.
-fn begin(alloc: Global, file: &File, pattern: u32, start_mask: u8) -> Result<Part, AllocError>
-    requires { pattern < length file.now.patterns }
-    ensures { IfOk result (λ part. OfPattern file.now pattern (λ p. (elements : List Element) (before : List Row) → IsPart file.now.automaton p start_mask elements before part)) }
+fn begin<'a>(alloc: Global, origin: &Origin<'a>) -> Result<Part<'a>, AllocError>
+    requires { IsNamed origin.now }
+    ensures { IfOk result (λ part. (elements : List Element) (before : List Row) → IsPart origin.now elements before part) }
 {
-    let automaton = &file.automaton;
-    let item = &file.patterns.as_slice()[pattern as usize];
-    let meanings = start_meanings(alloc, automaton, item)?;
-    let mut rows = Vec::new(alloc);
-    push_start(
-        alloc,
-        automaton,
-        meanings.as_slice(),
-        item,
-        start_mask,
-        &mut rows,
-    )?;
+    let draft = Draft::start(alloc, origin)?;
     let mut marks = Vec::new(alloc);
-    marks.push(Mark {
-        unknowns: meanings.len(),
-        rows: rows.len(),
-    })?;
+    marks.push(mark_of(&draft))?;
     Ok(Part {
         marks,
-        meanings,
-        rows,
+        draft,
         from: 0,
         same: 0,
     })
 }
 
-/// What stays of the unknowns and rows after so many elements.
-fn cut(shared: usize, marks: Vec<Mark>, meanings: Vec<Meaning>, rows: Vec<Row>) -> Part
+/// What stays of the marks, unknowns and rows after so many elements.
+fn cut(
+    shared: usize,
+    marks: Vec<Mark>,
+    meanings: Vec<Meaning>,
+    rows: Vec<Row>,
+) -> (Vec<Mark>, Vec<Meaning>, Vec<Row>)
     requires { shared < length marks.items }
-    ensures marks { result.marks.items ≡ take (shared + 1) marks.items }
-    ensures meanings { result.meanings.items ≡ take (mark_at marks.items shared).unknowns meanings.items }
-    ensures rows { result.rows.items ≡ take (mark_at marks.items shared).rows rows.items }
-    ensures from { result.from ≡ shared }
-    ensures same { result.same ≡ length result.rows.items }
+    ensures marks { result.0.items ≡ take (shared + 1) marks.items }
+    ensures meanings { result.1.items ≡ take (mark_at marks.items shared).unknowns meanings.items }
+    ensures rows { result.2.items ≡ take (mark_at marks.items shared).rows rows.items }
 {
     let mut kept_marks = marks;
     let mut kept_meanings = meanings;
@@ -175,28 +157,20 @@ fn cut(shared: usize, marks: Vec<Mark>, meanings: Vec<Meaning>, rows: Vec<Row>) 
     kept_marks.truncate(shared + 1);
     kept_meanings.truncate(last.unknowns);
     kept_rows.truncate(last.rows);
-    let same = kept_rows.len();
-    Part {
-        marks: kept_marks,
-        meanings: kept_meanings,
-        rows: kept_rows,
-        from: shared,
-        same,
-    }
+    (kept_marks, kept_meanings, kept_rows)
 }
 
 /// What is written already of a word: what it shares with the word before, or the start.
-fn part_of(
+fn part_of<'a>(
     alloc: Global,
-    file: &File,
-    pattern: u32,
-    start_mask: u8,
+    origin: &Origin<'a>,
     elements: &[Element],
     encoding: Encoding,
-) -> Result<Part, AllocError>
-    requires exists { pattern < length file.now.patterns }
-    requires encoding { OfPattern file.now pattern (λ p. IsEncoding file.now.automaton p encoding) }
-    ensures { IfOk result (λ part. OfPattern file.now pattern (λ p. IsPart file.now.automaton p start_mask elements.now encoding.system.rows part)) }
+) -> Result<Part<'a>, AllocError>
+    requires named { IsNamed origin.now }
+    requires few { length elements.now ≤ LONGEST_WORD }
+    requires encoding { IsEncoding origin.now.file.now.automaton origin.now.pattern.now encoding }
+    ensures { IfOk result (IsPart origin.now elements.now encoding.system.rows) }
 {
     let Encoding {
         start_mask: was,
@@ -206,62 +180,58 @@ fn part_of(
         system,
     } = encoding;
     let shared = shared_length(drafted.as_slice(), elements);
-    if was == start_mask && shared < marks.len() {
+    if was == origin.start_mask && shared < marks.len() {
         let System { unknowns: _, rows } = system;
-        return Ok(cut(shared, marks, meanings, rows.into_vec()));
+        let (marks, meanings, rows) = cut(shared, marks, meanings, rows.into_vec());
+        let same = rows.len();
+        let draft = Draft {
+            alloc,
+            automaton: &origin.file.automaton,
+            meanings,
+            rows,
+        };
+        return Ok(Part {
+            marks,
+            draft,
+            from: shared,
+            same,
+        });
     }
-    begin(alloc, file, pattern, start_mask)
+    begin(alloc, origin)
 }
 
 /// The rest of a word, the rows of its end, and its bounds.
 fn finish(
-    alloc: Global,
-    file: &File,
-    pattern: u32,
-    start_mask: u8,
+    origin: &Origin,
     elements: &[Element],
     end: Option<WordEnd>,
     bounds: &[Bound],
     part: Part,
 ) -> Result<Grown, AllocError>
-    requires exists { pattern < length file.now.patterns }
-    requires few { length elements.now ≤ 30 }
-    requires bounds { OfPattern file.now pattern (λ p. BoundsWithin (length (meanings file.now.automaton p start_mask (reverse elements.now))) bounds.now) }
-    requires part { OfPattern file.now pattern (λ p. IsPart file.now.automaton p start_mask elements.now part.rows.items part) }
-    ensures encoding { IfOk result (λ grown. OfPattern file.now pattern (λ p. IsEncoding file.now.automaton p grown.encoding)) }
-    ensures system { IfOk result (λ grown. OfPattern file.now pattern (λ p. EndedSystem file.now.automaton p start_mask (reverse elements.now) end bounds.now grown.encoding.system)) }
-    ensures same { IfOk result (λ grown. (grown.same ≡ part.same) × IsBehind part.rows.items grown.encoding.system.rows) }
+    requires named { IsNamed origin.now }
+    requires few { length elements.now ≤ LONGEST_WORD }
+    requires bounds { BoundsWithin (length (meanings origin.now.file.now.automaton origin.now.pattern.now origin.now.start_mask (reverse elements.now))) bounds.now }
+    requires part { IsPart origin.now elements.now part.draft.rows.items part }
+    ensures encoding { IfOk result (λ grown. IsEncoding origin.now.file.now.automaton origin.now.pattern.now grown.encoding) }
+    ensures system { IfOk result (λ grown. EndedSystem origin.now.file.now.automaton origin.now.pattern.now origin.now.start_mask (reverse elements.now) end bounds.now grown.encoding.system) }
+    ensures same { IfOk result (λ grown. (grown.same ≡ part.entry.same) × IsBehind part.entry.draft.rows.items grown.encoding.system.rows) }
 {
     let Part {
         mut marks,
-        mut meanings,
-        mut rows,
+        mut draft,
         from,
         same,
     } = part;
-    push_from(
-        alloc,
-        file,
-        pattern,
-        start_mask,
-        elements,
-        from,
-        &mut marks,
-        &mut meanings,
-        &mut rows,
-    )?;
-    push_end(alloc, &file.automaton, meanings.as_slice(), end, &mut rows)?;
-    let unknowns = meanings.len();
-    push_bounds(alloc, unknowns, bounds, &mut rows)?;
+    let alloc = draft.alloc;
+    push_from(origin, elements, from, &mut marks, &mut draft)?;
+    draft.push_end(end)?;
+    let Encoded { system, meanings } = draft.encoded(bounds)?;
     let encoding = Encoding {
-        start_mask,
+        start_mask: origin.start_mask,
         elements: Vec::from_slice(alloc, elements)?,
         marks,
-        meanings,
-        system: System {
-            unknowns: unknowns as u32,
-            rows: List::from_vec(rows),
-        },
+        meanings: meanings.into_vec(),
+        system,
     };
     Ok(Grown { encoding, same })
 }
@@ -325,10 +295,16 @@ impl Encoding {
         ensures system { IfOk result (λ grown. OfPattern file.now pattern (λ p. EndedSystem file.now.automaton p start_mask (reverse word.now) end bounds.now grown.encoding.system)) }
         ensures same { IfOk result (λ grown. SameRows self.system.rows grown.same grown.encoding.system.rows) }
     {
+        let item = &file.patterns.as_slice()[pattern as usize];
+        let origin = Origin {
+            file,
+            number: pattern,
+            pattern: item,
+            start_mask,
+        };
         let elements = word.elements();
-        let part = part_of(alloc, file, pattern, start_mask, elements, self)?;
-        finish(
-            alloc, file, pattern, start_mask, elements, end, bounds, part,
-        )
+        let part = part_of(alloc, &origin, elements, self)?;
+        let grown = finish(&origin, elements, end, bounds, part)?;
+        Ok(grown)
     }
 }

@@ -11,10 +11,12 @@ mod laws;
 mod line;
 mod meaning;
 mod named;
+mod origin;
 mod place;
 mod rows;
 mod sample;
 mod unknowns;
+mod word;
 
 pub use count::unknown_count;
 pub use encoded::{Encoded, Solution, encode};

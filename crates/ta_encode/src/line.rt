@@ -11,6 +11,7 @@ ghost use Rattle.ta_encode.specs.Lines.{SmallTerms, coefficient_in_sense, line_c
 ghost use Rattle.ta_encode.specs.System.{start_coefficient};
 ghost use Rattle.ta_encode.specs.Unknowns.{place_coefficient};
 
+use crate::draft::Draft;
 use crate::meaning::Meaning;
 use crate::place::place_coefficient;
 use std::alloc::{AllocError, Global};
@@ -32,49 +33,50 @@ pub(crate) enum Sense {
     Negated,
 }
 
-/// The row of `constant` and of terms over places, less the start counts if these are wanted, at
-/// the moment whose unknowns are given.
-pub(crate) fn line(
-    alloc: Global,
-    automaton: &Automaton,
-    meanings: &[Meaning],
-    terms: &[(u32, i128)],
-    less_starts: bool,
-    sense: Sense,
-    constant: i128,
-) -> Result<Row, AllocError>
-    requires small { SmallTerms terms.now }
-    requires fits { InRange constant }
-    requires numbers { length meanings.now < 2 ^ 32 }
-    ensures row { IfOk result (IsRowOf (line_row automaton.now meanings.now terms.now less_starts sense constant)) }
-    ensures below { IfOk result (λ row. IsNormal 0 (length meanings.now) row.form.terms) }
-{
-    let of_rules = coefficients_of_rules(alloc, automaton, terms, less_starts, sense)?;
-    let mut written = Vec::with_capacity(alloc, meanings.len().min(ROOM))?;
-    for (unknown, meaning) in meanings.iter().enumerate() {
-        let coefficient = coefficient_of(automaton, *meaning, terms, less_starts, sense, &of_rules);
-        if coefficient != 0 {
-            written.push((unknown as u32, coefficient))?;
+/// Terms over places, and how they are written.
+#[derive(Clone, Copy)]
+pub(crate) struct Line<'a> {
+    pub(crate) terms: &'a [(u32, i128)],
+    /// Whether the start counts are taken away.
+    pub(crate) less_starts: bool,
+    pub(crate) sense: Sense,
+}
+
+impl<'a> Draft<'a> {
+    /// The row of `constant` and of terms over places, at the moment whose unknowns are the draft's.
+    pub(crate) fn row_of(&self, line: &Line, constant: i128) -> Result<Row, AllocError>
+        requires small { SmallTerms line.now.terms.now }
+        requires fits { InRange constant }
+        ensures row { IfOk result (IsRowOf (line_row self.now.automaton.now self.now.meanings.items line.now.terms.now line.now.less_starts line.now.sense constant)) }
+        ensures below { IfOk result (λ row. IsNormal 0 (length self.now.meanings.items) row.form.terms) }
+    {
+        let automaton = self.automaton;
+        let of_rules = coefficients_of_rules(self.alloc, automaton, line)?;
+        let meanings = self.meanings.as_slice();
+        let mut written = Vec::with_capacity(self.alloc, meanings.len().min(ROOM))?;
+        for (unknown, meaning) in meanings.iter().enumerate() {
+            let coefficient = coefficient_of(automaton, *meaning, line, &of_rules);
+            if coefficient != 0 {
+                written.push((unknown as u32, coefficient))?;
+            }
         }
+        Ok(Row {
+            form: Form {
+                constant,
+                terms: List::from_vec(written),
+            },
+        })
     }
-    Ok(Row {
-        form: Form {
-            constant,
-            terms: List::from_vec(written),
-        },
-    })
 }
 
 /// The coefficient of the firings of each rule, which is the same before each element.
 fn coefficients_of_rules(
     alloc: Global,
     automaton: &Automaton,
-    terms: &[(u32, i128)],
-    less_starts: bool,
-    sense: Sense,
+    line: &Line,
 ) -> Result<Vec<i128>, AllocError>
-    requires { SmallTerms terms.now }
-    ensures { IfOk result (λ v. AreOfRules automaton.now terms.now less_starts sense v.items) }
+    requires { SmallTerms line.now.terms.now }
+    ensures { IfOk result (λ v. AreOfRules automaton.now line.now.terms.now line.now.less_starts line.now.sense v.items) }
 {
     let rules = automaton.rules.as_slice().len();
     let mut coefficients = Vec::with_capacity(alloc, rules)?;
@@ -83,54 +85,37 @@ fn coefficients_of_rules(
             element: 0,
             rule: rule as u32,
         };
-        let coefficient = line_coefficient(automaton, meaning, terms, less_starts, sense);
+        let coefficient = line_coefficient(automaton, meaning, line);
         coefficients.push(coefficient)?;
     }
     Ok(coefficients)
 }
 
 /// The coefficient of an unknown, from those of the rules' firings.
-fn coefficient_of(
-    automaton: &Automaton,
-    meaning: Meaning,
-    terms: &[(u32, i128)],
-    less_starts: bool,
-    sense: Sense,
-    of_rules: &[i128],
-) -> i128
-    requires small { SmallTerms terms.now }
-    requires rules { AreOfRules automaton.now terms.now less_starts sense of_rules.now }
-    ensures value { result ≡ line_coefficient automaton.now terms.now less_starts sense meaning }
+fn coefficient_of(automaton: &Automaton, meaning: Meaning, line: &Line, of_rules: &[i128]) -> i128
+    requires small { SmallTerms line.now.terms.now }
+    requires rules { AreOfRules automaton.now line.now.terms.now line.now.less_starts line.now.sense of_rules.now }
+    ensures value { result ≡ line_coefficient automaton.now line.now.terms.now line.now.less_starts line.now.sense meaning }
     ensures fits { InRange result }
 {
     match meaning {
         Meaning::Count { element: _, rule } | Meaning::Single { element: _, rule } => {
             match of_rules.get(rule as usize) {
                 Some(coefficient) => *coefficient,
-                None => line_coefficient(automaton, meaning, terms, less_starts, sense),
+                None => line_coefficient(automaton, meaning, line),
             }
         }
-        Meaning::Parameter(_) | Meaning::Start(_) => {
-            line_coefficient(automaton, meaning, terms, less_starts, sense)
-        }
+        Meaning::Parameter(_) | Meaning::Start(_) => { line_coefficient(automaton, meaning, line) }
     }
 }
 
-fn line_coefficient(
-    automaton: &Automaton,
-    meaning: Meaning,
-    terms: &[(u32, i128)],
-    less_starts: bool,
-    sense: Sense,
-) -> i128
-    requires { SmallTerms terms.now }
-    ensures value { result ≡ line_coefficient automaton.now terms.now less_starts sense meaning }
+fn line_coefficient(automaton: &Automaton, meaning: Meaning, line: &Line) -> i128
+    requires { SmallTerms line.now.terms.now }
+    ensures value { result ≡ line_coefficient automaton.now line.now.terms.now line.now.less_starts line.now.sense meaning }
     ensures fits { InRange result }
 {
-    turn(
-        sense,
-        value_in(automaton, meaning, terms) - starts_in(meaning, less_starts),
-    )
+    let value = value_in(automaton, meaning, line.terms);
+    turn(line.sense, value - starts_in(meaning, line.less_starts))
 }
 
 /// A coefficient of a row that is written so.

@@ -10,6 +10,7 @@ ghost use Rattle.ta_encode.specs.Unknowns.{place_coefficient};
 
 use crate::meaning::Meaning;
 use ta_automaton::{Automaton, Rule};
+use ta_base::limits::LARGEST_NUMBER;
 
 /// What one of an unknown's value adds at a place.
 pub(crate) fn place_coefficient(automaton: &Automaton, meaning: Meaning, place: u32) -> i128
@@ -72,7 +73,7 @@ fn rule_change(automaton: &Automaton, rule: &Rule, place: u32) -> i128
 /// How much a rule adds to a shared variable.
 fn update_of(rule: &Rule, variable: u32) -> i128
     requires limit { length rule.now.updates ≤ 16 }
-    requires small { AllByRecursion (λ (t : ℕ × ℤ). unsigned_abs t.1 ≤ 1000000000) rule.now.updates }
+    requires small { AllByRecursion (λ (t : ℕ × ℤ). unsigned_abs t.1 ≤ LARGEST_NUMBER) rule.now.updates }
     ensures value { result ≡ coefficient rule.now.updates variable }
     ensures small { unsigned_abs result ≤ 16000000000 }
 {

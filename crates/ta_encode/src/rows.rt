@@ -1,45 +1,31 @@
 //! Rows at a moment of a word, given by the unknowns so far.
 #![tactic(auto)]
 
-ghost use Rattle.std.specs.Prelude.{ℕ, ◌+◌, ◌*◌, ◌^◌, ◌≡◌, ◌≤◌, ◌<◌, ◌≤ℤ◌, ◌<ℤ◌, ◌∷◌, [], OnOk, filter, length, map, negsuc, not, pos, unsigned_abs};
-ghost use Rattle.ta_linear.specs.Numbers.{InRange};
+ghost use Rattle.std.specs.Prelude.{ℕ, ◌+◌, ◌*◌, ◌^◌, ◌≡◌, ◌≤◌, ◌<◌, ◌≤ℤ◌, ◌<ℤ◌, ◌∷◌, [], IfOk, OnOk, filter, length, map, negsuc, not, pos, unsigned_abs};
+ghost use Rattle.ta_automaton.specs.Places.{location_place};
 ghost use Rattle.ta_base.specs.Masks.{has_bit, numbers_from};
-ghost use Rattle.ta_encode.specs.Lines.{BoundWithin, BoundsWithin};
+ghost use Rattle.ta_encode.specs.Code.{IsRowOf};
+ghost use Rattle.ta_encode.specs.Inside.Draft.{Adds};
 ghost use Rattle.ta_encode.specs.Inside.Lines.{AddsRows, SmallCondition, SmallForm, SmallRows, block_row, bound_constant, bound_sense, constant_in_sense, in_sense, start_sense};
+ghost use Rattle.ta_encode.specs.Lines.{BoundWithin, BoundsWithin, SmallTerms, line_row};
 ghost use Rattle.ta_encode.specs.declared.line.Sense.TheVariants.{Opposite, Plain};
 ghost use Rattle.ta_encode.specs.System.{bound_row, condition_rows, counter_row, form_row, guard_rows, opposite, processes_row, start_guard_rows};
+ghost use Rattle.ta_linear.specs.Numbers.{InRange};
+ghost use Rattle.ta_linear.specs.Terms.{IsNormal};
 
-use crate::line::{Sense, line, turn};
-use crate::meaning::{Bound, Meaning, Side};
+use crate::draft::Draft;
+use crate::line::{Line, Sense, turn};
+use crate::meaning::{Bound, Side};
 use crate::place::first_location;
 use std::alloc::{AllocError, Global};
-use ta_automaton::{Automaton, Condition};
+use ta_automaton::Condition;
 use ta_base::List;
+use ta_base::limits::LARGEST_NUMBER;
 use ta_linear::{Form, Row};
-
-/// The row of a form, written in a sense.
-fn push_form(
-    alloc: Global,
-    automaton: &Automaton,
-    meanings: &[Meaning],
-    form: &Form,
-    sense: Sense,
-    rows: &mut Vec<Row>,
-) -> Result<(), AllocError>
-    requires small { SmallForm form.now }
-    requires numbers { length meanings.now < 2 ^ 32 }
-    ensures { OnOk result (AddsRows (in_sense sense (form_row automaton.now meanings.now form.now) ∷ []) (length meanings.now) rows.old.items rows.new.items) }
-{
-    let constant = constant_in(sense, form.constant);
-    let terms = form.terms.as_slice();
-    let row = line(alloc, automaton, meanings, terms, false, sense, constant)?;
-    rows.push(row)?;
-    Ok(())
-}
 
 /// The constant of a row that is written so.
 fn constant_in(sense: Sense, constant: i128) -> i128
-    requires { unsigned_abs constant ≤ 1000000000 }
+    requires { unsigned_abs constant ≤ LARGEST_NUMBER }
     ensures value { result ≡ constant_in_sense sense constant }
     ensures fits { InRange result }
 {
@@ -48,83 +34,6 @@ fn constant_in(sense: Sense, constant: i128) -> i128
         Sense::Opposite => -constant,
         Sense::Negated => -constant - 1,
     }
-}
-
-/// The rows of some rows over places.
-fn push_rows(
-    alloc: Global,
-    automaton: &Automaton,
-    meanings: &[Meaning],
-    some: &[Row],
-    rows: &mut Vec<Row>,
-) -> Result<(), AllocError>
-    requires small { SmallRows some.now }
-    requires numbers { length meanings.now < 2 ^ 32 }
-    ensures { OnOk result (AddsRows (map (λ (r : Row). form_row automaton.now meanings.now r.form) some.now) (length meanings.now) rows.old.items rows.new.items) }
-{
-    for row in some {
-        push_form(alloc, automaton, meanings, &row.form, Sense::Plain, rows)?;
-    }
-    Ok(())
-}
-
-/// The rows of a condition.
-pub(crate) fn push_condition(
-    alloc: Global,
-    automaton: &Automaton,
-    meanings: &[Meaning],
-    condition: &Condition,
-    rows: &mut Vec<Row>,
-) -> Result<(), AllocError>
-    requires small { SmallCondition condition.now }
-    requires numbers { length meanings.now < 2 ^ 32 }
-    ensures { OnOk result (AddsRows (condition_rows automaton.now meanings.now condition.now.comparisons) (length meanings.now) rows.old.items rows.new.items) }
-{
-    for comparison in condition.comparisons.as_slice() {
-        push_rows(alloc, automaton, meanings, comparison.rows.as_slice(), rows)?;
-    }
-    Ok(())
-}
-
-/// The rows of the guards in a set, written in a sense.
-pub(crate) fn push_guards(
-    alloc: Global,
-    automaton: &Automaton,
-    meanings: &[Meaning],
-    guards: &[Row],
-    mask: u32,
-    sense: Sense,
-    rows: &mut Vec<Row>,
-) -> Result<(), AllocError>
-    requires small { SmallRows guards.now }
-    requires few { length guards.now ≤ 16 }
-    requires numbers { length meanings.now < 2 ^ 32 }
-    ensures { OnOk result (AddsRows (map (in_sense sense) (guard_rows automaton.now meanings.now (has_bit mask) 0 guards.now)) (length meanings.now) rows.old.items rows.new.items) }
-{
-    for (number, guard) in guards.iter().enumerate() {
-        if mask & (1 << number) != 0 {
-            push_form(alloc, automaton, meanings, &guard.form, sense, rows)?;
-        }
-    }
-    Ok(())
-}
-
-/// The rows of the fall guards at the start, negated for those in the start set.
-pub(crate) fn push_start_guards(
-    alloc: Global,
-    automaton: &Automaton,
-    meanings: &[Meaning],
-    start_mask: u8,
-    rows: &mut Vec<Row>,
-) -> Result<(), AllocError>
-    requires { length meanings.now < 2 ^ 32 }
-    ensures { OnOk result (AddsRows (start_guard_rows automaton.now meanings.now start_mask 0 automaton.now.fall) (length meanings.now) rows.old.items rows.new.items) }
-{
-    for (number, guard) in automaton.fall.as_slice().iter().enumerate() {
-        let sense = sense_at_start(start_mask, number);
-        push_form(alloc, automaton, meanings, &guard.form, sense, rows)?;
-    }
-    Ok(())
 }
 
 /// Negated for the fall guards of the start set.
@@ -139,120 +48,195 @@ fn sense_at_start(start_mask: u8, number: usize) -> Sense
     }
 }
 
-/// The counters of the locations outside a set, written in a sense.
-pub(crate) fn push_counters(
-    alloc: Global,
-    automaton: &Automaton,
-    meanings: &[Meaning],
-    empty: u32,
-    sense: Sense,
-    rows: &mut Vec<Row>,
-) -> Result<(), AllocError>
-    requires { length meanings.now < 2 ^ 32 }
-    ensures { OnOk result (AddsRows (map (λ l. in_sense sense (counter_row automaton.now meanings.now l)) (filter (λ l. not (has_bit empty l)) (numbers_from 0 (length automaton.now.locations)))) (length meanings.now) rows.old.items rows.new.items) }
-{
-    for location in 0..automaton.locations.as_slice().len() {
-        if empty & (1 << location) == 0 {
-            push_counter(alloc, automaton, meanings, location as u32, sense, rows)?;
-        }
+impl<'a> Draft<'a> {
+    /// The row of a constant and of terms over places.
+    fn push_line(&mut self, line: &Line, constant: i128) -> Result<(), AllocError>
+        requires terms { SmallTerms line.now.terms.now }
+        requires constant { unsigned_abs constant ≤ LARGEST_NUMBER }
+        ensures { OnOk result (Adds (λ a ms. in_sense line.now.sense (line_row a ms line.now.terms.now line.now.less_starts Plain constant) ∷ []) self.old self.new) }
+    {
+        let row = self.row_of(line, constant_in(line.sense, constant))?;
+        self.rows.push(row)?;
+        Ok(())
     }
-    Ok(())
-}
 
-/// The counter of a location, written in a sense.
-fn push_counter(
-    alloc: Global,
-    automaton: &Automaton,
-    meanings: &[Meaning],
-    location: u32,
-    sense: Sense,
-    rows: &mut Vec<Row>,
-) -> Result<(), AllocError>
-    requires exists { location < length automaton.now.locations }
-    requires numbers { length meanings.now < 2 ^ 32 }
-    ensures { OnOk result (AddsRows (in_sense sense (counter_row automaton.now meanings.now location) ∷ []) (length meanings.now) rows.old.items rows.new.items) }
-{
-    let terms = [(first_location(automaton) + location, 1)];
-    let constant = constant_in(sense, 0);
-    let row = line(alloc, automaton, meanings, &terms, false, sense, constant)?;
-    rows.push(row)?;
-    Ok(())
-}
+    /// The row of a form, written in a sense.
+    fn push_form(&mut self, form: &Form, sense: Sense) -> Result<(), AllocError>
+        requires small { SmallForm form.now }
+        ensures { OnOk result (Adds (λ a ms. in_sense sense (form_row a ms form.now) ∷ []) self.old self.new) }
+    {
+        let line = Line {
+            terms: form.terms.as_slice(),
+            less_starts: false,
+            sense,
+        };
+        self.push_line(&line, form.constant)?;
+        Ok(())
+    }
 
-/// The number of processes minus the start counts, and the opposite.
-pub(crate) fn push_processes(
-    alloc: Global,
-    automaton: &Automaton,
-    meanings: &[Meaning],
-    rows: &mut Vec<Row>,
-) -> Result<(), AllocError>
-    requires { length meanings.now < 2 ^ 32 }
-    ensures { OnOk result (AddsRows (processes_row automaton.now meanings.now ∷ opposite (processes_row automaton.now meanings.now) ∷ []) (length meanings.now) rows.old.items rows.new.items) }
-{
-    push_processes_in(alloc, automaton, meanings, Sense::Plain, rows)?;
-    push_processes_in(alloc, automaton, meanings, Sense::Opposite, rows)
-}
+    /// The rows of some rows over places.
+    fn push_rows(&mut self, some: &[Row]) -> Result<(), AllocError>
+        requires small { SmallRows some.now }
+        ensures { OnOk result (Adds (λ a ms. map (λ (r : Row). form_row a ms r.form) some.now) self.old self.new) }
+    {
+        for row in some {
+            self.push_form(&row.form, Sense::Plain)?;
+        }
+        Ok(())
+    }
 
-fn push_processes_in(
-    alloc: Global,
-    automaton: &Automaton,
-    meanings: &[Meaning],
-    sense: Sense,
-    rows: &mut Vec<Row>,
-) -> Result<(), AllocError>
-    requires { length meanings.now < 2 ^ 32 }
-    ensures { OnOk result (AddsRows (in_sense sense (processes_row automaton.now meanings.now) ∷ []) (length meanings.now) rows.old.items rows.new.items) }
-{
-    let constant = constant_in(sense, automaton.processes.constant);
-    let terms = automaton.processes.terms.as_slice();
-    let row = line(alloc, automaton, meanings, terms, true, sense, constant)?;
-    rows.push(row)?;
-    Ok(())
-}
+    /// The rows of a condition.
+    pub(crate) fn push_condition(&mut self, condition: &Condition) -> Result<(), AllocError>
+        requires small { SmallCondition condition.now }
+        ensures { OnOk result (Adds (λ a ms. condition_rows a ms condition.now.comparisons) self.old self.new) }
+    {
+        for comparison in condition.comparisons.as_slice() {
+            self.push_rows(comparison.rows.as_slice())?;
+        }
+        Ok(())
+    }
 
-/// The Singles of a Fall minus 1, and the opposite: the unknowns from one number to another.
-pub(crate) fn push_singles(
-    alloc: Global,
-    from: usize,
-    to: usize,
-    rows: &mut Vec<Row>,
-) -> Result<(), AllocError>
-    requires order { from ≤ to }
-    requires numbers { to < 2 ^ 32 }
-    ensures { OnOk result (AddsRows (block_row (negsuc 0) from to Plain ∷ block_row (pos 1) from to Opposite ∷ []) to rows.old.items rows.new.items) }
-{
-    push_block(alloc, -1, from, to, Sense::Plain, rows)?;
-    push_block(alloc, 1, from, to, Sense::Opposite, rows)?;
-    Ok(())
+    /// The rows of the guards in a set, written in a sense.
+    fn push_guards(&mut self, guards: &[Row], mask: u32, sense: Sense) -> Result<(), AllocError>
+        requires small { SmallRows guards.now }
+        requires few { length guards.now ≤ 16 }
+        ensures { OnOk result (Adds (λ a ms. map (in_sense sense) (guard_rows a ms (has_bit mask) 0 guards.now)) self.old self.new) }
+    {
+        for (number, guard) in guards.iter().enumerate() {
+            if mask & (1 << number) != 0 {
+                self.push_form(&guard.form, sense)?;
+            }
+        }
+        Ok(())
+    }
+
+    /// The rows of the rise guards in a set, written in a sense.
+    pub(crate) fn push_rises(&mut self, mask: u32, sense: Sense) -> Result<(), AllocError>
+        ensures { OnOk result (Adds (λ a ms. map (in_sense sense) (guard_rows a ms (has_bit mask) 0 a.rise)) self.old self.new) }
+    {
+        let automaton = self.automaton;
+        self.push_guards(automaton.rise.as_slice(), mask, sense)?;
+        Ok(())
+    }
+
+    /// The rows of the fall guards in a set, written in a sense.
+    pub(crate) fn push_falls(&mut self, mask: u32, sense: Sense) -> Result<(), AllocError>
+        ensures { OnOk result (Adds (λ a ms. map (in_sense sense) (guard_rows a ms (has_bit mask) 0 a.fall)) self.old self.new) }
+    {
+        let automaton = self.automaton;
+        self.push_guards(automaton.fall.as_slice(), mask, sense)?;
+        Ok(())
+    }
+
+    /// The rows of the fall guards at the start, negated for those in the start set.
+    pub(crate) fn push_start_guards(&mut self, start_mask: u8) -> Result<(), AllocError>
+        ensures { OnOk result (Adds (λ a ms. start_guard_rows a ms start_mask 0 a.fall) self.old self.new) }
+    {
+        let automaton = self.automaton;
+        for (number, guard) in automaton.fall.as_slice().iter().enumerate() {
+            self.push_form(&guard.form, sense_at_start(start_mask, number))?;
+        }
+        Ok(())
+    }
+
+    /// The counters of the locations outside a set, written in a sense.
+    pub(crate) fn push_counters(&mut self, empty: u32, sense: Sense) -> Result<(), AllocError>
+        ensures { OnOk result (Adds (λ a ms. map (λ l. in_sense sense (counter_row a ms l)) (filter (λ l. not (has_bit empty l)) (numbers_from 0 (length a.locations)))) self.old self.new) }
+    {
+        let automaton = self.automaton;
+        for location in 0..automaton.locations.as_slice().len() {
+            if empty & (1 << location) == 0 {
+                let place = first_location(automaton) + location as u32;
+                self.push_counter(place, sense)?;
+            }
+        }
+        Ok(())
+    }
+
+    /// The counter of a location, by its place, written in a sense.
+    fn push_counter(&mut self, place: u32, sense: Sense) -> Result<(), AllocError>
+        ensures { OnOk result ((l : ℕ) → place ≡ location_place self.old.automaton.now l → Adds (λ a ms. in_sense sense (counter_row a ms l) ∷ []) self.old self.new) }
+    {
+        let line = Line {
+            terms: &[(place, 1)],
+            less_starts: false,
+            sense,
+        };
+        self.push_line(&line, 0)?;
+        Ok(())
+    }
+
+    /// The number of processes minus the start counts, and the opposite.
+    pub(crate) fn push_processes(&mut self) -> Result<(), AllocError>
+        ensures { OnOk result (Adds (λ a ms. processes_row a ms ∷ opposite (processes_row a ms) ∷ []) self.old self.new) }
+    {
+        self.push_processes_in(Sense::Plain)?;
+        self.push_processes_in(Sense::Opposite)?;
+        Ok(())
+    }
+
+    fn push_processes_in(&mut self, sense: Sense) -> Result<(), AllocError>
+        ensures { OnOk result (Adds (λ a ms. in_sense sense (processes_row a ms) ∷ []) self.old self.new) }
+    {
+        let automaton = self.automaton;
+        let processes = &automaton.processes;
+        let line = Line {
+            terms: processes.terms.as_slice(),
+            less_starts: true,
+            sense,
+        };
+        self.push_line(&line, processes.constant)?;
+        Ok(())
+    }
+
+    /// The Singles of a Fall minus 1, and the opposite: the unknowns from a number on.
+    pub(crate) fn push_singles(&mut self, from: usize) -> Result<(), AllocError>
+        requires order { from ≤ length self.old.meanings.items }
+        ensures { OnOk result (Adds (λ a ms. block_row (negsuc 0) from (length ms) Plain ∷ block_row (pos 1) from (length ms) Opposite ∷ []) self.old self.new) }
+    {
+        self.push_block(-1, from, Sense::Plain)?;
+        self.push_block(1, from, Sense::Opposite)?;
+        Ok(())
+    }
+
+    /// The row of a constant and of the sum of the unknowns from a number on, or its opposite.
+    fn push_block(&mut self, constant: i128, from: usize, sense: Sense) -> Result<(), AllocError>
+        requires order { from ≤ length self.old.meanings.items }
+        requires constant { InRange constant }
+        ensures { OnOk result (Adds (λ a ms. block_row constant from (length ms) sense ∷ []) self.old self.new) }
+    {
+        let row = block(self.alloc, constant, from, self.meanings.len(), sense)?;
+        self.rows.push(row)?;
+        Ok(())
+    }
 }
 
 /// The row of a constant and of the sum of the unknowns from one number to another, or its
 /// opposite.
-fn push_block(
+fn block(
     alloc: Global,
     constant: i128,
     from: usize,
     to: usize,
     sense: Sense,
-    rows: &mut Vec<Row>,
-) -> Result<(), AllocError>
+) -> Result<Row, AllocError>
     requires order { from ≤ to }
     requires numbers { to < 2 ^ 32 }
     requires constant { InRange constant }
-    ensures { OnOk result ((n : ℕ) → to ≤ n → AddsRows (block_row constant from to sense ∷ []) n rows.old.items rows.new.items) }
+    ensures row { IfOk result (IsRowOf (block_row constant from to sense)) }
+    ensures below { IfOk result (λ row. IsNormal 0 to row.form.terms) }
 {
     let coefficient = turn(sense, 1);
     let mut terms = Vec::new(alloc);
     for unknown in from..to {
         terms.push((unknown as u32, coefficient))?;
     }
-    rows.push(Row {
+    Ok(Row {
         form: Form {
             constant,
             terms: List::from_vec(terms),
         },
-    })?;
-    Ok(())
+    })
 }
 
 /// The rows of bounds.
@@ -286,7 +270,7 @@ pub(crate) fn push_bound(
     let unknown = bound.unknown as usize;
     let constant = bound_constant(bound.side, bound.floor);
     let sense = bound_sense(bound.side);
-    push_block(alloc, constant, unknown, unknown + 1, sense, rows)?;
+    rows.push(block(alloc, constant, unknown, unknown + 1, sense)?)?;
     Ok(())
 }
 

@@ -7,14 +7,12 @@ ghost use Rattle.ta_encode.specs.Lines.{BoundsWithin};
 ghost use Rattle.ta_encode.specs.Code.{SystemAt};
 ghost use Rattle.ta_encode.specs.Sample.{SamplesStart, StartsAreSampled, sample_meanings, sample_search, sampled};
 
+use crate::draft::Draft;
 use crate::encoded::Encoded;
 use crate::meaning::{Bound, Meaning};
-use crate::rows::{push_bounds, push_condition, push_processes};
 use crate::unknowns::{push_parameters, push_starts};
 use std::alloc::{AllocError, Global};
 use ta_automaton::{Automaton, File};
-use ta_base::List;
-use ta_linear::System;
 
 /// The sample system of a file with bounds. It has no word: its unknowns are the parameters and a
 /// start count for each initial location. Only want of memory is an error: by the limits of automaton
@@ -26,19 +24,17 @@ pub fn encode_sample(alloc: Global, file: &File, bounds: &[Bound]) -> Result<Enc
 {
     let automaton = &file.automaton;
     let meanings = sample_meanings(alloc, automaton)?;
-    let known = meanings.as_slice();
-    let unknowns = known.len();
-    let mut rows = Vec::new(alloc);
-    push_condition(alloc, automaton, known, &automaton.resilience, &mut rows)?;
-    push_processes(alloc, automaton, known, &mut rows)?;
-    push_bounds(alloc, unknowns, bounds, &mut rows)?;
-    Ok(Encoded {
-        system: System {
-            unknowns: unknowns as u32,
-            rows: List::from_vec(rows),
-        },
-        meanings: List::from_vec(meanings),
-    })
+    let rows = Vec::new(alloc);
+    let mut draft = Draft {
+        alloc,
+        automaton,
+        meanings,
+        rows,
+    };
+    draft.push_condition(&automaton.resilience)?;
+    draft.push_processes()?;
+    let encoded = draft.encoded(bounds)?;
+    Ok(encoded)
 }
 
 /// The unknowns of the sample system.

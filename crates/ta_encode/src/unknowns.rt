@@ -1,7 +1,7 @@
 //! The unknowns of a word.
 #![tactic(auto)]
 
-ghost use Rattle.std.specs.Prelude.{ℕ, ◌≡◌, ◌≤◌, ◌++◌, IfOk, OnOk, filter, length, map, not};
+ghost use Rattle.std.specs.Prelude.{ℕ, ◌+◌, ◌≡◌, ◌≤◌, ◌++◌, IfOk, OnOk, filter, length, map, not};
 ghost use Rattle.ta_base.specs.Masks.{has_bit, numbers_from};
 ghost use Rattle.ta_encode.specs.Unknowns.{Parameter, Start, start_meanings};
 ghost use Rattle.ta_encode.specs.Inside.Firings.{firing};
@@ -58,7 +58,8 @@ pub(crate) fn push_firings(
     meanings: &mut Vec<Meaning>,
 ) -> Result<(), AllocError>
     requires { rules ≤ 128 }
-    ensures { OnOk result (meanings.new.items ≡ meanings.old.items ++ map (firing single element) (filter (has_bit allowed) (numbers_from 0 rules))) }
+    ensures items { OnOk result (meanings.new.items ≡ meanings.old.items ++ map (firing single element) (filter (has_bit allowed) (numbers_from 0 rules))) }
+    ensures most { length meanings.new.items ≤ length meanings.old.items + rules }
 {
     for rule in 0..rules {
         if allowed & (1 << rule) != 0 {

@@ -1,18 +1,13 @@
 -- What the columns of a check say of a leaf, and the other way
-use Rattle.std.proofs.Common.{◌≡◌, ℕ, zero, suc, ◌+◌, ◌<◌, ◌≤◌, ◌^◌, inl, inr, List, [], ◌∷◌, length, Bool, true, false, cond, sym, subst, ap, refl, ℤ, pos, ◌*ℤ◌, ◌<ℤ◌, slice_get, nat_lt, arith}
-use Rattle.std.proofs.lemmas.Int.{ints}
+use Rattle.ta_farkas.proofs.Common.{◌≡◌, ℕ, zero, suc, ◌+◌, ◌<◌, ◌≤◌, ◌^◌, inl, inr, List, [], ◌∷◌, length, Bool, true, false, cond, sym, subst, ap, refl, ℤ, pos, ◌*ℤ◌, ◌<ℤ◌, slice_get, nat_lt, arith, ints, weighted, coefficient_in, constant_in, AreMultipliers, LeafOf, column_sum, ColumnStays, CheckStays, row_at, FineBefore, IsFirstFaultOfLeaf, RowNumber, Overflow, Positive, NotNegative}
 use Rattle.std.proofs.lemmas.Bool.{cases_lt}
 use Rattle.std.proofs.lemmas.Bool.Decides.{nat_tests}
 use Rattle.std.proofs.Math.IntN.{*ℤ-zero}
-use Rattle.ta_linear.specs.Leaf.{weighted, coefficient_in, constant_in, AreMultipliers, LeafOf}
 use Rattle.ta_linear.specs.Rows.{AllBelow}
 use Rattle.ta_linear.specs.declared.row.Row.{Row}
 use Rattle.ta_linear.specs.declared.row.System.{System}
 use Rattle.ta_linear.proofs.TermLemmas.{coefficient-above}
-use Rattle.ta_farkas.specs.Columns.{column_sum, ColumnStays, CheckStays}
-use Rattle.ta_farkas.specs.Faults.{row_at, FineBefore, IsFirstFaultOfLeaf}
 use Rattle.ta_farkas.specs.declared.LeafFault.{LeafFault}
-use Rattle.ta_farkas.specs.declared.LeafFault.TheVariants.{RowNumber, Overflow, Positive, NotNegative}
 
 -- the column of an unknown has its coefficients
 column-unknown : (s : System) (ts : List (ℕ × ℤ)) (x : ℕ) → x < s.unknowns → column_sum s ts x ≡ weighted (coefficient_in x) s.rows ts

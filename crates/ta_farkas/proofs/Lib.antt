@@ -1,3 +1,4 @@
 -- lemmas for the crates above
 pub mod Judging
 mod Sums
+mod Common

@@ -1,11 +1,8 @@
 -- the sum of a column, product by product
-use Rattle.std.proofs.Common.{◌≡◌, ℕ, ◌+◌, ◌<◌, ◌≤◌, List, length, get_or, drop, sym, subst, ap, ℤ, pos, ◌+ℤ◌, ◌*ℤ◌, Option, slice_get}
+use Rattle.ta_farkas.proofs.Common.{◌≡◌, ℕ, ◌+◌, ◌<◌, ◌≤◌, List, length, get_or, drop, sym, subst, ap, ℤ, pos, ◌+ℤ◌, ◌*ℤ◌, Option, slice_get, InRange, StaysInRange, weighted}
 use Rattle.std.proofs.Math.ListN.{drop_of_length-le}
 use Rattle.std.proofs.lemmas.List.{at_drop_more}
 use Rattle.ta_base.proofs.Lists.{at_drop}
-use Rattle.ta_linear.specs.Numbers.{InRange}
-use Rattle.ta_linear.specs.Sums.{StaysInRange}
-use Rattle.ta_linear.specs.Leaf.{weighted}
 
 -- the product of a place
 abbrev pub product_at : (ℕ → ℤ) → List (ℕ × ℤ) → ℕ → ℤ

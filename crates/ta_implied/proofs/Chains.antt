@@ -1,8 +1,5 @@
 -- chains of pairs
-use Rattle.std.proofs.Common.{◌≡◌, ◌≢◌, ◌⊎◌, inl, inr, ℕ, zero, suc, List, [], ◌∷◌, sym, ap, ◌∙◌, subst}
-use Rattle.ta_base.specs.Masks.{In}
-use Rattle.ta_implied.specs.Implied.{ChainLeads}
-use Rattle.ta_implied.specs.Orders.{HasNoCircle, LeadsSome}
+use Rattle.ta_implied.proofs.Common.{◌≡◌, ◌≢◌, ◌⊎◌, inl, inr, ℕ, zero, suc, List, [], ◌∷◌, sym, ap, ◌∙◌, subst, In, ChainLeads, HasNoCircle, LeadsSome}
 
 -- no pairs have no chains
 pub nothing_leads : (more first last : ℕ) → ChainLeads [] more first last → ⊥

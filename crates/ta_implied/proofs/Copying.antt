@@ -1,22 +1,9 @@
 -- rows with copies of others behind them, and the rows of a pair's system
-use Rattle.std.proofs.lemmas.Bool.{cases_lt}
-use Rattle.std.proofs.lemmas.Bool.Decides.{nat_tests}
-use Rattle.std.proofs.Common.{◌≡◌, inl, inr, ℕ, ◌+◌, ◌<◌, ◌≤◌, ◌^◌, ℤ, pos, neg_ℤ, List, [], ◌∷◌, ◌++◌, length, take, get_or, slice_get, Some, arith, refl, sym, ap, ◌∙◌, subst, append_assoc, lit<}
-use Rattle.std.proofs.lemmas.Int.{ints}
-use Rattle.std.proofs.lemmas.List.{append-nil}
-use Rattle.std.specs.List.{AllByRecursion}
-use Rattle.ta_base.proofs.Each.{each_at}
-use Rattle.ta_base.proofs.Lists.{take_next_read}
+use Rattle.ta_implied.proofs.Common.{◌≡◌, ℕ, ◌+◌, ◌<◌, ◌≤◌, ◌^◌, neg_ℤ, List, [], ◌∷◌, ◌++◌, length, take, get_or, slice_get, Some, arith, refl, sym, ap, ◌∙◌, subst, append_assoc, lit<, append-nil, AllByRecursion, each_at, take_next_read, AllBelow, Row, Automaton, Comparison, FormOver, RiseRow, resilience_rows, IsCopy, AreCopies, AreCopied, resilience_of}
 use Rattle.ta_linear.specs.Forms.{IsNegation}
-use Rattle.ta_linear.specs.Rows.{AllBelow}
-use Rattle.ta_linear.specs.Terms.{coefficient, IsNormal}
-use Rattle.ta_linear.specs.declared.row.Row.{Row}
-use Rattle.ta_linear.proofs.TermLemmas.{IsNormal-higher, coefficient-above, coefficient-below}
-use Rattle.ta_automaton.specs.declared.automaton.Automaton.{Automaton}
-use Rattle.ta_automaton.specs.declared.condition.Comparison.{Comparison}
-use Rattle.ta_automaton.specs.Forms.{FormOver, RiseRow}
-use Rattle.ta_implied.specs.Implied.{resilience_rows, IsCopy, AreCopies}
-use Rattle.ta_implied.specs.Copies.{AreCopied, resilience_of}
+use Rattle.ta_linear.specs.Terms.{IsNormal}
+use Rattle.ta_linear.proofs.TermLemmas.{IsNormal-higher, coefficient-above}
+use Rattle.ta_linear.proofs.NormalTerms.{normal_narrow}
 
 copies_append : (rs qs ss ts : List Row) → AreCopies rs qs → AreCopies ss ts → AreCopies (rs ++ ss) (qs ++ ts)
 copies_append [] [] ss ts h g = g
@@ -66,24 +53,10 @@ system_copies some none first later last second q negation empty h is e f =
     let whole : last ≡ all.added = all.whole ∙ ap (λ (rs : List Row). rs ++ all.added) empty in
     subst (AreCopies (some ++ second ∷ negation ∷ [])) (sym whole) all.copies
 
--- terms whose coefficients from a number on are 0 are below it
-normal_within : (low high n : ℕ) (ts : List (ℕ × ℤ)) → low ≤ n → IsNormal low high ts → ((x : ℕ) → n ≤ x → coefficient ts x ≡ pos 0) → IsNormal low n ts
-normal_within low high n [] le normal none = le
-normal_within low high n (t ∷ ts) le normal none =
-    let own : coefficient (t ∷ ts) t.0 ≡ t.1 = first_coefficient t ts high normal.2 in
-    let below : t.0 < n = elim (cases_lt t.0 n) [ inl less ↦ less | inr more ↦ absurd (normal.1.not_zero (sym own ∙ none t.0 more)) ] in
-    (normal.0, normal.1, normal_within (t.0 + 1) high n ts (omega arith) normal.2 (λ x beyond. sym (later_coefficient t ts x (omega arith)) ∙ none x beyond))
-  where
-    first_coefficient : (t : ℕ × ℤ) (ts : List (ℕ × ℤ)) (high : ℕ) → IsNormal (t.0 + 1) high ts → coefficient (t ∷ ts) t.0 ≡ t.1
-    first_coefficient t ts high normal = let rest = coefficient-below (t.0 + 1) high ts t.0 normal (omega arith) in grind (arith, ints, nat_tests)
-
-    later_coefficient : (t : ℕ × ℤ) (ts : List (ℕ × ℤ)) (x : ℕ) → t.0 < x → coefficient (t ∷ ts) x ≡ coefficient ts x
-    later_coefficient t ts x h = grind (arith, ints, nat_tests)
-
 -- a negated row has no more variables
 negation_below : (n : ℕ) (negation row : Row) → n ≤ 2 ^ 32 → IsNegation negation.form row.form → IsNormal 0 n row.form.terms → IsNormal 0 n negation.form.terms
 negation_below n negation row few is below =
-    normal_within 0 (2 ^ 32) n negation.form.terms (omega arith) negation.form.normal
+    normal_narrow 0 (2 ^ 32) n negation.form.terms (omega arith) negation.form.normal
     (λ x beyond. is.coefficients x ∙ ap neg_ℤ (coefficient-above 0 n row.form.terms x below beyond))
 
 below_copies : (n : ℕ) (rs qs : List Row) → AreCopies rs qs → AllBelow n rs → AllBelow n qs

@@ -1,13 +1,6 @@
 -- gathering the guards from which chains of pairs lead to a guard
-use Rattle.std.proofs.Common.{◌≡◌, ◌↔◌, ◌⊎◌, inl, inr, ℕ, zero, suc, ◌+◌, ◌<◌, ◌≤◌, ◌^◌, List, true, ◌||◌, bit_or, arith, sym, ◌∙◌, subst}
-use Rattle.std.proofs.lemmas.Nat.{le_or_l}
-use Rattle.std.proofs.lemmas.Bool.{false≢true, or_cases, or_left, or_right}
-use Rattle.std.proofs.lemmas.Bool.Decides.{eqb_tells}
-use Rattle.ta_base.specs.Masks.{has_bit, In}
-use Rattle.ta_base.proofs.Bits.{has_above, has_or}
+use Rattle.ta_implied.proofs.Common.{◌≡◌, ◌↔◌, ◌⊎◌, inl, inr, ℕ, zero, suc, ◌+◌, ◌<◌, ◌≤◌, ◌^◌, List, true, ◌||◌, bit_or, arith, sym, ◌∙◌, subst, le_or_l, false≢true, or_cases, or_left, or_right, eqb_tells, has_bit, In, has_above, has_or, ChainLeads, IsBeforeSome, LeadsSome}
 use Rattle.ta_base.proofs.Naturals.{in_or_above}
-use Rattle.ta_implied.specs.Implied.{ChainLeads}
-use Rattle.ta_implied.specs.Orders.{IsBeforeSome, LeadsSome}
 use Rattle.ta_implied.proofs.Chains.{one_more}
 
 -- some guards, with all that come before one of them whose number is below another

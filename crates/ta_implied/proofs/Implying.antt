@@ -1,21 +1,11 @@
 -- what the leaf of a pair's system says of configurations
-use Rattle.std.proofs.Common.{◌≡◌, inl, inr, ℕ, zero, suc, ◌<◌, ℤ, pos, ◌+ℤ◌, ◌≤ℤ◌, List, [], ◌∷◌, ◌++◌, length, Some, arith, sym, ap, ◌∙◌, subst, length-append}
-use Rattle.std.specs.Prelude.{All, flat_map}
-use Rattle.std.proofs.lemmas.List.{get_or_append_left}
-use Rattle.std.specs.List.{AllByRecursion}
-use Rattle.ta_base.proofs.Each.{each_in}
+use Rattle.ta_implied.proofs.Common.{◌≡◌, inl, inr, ℕ, zero, suc, ◌<◌, ℤ, pos, ◌+ℤ◌, ◌≤ℤ◌, List, [], ◌∷◌, ◌++◌, length, Some, arith, sym, ap, ◌∙◌, subst, length-append, All, flat_map, get_or_append_left, AllByRecursion, each_in, AllBelow, Row, Automaton, Comparison, FormOver, resilience_rows, IsCopy, AreCopies, IsImplied, RiseHolds, LeavesImply, GuardsComeAfter}
 use Rattle.ta_base.proofs.Integers.{natural_or_not}
-use Rattle.ta_linear.specs.Rows.{AllBelow}
 use Rattle.ta_linear.specs.Values.{terms_value, value_of, RowHolds, Solves}
-use Rattle.ta_linear.specs.declared.row.Row.{Row}
 use Rattle.ta_linear.proofs.Farkas.{leaf_unsolved}
 use Rattle.ta_linear.proofs.RangeSum.{RowHolds-negation}
-use Rattle.ta_automaton.specs.declared.automaton.Automaton.{Automaton}
-use Rattle.ta_automaton.specs.declared.condition.Comparison.{Comparison}
-use Rattle.ta_automaton.specs.Forms.{FormOver}
 use Rattle.ta_automaton.specs.Runs.{Admissible, Config, number_at, value_at}
 use Rattle.ta_automaton.proofs.Thresholds.{form_at_parameters, terms_same}
-use Rattle.ta_implied.specs.Implied.{resilience_rows, IsCopy, AreCopies, IsImplied, RiseHolds, LeavesImply, GuardsComeAfter}
 
 -- rows that all hold, by recursion
 abbrev AllHolds : (ℕ → ℤ) → List Row → Type 0

@@ -1,13 +1,6 @@
 -- masks with one more pair
-use Rattle.std.proofs.Common.{◌≡◌, inl, inr, ℕ, ◌*◌, ◌%◌, ◌^◌, ◌<◌, List, ◌∷◌, length, set, get_or, false, bit_or, arith, sym, ap, ◌∙◌, subst}
-use Rattle.std.proofs.lemmas.Nat.{or_lt, one_shl}
-use Rattle.std.proofs.lemmas.Bool.{cases_Bool}
+use Rattle.ta_implied.proofs.Common.{◌≡◌, inl, inr, ℕ, ◌*◌, ◌%◌, ◌^◌, ◌<◌, List, ◌∷◌, length, set, get_or, false, bit_or, arith, sym, ap, ◌∙◌, subst, or_lt, one_shl, cases_Bool, with_bit, fits_at, fits_set, Automaton, has_bit, In, AreOrderMasks, HasNoCircle, MayJoin, pairs_from, with_pair}
 use Rattle.std.proofs.Math.Pow.{pow-lt}
-use Rattle.ta_base.proofs.Bits.{with_bit}
-use Rattle.ta_base.proofs.Each.{fits_at, fits_set}
-use Rattle.ta_automaton.specs.declared.automaton.Automaton.{Automaton}
-use Rattle.ta_base.specs.Masks.{has_bit, In}
-use Rattle.ta_implied.specs.Orders.{AreOrderMasks, HasNoCircle, MayJoin, pairs_from, with_pair}
 use Rattle.ta_implied.proofs.Pairs.{pair_of_bit}
 use Rattle.ta_implied.proofs.Placing.{placed_pair, in_placed}
 use Rattle.ta_implied.proofs.Chains.{leads_along, still_no_circle}

@@ -8,3 +8,4 @@ mod Inserting
 pub mod Ordering
 pub mod Implying
 pub mod Copying
+mod Common

@@ -1,10 +1,5 @@
 -- guards in an order in which no chain of pairs leads back
-use Rattle.std.proofs.Common.{◌⊎◌, inl, inr, ℕ, List, [], ◌∷◌, sym, refl, subst}
-use Rattle.std.proofs.lemmas.Bool.Decides.{eqb_tells}
-use Rattle.ta_base.specs.Masks.{In}
-use Rattle.ta_base.proofs.Each.{each_from_in, each_in}
-use Rattle.ta_implied.specs.Implied.{ChainLeads}
-use Rattle.ta_implied.specs.Orders.{HasNoCircle, GuardsInOrder, LeadsSome, AreOrdered, GuardsCanBeOrdered}
+use Rattle.ta_implied.proofs.Common.{◌⊎◌, inl, inr, ℕ, List, [], ◌∷◌, sym, refl, subst, eqb_tells, In, each_from_in, each_in, ChainLeads, HasNoCircle, GuardsInOrder, LeadsSome, AreOrdered, GuardsCanBeOrdered}
 use Rattle.ta_implied.proofs.Chains.{Reaches, nothing_leads, leads_along, leads_join, one_more, through}
 
 -- whether guards are one or a chain leads from the first to the last, where it is known whether a chain does

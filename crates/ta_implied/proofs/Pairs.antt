@@ -1,14 +1,5 @@
 -- the pairs of masks: which they are, their order, and one more at its place
-use Rattle.std.proofs.Common.{length, ◌≡◌, inl, inr, ℕ, zero, suc, ◌+◌, ◌-◌, ◌^◌, ◌<◌, ◌≤◌, List, [], ◌∷◌, ◌++◌, map, get_or, true, arith, sym, ap, ◌∙◌, refl, subst, lit<}
-use Rattle.std.specs.Prelude.{filter, replicate}
-use Rattle.std.proofs.lemmas.Bool.{false≢true}
-use Rattle.std.specs.List.{AllByRecursion}
-use Rattle.ta_base.specs.Masks.{has_bit, numbers_from, In}
-use Rattle.ta_base.proofs.Bits.{bit_in_masks_below, has_none, no_numbers, some_bit}
-use Rattle.ta_base.proofs.Lists.{append_empty}
-use Rattle.ta_base.proofs.Members.{In-filter, In-left, In-map, In-right, in_append, in_filter, in_map}
-use Rattle.ta_base.proofs.Ranges.{In-numbers}
-use Rattle.ta_implied.specs.Orders.{pairs_at, pairs_from}
+use Rattle.ta_implied.proofs.Common.{length, ◌≡◌, inl, inr, ℕ, zero, suc, ◌+◌, ◌-◌, ◌^◌, ◌<◌, ◌≤◌, List, [], ◌∷◌, ◌++◌, map, get_or, true, arith, sym, ap, ◌∙◌, refl, subst, lit<, filter, replicate, false≢true, AllByRecursion, has_bit, numbers_from, In, bit_in_masks_below, has_none, no_numbers, some_bit, append_empty, In-filter, In-left, In-map, In-right, in_append, in_filter, in_map, In-numbers, pairs_at, pairs_from}
 
 -- a pair of the guards of a mask
 in_pairs_at : (j i guard mask : ℕ) → In (j, i) (pairs_at guard mask) → (i ≡ guard) × (has_bit mask j ≡ true)

@@ -1,13 +1,5 @@
 -- one more pair at its place in a list
-use Rattle.std.proofs.Common.{◌≡◌, ◌⊎◌, inl, inr, ℕ, zero, suc, ◌+◌, ◌<◌, ◌≤◌, List, [], ◌∷◌, ◌++◌, map, length, set, get_or, eqb, cond, Bool, true, false, ◌&&◌, ◌||◌, arith, sym, ap, ◌∙◌, refl, subst}
-use Rattle.std.specs.Prelude.{filter, nat_lt}
-use Rattle.std.proofs.lemmas.Bool.{lt-ltb, ne_eqb}
-use Rattle.std.proofs.lemmas.Bool.Decides.{nat_tests, eqb_tells}
-use Rattle.ta_base.specs.Masks.{has_bit, numbers_from, In}
-use Rattle.ta_base.proofs.Lists.{if_first, if_second}
-use Rattle.ta_base.proofs.Members.{back, either, in_append, in_filter, in_map}
-use Rattle.ta_base.proofs.Ranges.{in_numbers}
-use Rattle.ta_implied.specs.Orders.{pairs_at, pairs_from, is_earlier, with_pair}
+use Rattle.ta_implied.proofs.Common.{◌≡◌, ◌⊎◌, inl, inr, ℕ, zero, suc, ◌+◌, ◌<◌, ◌≤◌, List, [], ◌∷◌, ◌++◌, map, length, set, get_or, eqb, cond, Bool, true, false, ◌&&◌, ◌||◌, arith, sym, ap, ◌∙◌, refl, subst, filter, nat_lt, lt-ltb, ne_eqb, nat_tests, eqb_tells, has_bit, numbers_from, In, if_first, if_second, cond_append, back, either, in_append, in_filter, in_map, in_numbers, pairs_at, pairs_from, is_earlier, with_pair}
 
 pub in_placed : (pair : ℕ × ℕ) (pairs : List (ℕ × ℕ)) (q : ℕ × ℕ) → In q (with_pair pair pairs) → In q (pair ∷ pairs)
 in_placed pair [] q h = h
@@ -39,10 +31,6 @@ placed_behind pair (x ∷ xs) ys h = if_second pair x (xs ++ ys) (with_pair pair
 placed_first : (pair : ℕ × ℕ) (ys : List (ℕ × ℕ)) → ((q : ℕ × ℕ) → In q ys → is_earlier pair q ≡ true) → with_pair pair ys ≡ pair ∷ ys
 placed_first pair [] h = refl
 placed_first pair (y ∷ ys) h = if_first pair y ys (with_pair pair ys) (is_earlier pair y) (h y (inl refl))
-
-cond_append : (pair other : ℕ × ℕ) (others rest ys : List (ℕ × ℕ)) (b : Bool) → cond b (pair ∷ other ∷ (others ++ ys)) (other ∷ (rest ++ ys)) ≡ cond b (pair ∷ other ∷ others) (other ∷ rest) ++ ys
-cond_append pair other others rest ys true = refl
-cond_append pair other others rest ys false = refl
 
 placed_before : (pair : ℕ × ℕ) (xs ys : List (ℕ × ℕ)) → ((q : ℕ × ℕ) → In q ys → is_earlier pair q ≡ true) → with_pair pair (xs ++ ys) ≡ with_pair pair xs ++ ys
 placed_before pair [] ys h = placed_first pair ys h

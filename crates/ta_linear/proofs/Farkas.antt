@@ -1,14 +1,8 @@
 -- Farkas' lemma, in the direction that a refutation rests on
-use Rattle.std.proofs.Common.{◌≡◌, ℕ, zero, suc, ◌+◌, ℤ, pos, ◌+ℤ◌, ◌*ℤ◌, ◌≤ℤ◌, List, [], ◌∷◌, length, slice_get, slice_index, Some, None, Option, arith, ap, ◌∙◌}
+use Rattle.ta_linear.proofs.Common.{◌≡◌, ℕ, zero, suc, ◌+◌, ℤ, pos, ◌+ℤ◌, ◌*ℤ◌, ◌≤ℤ◌, List, [], ◌∷◌, length, slice_get, slice_index, Some, None, Option, arith, ap, ◌∙◌, ints, zero-*ℤ, distributes, distributes_right, mul-ge-zero, mul-le-zero, range_sum, times_assoc, range_sum-add, range_sum-nonpositive, range_sum-same, range_sum-times, range_sum-zero, value_of, RowHolds, Solves, Row}
 use Rattle.std.specs.List.{All}
-use Rattle.std.proofs.lemmas.Int.{ints}
-use Rattle.std.proofs.Math.IntN.{zero-*ℤ}
-use Rattle.ta_base.proofs.Integers.{distributes, distributes_right, mul-ge-zero, mul-le-zero, range_sum, times_assoc}
-use Rattle.ta_base.proofs.Sums.{range_sum-add, range_sum-nonpositive, range_sum-same, range_sum-times, range_sum-zero}
 use Rattle.ta_linear.specs.Rows.{AllBelow}
-use Rattle.ta_linear.specs.Values.{value_of, RowHolds, Solves}
 use Rattle.ta_linear.specs.Leaf.{weighted, AreMultipliers, Leaf, coefficient_in, constant_in, LeafOf}
-use Rattle.ta_linear.specs.declared.row.Row.{Row}
 use Rattle.ta_linear.specs.declared.row.System.{System}
 use Rattle.ta_linear.proofs.RangeSum.{terms_value-sum}
 

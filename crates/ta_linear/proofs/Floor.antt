@@ -1,8 +1,4 @@
-use Rattle.std.proofs.Common.{◌≡◌, arith, ℤ, pos, negsuc, ◌<ℤ◌}
-use Rattle.std.specs.Int.{int_div_euclid}
-use Rattle.std.proofs.lemmas.Int.{ints}
-use Rattle.ta_linear.specs.Numbers.{InRange}
-use Rattle.std.proofs.Math.Nat.{div-le_self}
+use Rattle.ta_linear.proofs.Common.{◌≡◌, arith, ℤ, pos, negsuc, ◌<ℤ◌, int_div_euclid, ints, InRange, div-le_self}
 
 -- a quotient is no further from 0 than what is divided
 pub floor_fits : (a b q : ℤ) → pos 0 <ℤ b → q ≡ int_div_euclid a b → InRange a → InRange q

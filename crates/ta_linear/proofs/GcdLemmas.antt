@@ -1,9 +1,6 @@
 -- what ties the greatest common divisor by Euclid's recursion to the relation IsGcd
-use Rattle.std.proofs.Common.{◌≡◌, ℕ, zero, suc, ◌<◌, ◌%◌, arith, refl, sym}
-use Rattle.std.specs.Int.{IsGcd}
+use Rattle.ta_linear.proofs.Common.{◌≡◌, ℕ, zero, suc, ◌<◌, ◌%◌, arith, refl, sym, IsGcd, IsGcd-from_zero, IsGcd-from_mod, same_from_IsGcd, mod_below}
 use Rattle.ta_linear.specs.Gcd.{gcd_within, gcd_of}
-use Rattle.std.proofs.lemmas.Nat.Gcd.{IsGcd-from_zero, IsGcd-from_mod, same_from_IsGcd}
-use Rattle.std.proofs.lemmas.Nat.{mod_below}
 
 IsGcd-gcd_within : (n a b : ℕ) → b < n → IsGcd a b (gcd_within n a b)
 IsGcd-gcd_within zero a b h = absurd (omega arith)

@@ -1,10 +1,4 @@
-use Rattle.std.proofs.Common.{◌≡◌, ℕ, ℤ, ◌+◌, ◌<◌, ◌≤◌, ◌+ℤ◌, List, [], ◌∷◌, length, arith}
-use Rattle.std.proofs.lemmas.Int.{ints}
-use Rattle.std.proofs.lemmas.Bool.Decides.{nat_tests}
-use Rattle.ta_base.proofs.Integers.{add_cond}
-use Rattle.ta_linear.specs.Numbers.{InRange}
-use Rattle.ta_linear.specs.Terms.{coefficient, IsNormal}
-use Rattle.ta_linear.specs.Forms.{IsLeastTerm, SomeSumOutOfRange}
+use Rattle.ta_linear.proofs.Common.{◌≡◌, ℕ, ℤ, ◌+◌, ◌<◌, ◌≤◌, ◌+ℤ◌, List, [], ◌∷◌, length, arith, ints, nat_tests, add_cond, InRange, coefficient, IsNormal, IsLeastTerm, SomeSumOutOfRange}
 use Rattle.ta_linear.proofs.TermLemmas.{coefficient-below, IsNormal-le}
 
 -- the first variable of the terms is above another

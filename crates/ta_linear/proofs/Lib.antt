@@ -2,8 +2,10 @@
 pub mod GcdLemmas
 pub mod Floor
 pub mod TermLemmas
+pub mod NormalTerms
 pub mod RangeSum
 pub mod Farkas
 mod SmallProduct
 mod LeastTerm
 mod SumLemmas
+mod Common

@@ -1,14 +1,4 @@
-use Rattle.std.proofs.Common.{◌≡◌, ℕ, ◌+◌, ◌<◌, ◌^◌, ℤ, pos, negsuc, neg_ℤ, ◌-ℤ◌, ◌↔◌, ◌+ℤ◌, ◌*ℤ◌, List, [], ◌∷◌, eqb, cond, arith, sym, ap, ◌∙◌}
-use Rattle.std.proofs.lemmas.Int.{ints}
-use Rattle.std.proofs.Math.IntN.{zero-*ℤ}
-use Rattle.ta_base.proofs.Integers.{distributes, distributes_right, neg-mul, range_sum, times_assoc, turned_negative}
-use Rattle.ta_base.proofs.Sums.{one_term, range_sum-add, range_sum-same, range_sum-times, range_sum-zero}
-use Rattle.ta_linear.specs.Terms.{coefficient, IsNormal}
-use Rattle.ta_linear.specs.Values.{terms_value}
-use Rattle.ta_linear.specs.declared.form.Form.{Form}
-use Rattle.ta_linear.specs.Forms.{IsSum, IsMultiple, IsNegation}
-use Rattle.ta_linear.specs.Values.{value_of, RowHolds}
-use Rattle.ta_linear.specs.declared.row.Row.{Row}
+use Rattle.ta_linear.proofs.Common.{◌≡◌, ℕ, ◌+◌, ◌<◌, ◌^◌, ℤ, pos, negsuc, neg_ℤ, ◌-ℤ◌, ◌↔◌, ◌+ℤ◌, ◌*ℤ◌, List, [], ◌∷◌, eqb, cond, arith, sym, ap, ◌∙◌, ints, zero-*ℤ, distributes, distributes_right, neg-mul, range_sum, times_assoc, turned_negative, one_term, range_sum-add, range_sum-same, range_sum-times, range_sum-zero, coefficient, IsNormal, terms_value, Form, IsSum, IsMultiple, IsNegation, value_of, RowHolds, Row}
 use Rattle.ta_linear.proofs.TermLemmas.{IsNormal-le}
 
 -- the value of terms is the sum over all variables of the coefficient times the variable's value

@@ -1,9 +1,4 @@
-use Rattle.std.proofs.Common.{ℤ, ◌*ℤ◌, FitsSigned, arith}
-use Rattle.std.specs.Int.{w64}
-use Rattle.std.proofs.lemmas.Int.{unsigned_abs-mul}
-use Rattle.std.proofs.Math.Nat.{mul-le-mul}
-use Rattle.ta_base.proofs.Integers.{fits_64_abs}
-use Rattle.ta_linear.specs.Numbers.{InRange}
+use Rattle.ta_linear.proofs.Common.{ℤ, ◌*ℤ◌, FitsSigned, arith, w64, unsigned_abs-mul, mul-le-mul, fits_64_abs, InRange}
 
 -- the product of two 64-bit numbers is in range
 pub small_product : (a b : ℤ) → FitsSigned w64 a → FitsSigned w64 b → InRange (a *ℤ b)

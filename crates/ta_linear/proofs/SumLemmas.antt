@@ -1,9 +1,4 @@
-use Rattle.std.proofs.Common.{length, drop, get_or, ◌≡◌, ◌↔◌, ℕ, ℤ, ◌+◌, ◌<◌, ◌+ℤ◌, ◌*ℤ◌, List, arith}
-use Rattle.std.proofs.lemmas.Int.{ints}
-use Rattle.ta_base.proofs.Lists.{at_drop}
-use Rattle.ta_linear.specs.Numbers.{InRange}
-use Rattle.ta_linear.specs.Terms.{IsNormal}
-use Rattle.ta_linear.specs.Values.{terms_value}
+use Rattle.ta_linear.proofs.Common.{length, drop, get_or, ◌≡◌, ◌↔◌, ℕ, ℤ, ◌+◌, ◌<◌, ◌+ℤ◌, ◌*ℤ◌, List, arith, ints, at_drop, InRange, IsNormal, terms_value}
 use Rattle.ta_linear.specs.Sums.{StaysInRange}
 use Rattle.ta_linear.proofs.TermLemmas.{IsNormal-le}
 

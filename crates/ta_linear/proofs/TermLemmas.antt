@@ -1,13 +1,4 @@
-use Rattle.std.proofs.Common.{length, drop, get_or, ◌≡◌, ◌≢◌, ℕ, ℤ, pos, negsuc, neg_ℤ, ◌-ℤ◌, inl, inr, ◌+◌, ◌<◌, ◌≤◌, ◌^◌, ◌+ℤ◌, ◌*ℤ◌, List, [], ◌∷◌, ◌++◌, eqb, cond, refl, arith, sym, ap, ◌∙◌}
-use Rattle.std.proofs.lemmas.Int.{ints, unsigned_abs-mul}
-use Rattle.std.proofs.lemmas.Bool.Decides.{nat_tests, eqb_tells}
-use Rattle.ta_base.proofs.Integers.{distributes, if_same, if_zero, times_if, times_not_zero}
-use Rattle.ta_base.proofs.Lists.{at_drop}
-use Rattle.ta_linear.specs.Numbers.{InRange}
-use Rattle.ta_linear.specs.Terms.{coefficient, IsTerm, IsNormal}
-use Rattle.ta_linear.specs.Forms.{IsLeastTerm, SomeSumOutOfRange, IsSum, SumOutOfRange, IsMultiple, MultipleOutOfRange, IsNegation}
-use Rattle.ta_linear.specs.declared.form.Form.{Form}
-use Rattle.std.proofs.Math.IntN.{*ℤ-zero}
+use Rattle.ta_linear.proofs.Common.{length, drop, get_or, ◌≡◌, ◌≢◌, ℕ, ℤ, pos, negsuc, neg_ℤ, ◌-ℤ◌, inl, inr, ◌+◌, ◌<◌, ◌≤◌, ◌^◌, ◌+ℤ◌, ◌*ℤ◌, List, [], ◌∷◌, ◌++◌, eqb, cond, refl, arith, sym, ap, ◌∙◌, ints, unsigned_abs-mul, nat_tests, eqb_tells, distributes, if_same, if_zero, times_if, times_not_zero, at_drop, InRange, coefficient, IsTerm, IsNormal, IsLeastTerm, SomeSumOutOfRange, IsSum, SumOutOfRange, IsMultiple, MultipleOutOfRange, IsNegation, Form, *ℤ-zero}
 use Rattle.std.proofs.Math.ListN.{drop_of_length-le}
 
 pub IsNormal-le : (low high : ℕ) (ts : List (ℕ × ℤ)) → IsNormal low high ts → low ≤ high

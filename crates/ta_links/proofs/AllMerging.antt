@@ -1,23 +1,7 @@
 -- Rows that are merged one after another
-use Rattle.std.proofs.Common.{◌≡◌, ◌≢◌, ◌⊎◌, inl, inr, ℕ, zero, suc, ℤ, pos, ◌+◌, ◌-◌, ◌<◌, ◌≤◌, List, [], ◌∷◌, length, map, drop, drop_of_length-le, get_or, arith, sym, ap, ◌∙◌, refl, subst}
-use Rattle.std.specs.List.{range_with_len}
-use Rattle.ta_base.proofs.Lists.{at_drop}
-use Rattle.ta_base.proofs.Naturals.{equal_or_not}
-use Rattle.ta_dense.specs.Tableau.{TableauRow, merged}
-use Rattle.ta_dense.specs.Merge.{MergesInRange}
-use Rattle.ta_dense.proofs.ProperFacts.{merged-zero}
-use Rattle.ta_links.specs.declared.cell.Cell.{Cell}
-use Rattle.ta_links.specs.declared.row_head.RowHead.{RowHead}
-use Rattle.ta_links.specs.declared.linked_cells.LinkedCells.{LinkedCells}
-use Rattle.ta_links.specs.Values.{value_in, row_values, fills, filled_places, filled_rows}
-use Rattle.ta_links.specs.Gaps.{AreSound}
-use Rattle.ta_links.specs.Linked.{table_row, no_head, AreProperHeads}
-use Rattle.ta_links.specs.Merging.{row_in, RowMerged, IsSpared, RowStepped, MergeRefused, MergedBelow}
-use Rattle.ta_links.specs.MergingAll.{RefusedFirst}
+use Rattle.ta_links.proofs.Common.{◌≡◌, ◌≢◌, ◌⊎◌, inl, inr, ℕ, zero, suc, ℤ, pos, ◌+◌, ◌-◌, ◌<◌, ◌≤◌, List, [], ◌∷◌, length, map, drop, drop_of_length-le, get_or, arith, sym, ap, ◌∙◌, refl, subst, range_with_len, at_drop, equal_or_not, TableauRow, merged, MergesInRange, merged-zero, Cell, RowHead, LinkedCells, value_in, row_values, fills, filled_places, filled_rows, AreSound, table_row, no_head, AreProperHeads, row_in, RowMerged, IsSpared, RowStepped, MergeRefused, MergedBelow, RefusedFirst, IsNormal, coefficient, coefficient-below, IsNormal-le, coefficient-other}
 use Rattle.ta_links.proofs.LinkedFacts.{row_value_at}
-use Rattle.ta_linear.specs.Terms.{IsNormal, coefficient}
-use Rattle.ta_linear.proofs.TermLemmas.{coefficient-below, IsNormal-le}
-use Rattle.ta_links.proofs.ColumnSteps.{filled_same, fills_same, at_other}
+use Rattle.ta_links.proofs.ColumnSteps.{filled_same, fills_same}
 
 pub values_same : (cells new : List Cell) (n r : ℕ) → ((c : ℕ) → value_in new r c ≡ value_in cells r c) → row_values new n r ≡ row_values cells n r
 values_same cells new n r same = go (range_with_len 0 n) where
@@ -171,7 +155,7 @@ next_met first columns row column hs old met index d hs1 now column_inside m h =
       below = subst (λ (k : ℕ). MergedBelow first columns row column hs old k hs1 now) e skipped;
       inside = omega arith;
       todo = todo.2;
-      numbers = λ i from. m.numbers i (omega arith) ∙ ap (λ (xs : List (ℕ × ℤ)). coefficient xs i) split ∙ at_other t rest i (λ same. omega arith);
+      numbers = λ i from. m.numbers i (omega arith) ∙ ap (λ (xs : List (ℕ × ℤ)). coefficient xs i) split ∙ coefficient-other t rest i (λ same. omega arith);
     }
 
 pub met_more : (first columns row column : ℕ) (hs : List RowHead) (old : LinkedCells) (met : List (ℕ × ℤ)) (index at : ℕ) (hs1 : List RowHead) (now : LinkedCells) (hs2 : List RowHead) (new : LinkedCells) → AtNext first columns row column hs old met index at hs1 now → RowStepped first columns row at column hs1 now hs2 new →

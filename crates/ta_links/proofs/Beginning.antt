@@ -1,14 +1,5 @@
 -- The cells and heads of a system's rows
-use Rattle.std.proofs.Common.{◌≡◌, ◌≢◌, inl, inr, ℕ, zero, suc, ℤ, pos, ◌+◌, ◌≤◌, List, [], ◌∷◌, ◌++◌, length, get_or, arith, sym, ap, ◌∙◌, refl, Option, None}
-use Rattle.ta_base.proofs.Integers.{zero_or_not}
-use Rattle.ta_base.proofs.Naturals.{equal_or_not}
-use Rattle.ta_base.proofs.Options.{not_both}
-use Rattle.ta_linear.specs.Terms.{coefficient}
-use Rattle.ta_linear.specs.declared.row.Row.{Row}
-use Rattle.ta_links.specs.declared.cell.Cell.{Cell}
-use Rattle.ta_links.specs.Chains.{head_at, IsLive, Direction, IsChained, along_rows, along_columns}
-use Rattle.ta_links.specs.Free.{AreLinked}
-use Rattle.ta_links.specs.Starting.{RowsShow}
+use Rattle.ta_links.proofs.Common.{◌≡◌, ◌≢◌, inl, inr, ℕ, zero, suc, ℤ, pos, ◌+◌, ◌≤◌, List, [], ◌∷◌, ◌++◌, length, get_or, arith, sym, ap, ◌∙◌, refl, Option, None, zero_or_not, equal_or_not, not_both, coefficient, Row, Cell, head_at, IsLive, Direction, IsChained, along_rows, along_columns, AreLinked, RowsShow}
 
 dead : (cells : List Cell) (i : ℕ) → length cells ≡ 0 → IsLive cells i → ⊥
 dead cells i none live = let h = live.inside in omega arith

@@ -1,24 +1,5 @@
 -- Rows that are carried through a kept pivot
-use Rattle.std.proofs.Common.{◌≡◌, ◌≢◌, inl, inr, ℕ, ℤ, pos, ◌+◌, ◌-◌, ◌<◌, ◌≤◌, ◌<ℤ◌, List, ◌++◌, length, replicate, get_or, arith, sym, ap, ◌∙◌, refl, subst}
-use Rattle.std.proofs.lemmas.Bool.{cases_lt}
-use Rattle.std.proofs.lemmas.List.{ext_get_or, length-append, length-replicate, length-map, get_or-map, get_or_past, get_or_append_left, get_or-append_right, get_or-replicate}
-use Rattle.std.proofs.lemmas.List.FromFn.{length-range_with_len, get_or-range_with_len, length-map-range_with_len}
-use Rattle.std.specs.List.{range_with_len}
-use Rattle.ta_linear.specs.Terms.{IsNormal, coefficient}
-use Rattle.ta_linear.proofs.TermLemmas.{coefficient-above}
-use Rattle.ta_dense.specs.Tableau.{TableauRow, merged, no_row}
-use Rattle.ta_dense.specs.Slack.{coefficients}
-use Rattle.ta_dense.specs.Kept.{KeptPivot, IsKept, chosen_row, after_pivot}
-use Rattle.ta_dense.specs.Merge.{MergesInRange}
-use Rattle.ta_links.specs.declared.cell.Cell.{Cell}
-use Rattle.ta_links.specs.declared.row_head.RowHead.{RowHead}
-use Rattle.ta_links.specs.declared.linked_cells.LinkedCells.{LinkedCells}
-use Rattle.ta_links.specs.Values.{value_in, row_values}
-use Rattle.ta_links.specs.Gaps.{AreSound}
-use Rattle.ta_links.specs.Linked.{table_row}
-use Rattle.ta_links.specs.Merging.{row_in, MergedBelow}
-use Rattle.ta_links.specs.MergingAll.{RefusedFirst}
-use Rattle.ta_links.specs.Carrying.{rows_from, IsRoom, IsEmpty, HasChosenNumbers, OthersSame, RowsCarried, CarryRefused}
+use Rattle.ta_links.proofs.Common.{◌≡◌, ◌≢◌, inl, inr, ℕ, ℤ, pos, ◌+◌, ◌-◌, ◌<◌, ◌≤◌, ◌<ℤ◌, List, ◌++◌, length, replicate, get_or, arith, sym, ap, ◌∙◌, refl, subst, cases_lt, ext_get_or, length-append, length-replicate, length-map, get_or-map, get_or_past, get_or_append_left, get_or-append_right, get_or-replicate, length-range_with_len, get_or-range_with_len, length-map-range_with_len, range_with_len, IsNormal, coefficient, coefficient-above, TableauRow, merged, no_row, coefficients, KeptPivot, IsKept, chosen_row, after_pivot, MergesInRange, Cell, RowHead, LinkedCells, value_in, row_values, AreSound, table_row, row_in, MergedBelow, RefusedFirst, rows_from, IsRoom, IsEmpty, HasChosenNumbers, OthersSame, RowsCarried, CarryRefused}
 use Rattle.ta_links.proofs.LinkedFacts.{row_value_at}
 use Rattle.ta_links.proofs.RowMerging.{numbers_long}
 use Rattle.ta_links.proofs.AllMerging.{row_same_in, not_spared_by}

@@ -1,12 +1,5 @@
 -- Numbers that cells put into places
-use Rattle.std.proofs.Common.{◌≡◌, ◌≢◌, ◌⊎◌, inl, inr, ℕ, zero, suc, ℤ, pos, ◌+ℤ◌, ◌-ℤ◌, ◌<◌, List, [], ◌∷◌, ◌++◌, length, set, arith, ap, ◌∙◌, refl}
-use Rattle.std.proofs.lemmas.Int.{ints}
-use Rattle.std.proofs.lemmas.Bool.Decides.{eqb_tells}
-use Rattle.ta_base.proofs.Integers.{zero_or_not}
-use Rattle.ta_base.proofs.Naturals.{at_or_not}
-use Rattle.ta_links.specs.declared.cell.Cell.{Cell}
-use Rattle.ta_links.specs.Chains.{cell_at, IsLive}
-use Rattle.ta_links.specs.Values.{only_at_place, shown, value_in}
+use Rattle.ta_links.proofs.Common.{◌≡◌, ◌≢◌, ◌⊎◌, inl, inr, ℕ, zero, suc, ℤ, pos, ◌+ℤ◌, ◌-ℤ◌, ◌<◌, List, [], ◌∷◌, ◌++◌, length, set, arith, ap, ◌∙◌, refl, ints, eqb_tells, zero_or_not, at_or_not, Cell, cell_at, IsLive, only_at_place, shown, value_in}
 
 -- a number stands at its place
 pub placed_here : (row column : ℕ) (value : ℤ) (r c : ℕ) → row ≡ r → column ≡ c → only_at_place row column value r c ≡ value

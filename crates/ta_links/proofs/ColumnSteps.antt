@@ -1,16 +1,5 @@
 -- A row that is written over, column by column
-use Rattle.std.proofs.Common.{◌≡◌, ◌≢◌, inl, inr, ℕ, zero, suc, ℤ, pos, negsuc, ◌+◌, ◌<◌, ◌≤◌, List, [], ◌∷◌, length, drop, get_or, drop_of_length-le, arith, sym, ap, ◌∙◌, refl, subst, Option, None}
-use Rattle.std.proofs.lemmas.Int.{ints}
-use Rattle.std.proofs.lemmas.Bool.Decides.{eqb_tells}
-use Rattle.std.proofs.lemmas.Bool.{cases_lt}
-use Rattle.ta_base.proofs.Lists.{at_drop}
-use Rattle.ta_base.proofs.Naturals.{equal_or_not}
-use Rattle.ta_linear.specs.Terms.{IsNormal, coefficient}
-use Rattle.ta_linear.proofs.TermLemmas.{coefficient-below, IsNormal-le}
-use Rattle.ta_links.specs.declared.linked_cells.LinkedCells.{LinkedCells}
-use Rattle.ta_links.specs.Chains.{along_rows}
-use Rattle.ta_links.specs.Values.{value_in, written, fills, filled_places}
-use Rattle.ta_links.specs.Gaps.{AreSound, MayBefore}
+use Rattle.ta_links.proofs.Common.{◌≡◌, ◌≢◌, inl, inr, ℕ, zero, suc, ℤ, pos, negsuc, ◌+◌, ◌<◌, ◌≤◌, List, [], ◌∷◌, length, drop, get_or, drop_of_length-le, arith, sym, ap, ◌∙◌, refl, subst, Option, None, cases_lt, at_drop, equal_or_not, IsNormal, coefficient, coefficient-below, IsNormal-le, coefficient-other, coefficient-first, LinkedCells, along_rows, value_in, written, fills, filled_places, AreSound, MayBefore}
 use Rattle.ta_links.proofs.Writing.{written_here, written_elsewhere}
 
 pub fills_same : (a b : ℤ) → a ≡ b → fills a b ≡ 0
@@ -94,14 +83,6 @@ pub record PutOver (now : LinkedCells) (row column : ℕ) (value : ℤ) (left : 
   pub fresh : now.free_head ≡ None → value_in now.cells.items row column ≡ pos 0 → new.free_head ≡ None
   pub held : length new.cells.items ≤ length now.cells.items + fills (value_in now.cells.items row column) value
 
-pub at_own : (t : ℕ × ℤ) (rest : List (ℕ × ℤ)) (n : ℕ) → IsNormal (t.0 + 1) n rest → coefficient (t ∷ rest) t.0 ≡ t.1
-at_own t rest n normal =
-    let none = coefficient-below (t.0 + 1) n rest t.0 normal (omega arith) in
-    elim (eqb_tells t.0 t.0) [ inl e ↦ rw e.0 (omega (arith, ints, none)) | inr ne ↦ absurd (ne.1 refl) ]
-
-pub at_other : (t : ℕ × ℤ) (rest : List (ℕ × ℤ)) (c : ℕ) → t.0 ≢ c → coefficient (t ∷ rest) c ≡ coefficient rest c
-at_other t rest c apart = elim (eqb_tells t.0 c) [ inl e ↦ absurd (apart e.1) | inr ne ↦ rw ne.0 (omega (arith, ints)) ]
-
 pub overwritten_more : (old : LinkedCells) (row : ℕ) (list form : List (ℕ × ℤ)) (index : ℕ) (left : Option ℕ) (now : LinkedCells) (d : ℕ × ℤ) (value : ℤ) (left' : Option ℕ) (new : LinkedCells) → Overwritten old row list form index left now → index < length list →
     value ≡ coefficient form (get_or list index d).0 → PutOver now row (get_or list index d).0 value left' new → Overwritten old row list form (index + 1) left' new
 overwritten_more old row list form index left now d value left' new w h is p =
@@ -114,7 +95,7 @@ overwritten_more old row list form index left now d value left' new w h is p =
     let high = IsNormal-le (t.0 + 1) n rest todo.2 in
     let f = value_in now.cells.items in
     let listed : (c : ℕ) → w.low ≤ c → coefficient list c ≡ coefficient (t ∷ rest) c = λ c b. w.same c b ∙ ap (λ (xs : List (ℕ × ℤ)). coefficient xs c) split in
-    let own : coefficient list t.0 ≢ pos 0 = λ e. todo.1.not_zero (sym (at_own t rest n todo.2) ∙ sym (listed t.0 low) ∙ e) in
+    let own : coefficient list t.0 ≢ pos 0 = λ e. todo.1.not_zero (sym (coefficient-first n t rest todo.2) ∙ sym (listed t.0 low) ∙ e) in
     let here : value_in new.cells.items row t.0 ≡ value = p.values row t.0 ∙ written_here f row t.0 value row t.0 refl refl in
     let elsewhere : (c : ℕ) → c ≢ t.0 → value_in new.cells.items row c ≡ f row c = λ c ne. p.values row c ∙ written_elsewhere f row t.0 value row c (inr (λ e. ne (sym e))) in
     let was : f row t.0 ≡ value_in old.cells.items row t.0 = w.kept t.0 (λ b. absurd (omega arith)) in
@@ -136,7 +117,7 @@ overwritten_more old row list form index left now d value left' new w h is p =
       kept = λ c cond.
           let apart : c ≢ t.0 = λ e. own (ap (coefficient list) (sym e) ∙ cond (omega arith)) in
           elsewhere c apart ∙ w.kept c (λ b. cond (omega arith));
-      same = λ c b. listed c (omega arith) ∙ at_other t rest c (λ e. omega arith);
+      same = λ c b. listed c (omega arith) ∙ coefficient-other t rest c (λ e. omega arith);
       fresh = λ e empty. p.fresh (w.fresh e empty) (was ∙ empty t.0);
       held =
           let step = filled_step n (value_in old.cells.items row) (f row) (value_in new.cells.items row) t.0 (omega arith) was (λ j ne. elsewhere j ne) in

@@ -1,29 +1,5 @@
 -- The rows of a longer system
-use Rattle.std.proofs.Common.{◌≡◌, ◌≢◌, inl, inr, ℕ, ℤ, pos, suc, ◌+◌, ◌-◌, ◌<◌, ◌≤◌, List, [], ◌∷◌, ◌++◌, length, map, take, drop, replicate, get_or, arith, sym, ap, ◌∙◌, refl, subst, Option, None}
-use Rattle.std.proofs.lemmas.Bool.{cases_lt}
-use Rattle.std.proofs.lemmas.Int.{ints}
-use Rattle.std.proofs.lemmas.List.{ext_get_or, length-append, length-map, length-replicate, get_or-replicate, length-take, length-drop, get_or-map, get_or_past, get_or-take, get_or-drop, get_or_append_left, get_or-append_right}
-use Rattle.ta_base.proofs.Naturals.{equal_or_not}
-use Rattle.ta_base.proofs.Options.{none_or_some}
-use Rattle.ta_linear.specs.Terms.{coefficient}
-use Rattle.ta_linear.specs.declared.row.Row.{Row}
-use Rattle.ta_dense.specs.Tableau.{TableauRow, no_row}
-use Rattle.ta_dense.specs.Slack.{slack_rows}
-use Rattle.ta_dense.specs.Extending.{raised, widened}
-use Rattle.ta_dense.specs.Kept.{KeptPivot, kept_at, chosen_row, carried, after_pivot}
-use Rattle.ta_dense.specs.Merge.{RowsMergeBelow, FirstRefused}
-use Rattle.ta_links.specs.declared.cell.Cell.{Cell}
-use Rattle.ta_links.specs.declared.row_head.RowHead.{RowHead}
-use Rattle.ta_links.specs.declared.linked_cells.LinkedCells.{LinkedCells}
-use Rattle.ta_links.specs.Chains.{cell_at, head_at, IsLive, Direction, line_at, IsChained}
-use Rattle.ta_links.specs.Free.{AreLinked}
-use Rattle.ta_links.specs.Values.{value_in, row_values}
-use Rattle.ta_links.specs.Gaps.{AreSound}
-use Rattle.ta_links.specs.Linked.{table_row, table_rows, no_head, AreProperHeads, IsProperHead}
-use Rattle.ta_links.specs.Merging.{row_in}
-use Rattle.ta_links.specs.Starting.{RowsShow, slack_heads}
-use Rattle.ta_links.specs.Carrying.{rows_from, IsRoom, IsEmpty, AreKeptBelow, RowsCarried, CarryRefused}
-use Rattle.ta_links.specs.Extending.{raised_head, AllCarried, IsRefusal}
+use Rattle.ta_links.proofs.Common.{◌≡◌, ◌≢◌, inl, inr, ℕ, ℤ, pos, suc, ◌+◌, ◌-◌, ◌<◌, ◌≤◌, List, [], ◌∷◌, ◌++◌, length, map, take, drop, replicate, get_or, arith, sym, ap, ◌∙◌, refl, subst, Option, None, cases_lt, ints, ext_get_or, length-append, length-map, length-replicate, get_or-replicate, length-take, length-drop, get_or-map, get_or_past, get_or-take, get_or-drop, get_or_append_left, get_or-append_right, equal_or_not, none_or_some, coefficient, Row, TableauRow, no_row, slack_rows, raised, widened, KeptPivot, kept_at, chosen_row, carried, after_pivot, RowsMergeBelow, FirstRefused, Cell, RowHead, LinkedCells, cell_at, head_at, IsLive, Direction, line_at, IsChained, AreLinked, value_in, row_values, AreSound, table_row, table_rows, no_head, AreProperHeads, IsProperHead, row_in, RowsShow, slack_heads, rows_from, IsRoom, IsEmpty, AreKeptBelow, RowsCarried, CarryRefused, raised_head, AllCarried, IsRefusal}
 use Rattle.ta_links.proofs.Cells.{value_none, value_found}
 use Rattle.ta_links.proofs.LinkedFacts.{length-table_rows, table_row_at, row_value_at, table_is, length-slack_heads, proper_slacks}
 use Rattle.ta_links.proofs.RowMerging.{numbers_long}

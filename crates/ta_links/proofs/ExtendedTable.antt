@@ -1,26 +1,6 @@
 -- The dictionary of a longer system
-use Rattle.std.proofs.Common.{◌≡◌, ℕ, ◌+◌, ◌-◌, ◌<◌, ◌≤◌, List, ◌∷◌, [], ◌++◌, length, map, take, drop, get_or, arith, sym, ap, ◌∙◌, subst}
-use Rattle.std.proofs.lemmas.List.{length-append, length-map, length-take, get_or-take}
-use Rattle.std.proofs.lemmas.List.FromFn.{length-range_with_len}
-use Rattle.std.specs.List.{range_with_len}
-use Rattle.ta_linear.specs.declared.row.Row.{Row}
+use Rattle.ta_links.proofs.Common.{◌≡◌, ℕ, ◌+◌, ◌-◌, ◌<◌, ◌≤◌, List, ◌∷◌, [], ◌++◌, length, map, take, drop, get_or, arith, sym, ap, ◌∙◌, subst, length-append, length-map, length-take, get_or-take, length-range_with_len, range_with_len, Row, TableauRow, basic_of, slack_rows, raised, widened, extended, FirstLeaving, KeptPivot, kept_at, chosen_row, carried, StayInRange, FirstRefused, Cell, RowHead, LinkedCells, Inside, AreSound, value_in, Linked, table_rows, no_head, AreProperHeads, IsProperHead, linked_of, RowsShow, slack_heads, rows_from, IsRoom, raised_head, AllCarried, IsRefusal}
 use Rattle.ta_linear.specs.declared.row.System.{System}
-use Rattle.ta_dense.specs.Tableau.{TableauRow, basic_of}
-use Rattle.ta_dense.specs.Slack.{slack_rows}
-use Rattle.ta_dense.specs.Extending.{raised, widened, extended, FirstLeaving}
-use Rattle.ta_dense.specs.Kept.{KeptPivot, kept_at, chosen_row, carried, StayInRange}
-use Rattle.ta_dense.specs.Merge.{FirstRefused}
-use Rattle.ta_links.specs.declared.cell.Cell.{Cell}
-use Rattle.ta_links.specs.declared.row_head.RowHead.{RowHead}
-use Rattle.ta_links.specs.declared.linked_cells.LinkedCells.{LinkedCells}
-use Rattle.ta_links.specs.declared.linked.LinkedDictionary.TheInside.{Inside}
-use Rattle.ta_links.specs.Gaps.{AreSound}
-use Rattle.ta_links.specs.Values.{value_in}
-use Rattle.ta_links.specs.Linked.{Linked, table_rows, no_head, AreProperHeads, IsProperHead}
-use Rattle.ta_links.specs.Inside.Fields.{linked_of}
-use Rattle.ta_links.specs.Starting.{RowsShow, slack_heads}
-use Rattle.ta_links.specs.Carrying.{rows_from, IsRoom}
-use Rattle.ta_links.specs.Extending.{raised_head, AllCarried, IsRefusal}
 use Rattle.ta_links.proofs.LinkedFacts.{length-table_rows, table_row_at}
 use Rattle.ta_links.proofs.ExtendedRows.{Lengthened, new_rows_begin, begun_room, extended_table}
 

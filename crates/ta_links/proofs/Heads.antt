@@ -1,10 +1,5 @@
 -- Heads of lines, and the cell behind a gap
-use Rattle.std.proofs.Common.{◌≡◌, ◌≢◌, ◌⊎◌, inl, inr, ℕ, ◌<◌, List, length, ◌∙◌, refl, Option, Some, None}
-use Rattle.std.proofs.lemmas.List.{get_or-set_same, get_or-set_other, length-set}
-use Rattle.ta_links.specs.declared.cell.Cell.{Cell}
-use Rattle.ta_links.specs.Chains.{head_at, IsLive, Direction, line_at, IsChained}
-use Rattle.ta_links.specs.Links.{headed, following}
-use Rattle.ta_links.specs.Gaps.{MayBefore}
+use Rattle.ta_links.proofs.Common.{◌≡◌, ◌≢◌, ◌⊎◌, inl, inr, ℕ, ◌<◌, List, length, ◌∙◌, refl, Option, Some, None, get_or-set_same, get_or-set_other, length-set, Cell, head_at, IsLive, Direction, line_at, IsChained, headed, following, MayBefore}
 
 pub headed_new : (heads : List (Option ℕ)) (before : Option ℕ) (line : ℕ) (to : Option ℕ) → line < length heads → before ≡ None → head_at (headed heads before line to) line ≡ to
 headed_new heads None line to inside e = get_or-set_same heads line to None inside

@@ -1,15 +1,5 @@
 -- Cells stay linked where one is put in
-use Rattle.std.proofs.Common.{◌≡◌, ◌≢◌, inl, inr, ℕ, ℤ, pos, ◌+ℤ◌, ◌<◌, ◌≤◌, ◌+◌, List, [], ◌∷◌, length, arith, sym, ap, ◌∙◌, refl, subst, Option, Some}
-use Rattle.ta_base.proofs.Naturals.{equal_or_not}
-use Rattle.ta_base.proofs.Options.{not_both, same_index}
-use Rattle.ta_linear.specs.Numbers.{InRange}
-use Rattle.ta_links.specs.declared.cell.Cell.{Cell}
-use Rattle.ta_links.specs.declared.way.Way.TheVariants.{Rows, Columns}
-use Rattle.ta_links.specs.Chains.{cell_at, IsLive, Direction, line_at, place_at, along_rows, along_columns, IsChained}
-use Rattle.ta_links.specs.Free.{FreeVisits, IsFree, AreLinked}
-use Rattle.ta_links.specs.Values.{only_at_place, value_in}
-use Rattle.ta_links.specs.Links.{following, headed, spliced, taken, taken_at, next_free}
-use Rattle.ta_links.specs.Gaps.{IsEmptyPlace, Stays}
+use Rattle.ta_links.proofs.Common.{◌≡◌, ◌≢◌, inl, inr, ℕ, ℤ, pos, ◌+ℤ◌, ◌<◌, ◌≤◌, ◌+◌, List, [], ◌∷◌, length, arith, sym, ap, ◌∙◌, refl, subst, Option, Some, equal_or_not, not_both, same_index, InRange, Cell, Rows, Columns, cell_at, IsLive, Direction, line_at, place_at, along_rows, along_columns, IsChained, FreeVisits, IsFree, AreLinked, only_at_place, value_in, following, headed, spliced, taken, taken_at, next_free, IsEmptyPlace, Stays}
 use Rattle.ta_links.proofs.Insertion.{Insertion, stands, insertion_keeps}
 use Rattle.ta_links.proofs.Heads.{headed_new, headed_rest, headed_long, following_live}
 use Rattle.ta_links.proofs.Splicing.{Spliced, Relinked, splice_facts, rows_relinked, columns_relinked}

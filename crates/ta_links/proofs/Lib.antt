@@ -11,7 +11,6 @@ mod Walking
 mod ColumnSteps
 mod Beginning
 mod LinkedFacts
-mod LeastSoFar
 mod EnterSteps
 mod MergeSteps
 mod RowMerging
@@ -22,3 +21,4 @@ mod PivotedTable
 mod CarriedRows
 mod ExtendedRows
 mod ExtendedTable
+mod Common

@@ -1,23 +1,5 @@
 -- Rows that are read from cells, and live cells that are counted
-use Rattle.std.proofs.Common.{◌≡◌, ◌≢◌, ℕ, zero, suc, ℤ, pos, negsuc, ◌+◌, ◌<◌, ◌≤◌, List, [], ◌∷◌, length, get_or, map, arith, sym, ap, ◌∙◌, refl, subst, Option, None}
-use Rattle.std.proofs.lemmas.Int.{ints}
-use Rattle.std.proofs.lemmas.List.{get_or-map}
-use Rattle.std.proofs.lemmas.List.FromFn.{length-range_with_len, get_or-range_with_len}
-use Rattle.std.specs.List.{range_with_len}
-use Rattle.ta_base.proofs.Options.{not_both}
-use Rattle.ta_linear.specs.Terms.{coefficient}
-use Rattle.ta_linear.specs.declared.row.Row.{Row}
-use Rattle.ta_dense.specs.Tableau.{TableauRow, no_row, row_of, cell_of}
-use Rattle.ta_dense.specs.Slack.{coefficients, slack_rows, slack_row_of}
-use Rattle.ta_links.specs.declared.cell.Cell.{Cell}
-use Rattle.ta_links.specs.declared.row_head.RowHead.{RowHead}
-use Rattle.ta_links.specs.Chains.{cell_at}
-use Rattle.ta_links.specs.Free.{IsFree, FreeVisits, NotIn}
-use Rattle.ta_links.specs.Values.{value_in, row_values, fills}
-use Rattle.ta_links.specs.Linked.{table_row, table_rows, no_head, live_count, AreProperHeads, IsProperHead, Linked, IsKeptInChains}
-use Rattle.ta_links.specs.Inside.Fields.{linked_of, IsSoundLinks}
-use Rattle.ta_links.specs.declared.linked.LinkedDictionary.TheInside.{Inside}
-use Rattle.ta_links.specs.Starting.{slack_heads}
+use Rattle.ta_links.proofs.Common.{◌≡◌, ◌≢◌, ℕ, zero, suc, ℤ, pos, negsuc, ◌+◌, ◌<◌, ◌≤◌, List, [], ◌∷◌, length, get_or, map, arith, sym, ap, ◌∙◌, refl, subst, Option, None, ints, get_or-map, length-range_with_len, get_or-range_with_len, range_with_len, not_both, coefficient, Row, TableauRow, no_row, row_of, cell_of, coefficients, slack_rows, slack_row_of, Cell, RowHead, cell_at, IsFree, FreeVisits, NotIn, value_in, row_values, fills, table_row, table_rows, no_head, live_count, AreProperHeads, IsProperHead, Linked, IsKeptInChains, linked_of, IsSoundLinks, Inside, slack_heads}
 
 pub length-table_rows : (cells : List Cell) (n k : ℕ) (hs : List RowHead) → length (table_rows cells n k hs) ≡ length hs
 length-table_rows cells n k [] = refl
@@ -110,6 +92,9 @@ row_below inside d row view h =
     let rows = ap (λ (e : Linked). length e.tableau.rows) view in
     let l = length-table_rows inside.links.cells.items (length inside.non_basic.items) 0 inside.rows.items in
     omega arith
+
+pub head_below : (inside : Inside) (d : Linked) (row : ℕ) (heads : List RowHead) → linked_of inside ≡ d → row < length d.tableau.rows → heads ≡ inside.rows.items → row < length heads
+head_below inside d row heads view h same = subst (λ (hs : List RowHead). row < length hs) (sym same) (row_below inside d row view h)
 
 pub head_is : (inside : Inside) (d : Linked) (row : ℕ) (h : RowHead) → IsSoundLinks inside → linked_of inside ≡ d → row < length d.tableau.rows → h ≡ get_or inside.rows.items row no_head → HeadIs inside d row h
 head_is inside d row h s view b is =

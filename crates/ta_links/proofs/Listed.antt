@@ -1,19 +1,5 @@
 -- A list of the cells of a line that grows cell by cell
-use Rattle.std.proofs.Common.{◌≡◌, inl, inr, ℕ, ℤ, pos, ◌+◌, ◌<◌, ◌≤◌, List, [], ◌∷◌, ◌++◌, arith, sym, ap, ◌∙◌, refl, Option, None, Some}
-use Rattle.std.proofs.lemmas.Int.{ints}
-use Rattle.std.proofs.lemmas.Bool.{cases_lt}
-use Rattle.ta_base.proofs.Naturals.{equal_or_not}
-use Rattle.ta_linear.specs.Terms.{IsNormal, IsTerm, coefficient}
-use Rattle.ta_linear.proofs.TermLemmas.{IsNormal-push, IsNormal-higher, coefficient-append, coefficient-above}
-use Rattle.ta_links.specs.declared.linked_cells.LinkedCells.{LinkedCells}
-use Rattle.ta_links.specs.declared.way.Way.{Way}
-use Rattle.ta_links.specs.declared.way.Way.TheVariants.{Rows, Columns}
-use Rattle.ta_links.specs.Chains.{cell_at, IsLive, place_at}
-use Rattle.ta_links.specs.Gaps.{AreSound, spot}
-use Rattle.ta_links.specs.Links.{direction}
-use Rattle.ta_links.specs.Lines.{line_value_at, MayBeOn, IsNext, NoneLeft}
-use Rattle.ta_links.specs.Listing.{Lists, line_places}
-use Rattle.ta_links.proofs.ColumnSteps.{at_own, at_other}
+use Rattle.ta_links.proofs.Common.{◌≡◌, inl, inr, ℕ, ℤ, pos, ◌+◌, ◌<◌, ◌≤◌, List, [], ◌∷◌, ◌++◌, arith, sym, ap, ◌∙◌, refl, Option, None, Some, ints, cases_lt, equal_or_not, IsNormal, IsTerm, coefficient, IsNormal-push, IsNormal-higher, coefficient-append, coefficient-above, coefficient-other, coefficient-first, LinkedCells, Way, Rows, Columns, cell_at, IsLive, place_at, AreSound, spot, direction, line_value_at, MayBeOn, IsNext, NoneLeft, Lists, line_places}
 
 -- the cells before a place are listed
 pub record Listing (way : Way) (l : LinkedCells) (on : ℕ) (before : Option ℕ) (ts : List (ℕ × ℤ)) : Type 0 where
@@ -35,7 +21,7 @@ listed_more way l on before ts at t sound w n e0 e1 =
     let live = n.on.live in
     let term : IsTerm t = record { not_zero = λ z. live.value (sym e1 ∙ z); in_range = rw e1 (sound.fits at live) } in
     let pushed = IsNormal-push 0 (spot (direction way) cells before) ts t w.normal (omega arith) term in
-    let own : coefficient (t ∷ []) t.0 ≡ t.1 = at_own t [] (t.0 + 1) (omega arith) in
+    let own : coefficient (t ∷ []) t.0 ≡ t.1 = coefficient-first (t.0 + 1) t [] (omega arith) in
     record {
       may = λ h e. let same : at ≡ h = cc in rw (sym same) n.on;
       normal = IsNormal-higher 0 (t.0 + 1) (spot (direction way) cells (Some at)) (ts ++ t ∷ []) (omega arith) pushed;
@@ -46,7 +32,7 @@ listed_more way l on before ts at t sound w n e0 e1 =
             let here : line_value_at way cells on p ≡ t.1 = ap (line_value_at way cells on) (sym e ∙ e0) ∙ n.value ∙ sym e1 in
             here ∙ sym (ap (coefficient (ts ++ t ∷ [])) (sym e) ∙ sum ∙ omega (arith, ints, own, none))
         | inr ne ↦
-            let rest : coefficient (t ∷ []) p ≡ pos 0 = at_other t [] p ne in
+            let rest : coefficient (t ∷ []) p ≡ pos 0 = coefficient-other t [] p ne in
             let sum = coefficient-append ts (t ∷ []) p in
             let all : coefficient (ts ++ t ∷ []) p ≡ coefficient ts p = sum ∙ omega (arith, ints, rest) in
             elim (cases_lt p (spot (direction way) cells before)) [

@@ -1,22 +1,6 @@
 -- A row that is merged place by place
-use Rattle.std.proofs.Common.{◌≡◌, ◌≢◌, inl, inr, ℕ, suc, ℤ, pos, ◌+◌, ◌*ℤ◌, ◌-ℤ◌, ◌<ℤ◌, ◌<◌, ◌≤◌, List, length, arith, sym, ap, ◌∙◌, refl, subst, Option, Some, None, IfSome, IfNone}
-use Rattle.std.specs.Prelude.{unsigned_abs, int_div}
-use Rattle.std.proofs.lemmas.Bool.Decides.{eqb_tells}
-use Rattle.ta_base.proofs.Integers.{pos_out}
-use Rattle.ta_base.proofs.Naturals.{equal_or_not}
-use Rattle.ta_dense.proofs.ProperFacts.{in_range-div}
-use Rattle.ta_linear.specs.Numbers.{InRange}
-use Rattle.ta_dense.specs.Merge.{CombinesInRange}
-use Rattle.ta_links.specs.declared.cell.Cell.{Cell}
-use Rattle.ta_links.specs.declared.linked_cells.LinkedCells.{LinkedCells}
-use Rattle.ta_links.specs.Chains.{along_rows}
-use Rattle.ta_links.specs.Values.{value_in, fills, filled_places}
-use Rattle.ta_links.specs.Gaps.{AreSound, MayBefore}
-use Rattle.ta_links.specs.Merging.{merged_cell, MergesAt, gcd_below}
-use Rattle.ta_linear.specs.Gcd.{gcd_of}
+use Rattle.ta_links.proofs.Common.{◌≡◌, ◌≢◌, inl, inr, ℕ, suc, ℤ, pos, ◌+◌, ◌*ℤ◌, ◌-ℤ◌, ◌<ℤ◌, ◌<◌, ◌≤◌, List, length, arith, sym, ap, ◌∙◌, refl, subst, Option, Some, None, IfSome, IfNone, unsigned_abs, int_div, eqb_tells, pos_out, equal_or_not, in_range-div, InRange, CombinesInRange, Cell, LinkedCells, along_rows, value_in, fills, filled_places, AreSound, MayBefore, merged_cell, MergesAt, gcd_below, gcd_of, of_z, w128}
 use Rattle.std.specs.Option.{SomeIff}
-use mir.Val.{of_z}
-use mir.Syntax.{w128}
 use Rattle.ta_links.proofs.Writing.{written_here, written_elsewhere}
 use Rattle.ta_links.proofs.ColumnSteps.{PutOver, filled_step}
 

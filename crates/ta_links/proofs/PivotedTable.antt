@@ -1,16 +1,5 @@
 -- The dictionary after a pivot
-use Rattle.std.proofs.Common.{◌≡◌, ◌≢◌, inl, inr, ℕ, zero, suc, ℤ, ◌+◌, ◌<◌, ◌≤◌, List, length, map, set, get_or, arith, sym, ap, ◌∙◌, refl, subst}
-use Rattle.std.proofs.lemmas.List.{ext_get_or, length-set, length-map, get_or-map, get_or-set_same, get_or-set_other}
-use Rattle.ta_base.proofs.Naturals.{equal_or_not}
-use Rattle.ta_dense.specs.Tableau.{Tableau, TableauRow, merged, turned, no_row, pivoted, pivoted_rows}
-use Rattle.ta_dense.specs.Merge.{MergesInRange, OthersMergeBelow, FirstOtherRefused}
-use Rattle.ta_links.specs.declared.row_head.RowHead.{RowHead}
-use Rattle.ta_links.specs.declared.linked_cells.LinkedCells.{LinkedCells}
-use Rattle.ta_links.specs.Values.{value_in, fills, filled_places, filled_rows}
-use Rattle.ta_links.specs.Linked.{table_row, table_rows, no_head, numbers_of}
-use Rattle.ta_links.specs.declared.cell.Cell.{Cell}
-use Rattle.ta_links.specs.Merging.{row_in, IsSpared, MergedBelow, RowTurned}
-use Rattle.ta_links.specs.MergingAll.{RefusedFirst}
+use Rattle.ta_links.proofs.Common.{◌≡◌, ◌≢◌, inl, inr, ℕ, zero, suc, ℤ, ◌+◌, ◌<◌, ◌≤◌, List, length, map, set, get_or, arith, sym, ap, ◌∙◌, refl, subst, ext_get_or, length-set, length-map, get_or-map, get_or-set_same, get_or-set_other, equal_or_not, Tableau, TableauRow, merged, turned, no_row, pivoted, pivoted_rows, MergesInRange, OthersMergeBelow, FirstOtherRefused, RowHead, LinkedCells, value_in, fills, filled_places, filled_rows, table_row, table_rows, no_head, numbers_of, Cell, row_in, IsSpared, MergedBelow, RowTurned, RefusedFirst}
 use Rattle.ta_links.specs.Pivoting.{RowsPivoted}
 use Rattle.ta_links.proofs.LinkedFacts.{length-table_rows, table_row_at, table_cell}
 use Rattle.ta_links.proofs.ColumnSteps.{filled_same}

@@ -1,9 +1,5 @@
 -- A cell that is taken out of its line keeps chains
-use Rattle.std.proofs.Common.{◌≡◌, ◌≢◌, ◌⊎◌, inl, inr, ℕ, ◌<◌, ◌≤◌, List, length, arith, sym, ap, ◌∙◌, Option, Some, None}
-use Rattle.ta_base.proofs.Naturals.{equal_or_not, some_or_not}
-use Rattle.ta_base.proofs.Options.{none_or_some, not_both, same_index}
-use Rattle.ta_links.specs.declared.cell.Cell.{Cell}
-use Rattle.ta_links.specs.Chains.{head_at, IsLive, Direction, line_at, place_at, before_at, after_at, IsFirstCell, FollowsCell, IsChained}
+use Rattle.ta_links.proofs.Common.{◌≡◌, ◌≢◌, ◌⊎◌, inl, inr, ℕ, ◌<◌, ◌≤◌, List, length, arith, sym, ap, ◌∙◌, Option, Some, None, equal_or_not, some_or_not, none_or_some, not_both, same_index, Cell, head_at, IsLive, Direction, line_at, place_at, before_at, after_at, IsFirstCell, FollowsCell, IsChained}
 
 -- a live cell `x` leaves its line, where it stood between the cells `p` and `n`, one or both of which may be missing
 pub record Removal : Type 0 where

@@ -1,16 +1,5 @@
 -- Cells stay linked where one is taken out, and where a value is written
-use Rattle.std.proofs.Common.{◌≡◌, ◌≢◌, inl, inr, ℕ, ℤ, pos, ◌+ℤ◌, ◌-ℤ◌, ◌<◌, List, [], ◌∷◌, length, set, arith, sym, ap, ◌∙◌, refl, subst, Option, Some}
-use Rattle.std.proofs.lemmas.Int.{ints}
-use Rattle.std.proofs.lemmas.List.{get_or-set_same, get_or-set_other, length-set}
-use Rattle.ta_base.proofs.Naturals.{at_or_not, equal_or_not}
-use Rattle.ta_linear.specs.Numbers.{InRange}
-use Rattle.ta_links.specs.declared.cell.Cell.{Cell}
-use Rattle.ta_links.specs.declared.way.Way.TheVariants.{Rows, Columns}
-use Rattle.ta_links.specs.Chains.{no_cell, cell_at, head_at, IsLive, Direction, line_at, place_at, before_at, after_at, along_rows, along_columns, IsChained}
-use Rattle.ta_links.specs.Free.{NotIn, FreeVisits, AreLinked}
-use Rattle.ta_links.specs.Values.{only_at_place, shown, value_in}
-use Rattle.ta_links.specs.Links.{headed, spliced, freed, with_value}
-use Rattle.ta_links.specs.Gaps.{Stays}
+use Rattle.ta_links.proofs.Common.{◌≡◌, ◌≢◌, inl, inr, ℕ, ℤ, pos, ◌+ℤ◌, ◌-ℤ◌, ◌<◌, List, [], ◌∷◌, length, set, arith, sym, ap, ◌∙◌, refl, subst, Option, Some, ints, get_or-set_same, get_or-set_other, length-set, at_or_not, equal_or_not, InRange, Cell, Rows, Columns, no_cell, cell_at, head_at, IsLive, Direction, line_at, place_at, before_at, after_at, along_rows, along_columns, IsChained, NotIn, FreeVisits, AreLinked, only_at_place, shown, value_in, headed, spliced, freed, with_value, Stays}
 use Rattle.ta_links.proofs.Removal.{Removal, removal_keeps}
 use Rattle.ta_links.proofs.Heads.{headed_new, headed_rest, headed_long}
 use Rattle.ta_links.proofs.Splicing.{Spliced, Relinked, splice_facts, rows_relinked, columns_relinked}

@@ -1,30 +1,8 @@
 -- A row that was merged place by place is the row of the definition
-use Rattle.std.proofs.Common.{◌≡◌, ◌≢◌, inl, inr, ℕ, zero, suc, ℤ, pos, ◌+◌, ◌*ℤ◌, ◌-ℤ◌, ◌<ℤ◌, ◌<◌, ◌≤◌, List, [], ◌∷◌, ◌++◌, length, map, set, get_or, arith, sym, ap, ◌∙◌, refl, subst, Option}
-use Rattle.std.specs.Prelude.{unsigned_abs, int_div}
-use Rattle.std.specs.List.{range_with_len}
-use Rattle.std.proofs.lemmas.List.{ext_get_or, length-set, length-map, get_or-map, get_or-set_same, get_or-set_other, map-append}
-use Rattle.std.proofs.lemmas.List.FromFn.{length-range_with_len, get_or-range_with_len}
-use Rattle.ta_base.proofs.Integers.{product_positive}
-use Rattle.ta_base.proofs.Lists.{range_more}
-use Rattle.ta_base.proofs.Naturals.{equal_or_not}
-use Rattle.ta_linear.specs.Gcd.{gcd_of}
-use Rattle.ta_linear.specs.Numbers.{InRange}
-use Rattle.ta_dense.specs.Tableau.{combine, gcd_with, cell_of, merged, merged_by, divisor_of, divided, reduced, factor_divisor}
-use Rattle.ta_dense.specs.Merge.{CombinesInRange, MergesByInRange, MergesInRange, IsProper}
+use Rattle.ta_links.proofs.Common.{◌≡◌, ◌≢◌, inl, inr, ℕ, zero, suc, ℤ, pos, ◌+◌, ◌*ℤ◌, ◌-ℤ◌, ◌<ℤ◌, ◌<◌, ◌≤◌, List, [], ◌∷◌, ◌++◌, length, map, set, get_or, arith, sym, ap, ◌∙◌, refl, subst, Option, unsigned_abs, int_div, range_with_len, ext_get_or, length-set, length-map, get_or-map, get_or-set_same, get_or-set_other, map-append, length-range_with_len, get_or-range_with_len, product_positive, range_more, equal_or_not, gcd_of, InRange, combine, gcd_with, cell_of, merged, merged_by, divisor_of, divided, reduced, factor_divisor, CombinesInRange, MergesByInRange, MergesInRange, IsProper, record_same, Factored, factored, merged_from, IsProper-merged, divisor_positive, AreLinked, Cell, RowHead, value_in, row_values, filled_places, table_row, IsProperHead, AreProperHeads, no_head, merged_cell, MergesAt, RefusedAt, gcd_below, HeadsMerge, MergedHead, RowMerged, LinkedCells, AreSound}
 use Rattle.ta_dense.proofs.PivotLaws.{get_or-combine, length-combine}
-use Rattle.ta_dense.proofs.RowFacts.{record_same}
-use Rattle.ta_dense.proofs.ProperFacts.{Factored, factored, merged_from, IsProper-merged}
-use Rattle.ta_dense.proofs.ReduceFacts.{divisor_positive}
 use Rattle.std.proofs.lemmas.List.Elements.{All-map}
-use Rattle.ta_links.specs.Free.{AreLinked}
 use Rattle.ta_links.proofs.Cells.{look, value_found, value_none}
-use Rattle.ta_links.specs.declared.cell.Cell.{Cell}
-use Rattle.ta_links.specs.declared.row_head.RowHead.{RowHead}
-use Rattle.ta_links.specs.Values.{value_in, row_values, filled_places}
-use Rattle.ta_links.specs.Linked.{table_row, IsProperHead, AreProperHeads, no_head}
-use Rattle.ta_links.specs.Merging.{merged_cell, MergesAt, RefusedAt, gcd_below, HeadsMerge, MergedHead, RowMerged}
-use Rattle.ta_links.specs.declared.linked_cells.LinkedCells.{LinkedCells}
-use Rattle.ta_links.specs.Gaps.{AreSound}
 use Rattle.ta_links.proofs.LinkedFacts.{row_value_at}
 use Rattle.ta_links.proofs.MergeSteps.{merged_here, merged_elsewhere}
 

@@ -1,12 +1,5 @@
 -- What splicing leaves and writes of each cell
-use Rattle.std.proofs.Common.{◌≡◌, ◌≢◌, inl, inr, ℕ, ◌<◌, List, length, set, arith, sym, ap, ◌∙◌, refl, subst, Option, Some, None}
-use Rattle.std.proofs.lemmas.List.{get_or-set_same, get_or-set_other, length-set}
-use Rattle.ta_base.proofs.Naturals.{equal_or_not}
-use Rattle.ta_links.specs.declared.cell.Cell.{Cell}
-use Rattle.ta_links.specs.declared.way.Way.{Way}
-use Rattle.ta_links.specs.declared.way.Way.TheVariants.{Rows, Columns}
-use Rattle.ta_links.specs.Chains.{no_cell, cell_at, line_at, place_at, before_at, after_at, Direction, along_rows, along_columns}
-use Rattle.ta_links.specs.Links.{direction, with_after, with_before, linked, spliced}
+use Rattle.ta_links.proofs.Common.{◌≡◌, ◌≢◌, inl, inr, ℕ, ◌<◌, List, length, set, arith, sym, ap, ◌∙◌, refl, subst, Option, Some, None, get_or-set_same, get_or-set_other, length-set, equal_or_not, Cell, Way, Rows, Columns, no_cell, cell_at, line_at, place_at, before_at, after_at, Direction, along_rows, along_columns, direction, with_after, with_before, linked, spliced}
 
 abbrev pub other : Way → Way
 other Rows = Columns

@@ -1,13 +1,5 @@
 -- A cell that is taken, and one that is freed
-use Rattle.std.proofs.Common.{◌≡◌, ◌≢◌, inl, inr, ℕ, ℤ, pos, ◌+ℤ◌, ◌<◌, ◌≤◌, ◌+◌, List, [], ◌∷◌, ◌++◌, length, set, arith, sym, ap, ◌∙◌, refl, subst, Option, Some, None}
-use Rattle.std.proofs.lemmas.Int.{ints}
-use Rattle.std.proofs.lemmas.Bool.{cases_lt}
-use Rattle.std.proofs.lemmas.List.{get_or-set_same, get_or-set_other, length-set, length-append, get_or_append_left, get_or_at, get_or_past}
-use Rattle.ta_links.specs.declared.cell.Cell.{Cell}
-use Rattle.ta_links.specs.Chains.{no_cell, cell_at, IsLive}
-use Rattle.ta_links.specs.Free.{NotIn, FreeVisits, IsFree}
-use Rattle.ta_links.specs.Values.{only_at_place, shown, value_in}
-use Rattle.ta_links.specs.Links.{taken, taken_at, next_free}
+use Rattle.ta_links.proofs.Common.{◌≡◌, ◌≢◌, inl, inr, ℕ, ℤ, pos, ◌+ℤ◌, ◌<◌, ◌≤◌, ◌+◌, List, [], ◌∷◌, ◌++◌, length, set, arith, sym, ap, ◌∙◌, refl, subst, Option, Some, None, ints, cases_lt, get_or-set_same, get_or-set_other, length-set, length-append, get_or_append_left, get_or_at, get_or_past, Cell, no_cell, cell_at, IsLive, NotIn, FreeVisits, IsFree, only_at_place, shown, value_in, taken, taken_at, next_free}
 use Rattle.ta_links.proofs.Cells.{value_set, value_push, placed_zero}
 
 -- the cells after one was taken at an index that wasn't live

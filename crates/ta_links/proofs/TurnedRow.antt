@@ -1,21 +1,5 @@
 -- The chosen row after a pivot
-use Rattle.std.proofs.Common.{◌≡◌, ◌≢◌, inl, inr, ℕ, ℤ, pos, negsuc, neg_ℤ, ◌+◌, ◌<ℤ◌, ◌<◌, ◌≤◌, List, length, map, set, get_or, arith, sym, ap, ◌∙◌, subst}
-use Rattle.std.specs.Prelude.{int_div}
-use Rattle.std.proofs.lemmas.List.{ext_get_or, length-set, length-map, get_or-map, get_or-set_same, get_or-set_other}
-use Rattle.ta_base.proofs.Integers.{div-one, minus_one_negates, negated, no_times, unsigned_abs-neg}
-use Rattle.ta_base.proofs.Naturals.{equal_or_not}
-use Rattle.ta_linear.specs.Numbers.{InRange}
-use Rattle.ta_dense.specs.Tableau.{turned}
-use Rattle.ta_dense.specs.Merge.{IsProper}
-use Rattle.ta_dense.proofs.RowFacts.{record_same}
-use Rattle.ta_dense.proofs.ProperFacts.{IsProper-turned}
-use Rattle.ta_links.specs.declared.cell.Cell.{Cell}
-use Rattle.ta_links.specs.declared.row_head.RowHead.{RowHead}
-use Rattle.ta_links.specs.declared.linked_cells.LinkedCells.{LinkedCells}
-use Rattle.ta_links.specs.Values.{value_in, row_values, filled_places}
-use Rattle.ta_links.specs.Gaps.{AreSound}
-use Rattle.ta_links.specs.Linked.{table_row, no_head, IsProperHead, AreProperHeads}
-use Rattle.ta_links.specs.Merging.{merged_cell, MergesAt, RowTurned}
+use Rattle.ta_links.proofs.Common.{◌≡◌, ◌≢◌, inl, inr, ℕ, ℤ, pos, negsuc, neg_ℤ, ◌+◌, ◌<ℤ◌, ◌<◌, ◌≤◌, List, length, map, set, get_or, arith, sym, ap, ◌∙◌, subst, int_div, ext_get_or, length-set, length-map, get_or-map, get_or-set_same, get_or-set_other, div-one, minus_one_negates, negated, no_times, unsigned_abs-neg, equal_or_not, InRange, turned, IsProper, record_same, IsProper-turned, Cell, RowHead, LinkedCells, value_in, row_values, filled_places, AreSound, table_row, no_head, IsProperHead, AreProperHeads, merged_cell, MergesAt, RowTurned}
 use Rattle.ta_links.proofs.LinkedFacts.{row_value_at}
 use Rattle.ta_links.proofs.MergeSteps.{merged_here, merged_elsewhere}
 use Rattle.ta_links.proofs.RowMerging.{numbers_long, value_fits, table_proper}

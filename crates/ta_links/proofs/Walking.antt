@@ -1,14 +1,5 @@
 -- What a walk along a line comes to next
-use Rattle.std.proofs.Common.{◌≡◌, ◌≢◌, inl, inr, ℕ, pos, List, arith, sym, ◌∙◌, refl, Option, Some, None, IfSome, IfNone}
-use Rattle.ta_links.specs.declared.cell.Cell.{Cell}
-use Rattle.ta_links.specs.declared.way.Way.{Way}
-use Rattle.ta_links.specs.declared.way.Way.TheVariants.{Rows, Columns}
-use Rattle.ta_links.specs.Chains.{cell_at, IsLive, line_at, place_at, IsChained}
-use Rattle.ta_links.specs.Links.{direction, following}
-use Rattle.ta_links.specs.Lines.{line_value_at, IsOn, MayBeOn, IsNext, NoneLeft}
-use Rattle.ta_links.specs.declared.linked_cells.LinkedCells.{LinkedCells}
-use Rattle.ta_links.specs.Gaps.{AreSound}
-use Rattle.ta_links.specs.Listing.{heads_of}
+use Rattle.ta_links.proofs.Common.{◌≡◌, ◌≢◌, inl, inr, ℕ, pos, List, arith, sym, ◌∙◌, refl, Option, Some, None, IfSome, IfNone, Cell, Way, Rows, Columns, cell_at, IsLive, line_at, place_at, IsChained, direction, following, line_value_at, IsOn, MayBeOn, IsNext, NoneLeft, LinkedCells, AreSound, heads_of}
 use Rattle.ta_links.proofs.Cells.{value_none, value_found}
 
 -- the number at a place without a live cell, and with one

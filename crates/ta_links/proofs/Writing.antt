@@ -1,13 +1,5 @@
 -- Numbers that are written into places
-use Rattle.std.proofs.Common.{◌≡◌, ◌≢◌, ◌⊎◌, inl, inr, ℕ, zero, suc, ℤ, pos, negsuc, ◌+ℤ◌, ◌-ℤ◌, ◌<◌, List, arith, sym, ap, ◌∙◌, refl, Option, Some, None}
-use Rattle.std.proofs.lemmas.Int.{ints}
-use Rattle.std.proofs.lemmas.Bool.Decides.{eqb_tells}
-use Rattle.ta_base.proofs.Naturals.{at_or_not}
-use Rattle.ta_links.specs.declared.cell.Cell.{Cell}
-use Rattle.ta_links.specs.Chains.{cell_at, head_at, after_at, IsLive, Direction, line_at, place_at, along_rows, along_columns, IsChained}
-use Rattle.ta_links.specs.Free.{AreLinked}
-use Rattle.ta_links.specs.Values.{only_at_place, value_in, written, fills}
-use Rattle.ta_links.specs.Gaps.{IsEmptyPlace, IsSought, IsCellBefore, IsAt, Stays}
+use Rattle.ta_links.proofs.Common.{◌≡◌, ◌≢◌, ◌⊎◌, inl, inr, ℕ, zero, suc, ℤ, pos, negsuc, ◌+ℤ◌, ◌-ℤ◌, ◌<◌, List, arith, sym, ap, ◌∙◌, refl, Option, Some, None, ints, eqb_tells, at_or_not, Cell, cell_at, head_at, after_at, IsLive, Direction, line_at, place_at, along_rows, along_columns, IsChained, AreLinked, only_at_place, value_in, written, fills, IsEmptyPlace, IsSought, IsCellBefore, IsAt, Stays}
 use Rattle.ta_links.proofs.Heads.{following_live}
 use Rattle.ta_links.proofs.Cells.{value_none, value_found, placed_here, placed_elsewhere}
 

@@ -1,5 +1,5 @@
 -- The numbers of a row that is merged with a chosen one
-use Rattle.std.specs.Prelude.{ℕ, zero, suc, ◌+◌, ◌<◌, ◌≤◌, ◌≡◌, ◌≢◌, ◌⊎◌, List, length, get_or, ℤ, ◌*ℤ◌, ◌-ℤ◌, ◌==◌, unsigned_abs, if◌then◌else◌}
+use Rattle.std.specs.Prelude.{ℕ, zero, suc, ◌+◌, ◌<◌, ◌≤◌, ◌≡◌, ◌≢◌, ◌⊎◌, List, length, get_or, ℤ, ◌*ℤ◌, ◌-ℤ◌, ◌==◌, unsigned_abs, if◌then◌else◌, pos, ◌<ℤ◌}
 use Rattle.ta_linear.specs.Numbers.{InRange}
 use Rattle.ta_linear.specs.Gcd.{gcd_of}
 use Rattle.ta_dense.specs.Tableau.{TableauRow, merged, turned}
@@ -105,3 +105,14 @@ pub record RowTurned (columns row column entering : ℕ) (heads : List RowHead) 
   pub other_heads : (i : ℕ) → i ≢ row → get_or heads' i no_head ≡ get_or heads i no_head
   pub row_turned : row_in heads' new columns row ≡ turned entering column (row_in heads old columns row)
   pub held : length new.cells.items ≤ length old.cells.items + filled_places columns (value_in old.cells.items row) (value_in new.cells.items row)
+
+-- two rows of a table of sound links, of which the first has a positive number in a column
+pub record MayMerge (n r k j : ℕ) (heads : List RowHead) (links : LinkedCells) : Type 0 where
+  pub sound : AreSound links
+  pub columns : n ≡ length links.column_heads.items
+  pub rows : length links.row_heads.items ≡ length heads
+  pub proper : AreProperHeads heads
+  pub row : r < length heads
+  pub at : k < length heads
+  pub column : j < n
+  pub positive : pos 0 <ℤ value_in links.cells.items r j

@@ -19,54 +19,8 @@ use crate::linked_cells::LinkedCells;
 use crate::row_head::RowHead;
 use crate::starting::{push_heads, write_rows};
 use std::alloc::{AllocError, Global};
+use ta_dense::{padded_items, raised_variable};
 use ta_linear::System;
-
-// A variable's number where there are more unknowns.
-fn raised_variable(variable: u32, unknowns: u32, new: u32) -> u32
-    requires { variable + new < 2 ^ 32 }
-    ensures { result ≡ raised unknowns new variable }
-{
-    if variable < unknowns {
-        variable
-    } else {
-        variable + new
-    }
-}
-
-// The non-basic variables where there are more unknowns.
-fn raised_old(
-    alloc: Global,
-    non_basic: &[u32],
-    unknowns: u32,
-    new: u32,
-) -> Result<Vec<u32>, AllocError>
-    requires { (j : ℕ) → j < length non_basic.now → slice_index non_basic.now j + new < 2 ^ 32 }
-    ensures { IfOk result (λ v. v.items ≡ map (raised unknowns new) non_basic.now) }
-{
-    let mut columns = Vec::with_capacity(alloc, non_basic.len() + new as usize)?;
-    for variable in non_basic {
-        columns.push(raised_variable(*variable, unknowns, new))?;
-    }
-    Ok(columns)
-}
-
-// The non-basic variables where there are more unknowns, and then these.
-pub(crate) fn raised_columns(
-    alloc: Global,
-    non_basic: &[u32],
-    unknowns: u32,
-    new: u32,
-) -> Result<Vec<u32>, AllocError>
-    requires room { (j : ℕ) → j < length non_basic.now → slice_index non_basic.now j + new < 2 ^ 32 }
-    requires few { unknowns + new < 2 ^ 32 }
-    ensures { IfOk result (λ v. v.items ≡ map (raised unknowns new) non_basic.now ++ range_with_len unknowns new) }
-{
-    let mut columns = raised_old(alloc, non_basic, unknowns, new)?;
-    for unknown in 0..new {
-        columns.push(unknowns + unknown)?;
-    }
-    Ok(columns)
-}
 
 // Copies of the heads where there are more unknowns.
 fn raised_heads(
@@ -112,21 +66,6 @@ pub(crate) fn begun_heads(
     Ok(all)
 }
 
-// Heads of lines, and more lines without a cell up to a number of lines.
-fn padded_heads(
-    alloc: Global,
-    heads: &[Option<usize>],
-    count: usize,
-) -> Result<Vec<Option<usize>>, AllocError>
-    requires { length heads.now ≤ count }
-    ensures { IfOk result (λ v. v.items ≡ heads.now ++ replicate (count - length heads.now) None) }
-{
-    let mut all = Vec::with_capacity(alloc, count)?;
-    all.extend_from_slice(heads)?;
-    all.resize(count, None)?;
-    Ok(all)
-}
-
 // A copy of the cells.
 fn copied_cells(alloc: Global, cells: &[Cell]) -> Result<Vec<Cell>, AllocError>
     ensures { IfOk result (λ v. v.items ≡ cells.now) }
@@ -152,8 +91,8 @@ fn widened_cells(
     ensures columns { IfOk result (λ l. length l.column_heads.items ≡ columns) }
 {
     let cells = copied_cells(alloc, &links.cells)?;
-    let row_heads = padded_heads(alloc, &links.row_heads, rows)?;
-    let column_heads = padded_heads(alloc, &links.column_heads, columns)?;
+    let row_heads = padded_items(alloc, &links.row_heads, rows, None)?;
+    let column_heads = padded_items(alloc, &links.column_heads, columns, None)?;
     Ok(LinkedCells {
         cells,
         row_heads,

@@ -9,7 +9,7 @@ ghost use Rattle.ta_links.specs.Linked.{IsKeptInChains, live_count, numbers_of};
 ghost use Rattle.ta_links.specs.Values.{fills, filled_rows};
 
 use crate::cell::Cell;
-use crate::extending::{Refusal, begun_cells, begun_heads, carry_rows, drop_last, raised_columns};
+use crate::extending::{Refusal, begun_cells, begun_heads, carry_rows, drop_last};
 use crate::kept::LinkedPivot;
 use crate::lines::{list_line, next_on};
 use crate::linked_cells::LinkedCells;
@@ -21,7 +21,7 @@ use crate::starting::{push_heads, system_cells};
 use crate::way::Way;
 use std::alloc::{AllocError, Global};
 use std::marker::Model;
-use ta_dense::{Dictionary, ExtendFault, PivotFault};
+use ta_dense::{Dictionary, ExtendFault, PivotFault, raised_columns};
 use ta_linear::System;
 
 /// A dictionary that keeps the cells that aren't 0, linked along rows and columns.
@@ -200,19 +200,6 @@ impl Dictionary for LinkedDictionary {
 
     fn is_wide(&self) -> bool {
         true
-    }
-
-    fn leaving(&self) -> Option<u32> {
-        let mut least = None;
-        for row in 0..self.rows() {
-            if self.constant(row) < 0 {
-                least = match least {
-                    Some(best) if self.basic(best) < self.basic(row) => Some(best),
-                    _ => Some(row),
-                };
-            }
-        }
-        least
     }
 
     /// It walks the row's own chain.

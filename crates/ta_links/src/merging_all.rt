@@ -5,7 +5,7 @@ ghost use Rattle.ta_links.specs.Values.{value_in};
 ghost use Rattle.ta_links.specs.Gaps.{AreSound};
 ghost use Rattle.ta_links.specs.Linked.{AreProperHeads};
 ghost use Rattle.ta_links.specs.Listing.{Lists};
-ghost use Rattle.ta_links.specs.Merging.{MergedBelow, RowStepped, MergeRefused};
+ghost use Rattle.ta_links.specs.Merging.{MayMerge, MergedBelow, RowStepped, MergeRefused};
 ghost use Rattle.ta_links.specs.MergingAll.{RefusedFirst};
 ghost use Rattle.ta_links.specs.declared.way.Way.TheVariants.{Columns};
 
@@ -26,14 +26,7 @@ fn merge_one(
     at: u32,
     column: u32,
 ) -> Result<bool, AllocError>
-    requires sound { AreSound links.old }
-    requires columns { columns ≡ length links.old.column_heads.items }
-    requires rows { length links.old.row_heads.items ≡ length heads.old.items }
-    requires proper { AreProperHeads heads.old.items }
-    requires row { row < length heads.old.items }
-    requires at { at < length heads.old.items }
-    requires column { column < columns }
-    requires positive { pos 0 <ℤ value_in links.old.cells.items row column }
+    requires { MayMerge columns row at column heads.old.items links.old }
     ensures done { IfOk result (λ b. b ≡ true → RowStepped first columns row at column heads.old.items links.old heads.new.items links.new) }
     ensures refused { IfOk result (λ b. b ≡ false → MergeRefused first columns row at column heads.old.items links.old) }
 {

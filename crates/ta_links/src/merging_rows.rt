@@ -5,7 +5,7 @@ ghost use Rattle.ta_dense.specs.Merge.{MergesInRange};
 ghost use Rattle.ta_links.specs.Values.{value_in};
 ghost use Rattle.ta_links.specs.Gaps.{AreSound};
 ghost use Rattle.ta_links.specs.Linked.{AreProperHeads};
-ghost use Rattle.ta_links.specs.Merging.{HeadsMerge, MergedHead, RowMerged, row_in};
+ghost use Rattle.ta_links.specs.Merging.{MayMerge, HeadsMerge, MergedHead, RowMerged, row_in};
 
 use crate::linked_cells::LinkedCells;
 use crate::merging::{combined, divisor_of_merged, quotient, write_merged};
@@ -49,14 +49,7 @@ pub(crate) fn merge_row(
     at: u32,
     column: u32,
 ) -> Result<bool, AllocError>
-    requires sound { AreSound links.old }
-    requires columns { columns ≡ length links.old.column_heads.items }
-    requires rows { length links.old.row_heads.items ≡ length heads.old.items }
-    requires proper { AreProperHeads heads.old.items }
-    requires row { row < length heads.old.items }
-    requires at { at < length heads.old.items }
-    requires column { column < columns }
-    requires positive { pos 0 <ℤ value_in links.old.cells.items row column }
+    requires may { MayMerge columns row at column heads.old.items links.old }
     requires apart { value_in links.old.cells.items at column ≢ pos 0 }
     ensures done { IfOk result (λ b. b ≡ true → RowMerged columns row at column heads.old.items links.old heads.new.items links.new) }
     ensures refused { IfOk result (λ b. b ≡ false → ¬ (MergesInRange column (row_in heads.old.items links.old columns row) (row_in heads.old.items links.old columns at))) }

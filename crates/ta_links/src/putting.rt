@@ -33,9 +33,9 @@ fn rewrite(links: &mut LinkedCells, at: usize, row: u32, column: u32, value: i12
 // Writes a number into a place that has no cell.
 fn fill(
     links: &mut LinkedCells,
-    left: Option<usize>,
     row: u32,
     column: u32,
+    left: Option<usize>,
     value: i128,
 ) -> Result<(), AllocError>
     requires sound { AreSound links.old }
@@ -102,7 +102,7 @@ pub(crate) fn put(
             Ok(left)
         }
         None => {
-            fill(links, left, row, column, value)?;
+            fill(links, row, column, left, value)?;
             Ok(left)
         }
     }

@@ -1,8 +1,5 @@
 -- numbers from one on, one more at a time
-use Rattle.std.proofs.Common.{◌≡◌, ◌∙◌, ◌≤◌, ◌+◌, ◌-◌, ℕ, zero, suc, length, List, [], ◌∷◌, ◌++◌, map, refl, sym, ap, arith}
-use Rattle.std.proofs.lemmas.List.{append_assoc, length-map, map-append}
-use Rattle.ta_maker.specs.Family.{numbers_on, rules_of, sender, waiter}
-use Rattle.ta_syntax.specs.Grammar.{PlainRule}
+use Rattle.ta_maker.proofs.Common.{◌≡◌, ◌∙◌, ◌≤◌, ◌+◌, ◌-◌, ℕ, zero, suc, length, List, [], ◌∷◌, ◌++◌, map, refl, sym, ap, arith, append_assoc, length-map, map-append, numbers_on, rules_of, sender, waiter, PlainRule}
 
 next : (i k : ℕ) → i ≤ k → numbers_on i (k + 1 - i) ≡ i ∷ numbers_on (i + 1) (k + 1 - (i + 1))
 next i k within =

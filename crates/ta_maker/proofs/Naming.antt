@@ -1,6 +1,5 @@
 -- the names of the family are names
-use Rattle.std.proofs.Common.{◌≡◌, ◌∙◌, ◌≤◌, ◌<◌, ◌+◌, ◌||◌, ◌&&◌, ℕ, suc, zero, Bool, true, false, List, [], ◌∷◌, ◌++◌, refl, sym, ap, subst, arith, IsTrue}
-use Rattle.std.specs.Prelude.{codes}
+use Rattle.ta_maker.proofs.Common.{◌≡◌, ◌∙◌, ◌≤◌, ◌<◌, ◌+◌, ◌||◌, ◌&&◌, ℕ, suc, zero, Bool, true, false, List, [], ◌∷◌, ◌++◌, refl, sym, ap, subst, arith, IsTrue, codes, IsSum, Term, Terms, lone, name, numbered}
 use Rattle.std.proofs.lemmas.Fmt.{decimal_digit}
 use Rattle.std.specs.Char.{is_ascii_digit}
 use Rattle.std.specs.List.{AllByRecursion}
@@ -10,9 +9,7 @@ use Rattle.ta_syntax.specs.Kinds.{IsNameText, mark_bytes}
 use Rattle.ta_base.specs.Bytes.{is_letter, is_word}
 use Rattle.ta_syntax.specs.declared.tokens.Mark.{Mark}
 use Rattle.ta_syntax.specs.declared.tokens.Mark.TheVariants as mark
-use Rattle.ta_syntax.specs.Grammar.{IsSum, Term, Terms}
 use Rattle.ta_syntax.specs.PlainSums.{sum_depth}
-use Rattle.ta_maker.specs.Family.{lone, name, numbered}
 use Rattle.ta_maker.specs.Made.{IsFamilyNumber}
 
 ends_with_digit : List ℕ → Bool

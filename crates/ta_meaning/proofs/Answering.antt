@@ -1,7 +1,5 @@
 -- How the faults of parts make those of the whole: the first of them, or none.
-use Rattle.std.proofs.Common.{◌≡◌, Bool, true, false, List, [], ◌∷◌, ◌++◌, Result, Ok, Err, inl, inr, refl, sym, ap, subst, ◌∙◌}
-use Rattle.ta_syntax.specs.declared.fault.FileFault.{FileFault}
-use Rattle.ta_meaning.specs.Faults.{where_, else_, First, FirstOrMemory, Judges, Answers}
+use Rattle.ta_meaning.proofs.Common.{◌≡◌, Bool, true, false, List, [], ◌∷◌, ◌++◌, Result, Ok, Err, inl, inr, refl, sym, ap, subst, ◌∙◌, FileFault, where_, else_, First, FirstOrMemory, Judges, Answers}
 
 -- ---- where there are none
 pub where-false : (test : Bool) (f : FileFault) → test ≡ false → where_ test f ≡ []

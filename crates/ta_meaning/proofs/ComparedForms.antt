@@ -1,29 +1,7 @@
 -- The rows of compared forms, and what a comparison and a condition mean.
-use Rattle.std.proofs.Common.{◌≡◌, ℕ, ℤ, pos, ◌+◌, ◌^◌, ◌-ℤ◌, Bool, List, [], ◌∷◌, ◌++◌, length, map, get_or, Result, sym, ap, subst, ◌∙◌}
-use Rattle.std.proofs.lemmas.List.{append-nil, length-map}
-use Rattle.std.specs.List.{AllByRecursion}
-use Rattle.ta_base.proofs.Integers.{less_alike, minus_alike, none_less_none}
-use Rattle.ta_base.proofs.Lists.{at_map_both}
-use Rattle.ta_linear.specs.Terms.{coefficient}
-use Rattle.ta_linear.specs.declared.form.Form.{Form}
-use Rattle.ta_linear.specs.declared.row.Row.{Row}
-use Rattle.ta_syntax.specs.Grammar.{Terms}
-use Rattle.ta_syntax.specs.PlainSums.{plain_sum}
-use Rattle.ta_syntax.specs.PlainTrees.{plain_comparison}
-use Rattle.ta_syntax.specs.declared.tokens.Relation.{Relation}
+use Rattle.ta_meaning.proofs.Common.{◌≡◌, ℕ, ℤ, pos, ◌+◌, ◌^◌, ◌-ℤ◌, Bool, List, [], ◌∷◌, ◌++◌, length, map, get_or, Result, sym, ap, subst, ◌∙◌, append-nil, length-map, AllByRecursion, less_alike, minus_alike, none_less_none, at_map_both, coefficient, Form, Row, Terms, plain_sum, plain_comparison, Relation, TreeComparison, FileFault, RowOver, Comparison, Condition, sum_coefficient, sum_constant, sum_uses, Difference, FormOf, RowOf, Pairwise, linear_sum, linear_difference, differences_by, comparison_rows, any_large, MeansComparison, is_large_linear, Scope, FirstOrMemory, Answers, where_, else_, sum_faults, comparison_faults, condition_faults, ResolvedForm, ResolvedComparison, ResolvedCondition, IsDifference, PartOf, is_large_form, any_large_row, form_differences, RowOfDifference}
 use Rattle.ta_syntax.specs.declared.tokens.Relation.TheVariants as relation
-use Rattle.ta_syntax.specs.declared.tree.TreeComparison.{TreeComparison}
-use Rattle.ta_syntax.specs.declared.fault.FileFault.{FileFault}
 use Rattle.ta_syntax.specs.declared.fault.FileFault.TheVariants as fault
-use Rattle.ta_automaton.specs.Forms.{RowOver}
-use Rattle.ta_automaton.specs.declared.condition.Comparison.{Comparison}
-use Rattle.ta_automaton.specs.declared.condition.Condition.{Condition}
-use Rattle.ta_meaning.specs.Sums.{sum_coefficient, sum_constant, sum_uses}
-use Rattle.ta_meaning.specs.Linear.{Difference, FormOf, RowOf, Pairwise, linear_sum, linear_difference, differences_by, comparison_rows, any_large, MeansComparison, is_large_linear}
-use Rattle.ta_meaning.specs.Faults.{Scope, FirstOrMemory, Answers, where_, else_, sum_faults, comparison_faults, condition_faults}
-use Rattle.ta_meaning.specs.Inside.Resolved.{ResolvedForm, ResolvedComparison, ResolvedCondition}
-use Rattle.ta_meaning.specs.SumParts.{IsDifference}
-use Rattle.ta_meaning.specs.Inside.SumParts.{PartOf, is_large_form, any_large_row, form_differences, RowOfDifference}
 use Rattle.ta_meaning.proofs.Answering.{else-left-none, not-where, answers-along, answers-knowing, answers-otherwise, append-none, append-left-first, else-left-first}
 use Rattle.ta_meaning.proofs.LargeNumbers.{same_large, same_large_rows, form_over, rows_over}
 

@@ -1,21 +1,6 @@
 -- Names that are declared one after another without a fault: they are distinct and legal.
-use Rattle.std.proofs.Common.{◌≡◌, ℕ, true, false, not, ◌||◌, List, [], ◌∷◌, ◌++◌, length, map, refl, sym, ap, subst, ◌∙◌, append_assoc}
-use Rattle.std.specs.Str.{bytes_eq}
-use Rattle.std.specs.List.{list_any, AllByRecursion}
-use Rattle.std.proofs.lemmas.Bool.{ltb-false, false≢true, not-false, or_parts}
-use Rattle.std.proofs.lemmas.List.{append-nil}
-use Rattle.std.proofs.lemmas.Slice.Eq.{bytes_eq-Decides}
-use Rattle.ta_base.proofs.Each.{distinct_push_apart, each_append}
-use Rattle.ta_syntax.specs.PlainTrees.{plain_name, plain_location}
-use Rattle.ta_syntax.specs.declared.names.Spelled.{Spelled}
-use Rattle.ta_syntax.specs.declared.tree.TreeLocation.{TreeLocation}
-use Rattle.ta_syntax.specs.declared.tree.Tree.{Tree}
+use Rattle.ta_meaning.proofs.Common.{◌≡◌, ℕ, true, false, not, ◌||◌, List, [], ◌∷◌, ◌++◌, length, map, refl, sym, ap, subst, ◌∙◌, append_assoc, bytes_eq, list_any, AllByRecursion, ltb-false, false≢true, not-false, or_parts, append-nil, bytes_eq-Decides, distinct_push_apart, each_append, plain_name, plain_location, Spelled, TreeLocation, Tree, Distinct, Name, has_name, guard_names, all_names, location_name, names_of, where_, is_long, declared_faults, declarations_faults, location_spelled, any_initial, names_faults}
 use Rattle.ta_syntax.specs.declared.fault.FileFault.TheVariants as fault
-use Rattle.ta_base.specs.Lists.{Distinct}
-use Rattle.ta_automaton.specs.Names.{Name}
-use Rattle.ta_meaning.specs.Sums.{has_name}
-use Rattle.ta_meaning.specs.Names.{guard_names, all_names, location_name, names_of}
-use Rattle.ta_meaning.specs.Faults.{where_, is_long, declared_faults, declarations_faults, location_spelled, any_initial, names_faults}
 use Rattle.ta_meaning.proofs.Answering.{not-where, none-else-left, none-else-right, none-append-left, none-append-right}
 
 -- ---- names among names

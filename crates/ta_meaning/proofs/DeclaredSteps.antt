@@ -1,10 +1,5 @@
 -- Declaring names one after another: what is done and what is left.
-use Rattle.std.proofs.Common.{◌≡◌, ℕ, List, [], ◌∷◌, ◌++◌, map, refl, sym, ap, ◌∙◌, append_assoc}
-use Rattle.std.proofs.lemmas.List.{append-nil}
-use Rattle.ta_syntax.specs.PlainTrees.{plain_name}
-use Rattle.ta_syntax.specs.declared.names.Spelled.{Spelled}
-use Rattle.ta_syntax.specs.declared.fault.FileFault.{FileFault}
-use Rattle.ta_meaning.specs.Faults.{FirstOrMemory, declared_faults, declarations_faults}
+use Rattle.ta_meaning.proofs.Common.{◌≡◌, ℕ, List, [], ◌∷◌, ◌++◌, map, refl, sym, ap, ◌∙◌, append_assoc, append-nil, plain_name, Spelled, FileFault, FirstOrMemory, declared_faults, declarations_faults}
 use Rattle.ta_meaning.proofs.Answering.{append-left-none, append-left-first}
 
 -- names are declared after others, and the rest of them is left

@@ -1,15 +1,6 @@
 -- The names of a tree, declared part by part.
-use Rattle.std.proofs.Common.{◌≡◌, ℕ, ◌+◌, not, List, [], ◌++◌, length, map, take, drop, sym, ap, subst, ◌∙◌, length-append}
-use Rattle.std.proofs.lemmas.List.{length-map}
-use Rattle.ta_base.proofs.Lists.{cut_in_three}
-use Rattle.ta_syntax.specs.PlainTrees.{plain_name, plain_location}
-use Rattle.ta_syntax.specs.declared.names.Spelled.{Spelled}
-use Rattle.ta_syntax.specs.declared.tree.TreeLocation.{TreeLocation}
-use Rattle.ta_syntax.specs.declared.tree.Tree.{Tree}
-use Rattle.ta_syntax.specs.declared.fault.FileFault.{FileFault}
+use Rattle.ta_meaning.proofs.Common.{◌≡◌, ℕ, ◌+◌, not, List, [], ◌++◌, length, map, take, drop, sym, ap, subst, ◌∙◌, length-append, length-map, cut_in_three, plain_name, plain_location, Spelled, TreeLocation, Tree, FileFault, Names, guard_names, all_names, location_name, names_of, where_, is_long, declarations_faults, location_spelled, any_initial, names_faults, FirstOrMemory}
 use Rattle.ta_syntax.specs.declared.fault.FileFault.TheVariants as fault
-use Rattle.ta_meaning.specs.Names.{Names, guard_names, all_names, location_name, names_of}
-use Rattle.ta_meaning.specs.Faults.{where_, is_long, declarations_faults, location_spelled, any_initial, names_faults, FirstOrMemory}
 use Rattle.ta_meaning.proofs.Answering.{append-left-first, append-right-first, append-none}
 use Rattle.ta_meaning.proofs.Declared.{location_names}
 

@@ -1,21 +1,8 @@
 -- The parts of a file are equal where their data are: what else their types keep are propositions.
+use Rattle.ta_meaning.proofs.Common.{◌≡◌, ℕ, ℤ, ◌+◌, ◌≤◌, ◌^◌, length, InRange, IsNormal, IsNormal-prop, Form, Row, AutomatonShape, AutomatonShape-prop, PatternsShape, PatternsShape-prop, Comparison, Condition, Rule, Event, Pattern, Automaton, File}
 use mathlib.Core.HLevel.{is_prop→PathP}
-use Rattle.std.proofs.Common.{◌≡◌, ℕ, ℤ, ◌+◌, ◌≤◌, ◌^◌, length}
 use Rattle.std.proofs.Props.{props}
 use Rattle.ta_base.proofs.Naturals.{le-prop}
-use Rattle.ta_linear.specs.Numbers.{InRange}
-use Rattle.ta_linear.specs.Terms.{IsNormal, IsNormal-prop}
-use Rattle.ta_linear.specs.declared.form.Form.{Form}
-use Rattle.ta_linear.specs.declared.row.Row.{Row}
-use Rattle.ta_automaton.specs.Shape.{AutomatonShape, AutomatonShape-prop}
-use Rattle.ta_automaton.specs.Patterns.{PatternsShape, PatternsShape-prop}
-use Rattle.ta_automaton.specs.declared.condition.Comparison.{Comparison}
-use Rattle.ta_automaton.specs.declared.condition.Condition.{Condition}
-use Rattle.ta_automaton.specs.declared.rule.Rule.{Rule}
-use Rattle.ta_automaton.specs.declared.pattern.Event.{Event}
-use Rattle.ta_automaton.specs.declared.pattern.Pattern.{Pattern}
-use Rattle.ta_automaton.specs.declared.automaton.Automaton.{Automaton}
-use Rattle.ta_automaton.specs.declared.file.File.{File}
 
 InRange-prop : (z : ℤ) → IsProp (InRange z)
 InRange-prop z = hlevel props

@@ -1,7 +1,5 @@
 -- what the exit of a `?` answers
-use Rattle.std.proofs.Common.{◌≡◌, List, Result, Err, sym, subst}
-use Rattle.ta_syntax.specs.declared.fault.FileFault.{FileFault}
-use Rattle.ta_meaning.specs.Faults.{First, FirstOrMemory, Judges, Answers}
+use Rattle.ta_meaning.proofs.Common.{◌≡◌, List, Result, Err, sym, subst, FileFault, First, FirstOrMemory, Judges, Answers}
 
 pub exit-leads : {X : Type 0} (faults : List FileFault) (P : X → Type 0) (r : Result X FileFault) (e : FileFault) → (y : FileFault) × (r ≡ Err y) × (y ≡ e) → First faults e → Judges faults P r
 exit-leads faults P r e w h =

@@ -1,9 +1,5 @@
 -- masks of guards: one more bit, and how large a mask is
-use Rattle.std.proofs.Common.{◌≡◌, ◌≢◌, inl, inr, ℕ, sym, ap, ◌∙◌}
-use Rattle.std.specs.Int.{bit_at}
-use Rattle.std.proofs.lemmas.Bool.Decides.{eqb_tells}
-use Rattle.ta_base.proofs.Bits.{at_set, set_at}
-use Rattle.ta_meaning.specs.Inside.Numbering.{WithBit}
+use Rattle.ta_meaning.proofs.Common.{◌≡◌, ◌≢◌, inl, inr, ℕ, sym, ap, ◌∙◌, bit_at, eqb_tells, at_set, set_at, WithBit}
 
 -- a mask that differs at one bit, which is set
 pub with_bit : (mask n more : ℕ) → bit_at more n ≡ 1 → ((i : ℕ) → i ≢ n → bit_at more i ≡ bit_at mask i) → WithBit mask n more

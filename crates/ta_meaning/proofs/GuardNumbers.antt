@@ -1,26 +1,7 @@
 -- what numbering a comparison's row does to the guards so far
-use Rattle.std.proofs.Common.{drop, ◌≡◌, ◌⊎◌, inl, inr, ℕ, ◌+◌, ◌≤◌, List, [], ◌∷◌, ◌++◌, map, length, Bool, true, false, not, ltb, ◌&&◌, slice_get, Some, Ok, Err, arith, sym, ap, ◌∙◌, refl, subst}
-use Rattle.std.specs.List.{list_any, AllByRecursion}
-use Rattle.std.proofs.lemmas.List.{length-append, map_push, length-map}
-use Rattle.std.proofs.lemmas.Bool.{cond-true, cond-false, false_from_ne_true, true≢false, lt-ltb, le-ltb, and_left, and_right, and_from, not_from_true, not_from_false}
-use Rattle.ta_base.proofs.Each.{distinct_push, each_at, each_map_of, each_push, each_weaker, map_each}
-use Rattle.ta_base.proofs.Lists.{get_last, get_map, get_of_map}
-use Rattle.ta_linear.specs.Terms.{IsNormal}
-use Rattle.ta_linear.specs.declared.row.Row.{Row}
-use Rattle.ta_syntax.specs.PlainTrees.{plain_comparison}
-use Rattle.ta_syntax.specs.declared.tree.TreeComparison.{TreeComparison}
-use Rattle.ta_syntax.specs.declared.fault.FileFault.{FileFault}
+use Rattle.ta_meaning.proofs.Common.{drop, ◌≡◌, ◌⊎◌, inl, inr, ℕ, ◌+◌, ◌≤◌, List, [], ◌∷◌, ◌++◌, map, length, Bool, true, false, not, ltb, ◌&&◌, slice_get, Some, Ok, Err, arith, sym, ap, ◌∙◌, refl, subst, list_any, AllByRecursion, map_push, length-map, cond-true, cond-false, false_from_ne_true, true≢false, lt-ltb, le-ltb, and_left, and_right, and_from, not_from_true, not_from_false, distinct_push, each_at, each_map_of, each_push, each_weaker, map_each, get_last, get_map, get_of_map, IsNormal, Row, plain_comparison, TreeComparison, FileFault, Distinct, RowOver, RiseRow, FallRow, Comparison, Names, guard_names, Linear, comparison_rows, differences_by, Guards, is_negative, is_positive, falls, has_row, with_row, is_no_threshold, is_one_more, is_past_limit, FirstOrMemory, where_, else_, in_guards, comparison_faults, guard_faults, ResolvedComparison, any_shared, is_no_guard, Has, RowAnswers, linear_of, guards_so_far, GuardsKept, GuardNumbered, GuardList}
+use Rattle.std.proofs.lemmas.List.{length-append}
 use Rattle.ta_syntax.specs.declared.fault.FileFault.TheVariants as fault
-use Rattle.ta_base.specs.Lists.{Distinct}
-use Rattle.ta_automaton.specs.Forms.{RowOver, RiseRow, FallRow}
-use Rattle.ta_automaton.specs.declared.condition.Comparison.{Comparison}
-use Rattle.ta_meaning.specs.Names.{Names, guard_names}
-use Rattle.ta_meaning.specs.Linear.{Linear, comparison_rows, differences_by}
-use Rattle.ta_meaning.specs.Guards.{Guards, is_negative, is_positive, falls, has_row, with_row, is_no_threshold, is_one_more, is_past_limit}
-use Rattle.ta_meaning.specs.Faults.{FirstOrMemory, where_, else_, in_guards, comparison_faults, guard_faults}
-use Rattle.ta_meaning.specs.Inside.Resolved.{ResolvedComparison}
-use Rattle.ta_meaning.specs.Inside.Numbering.{any_shared, is_no_guard, Has, RowAnswers, linear_of, guards_so_far, GuardsKept, GuardNumbered}
-use Rattle.ta_meaning.specs.declared.guards.GuardList.{GuardList}
 use Rattle.ta_meaning.specs.declared.guards.GuardNumber.TheVariants as number
 use Rattle.ta_meaning.proofs.ComparedForms.{each_length}
 use Rattle.ta_meaning.proofs.Answering.{where-false, where-first, else-left-none, else-right-first, else-left-first}

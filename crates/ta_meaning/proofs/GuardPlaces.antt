@@ -1,15 +1,5 @@
 -- what resolving a comparison over the first places says of a guard
-use Rattle.std.proofs.Common.{◌≡◌, ℕ, ◌+◌, List, [], ◌∷◌, take, sym, subst}
-use Rattle.ta_linear.specs.declared.row.Row.{Row}
-use Rattle.ta_syntax.specs.PlainTrees.{plain_comparison}
-use Rattle.ta_syntax.specs.declared.tree.TreeComparison.{TreeComparison}
-use Rattle.ta_syntax.specs.declared.fault.FileFault.{FileFault}
-use Rattle.ta_automaton.specs.declared.condition.Comparison.{Comparison}
-use Rattle.ta_meaning.specs.Names.{guard_names}
-use Rattle.ta_meaning.specs.Guards.{Guards}
-use Rattle.ta_meaning.specs.Faults.{Scope, FirstOrMemory, in_guards, comparison_faults, guard_faults}
-use Rattle.ta_meaning.specs.Inside.Resolved.{kinds_of, first_places, ResolvedComparison}
-use Rattle.ta_meaning.specs.declared.places.Places.{Places}
+use Rattle.ta_meaning.proofs.Common.{◌≡◌, ℕ, ◌+◌, List, [], ◌∷◌, take, sym, subst, Row, plain_comparison, TreeComparison, FileFault, Comparison, guard_names, Guards, Scope, FirstOrMemory, in_guards, comparison_faults, guard_faults, kinds_of, first_places, ResolvedComparison, Places}
 use Rattle.ta_meaning.proofs.Answering.{else-left-first}
 use Rattle.ta_meaning.proofs.PlaceNames.{guard_names_are, in_guards_are}
 use Rattle.ta_meaning.proofs.GuardNumbers.{OneRow}

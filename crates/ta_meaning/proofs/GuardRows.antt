@@ -1,14 +1,7 @@
 -- rows as numbers: when two are the same, and which are among others
-use Rattle.std.proofs.Common.{◌≡◌, ◌⊎◌, inl, inr, ℕ, zero, suc, List, [], ◌∷◌, ◌++◌, length, true, ◌&&◌, slice_get, Some, Decides, ap, refl}
-use Rattle.std.proofs.lemmas.Bool.{false≢true, or_cases, or_left, or_right}
-use Rattle.std.proofs.lemmas.Bool.Decides.{Decides-int_eq, Decides-and, Decides-like}
-use Rattle.std.proofs.lemmas.Slice.Eq.{slice_eq-Decides}
+use Rattle.ta_meaning.proofs.Common.{◌≡◌, ◌⊎◌, inl, inr, ℕ, zero, suc, List, [], ◌∷◌, ◌++◌, length, true, ◌&&◌, slice_get, Some, Decides, ap, refl, false≢true, or_cases, or_left, or_right, Decides-int_eq, Decides-and, Decides-like, slice_eq-Decides, same_Some, get_last, get_push, slice_get_left, Linear, same_row, has_row}
 use Rattle.std.specs.Ordering.{int_eq}
 use lib.Pointwise.{pointwise}
-use Rattle.std.proofs.lemmas.Option.{same_Some}
-use Rattle.ta_base.proofs.Lists.{get_last, get_push, slice_get_left}
-use Rattle.ta_meaning.specs.Linear.{Linear}
-use Rattle.ta_meaning.specs.Guards.{same_row, has_row}
 use Rattle.ta_meaning.proofs.NormalTerms.{linear_same}
 
 pub row_decides : (a b : Linear) → Decides (same_row a b) (a ≡ b)

@@ -1,26 +1,8 @@
 -- the signs of shared variables' coefficients, in a row's terms and in its numbers
-use Rattle.std.proofs.Common.{◌≡◌, inl, inr, ℕ, ℤ, pos, negsuc, ◌+◌, ◌-◌, ◌<◌, ◌≤◌, ◌≤ℤ◌, List, [], ◌∷◌, map, length, drop, get_or, Bool, true, false, leb, ◌&&◌, arith, sym, ap, ◌∙◌, refl}
-use Rattle.std.specs.List.{list_any, AllByRecursion}
-use Rattle.std.proofs.lemmas.Int.{ints}
-use Rattle.std.proofs.lemmas.Bool.{false≢true, true≢false, or_cases, or_left, or_right, or_parts, and_parts, and_from, and_cases, cases_eq, leb-true, leb-false, le-leb, ltb-false}
-use Rattle.std.proofs.lemmas.Bool.Decides.{same_from_decides}
-use Rattle.std.proofs.lemmas.List.{get_or-drop, length-drop}
-use Rattle.std.proofs.lemmas.List.Recursion.{or_at}
-use Rattle.ta_base.proofs.Lists.{number_gives}
-use Rattle.ta_base.proofs.Ranges.{length-numbers}
-use Rattle.ta_linear.specs.Terms.{coefficient, IsNormal}
-use Rattle.ta_linear.specs.declared.row.Row.{Row}
-use Rattle.ta_linear.proofs.TermLemmas.{IsNormal-le}
-use Rattle.ta_automaton.specs.Forms.{RowOver}
-use Rattle.ta_meaning.specs.Linear.{Linear, Pairwise, RowOf}
-use Rattle.ta_meaning.specs.Guards.{is_negative, is_positive, falls, is_no_threshold}
-use Rattle.ta_meaning.specs.Inside.Numbering.{any_shared, is_no_guard, linear_of}
-use Rattle.ta_meaning.proofs.NormalTerms.{coefficient-first, coefficient-other, linear_at, linear_is}
+use Rattle.ta_meaning.proofs.Common.{◌≡◌, inl, inr, ℕ, ℤ, pos, negsuc, ◌+◌, ◌-◌, ◌<◌, ◌≤◌, ◌≤ℤ◌, List, [], ◌∷◌, map, length, drop, get_or, Bool, true, false, leb, ◌&&◌, arith, sym, ap, ◌∙◌, refl, list_any, AllByRecursion, ints, false≢true, or_cases, or_left, or_right, or_parts, and_parts, and_from, and_cases, cases_eq, leb-true, leb-false, le-leb, ltb-false, same_from_decides, get_or-drop, length-drop, or_at, number_gives, length-numbers, negative_false, coefficient, IsNormal, Row, IsNormal-le, coefficient-first, coefficient-other, RowOver, Linear, Pairwise, RowOf, is_negative, is_positive, falls, is_no_threshold, any_shared, is_no_guard, linear_of}
+use Rattle.ta_meaning.proofs.NormalTerms.{linear_at, linear_is}
 
 -- ---- terms
-not_negative : (z : ℤ) → is_negative z ≡ false → pos 0 ≤ℤ z
-not_negative (pos n) e = omega (arith, ints)
-not_negative (negsuc n) e = absurd (true≢false e)
 
 not_positive : (z : ℤ) → is_positive z ≡ false → z ≤ℤ pos 0
 not_positive (pos n) e = let h = ltb-false 0 n e in omega (arith, ints)
@@ -39,7 +21,7 @@ none_passes test Q parameters (t ∷ ts) f h =
 
 -- no negative coefficient of a shared variable
 pub rises_each : (parameters : ℕ) (ts : List (ℕ × ℤ)) → any_shared is_negative parameters ts ≡ false → AllByRecursion (λ (t : ℕ × ℤ). parameters ≤ t.0 → pos 0 ≤ℤ t.1) ts
-rises_each parameters ts h = none_passes is_negative (λ z. pos 0 ≤ℤ z) parameters ts not_negative h
+rises_each parameters ts h = none_passes is_negative (λ z. pos 0 ≤ℤ z) parameters ts negative_false h
 
 -- no positive coefficient of a shared variable
 pub falls_each : (parameters : ℕ) (ts : List (ℕ × ℤ)) → any_shared is_positive parameters ts ≡ false → AllByRecursion (λ (t : ℕ × ℤ). parameters ≤ t.0 → t.1 ≤ℤ pos 0) ts

@@ -1,23 +1,8 @@
 -- guards one after another: what stays true of masks and of rows among the guards
-use Rattle.std.proofs.Common.{◌≡◌, ◌⊎◌, inl, inr, ℕ, ◌<◌, ◌^◌, List, [], ◌∷◌, ◌++◌, map, length, true, false, slice_get, Some, sym, ap, ◌∙◌, refl, subst}
-use Rattle.std.proofs.lemmas.List.{append-nil, append_assoc}
-use Rattle.std.proofs.lemmas.Option.{slice_get_within}
-use Rattle.std.proofs.lemmas.Bool.{false≢true, cond-true, cond-false, cases_Bool}
-use Rattle.ta_base.proofs.Bits.{mask_below, no_bit}
-use Rattle.ta_base.proofs.Each.{distinct_at}
-use Rattle.ta_base.proofs.Lists.{get_push, slice_get_left}
-use Rattle.ta_syntax.specs.Grammar.{PlainComparison}
-use Rattle.ta_syntax.specs.PlainTrees.{plain_comparison}
-use Rattle.ta_syntax.specs.declared.tree.TreeComparison.{TreeComparison}
-use Rattle.ta_base.specs.Lists.{Distinct}
-use Rattle.ta_meaning.specs.Linear.{Linear, comparison_rows}
-use Rattle.ta_meaning.specs.Guards.{Guards, falls, has_row, with_row, with_guard, with_guards, rows_of, NamesGuards}
-use Rattle.ta_meaning.specs.Faults.{Scope, guards_with, guard_faults, guards_faults, guards_then, counted}
-use Rattle.ta_meaning.specs.Inside.Numbering.{IsGuardNumber, AmongGuards, WithBit}
-use Rattle.ta_meaning.specs.declared.guards.GuardNumber.{GuardNumber}
+use Rattle.ta_meaning.proofs.Common.{◌≡◌, ◌⊎◌, inl, inr, ℕ, ◌<◌, ◌^◌, List, [], ◌∷◌, ◌++◌, map, length, true, false, slice_get, Some, sym, ap, ◌∙◌, refl, subst, append-nil, slice_get_within, false≢true, cond-true, cond-false, cases_Bool, mask_below, no_bit, distinct_at, get_push, slice_get_left, PlainComparison, plain_comparison, TreeComparison, Distinct, Linear, comparison_rows, Guards, falls, has_row, with_row, with_guard, with_guards, rows_of, NamesGuards, Scope, guards_with, guard_faults, guards_faults, guards_then, counted, IsGuardNumber, AmongGuards, WithBit, GuardNumber, FileFault}
+use Rattle.std.proofs.lemmas.List.{append_assoc}
 use Rattle.ta_meaning.specs.declared.guards.GuardNumber.TheVariants as number
 use Rattle.ta_meaning.proofs.GuardRows.{has_at, at_has, has_left, has_push, has_last}
-use Rattle.ta_syntax.specs.declared.fault.FileFault.{FileFault}
 use Rattle.ta_meaning.proofs.Answering.{none-append-left, none-append-right}
 
 -- ---- guards after guards

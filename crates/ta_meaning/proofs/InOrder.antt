@@ -1,15 +1,5 @@
 -- Parts of a tree that stand one after another in a text: faults that rise within each part rise in the whole.
-use Rattle.std.proofs.Common.{ℕ, ◌+◌, ◌≤◌, ◌<◌, ◌≡◌, Bool, true, false, List, [], ◌∷◌, ◌++◌, map, ◌⊎◌, inl, inr, refl, sym, subst, arith}
-use Rattle.std.specs.List.{AllByRecursion}
-use Rattle.ta_base.proofs.Each.{each_append, each_weaker}
-use Rattle.ta_base.proofs.Ranges.{rises-wider}
-use Rattle.ta_syntax.specs.Grammar.{further, listed, led, ended, each}
-use Rattle.ta_syntax.specs.Stated.{Offsets, unplaced, at_first}
-use Rattle.ta_syntax.specs.declared.tokens.Mark.{Mark}
-use Rattle.ta_syntax.specs.declared.fault.FileFault.{FileFault}
-use Rattle.ta_base.specs.Lists.{Rises}
-use Rattle.ta_meaning.specs.Faults.{where_, else_}
-use Rattle.ta_meaning.specs.Offsets.{fault_offset, IsOfMeaning}
+use Rattle.ta_meaning.proofs.Common.{ℕ, ◌+◌, ◌≤◌, ◌<◌, ◌≡◌, Bool, true, false, List, [], ◌∷◌, ◌++◌, map, ◌⊎◌, inl, inr, refl, sym, subst, arith, AllByRecursion, each_append, each_weaker, rises-wider, further, listed, led, ended, each, Offsets, unplaced, at_first, Mark, FileFault, Rises, where_, else_, fault_offset, IsOfMeaning}
 use Rattle.ta_meaning.proofs.StartedParts.{Starts}
 
 -- the tokens of which these offsets are stated lie one after another, from `low` on and below `high`

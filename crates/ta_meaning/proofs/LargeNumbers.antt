@@ -1,21 +1,6 @@
 -- Numbers above 1,000,000,000: in a form exactly where they are in what it means.
-use Rattle.std.proofs.Common.{◌≡◌, ℕ, zero, suc, ℤ, pos, ◌+◌, ◌^◌, ◌<◌, ◌≤◌, unsigned_abs, Bool, false, ◌||◌, eqb, List, [], ◌∷◌, length, get_or, refl, sym, ap, subst, ◌∙◌, arith}
-use Rattle.std.specs.List.{list_any, AllByRecursion}
-use Rattle.std.proofs.lemmas.Int.{ints}
-use Rattle.std.proofs.lemmas.Bool.Decides.{nat_tests}
-use Rattle.std.proofs.lemmas.Bool.{or_parts, or_from}
-use Rattle.ta_base.proofs.Booleans.{both_or_neither}
-use Rattle.ta_base.proofs.Integers.{cond_small}
+use Rattle.ta_meaning.proofs.Common.{◌≡◌, ℕ, zero, suc, ℤ, pos, ◌+◌, ◌^◌, ◌≤◌, unsigned_abs, Bool, false, ◌||◌, eqb, List, [], ◌∷◌, length, get_or, refl, sym, ap, subst, ◌∙◌, arith, list_any, AllByRecursion, ints, nat_tests, or_parts, or_from, both_or_neither, cond_small, coefficient, IsNormal, Form, Row, coefficient-below, coefficient-first, coefficient-other, normal_narrow, FormOver, Linear, FormOf, Pairwise, RowOf, is_large, is_large_linear, any_large, FormWithin, is_large_form, any_large_term, any_large_row}
 use Rattle.ta_base.proofs.Lists.{get_or_past}
-use Rattle.ta_linear.specs.Terms.{coefficient, IsNormal}
-use Rattle.ta_linear.specs.declared.form.Form.{Form}
-use Rattle.ta_linear.specs.declared.row.Row.{Row}
-use Rattle.ta_linear.proofs.TermLemmas.{coefficient-below}
-use Rattle.ta_automaton.specs.Forms.{FormOver}
-use Rattle.ta_meaning.specs.Linear.{Linear, FormOf, Pairwise, RowOf, is_large, is_large_linear, any_large}
-use Rattle.ta_meaning.specs.SumParts.{FormWithin}
-use Rattle.ta_meaning.specs.Inside.SumParts.{is_large_form, any_large_term, any_large_row}
-use Rattle.ta_meaning.proofs.NormalTerms.{coefficient-first, coefficient-other}
 
 pub small_tells : (z : ℤ) → is_large z ≡ false → unsigned_abs z ≤ 1000000000
 small_tells z h = grind (arith, nat_tests)
@@ -88,20 +73,9 @@ each_small : (ts : List (ℕ × ℤ)) → any_large_term ts ≡ false → AllByR
 each_small [] h = tt
 each_small (t ∷ ts) h = (small_tells t.1 (or_parts (is_large t.1) (any_large_term ts) h).0, each_small ts (or_parts (is_large t.1) (any_large_term ts) h).1)
 
--- terms whose coefficients from a variable on are 0 stay below it
-narrow : (low high places : ℕ) (ts : List (ℕ × ℤ)) → low ≤ places → IsNormal low high ts → ((x : ℕ) → places ≤ x → coefficient ts x ≡ pos 0) → IsNormal low places ts
-narrow low high places [] h n none = h
-narrow low high places (t ∷ ts) h n none =
-    let first = coefficient-first high t ts n.2 in
-    let below : t.0 < places = by_contradiction t.0 places (λ k. n.1.not_zero (sym first ∙ none t.0 k)) in
-    (n.0, n.1, narrow (t.0 + 1) high places ts (omega (arith, below)) n.2 (λ x k. sym (coefficient-other t ts x (omega (arith, below))) ∙ none x k))
-  where
-    by_contradiction : (a b : ℕ) → (b ≤ a → ⊥) → a < b
-    by_contradiction a b f = omega (arith, f)
-
 pub form_over : (l : Linear) (places : ℕ) (form : Form) → FormOf l form → length l.coefficients ≡ places → is_large_form form ≡ false → FormOver places form
 form_over l places form is e small = record {
-  below = narrow 0 (2 ^ 32) places form.terms (omega arith) form.normal (λ x h. is.coefficients x ∙ get_or_past l.coefficients x (omega (arith, e)));
+  below = normal_narrow 0 (2 ^ 32) places form.terms (omega arith) form.normal (λ x h. is.coefficients x ∙ get_or_past l.coefficients x (omega (arith, e)));
   small = record {
     constant = small_tells form.constant (or_parts (is_large form.constant) (any_large_term form.terms) small).0;
     coefficients = each_small form.terms (or_parts (is_large form.constant) (any_large_term form.terms) small).1;

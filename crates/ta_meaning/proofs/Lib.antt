@@ -54,3 +54,4 @@ mod MadePatterns
 mod MadeRules
 mod MadeFiles
 mod TextAnswers
+mod Common

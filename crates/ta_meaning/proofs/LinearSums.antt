@@ -1,15 +1,5 @@
 -- The numbers of sums, term by term, and of the forms that have them.
-use Rattle.std.proofs.Common.{◌≡◌, ℕ, zero, suc, ℤ, pos, Bool, cond, List, [], ◌∷◌, map, get_or, slice_get, Some, refl, sym, ap, subst, ◌∙◌, arith}
-use Rattle.std.proofs.lemmas.Bool.Decides.{nat_tests}
-use Rattle.std.proofs.lemmas.Slice.Eq.{bytes_eq-Decides}
-use Rattle.std.proofs.lemmas.Bool.{false_from_ne_true}
-use Rattle.std.specs.Str.{bytes_eq}
-use Rattle.std.specs.List.{AllByRecursion}
-use Rattle.ta_base.proofs.Each.{distinct_at}
-use Rattle.ta_linear.specs.Terms.{coefficient}
-use Rattle.ta_syntax.specs.Grammar.{named}
-use Rattle.ta_base.specs.Lists.{Distinct}
-use Rattle.ta_meaning.specs.Sums.{factor_coefficient}
+use Rattle.ta_meaning.proofs.Common.{◌≡◌, ℕ, zero, suc, ℤ, pos, Bool, cond, List, [], ◌∷◌, map, get_or, slice_get, Some, refl, sym, ap, subst, ◌∙◌, arith, nat_tests, bytes_eq-Decides, false_from_ne_true, bytes_eq, AllByRecursion, distinct_at, coefficient, named, Distinct, factor_coefficient}
 
 -- ---- a name
 abbrev is_name : List ℕ → List ℕ → ℤ

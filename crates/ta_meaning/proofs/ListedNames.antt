@@ -1,19 +1,7 @@
 -- Names in a list: which are there, and where.
-use Rattle.std.proofs.Common.{◌≡◌, ℕ, zero, suc, ◌+◌, ◌-◌, ◌<◌, ◌≤◌, Bool, true, false, ◌||◌, List, [], ◌∷◌, ◌++◌, map, take, drop, slice_get, get_or, position, if◌then◌else◌, Some, refl, sym, ap, subst, ◌∙◌, arith}
-use Rattle.std.proofs.Common.{String, Global}
-use Rattle.std.specs.String.{string_bytes, string_eq}
-use Rattle.std.proofs.lemmas.Slice.Eq.{bytes_eq-Decides}
+use Rattle.ta_meaning.proofs.Common.{◌≡◌, ℕ, zero, suc, ◌+◌, ◌-◌, ◌<◌, ◌≤◌, Bool, true, false, ◌||◌, List, [], ◌∷◌, ◌++◌, map, take, drop, slice_get, get_or, position, if◌then◌else◌, Some, refl, sym, ap, subst, ◌∙◌, arith, String, Global, string_bytes, string_eq, bytes_eq-Decides, slice_get-get_or, slice_get-map, map-append, list_any, bytes_eq, Distinct, bytes_eq_turned, distinct_at, slice_get-drop, slice_get-take, slice_get-take_within, has_name}
 use Rattle.std.proofs.lemmas.List.Quantifiers.{position-Some}
 use Rattle.std.specs.Option.{option_map}
-use Rattle.std.proofs.lemmas.Option.{slice_get-get_or, slice_get-map}
-use Rattle.std.proofs.lemmas.List.{map-append}
-use Rattle.std.specs.List.{list_any}
-use Rattle.std.specs.Str.{bytes_eq}
-use Rattle.ta_base.specs.Lists.{Distinct}
-use Rattle.ta_base.proofs.ByteLists.{bytes_eq_turned}
-use Rattle.ta_base.proofs.Each.{distinct_at}
-use Rattle.ta_base.proofs.Lists.{slice_get-drop, slice_get-take, slice_get-take_within}
-use Rattle.ta_meaning.specs.Sums.{has_name}
 
 -- ---- a name among names
 

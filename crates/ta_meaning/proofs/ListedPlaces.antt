@@ -1,24 +1,6 @@
 -- names among names, and the numbers of used names
-use Rattle.std.proofs.Common.{◌≡◌, inl, inr, ℕ, zero, suc, ◌+◌, ◌-◌, ◌<◌, List, [], ◌∷◌, length, take, drop, get_or, true, false, not, slice_get, Some, Contains, arith, sym, ap, ◌∙◌, refl, subst}
-use Rattle.std.specs.Str.{bytes_eq}
-use Rattle.std.proofs.lemmas.Slice.Eq.{bytes_eq-Decides}
-use Rattle.std.proofs.lemmas.Option.{slice_get-get_or, get_or_from_slice_get}
-use Rattle.std.proofs.lemmas.Bool.{false≢true, or_cases, or_left, or_right, false_from_ne_true, not_from_true}
-use Rattle.std.proofs.Math.Seq.{take-length}
-use Rattle.std.proofs.lemmas.List.Elements.{Contains-append_right}
-use Rattle.std.specs.List.{AllByRecursion}
-use Rattle.ta_base.proofs.Each.{distinct_at, distinct_drop, distinct_take}
-use Rattle.ta_base.proofs.Lists.{get_of_drop, get_take}
-use Rattle.ta_syntax.specs.declared.names.Spelled.{Spelled}
-use Rattle.ta_syntax.specs.declared.fault.FileFault.{FileFault}
+use Rattle.ta_meaning.proofs.Common.{◌≡◌, inl, inr, ℕ, zero, suc, ◌+◌, ◌-◌, ◌<◌, List, [], ◌∷◌, length, take, drop, get_or, true, false, not, slice_get, Some, Contains, arith, sym, ap, ◌∙◌, refl, subst, bytes_eq, bytes_eq-Decides, slice_get-get_or, get_or_from_slice_get, false≢true, or_cases, or_left, or_right, false_from_ne_true, not_from_true, take-length, Contains-append_right, AllByRecursion, distinct_at, distinct_drop, distinct_take, get_of_drop, get_take, Spelled, FileFault, Distinct, all_names, has_name, First, where_, used_faults, kinds_of, names_at, variable_faults, IsNewVariable, Places}
 use Rattle.ta_syntax.specs.declared.fault.FileFault.TheVariants as fault
-use Rattle.ta_base.specs.Lists.{Distinct}
-use Rattle.ta_meaning.specs.Names.{all_names}
-use Rattle.ta_meaning.specs.Sums.{has_name}
-use Rattle.ta_meaning.specs.Faults.{First, where_, used_faults}
-use Rattle.ta_meaning.specs.Inside.Resolved.{kinds_of}
-use Rattle.ta_meaning.specs.Inside.Updating.{names_at, variable_faults, IsNewVariable}
-use Rattle.ta_meaning.specs.declared.places.Places.{Places}
 use Rattle.ta_meaning.proofs.ListedNames.{has_name-at, has_name-where}
 use Rattle.ta_meaning.proofs.Answering.{where-false, where-leads, else-none, else-left-leads, else-right-leads}
 use Rattle.ta_meaning.proofs.PlaceNames.{all_names_are, locations_count}

@@ -1,26 +1,8 @@
 -- Listing names one after another: the mask so far, and what is left.
-use Rattle.std.proofs.Common.{◌≡◌, ℕ, zero, suc, ◌-◌, ◌*◌, ◌%◌, ◌^◌, ◌<◌, ◌≤◌, ◌⊎◌, inl, inr, false, ◌||◌, List, [], ◌∷◌, ◌++◌, length, map, take, drop, Decides, Contains, slice_get, Some, IsBitSet, bit_or, w32, refl, sym, ap, subst, ◌∙◌, arith}
-use Rattle.std.specs.Str.{bytes_eq}
-use Rattle.std.proofs.Math.Nat.{mod-eq_of_lt}
-use Rattle.std.proofs.lemmas.Bool.{false≢true, false_from_ne_true}
-use Rattle.std.proofs.lemmas.Bool.Decides.{eqb_tells, Decides-like, Decides-or}
+use Rattle.ta_meaning.proofs.Common.{◌≡◌, ℕ, zero, suc, ◌-◌, ◌*◌, ◌%◌, ◌^◌, ◌<◌, ◌≤◌, ◌⊎◌, inl, inr, false, ◌||◌, List, [], ◌∷◌, ◌++◌, length, map, take, drop, Decides, Contains, slice_get, Some, IsBitSet, bit_or, w32, refl, sym, ap, subst, ◌∙◌, arith, bytes_eq, mod-eq_of_lt, false≢true, false_from_ne_true, eqb_tells, Decides-like, Decides-or, bit_at_set_same, bit_at_set_other, append-nil, take-append-drop, length-take-le, length-drop, Contains-append_left, Contains-append_right, Contains-push, Contains-push_cases, slice_get_within, same_Some, bytes_eq-Decides, at_set, no_bit, set_at, distinct_at, distinct_drop, distinct_take, each_append, each_contains, contains-later, contains_at, plain_name, Spelled, FileFault, Distinct, has_name, between, ListedMask, where_, else_, First, used_faults, listed_faults}
 use Rattle.std.proofs.lemmas.Nat.{or_lt, pow_below, pow_pos}
-use Rattle.std.proofs.lemmas.Nat.Bits.{bit_at_set_same, bit_at_set_other}
-use Rattle.std.proofs.lemmas.List.{append_assoc, append-nil, take-append-drop, length-take-le, length-drop}
-use Rattle.std.proofs.lemmas.List.Elements.{Contains-append_left, Contains-append_right, Contains-push, Contains-push_cases}
-use Rattle.std.proofs.lemmas.Option.{slice_get_within, same_Some}
-use Rattle.std.proofs.lemmas.Slice.Eq.{bytes_eq-Decides}
-use Rattle.ta_base.proofs.Bits.{at_set, no_bit, set_at}
-use Rattle.ta_base.proofs.Each.{distinct_at, distinct_drop, distinct_take, each_append, each_contains}
-use Rattle.ta_base.proofs.Members.{contains-later, contains_at}
-use Rattle.ta_syntax.specs.PlainTrees.{plain_name}
-use Rattle.ta_syntax.specs.declared.names.Spelled.{Spelled}
-use Rattle.ta_syntax.specs.declared.fault.FileFault.{FileFault}
+use Rattle.std.proofs.lemmas.List.{append_assoc}
 use Rattle.ta_syntax.specs.declared.fault.FileFault.TheVariants as fault
-use Rattle.ta_base.specs.Lists.{Distinct}
-use Rattle.ta_meaning.specs.Sums.{has_name}
-use Rattle.ta_meaning.specs.Inside.Listed.{between, ListedMask}
-use Rattle.ta_meaning.specs.Faults.{where_, else_, First, used_faults, listed_faults}
 use Rattle.ta_meaning.proofs.Answering.{where-false, append-left-none, append-left-leads, else-left-leads, else-right-leads, else-none, where-leads}
 use Rattle.ta_meaning.proofs.UsedNames.{rightly_used}
 

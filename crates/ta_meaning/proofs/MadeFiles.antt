@@ -1,23 +1,11 @@
 -- A tree without faults of meaning means a file.
-use Rattle.std.proofs.Common.{◌≡◌, ◌≤◌, [], ◌++◌, map, length, refl, arith}
-use Rattle.std.proofs.lemmas.List.{length-map}
-use Rattle.ta_base.proofs.Each.{distinct_right}
-use Rattle.ta_syntax.specs.PlainSums.{plain_sum}
-use Rattle.ta_syntax.specs.PlainTrees.{plain_location, plain_tree}
-use Rattle.ta_syntax.specs.declared.tree.Tree.{Tree}
+use Rattle.ta_meaning.proofs.Common.{◌≡◌, ◌≤◌, [], ◌++◌, map, length, refl, arith, length-map, distinct_right, plain_sum, plain_location, plain_tree, Tree, Automaton, File, names_of, no_guards, linear_sum, is_large_linear, initial_from, MeansAutomaton, MeansTree, where_, sum_faults, condition_faults, in_parameters, processes_faults, names_faults, rules_faults, patterns_faults, meaning_faults}
 use Rattle.ta_syntax.specs.declared.fault.FileFault.TheVariants as fault
-use Rattle.ta_automaton.specs.declared.automaton.Automaton.{Automaton}
-use Rattle.ta_automaton.specs.declared.file.File.{File}
-use Rattle.ta_meaning.specs.Names.{names_of}
-use Rattle.ta_meaning.specs.Guards.{no_guards}
-use Rattle.ta_meaning.specs.Linear.{linear_sum, is_large_linear}
-use Rattle.ta_meaning.specs.Meaning.{initial_from, MeansAutomaton, MeansTree}
-use Rattle.ta_meaning.specs.Faults.{where_, sum_faults, condition_faults, in_parameters, processes_faults, names_faults, rules_faults, patterns_faults, meaning_faults}
 use Rattle.ta_meaning.proofs.Answering.{not-where, none-else-left, none-else-right, none-append-left, none-append-right}
 use Rattle.ta_meaning.proofs.Declared.{names-distinct}
 use Rattle.ta_meaning.proofs.DeclaredTrees.{lengths}
 use Rattle.ta_meaning.proofs.Shapes.{automaton_shape}
-use Rattle.ta_meaning.proofs.Whole.{patterns_shape-of}
+use Rattle.ta_meaning.proofs.Whole.{patterns_shape-of, means_automaton}
 use Rattle.ta_meaning.proofs.MadeForms.{sum_exists, condition_exists}
 use Rattle.ta_meaning.proofs.MadePatterns.{FineNames, patterns_exist}
 use Rattle.ta_meaning.proofs.MadeRules.{rules_exist}
@@ -69,16 +57,5 @@ file_exists t none =
       rules = rs.2;
       shape = automaton_shape t p.0 r.0 rs.0 rs.1 rs.2 no_names p.1 r.1 rs.3;
     } in
-    let means : MeansAutomaton (plain_tree t) automaton = record {
-      name = refl;
-      parameters = refl;
-      shared = refl;
-      locations = refl;
-      initial = refl;
-      processes = p.1.means;
-      resilience = r.1.means;
-      rise = rs.3.guards.rise_of;
-      fall = rs.3.guards.fall_of;
-      rules = rs.3.means;
-    } in
-    (record { automaton = automaton; patterns = ps.0; shape = patterns_shape-of t automaton ps.0 ps.0 means ps.1 refl }, record { automaton = means; patterns = ps.1.means })
+    let means : MeansAutomaton (plain_tree t) automaton = means_automaton t automaton rs.0 rs.1 rs.2 refl refl refl refl refl refl refl refl p.1 r.1 rs.3 in
+    (record { automaton = automaton; patterns = ps.0; shape = patterns_shape-of t ns.parameters ns.shared ns.locations ps.0 ps.0 refl refl refl ps.1 refl }, record { automaton = means; patterns = ps.1.means })

@@ -1,34 +1,12 @@
 -- Numbers that are not too large are those of a form, and sums and comparisons without a fault mean forms and rows.
-use Rattle.std.proofs.Common.{◌≡◌, ◌≢◌, ℕ, zero, suc, ℤ, pos, negsuc, ◌+◌, ◌^◌, ◌≤◌, unsigned_abs, true, false, List, [], ◌∷◌, ◌++◌, map, length, get_or, IsTrue, Some, None, refl, sym, ap, subst, ◌∙◌, arith}
-use Rattle.std.specs.List.{list_any, AllByRecursion}
-use Rattle.std.proofs.lemmas.Int.{ints}
-use Rattle.std.proofs.lemmas.Bool.{or_parts, and_from}
-use Rattle.std.proofs.lemmas.List.{length-map}
-use Rattle.ta_linear.specs.Terms.{coefficient, IsNormal, IsTerm}
-use Rattle.ta_linear.specs.declared.form.Form.{Form}
-use Rattle.ta_linear.specs.declared.row.Row.{Row}
-use Rattle.ta_linear.proofs.TermLemmas.{coefficient-below}
-use Rattle.ta_syntax.specs.PlainSums.{plain_sum, term_of}
-use Rattle.ta_syntax.specs.PlainTrees.{plain_comparison}
-use Rattle.ta_syntax.specs.Grammar.{Terms}
-use Rattle.ta_syntax.specs.declared.tokens.Relation.{Relation}
+use Rattle.ta_meaning.proofs.Common.{◌≡◌, ◌≢◌, ℕ, zero, suc, ℤ, pos, negsuc, ◌+◌, ◌^◌, ◌≤◌, unsigned_abs, true, false, List, [], ◌∷◌, ◌++◌, map, length, get_or, IsTrue, Some, None, refl, sym, ap, subst, ◌∙◌, arith, list_any, AllByRecursion, ints, or_parts, and_from, length-map, coefficient, IsNormal, Form, Row, coefficient-below, coefficient-first, coefficient-other, plain_sum, term_of, plain_comparison, Terms, Relation, TreeSum, TreeComparison, RowOver, Comparison, Condition, sum_uses, term_uses, factor_uses, Linear, FormOf, RowOf, Pairwise, MeansComparison, linear_sum, differences_by, linear_difference, comparison_rows, is_large, is_large_linear, any_large, Scope, WithFaults, where_, linear_term, sum_faults, comparison_faults, condition_faults, number_faults, ResolvedForm, ResolvedComparison, ResolvedCondition, SeenTerms, SeenTerm, SeenFactor, seen_none, seen_more, seen_number, seen_times, seen_alone, seen_blank, seen_named, seen_nested, seen_sum, plain_of_terms, plain_of_term, plain_of_factor}
+use Rattle.ta_linear.specs.Terms.{IsTerm}
 use Rattle.ta_syntax.specs.declared.tokens.Relation.TheVariants as relation
-use Rattle.ta_syntax.specs.declared.sums.TreeSum.{TreeSum}
-use Rattle.ta_syntax.specs.declared.tree.TreeComparison.{TreeComparison}
 use Rattle.ta_syntax.specs.declared.fault.FileFault.TheVariants as fault
-use Rattle.ta_automaton.specs.Forms.{RowOver}
-use Rattle.ta_automaton.specs.declared.condition.Comparison.{Comparison}
-use Rattle.ta_automaton.specs.declared.condition.Condition.{Condition}
-use Rattle.ta_meaning.specs.Sums.{sum_uses, term_uses, factor_uses}
-use Rattle.ta_meaning.specs.Linear.{Linear, FormOf, RowOf, Pairwise, MeansComparison, linear_sum, differences_by, linear_difference, comparison_rows, is_large, is_large_linear, any_large}
-use Rattle.ta_meaning.specs.Faults.{Scope, WithFaults, where_, linear_term, sum_faults, comparison_faults, condition_faults, number_faults}
-use Rattle.ta_meaning.specs.Inside.Resolved.{ResolvedForm, ResolvedComparison, ResolvedCondition}
 use Rattle.ta_meaning.proofs.Answering.{not-where, none-else-left, none-else-right, none-append-left, none-append-right}
-use Rattle.ta_meaning.proofs.NormalTerms.{coefficient-first, coefficient-other}
 use Rattle.ta_meaning.proofs.LargeNumbers.{small_tells, same_large, same_large_rows, form_over, rows_over}
 use Rattle.ta_meaning.proofs.ComparedForms.{each_length}
 use Rattle.ta_meaning.proofs.UsedNames.{used_is_allowed}
-use Rattle.ta_meaning.specs.Seen.{SeenTerms, SeenTerm, SeenFactor, seen_none, seen_more, seen_number, seen_times, seen_alone, seen_blank, seen_named, seen_nested, seen_sum, plain_of_terms, plain_of_term, plain_of_factor}
 use Rattle.ta_meaning.proofs.SeenSums.{judged_of_terms, judged_of_term, judged_of_factor, every_sum_seen}
 
 -- ---- normal terms with given coefficients

@@ -1,20 +1,6 @@
 -- Patterns without a fault mean patterns.
-use Rattle.std.proofs.Common.{◌≡◌, ℕ, ◌*◌, ◌%◌, ◌^◌, ◌<◌, ◌≤◌, true, bit_or, List, [], ◌∷◌, ◌++◌, map, length, Contains, IsBitSet, refl, sym, subst, ◌∙◌, arith}
-use Rattle.std.proofs.lemmas.Option.{same_Some}
-use Rattle.ta_syntax.specs.PlainTrees.{plain_name, plain_event, plain_pattern}
-use Rattle.ta_syntax.specs.declared.names.Spelled.{Spelled}
-use Rattle.ta_syntax.specs.declared.tree.TreeEvent.{TreeEvent}
-use Rattle.ta_syntax.specs.declared.tree.TreePattern.{TreePattern}
+use Rattle.ta_meaning.proofs.Common.{◌≡◌, ℕ, ◌*◌, ◌%◌, ◌^◌, ◌<◌, ◌≤◌, true, bit_or, List, [], ◌∷◌, ◌++◌, map, length, Contains, IsBitSet, refl, sym, subst, ◌∙◌, arith, same_Some, plain_name, plain_event, plain_pattern, Spelled, TreeEvent, TreePattern, Distinct, Event, Pattern, Names, all_names, has_name, where_, else_, in_conditions, declared_faults, used_faults, listed_faults, condition_faults, event_faults, events_faults, pattern_faults, patterns_faults, ListedMask, ResolvedPatterns, ResolvedEvent, ResolvedEvents, ResolvedPattern}
 use Rattle.ta_syntax.specs.declared.fault.FileFault.TheVariants as fault
-use Rattle.ta_base.specs.Lists.{Distinct}
-use Rattle.ta_automaton.specs.declared.pattern.Event.{Event}
-use Rattle.ta_automaton.specs.declared.pattern.Pattern.{Pattern}
-use Rattle.ta_meaning.specs.Names.{Names, all_names}
-use Rattle.ta_meaning.specs.Sums.{has_name}
-use Rattle.ta_meaning.specs.Faults.{where_, else_, in_conditions, declared_faults, used_faults, listed_faults, condition_faults, event_faults, events_faults, pattern_faults, patterns_faults}
-use Rattle.ta_meaning.specs.Inside.Listed.{ListedMask}
-use Rattle.ta_meaning.specs.Inside.Resolved.{ResolvedPatterns}
-use Rattle.ta_meaning.specs.Inside.PatternParts.{ResolvedEvent, ResolvedEvents, ResolvedPattern}
 use Rattle.ta_meaning.proofs.Answering.{not-where, none-else-left, none-else-right, none-append-left, none-append-right}
 use Rattle.ta_meaning.proofs.UsedNames.{used_is_allowed}
 use Rattle.ta_meaning.proofs.ListedNames.{has_name-where}

@@ -1,32 +1,8 @@
 -- Rules without a fault mean rules and guards.
-use Rattle.std.proofs.Common.{◌≡◌, ◌⊎◌, inl, inr, ⊎_elim, ℕ, ℤ, pos, ◌*◌, ◌%◌, ◌^◌, ◌<◌, ◌≤◌, Bool, true, false, not, ltb, ◌&&◌, cond, eqb, bit_or, List, [], ◌∷◌, ◌++◌, map, length, Ok, Contains, refl, sym, ap, ◌∙◌, arith, w8, w16}
-use Rattle.std.specs.Global.{Vec}
-use Rattle.std.proofs.lemmas.Bool.{cases_Bool}
-use Rattle.std.proofs.lemmas.Bool.Decides.{nat_tests}
-use Rattle.std.proofs.lemmas.List.{length-map, length-append}
-use Rattle.std.proofs.lemmas.Nat.Bits.{bit_at_set_same, bit_at_set_other}
+use Rattle.ta_meaning.proofs.Common.{◌≡◌, ◌⊎◌, inl, inr, ⊎_elim, ℕ, ℤ, pos, ◌*◌, ◌%◌, ◌^◌, ◌<◌, ◌≤◌, Bool, true, false, not, ltb, ◌&&◌, cond, eqb, bit_or, List, [], ◌∷◌, ◌++◌, map, length, Ok, Contains, refl, sym, ap, ◌∙◌, arith, w8, w16, Vec, cases_Bool, nat_tests, length-map, bit_at_set_same, bit_at_set_other, second_false, IsNormal, Row, plain_comparison, plain_update, plain_rule, TreeComparison, TreeUpdate, TreeRule, Rule, Names, all_names, guard_names, has_name, number_of, no_guards, is_negative, is_positive, falls, has_row, is_no_threshold, is_one_more, is_past_limit, Linear, comparison_rows, where_, else_, in_guards, comparison_faults, guard_faults, guards_faults, guards_with, declared_faults, used_faults, digits_faults, updates_faults, rule_faults, rules_faults, guards_then, any_shared, is_no_guard, Has, RowAnswers, linear_of, guards_so_far, GuardsKept, GuardNumbered, GuardsNumbered, NumberFits, WithNumber, names_at, UpdatesRead, RuleRead, ResolvedRules, GuardList, GuardMasks, GuardNumber}
+use Rattle.std.proofs.lemmas.List.{length-append}
 use denote.RawPtr.{null_ptr}
-use Rattle.ta_base.proofs.Booleans.{second_false}
-use Rattle.ta_linear.specs.Terms.{IsNormal}
-use Rattle.ta_linear.specs.declared.row.Row.{Row}
-use Rattle.ta_syntax.specs.PlainTrees.{plain_comparison, plain_update, plain_rule}
-use Rattle.ta_syntax.specs.declared.tree.TreeComparison.{TreeComparison}
-use Rattle.ta_syntax.specs.declared.tree.TreeUpdate.{TreeUpdate}
-use Rattle.ta_syntax.specs.declared.tree.TreeRule.{TreeRule}
 use Rattle.ta_syntax.specs.declared.fault.FileFault.TheVariants as fault
-use Rattle.ta_automaton.specs.declared.rule.Rule.{Rule}
-use Rattle.ta_meaning.specs.Names.{Names, all_names, guard_names}
-use Rattle.ta_meaning.specs.Sums.{has_name, number_of}
-use Rattle.ta_meaning.specs.Guards.{no_guards, is_negative, is_positive, falls, has_row, is_no_threshold, is_one_more, is_past_limit}
-use Rattle.ta_meaning.specs.Linear.{Linear, comparison_rows}
-use Rattle.ta_meaning.specs.Faults.{where_, else_, in_guards, comparison_faults, guard_faults, guards_faults, guards_with, declared_faults, used_faults, digits_faults, updates_faults, rule_faults, rules_faults, guards_then}
-use Rattle.ta_meaning.specs.Inside.Numbering.{any_shared, is_no_guard, Has, RowAnswers, linear_of, guards_so_far, GuardsKept, GuardNumbered, GuardsNumbered, NumberFits, WithNumber}
-use Rattle.ta_meaning.specs.Inside.Updating.{names_at, UpdatesRead}
-use Rattle.ta_meaning.specs.Inside.RuleReading.{RuleRead}
-use Rattle.ta_meaning.specs.Inside.Resolved.{ResolvedRules}
-use Rattle.ta_meaning.specs.declared.guards.GuardList.{GuardList}
-use Rattle.ta_meaning.specs.declared.guards.GuardMasks.{GuardMasks}
-use Rattle.ta_meaning.specs.declared.guards.GuardNumber.{GuardNumber}
 use Rattle.ta_meaning.specs.declared.guards.GuardNumber.TheVariants as number
 use Rattle.ta_meaning.proofs.Answering.{not-where, none-else-left, none-else-right, none-append-left, none-append-right}
 use Rattle.ta_meaning.proofs.UsedNames.{used_is_allowed}
@@ -220,4 +196,4 @@ module _ (ns : Names) (fine : FineNames ns) where
   pub rules_exist : (rules : List TreeRule) → rules_faults ns [] no_guards rules ≡ [] → MadeRules rules
   rules_exist rules none =
       let start : GuardList = record { rise = vec_of [] (omega arith); fall = vec_of [] (omega arith) } in
-      rules_from rules rules [] start [] none (rules_begin ns rules [] start [] refl refl refl refl)
+      rules_from rules rules [] start [] none (rules_begin ns rules rules [] start [] refl refl refl refl refl)

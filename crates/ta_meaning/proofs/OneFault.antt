@@ -1,22 +1,10 @@
 -- A text has at most one first fault.
-use Rattle.std.proofs.Common.{◌≡◌, ℕ, List, [], ◌∷◌, ◌++◌, length, ◌⊎◌, inl, inr, ⊎_elim, ◌<◌, refl, sym, ap, subst, ◌∙◌, append_assoc, arith}
-use Rattle.ta_base.proofs.Lists.{heads}
-use Rattle.ta_syntax.specs.Grammar.{FileText}
-use Rattle.ta_syntax.specs.Limits.{Counts, at_start, run, counted_after, StaysWithin, IsDeep, IsMany}
+use Rattle.ta_meaning.proofs.Common.{◌≡◌, ℕ, List, [], ◌∷◌, ◌++◌, length, ◌⊎◌, inl, inr, ⊎_elim, ◌<◌, refl, sym, ap, subst, ◌∙◌, append_assoc, arith, heads, FileText, Counts, at_start, run, counted_after, StaysWithin, IsDeep, IsMany, AreTokens, IsRefused, Kind, Token, FileFault, tokens_unique, refused_unique, refused_no_tokens, Automaton, File, Means, OfText, OfMeaning, OfScope, FirstFault}
 use Rattle.ta_syntax.specs.Faults.{kinds, SameStart, Begins, offset_of, IsWrong, IsPast, IsStopped, FaultOfTokens}
-use Rattle.ta_syntax.specs.Tokens.{AreTokens, IsRefused}
-use Rattle.ta_syntax.specs.declared.tokens.Kind.{Kind}
-use Rattle.ta_syntax.specs.declared.placed.Token.{Token}
-use Rattle.ta_syntax.specs.declared.fault.FileFault.{FileFault}
 use Rattle.ta_syntax.specs.declared.fault.FileFault.TheVariants as fault
 use Rattle.ta_syntax.proofs.Steps.{kinds-append}
-use Rattle.ta_syntax.proofs.UniqueTokens.{tokens_unique, refused_unique, refused_no_tokens}
-use Rattle.ta_automaton.specs.declared.automaton.Automaton.{Automaton}
-use Rattle.ta_automaton.specs.declared.file.File.{File}
 use Rattle.ta_scope.specs.Faults as scope
-use Rattle.ta_meaning.specs.Meaning.{Means}
 use Rattle.ta_meaning.specs.FirstFault as first
-use Rattle.ta_meaning.specs.FirstFault.{OfText, OfMeaning, OfScope, FirstFault}
 use Rattle.ta_meaning.proofs.OneTree.{one_meaning, one_meant}
 use Rattle.ta_meaning.proofs.OneReading.{no-text, no-meaning}
 use Rattle.ta_meaning.proofs.CommasOutside.{not-both}

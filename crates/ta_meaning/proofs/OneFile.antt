@@ -1,19 +1,5 @@
 -- A tree means at most one file.
-use Rattle.std.proofs.Common.{◌≡◌, inl, inr, ℕ, ℤ, pos, ◌^◌, List, [], ◌∷◌, ◌++◌, sym, ap, ◌∙◌, refl, subst}
-use Rattle.ta_base.proofs.Bits.{mask-one}
-use Rattle.ta_base.proofs.Each.{distinct_at, distinct_left, distinct_right}
-use Rattle.ta_linear.specs.declared.form.Form.{Form}
-use Rattle.ta_syntax.specs.Grammar.{PlainEvent, PlainTree}
-use Rattle.ta_base.specs.Lists.{Distinct}
-use Rattle.ta_automaton.specs.declared.pattern.Event.{Event}
-use Rattle.ta_automaton.specs.declared.automaton.Automaton.{Automaton}
-use Rattle.ta_automaton.specs.declared.file.File.{File}
-use Rattle.ta_meaning.specs.Sums.{number_of}
-use Rattle.ta_meaning.specs.Names.{Names, guard_names, all_names, plain_names}
-use Rattle.ta_meaning.specs.Linear.{Linear, Pairwise, FormOf, RowOf, linear_sum, comparison_rows, MeansComparison, MeansCondition}
-use Rattle.ta_meaning.specs.Guards.{Guards}
-use Rattle.ta_meaning.specs.Meaning.{MeansUpdates, MeansRule, MeansAutomaton, MeansEvent, MeansEvents, MeansPattern, MeansTree, guards_of}
-use Rattle.ta_meaning.proofs.NormalTerms.{normal_unique}
+use Rattle.ta_meaning.proofs.Common.{◌≡◌, inl, inr, ℕ, ℤ, pos, ◌^◌, List, [], ◌∷◌, ◌++◌, sym, ap, ◌∙◌, refl, subst, mask-one, distinct_at, distinct_left, distinct_right, Form, normal_unique, PlainEvent, PlainTree, Distinct, Event, Automaton, File, number_of, Names, guard_names, all_names, plain_names, Linear, Pairwise, FormOf, RowOf, linear_sum, comparison_rows, MeansComparison, MeansCondition, Guards, MeansUpdates, MeansRule, MeansAutomaton, MeansEvent, MeansEvents, MeansPattern, MeansTree, guards_of}
 use Rattle.ta_meaning.proofs.EqualParts.{form-equal, row-equal, comparison-equal, condition-equal, rule-equal, event-equal, pattern-equal, automaton-equal, file-equal}
 
 -- ---- lists

@@ -1,22 +1,6 @@
 -- Comparisons, rules, events, patterns and trees with the same text that are placed on the same tokens are the same.
-use Rattle.std.proofs.Common.{◌≡◌, ℕ, Bool, true, false, List, [], ◌∷◌, ◌++◌, sym, ap, subst, ◌∙◌}
-use Rattle.std.proofs.lemmas.List.{append-nil}
-use Rattle.ta_syntax.specs.Grammar.{PlainComparison, PlainLocation, PlainUpdate, PlainRule, PlainEvent, PlainPattern, PlainTree, Terms, listed, led, ended, each}
-use Rattle.ta_syntax.specs.PlainSums.{plain_sum}
-use Rattle.ta_syntax.specs.PlainTrees.{plain_name, plain_location, plain_update, plain_comparison, plain_rule, plain_event, plain_pattern, plain_tree}
-use Rattle.ta_syntax.specs.Stated.{Offsets, unplaced, at_first, sum_stated, name_stated, initial_stated, location_stated, comparison_stated, update_stated, rule_stated, event_stated, pattern_stated, tree_stated}
+use Rattle.ta_meaning.proofs.Common.{◌≡◌, ℕ, Bool, true, false, List, [], ◌∷◌, ◌++◌, sym, ap, subst, ◌∙◌, append-nil, PlainComparison, PlainLocation, PlainUpdate, PlainRule, PlainEvent, PlainPattern, PlainTree, Terms, listed, led, ended, each, plain_sum, plain_name, plain_location, plain_update, plain_comparison, plain_rule, plain_event, plain_pattern, plain_tree, Offsets, unplaced, at_first, sum_stated, name_stated, initial_stated, location_stated, comparison_stated, update_stated, rule_stated, event_stated, pattern_stated, tree_stated, Relation, Digits, Spelled, TreeComparison, TreeLocation, TreeUpdate, TreeRule, TreeEvent, TreePattern, Tree, Pairwise}
 use Rattle.ta_syntax.specs.declared.tokens.Mark.TheVariants as mark
-use Rattle.ta_syntax.specs.declared.tokens.Relation.{Relation}
-use Rattle.ta_syntax.specs.declared.names.Digits.{Digits}
-use Rattle.ta_syntax.specs.declared.names.Spelled.{Spelled}
-use Rattle.ta_syntax.specs.declared.tree.TreeComparison.{TreeComparison}
-use Rattle.ta_syntax.specs.declared.tree.TreeLocation.{TreeLocation}
-use Rattle.ta_syntax.specs.declared.tree.TreeUpdate.{TreeUpdate}
-use Rattle.ta_syntax.specs.declared.tree.TreeRule.{TreeRule}
-use Rattle.ta_syntax.specs.declared.tree.TreeEvent.{TreeEvent}
-use Rattle.ta_syntax.specs.declared.tree.TreePattern.{TreePattern}
-use Rattle.ta_syntax.specs.declared.tree.Tree.{Tree}
-use Rattle.ta_meaning.specs.Linear.{Pairwise}
 use Rattle.ta_meaning.proofs.StartedParts.{starts-append, sum-starts}
 use Rattle.ta_meaning.proofs.OneSum.{spelled-same, digits-same, SameSum, same_sum-plain, same_sum-stated, one-sum}
 use Rattle.ta_meaning.proofs.SameOffsets.{Agree, same-first, agree-both, at_first-agree, IsOnce, listed-once, led-once, ended-once, each-once, pairwise-equal, listed-stated, led-stated, ended-stated, each-stated}

@@ -1,23 +1,12 @@
 -- What is read of a text: the file that it means where nothing is at fault, or its first fault.
-use Rattle.std.proofs.Common.{◌≡◌, ℕ, List, [], ◌⊎◌, inl, inr, ⊎_elim, refl, sym, subst}
-use Rattle.ta_syntax.specs.PlainTrees.{plain_tree}
-use Rattle.ta_syntax.specs.TreeOf.{IsTreeOf}
-use Rattle.ta_syntax.specs.declared.tree.Tree.{Tree}
-use Rattle.ta_syntax.specs.declared.fault.FileFault.{FileFault}
+use Rattle.ta_meaning.proofs.Common.{◌≡◌, ℕ, List, [], ◌⊎◌, inl, inr, ⊎_elim, refl, sym, subst, plain_tree, IsTreeOf, Tree, FileFault, InScope, Automaton, File, MeansTree, Means, meaning_faults, FirstOrMemory, OfText, OfMeaning, OfScope, FirstFault, Legal, file_fault}
 use Rattle.ta_syntax.specs.declared.fault.FileFault.TheVariants as fault
-use Rattle.ta_automaton.specs.Runs.{InScope}
-use Rattle.ta_automaton.specs.declared.automaton.Automaton.{Automaton}
-use Rattle.ta_automaton.specs.declared.file.File.{File}
 use Rattle.ta_scope.specs.Faults as scope
 use Rattle.ta_scope.specs.declared.fault.ScopeFault.{ScopeFault}
 use Rattle.ta_scope.specs.declared.fault.ScopeFault.TheVariants as scope_fault
 use Rattle.ta_scope.specs.declared.scoped.ScopedFile.{ScopedFile}
 use Rattle.ta_scope.proofs.Judging.{fault_out}
-use Rattle.ta_meaning.specs.Meaning.{MeansTree, Means}
-use Rattle.ta_meaning.specs.Faults.{meaning_faults, FirstOrMemory}
 use Rattle.ta_meaning.specs.FirstFault as first
-use Rattle.ta_meaning.specs.FirstFault.{OfText, OfMeaning, OfScope, FirstFault}
-use Rattle.ta_meaning.specs.Reading.{Legal, file_fault}
 use Rattle.ta_meaning.proofs.OneTree.{one_meaning, no_text_fault, one_meant}
 
 -- ---- the first fault

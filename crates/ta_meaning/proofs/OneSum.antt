@@ -1,17 +1,7 @@
 -- Names, numbers and sums with the same text that are placed on the same tokens are the same.
-use Rattle.std.proofs.Common.{◌≡◌, ℕ, List, [], ◌∷◌, ◌++◌, refl, sym, ap, subst, ◌∙◌}
-use Rattle.ta_syntax.specs.Kinds.{IsNameText, IsNameText-prop, IsDigits, IsDigits-prop}
-use Rattle.ta_syntax.specs.Grammar.{Terms, Term, Factor, term, number, times, alone, named, nested, IsSum, AreTerms, IsTerm, IsFactor}
-use Rattle.ta_syntax.specs.PlainSums.{plain_sum}
-use Rattle.ta_syntax.specs.Stated.{Offsets, sum_stated}
-use Rattle.ta_syntax.specs.declared.sums.Sign.{Sign}
+use Rattle.ta_meaning.proofs.Common.{◌≡◌, ℕ, List, [], ◌∷◌, ◌++◌, refl, sym, ap, subst, ◌∙◌, IsNameText, IsNameText-prop, IsDigits, IsDigits-prop, Terms, Term, Factor, term, number, times, alone, named, nested, IsSum, AreTerms, IsTerm, IsFactor, plain_sum, Offsets, sum_stated, Sign, Digits, Spelled, TreeSum, Scope, judged_sum, SeenTerms, SeenTerm, SeenFactor, seen_none, seen_more, seen_number, seen_times, seen_alone, seen_blank, seen_named, seen_nested, seen_sum, plain_of_terms, plain_of_term, plain_of_factor}
 use Rattle.ta_syntax.specs.declared.sums.Sign.TheVariants as sign
-use Rattle.ta_syntax.specs.declared.names.Digits.{Digits}
-use Rattle.ta_syntax.specs.declared.names.Spelled.{Spelled}
-use Rattle.ta_syntax.specs.declared.sums.TreeSum.{TreeSum}
-use Rattle.ta_meaning.specs.Faults.{Scope, judged_sum}
 use Rattle.ta_meaning.proofs.StartedParts.{factor-starts}
-use Rattle.ta_meaning.specs.Seen.{SeenTerms, SeenTerm, SeenFactor, seen_none, seen_more, seen_number, seen_times, seen_alone, seen_blank, seen_named, seen_nested, seen_sum, plain_of_terms, plain_of_term, plain_of_factor}
 use Rattle.ta_meaning.proofs.SeenSums.{offsets_of_sum, offsets_of_more, offsets_of_term, offsets_of_factor, judged_of_terms, every_sum_seen}
 use Rattle.ta_meaning.proofs.SameOffsets.{Agree, same-first, same-second, agree-both, at_first-agree}
 

@@ -1,20 +1,8 @@
 -- No text has two trees, and none means two files.
-use Rattle.std.proofs.Common.{◌≡◌, ℕ, List, subst}
-use Rattle.ta_syntax.specs.Grammar.{PlainTree}
-use Rattle.ta_syntax.specs.Stated.{IsPlaced, tree_stated}
-use Rattle.ta_syntax.specs.TreeOf.{IsTextOf, IsTreeOf}
-use Rattle.ta_syntax.specs.PlainTrees.{plain_tree}
+use Rattle.ta_meaning.proofs.Common.{◌≡◌, ℕ, List, subst, PlainTree, IsPlaced, tree_stated, IsTextOf, IsTreeOf, plain_tree, Token, Tree, FileFault, tokens_unique, File, MeansTree, Means, meaning_faults, Legal}
 use Rattle.ta_syntax.specs.Faults as syntax
-use Rattle.ta_syntax.specs.declared.placed.Token.{Token}
-use Rattle.ta_syntax.specs.declared.tree.Tree.{Tree}
-use Rattle.ta_syntax.specs.declared.fault.FileFault.{FileFault}
 use Rattle.ta_syntax.specs.declared.fault.FileFault.TheVariants as fault
-use Rattle.ta_syntax.proofs.UniqueTokens.{tokens_unique}
 use Rattle.ta_syntax.proofs.NoFault.{no_fault, tree_alone}
-use Rattle.ta_automaton.specs.declared.file.File.{File}
-use Rattle.ta_meaning.specs.Meaning.{MeansTree, Means}
-use Rattle.ta_meaning.specs.Faults.{meaning_faults}
-use Rattle.ta_meaning.specs.Reading.{Legal}
 use Rattle.ta_meaning.specs.Laws.{SameTree}
 use Rattle.ta_meaning.proofs.SameOffsets.{placed-agree}
 use Rattle.ta_meaning.proofs.OnePart.{SameParts, tree-once, tree-stated}

@@ -1,7 +1,5 @@
 -- Items of two lists, pair by pair.
-use Rattle.std.proofs.Common.{List, [], ◌∷◌, ◌++◌}
-use Rattle.std.specs.List.{AllByRecursion}
-use Rattle.ta_meaning.specs.Linear.{Pairwise}
+use Rattle.ta_meaning.proofs.Common.{List, [], ◌∷◌, ◌++◌, AllByRecursion, Pairwise}
 
 pub pairwise_with : {A B : Type 0} (R S : A → B → Type 0) (xs : List A) (ys : List B) → ((x : A) (y : B) → R x y → S x y) → Pairwise R xs ys → Pairwise S xs ys
 pairwise_with R S [] [] f h = tt

@@ -1,29 +1,7 @@
 -- Forms of the parts of a sum, and how they make the form of the whole.
-use Rattle.std.proofs.Common.{◌≡◌, ℕ, ℤ, pos, ◌+◌, ◌*◌, ◌^◌, ◌<◌, ◌≤◌, ◌+ℤ◌, ◌*ℤ◌, unsigned_abs, Bool, IsTrue, List, [], ◌∷◌, ◌++◌, map, get_or, slice_get, Option, Some, None, Result, refl, sym, ap, subst, ◌∙◌, arith}
-use Rattle.std.proofs.lemmas.Int.{ints}
-use Rattle.std.proofs.lemmas.Bool.Decides.{nat_tests}
-use Rattle.ta_base.proofs.Booleans.{and_known}
-use Rattle.ta_base.proofs.Integers.{add_moved, minus_within, more_within, one_times, small_constant, times_none, zero_left, zero_right}
-use Rattle.ta_base.proofs.Lists.{at_map, at_map_both, at_map_none}
-use Rattle.ta_linear.specs.Terms.{coefficient}
-use Rattle.ta_linear.specs.Forms.{IsMultiple}
-use Rattle.ta_linear.specs.declared.form.Form.{Form}
-use Rattle.ta_syntax.specs.Grammar.{Terms, Term, Factor, number, blank, named}
-use Rattle.ta_syntax.specs.PlainSums.{plain_term, plain_factor, plain_terms, term_of}
-use Rattle.ta_syntax.specs.declared.names.Digits.{Digits}
-use Rattle.ta_syntax.specs.declared.sums.Sign.{Sign}
+use Rattle.ta_meaning.proofs.Common.{◌≡◌, ℕ, ℤ, pos, ◌+◌, ◌*◌, ◌^◌, ◌<◌, ◌≤◌, ◌+ℤ◌, ◌*ℤ◌, unsigned_abs, Bool, IsTrue, List, [], ◌∷◌, ◌++◌, map, get_or, slice_get, Option, Some, None, Result, refl, sym, ap, subst, ◌∙◌, arith, ints, nat_tests, and_known, add_moved, minus_within, more_within, one_times, small_constant, times_none, zero_left, zero_right, at_map, at_map_both, at_map_none, coefficient, IsMultiple, Form, Terms, Term, Factor, number, blank, named, plain_term, plain_factor, plain_terms, term_of, Digits, Sign, TreeTerm, TreeFactor, out-TreeTerm, FileFault, Distinct, signed, number_of, sum_coefficient, term_coefficient, factor_coefficient, sum_constant, term_constant, sum_uses, term_uses, factor_uses, FormOf, linear_sum, is_large_linear, Scope, FirstOrMemory, Answers, where_, else_, linear_term, number_faults, FormWithin, judged_term, judged_factor, is_large_form, linear_factor, number_or, PartOf, IsSignedSum}
 use Rattle.ta_syntax.specs.declared.sums.Sign.TheVariants as sign
-use Rattle.ta_syntax.specs.declared.sums.TreeTerm.{TreeTerm}
-use Rattle.ta_syntax.specs.declared.sums.TreeFactor.{TreeFactor}
-use Rattle.ta_syntax.specs.declared.sums.TreeFactor.TheViews.{out-TreeTerm}
 use Rattle.ta_syntax.specs.declared.fault.FileFault.TheVariants as fault
-use Rattle.ta_syntax.specs.declared.fault.FileFault.{FileFault}
-use Rattle.ta_base.specs.Lists.{Distinct}
-use Rattle.ta_meaning.specs.Sums.{signed, number_of, sum_coefficient, term_coefficient, factor_coefficient, sum_constant, term_constant, sum_uses, term_uses, factor_uses}
-use Rattle.ta_meaning.specs.Linear.{FormOf, linear_sum, is_large_linear}
-use Rattle.ta_meaning.specs.Faults.{Scope, FirstOrMemory, Answers, where_, else_, linear_term, number_faults}
-use Rattle.ta_meaning.specs.SumParts.{FormWithin}
-use Rattle.ta_meaning.specs.Inside.SumParts.{judged_term, judged_factor, is_large_form, linear_factor, number_or, PartOf, IsSignedSum}
 use Rattle.ta_meaning.proofs.Answering.{append-left-none, append-none, append-left-first, else-none, else-left-first, where-false, not-where, answers-along, answers-knowing, answers-otherwise}
 use Rattle.ta_meaning.proofs.LargeNumbers.{small_within, linear_small, same_large}
 use Rattle.ta_meaning.proofs.ListedNames.{has_name-at}

@@ -1,27 +1,5 @@
 -- Patterns and their events, one after another.
-use Rattle.std.proofs.Common.{◌≡◌, ℕ, ◌+◌, ◌<◌, ◌≤◌, List, [], ◌∷◌, ◌++◌, length, map, refl, sym, ap, subst, ◌∙◌, append_assoc, arith}
-use Rattle.std.proofs.lemmas.List.{append-nil, length-map, length_push, map_push}
-use Rattle.std.specs.List.{AllByRecursion}
-use Rattle.ta_base.proofs.Each.{each_append, each_from-push}
-use Rattle.ta_syntax.specs.Grammar.{PlainEvent, PlainPattern}
-use Rattle.ta_syntax.specs.PlainTrees.{plain_name, plain_comparison, plain_event, plain_pattern}
-use Rattle.ta_syntax.specs.declared.names.Spelled.{Spelled}
-use Rattle.ta_syntax.specs.declared.tree.TreeComparison.{TreeComparison}
-use Rattle.ta_syntax.specs.declared.tree.TreeEvent.{TreeEvent}
-use Rattle.ta_syntax.specs.declared.tree.TreePattern.{TreePattern}
-use Rattle.ta_syntax.specs.declared.fault.FileFault.{FileFault}
-use Rattle.ta_automaton.specs.declared.pattern.Event.{Event}
-use Rattle.ta_automaton.specs.declared.pattern.Pattern.{Pattern}
-use Rattle.ta_base.specs.Lists.{EachFrom, Distinct}
-use Rattle.ta_automaton.specs.Names.{Name}
-use Rattle.ta_automaton.specs.Patterns.{EventWithin, event_name, PatternWithin, pattern_name}
-use Rattle.ta_meaning.specs.Names.{Names, all_names}
-use Rattle.ta_meaning.specs.Linear.{Pairwise}
-use Rattle.ta_meaning.specs.Meaning.{MeansEvent, MeansEvents, MeansPattern}
-use Rattle.ta_meaning.specs.Faults.{FirstOrMemory, in_conditions, declared_faults, listed_faults, condition_faults, event_faults, events_faults, pattern_faults, patterns_faults}
-use Rattle.ta_meaning.specs.Inside.Resolved.{ResolvedCondition, ResolvedPatterns}
-use Rattle.ta_meaning.specs.Inside.Listed.{ListedMask}
-use Rattle.ta_meaning.specs.Inside.PatternParts.{DeclaredNext, ResolvedEvent, ResolvedEvents, ResolvedPattern}
+use Rattle.ta_meaning.proofs.Common.{◌≡◌, ℕ, ◌+◌, ◌<◌, ◌≤◌, List, [], ◌∷◌, ◌++◌, length, map, refl, sym, ap, subst, ◌∙◌, append_assoc, arith, append-nil, length-map, length_push, map_push, AllByRecursion, each_append, each_from-push, PlainEvent, PlainPattern, plain_name, plain_comparison, plain_event, plain_pattern, Spelled, TreeComparison, TreeEvent, TreePattern, FileFault, Event, Pattern, EachFrom, Distinct, Name, EventWithin, event_name, PatternWithin, pattern_name, Names, all_names, Pairwise, MeansEvent, MeansEvents, MeansPattern, FirstOrMemory, in_conditions, declared_faults, listed_faults, condition_faults, event_faults, events_faults, pattern_faults, patterns_faults, ResolvedCondition, ResolvedPatterns, ListedMask, DeclaredNext, ResolvedEvent, ResolvedEvents, ResolvedPattern}
 use Rattle.ta_meaning.proofs.PairwiseItems.{pairwise_push}
 use Rattle.ta_meaning.proofs.Answering.{append-none, append-left-none, append-left-first, append-right-first}
 use Rattle.ta_meaning.proofs.Declared.{declared-legal, declared-distinct}

@@ -1,11 +1,5 @@
 -- the names of places by their kinds, against the list of all
-use Rattle.std.proofs.Common.{◌≡◌, ℕ, ◌+◌, ◌-◌, List, ◌++◌, length, take, drop, arith, sym, ap, ◌∙◌}
-use Rattle.std.proofs.lemmas.List.{length-take-le, length-drop, take-append-drop}
-use Rattle.std.proofs.Math.Seq.{take-add}
-use Rattle.ta_meaning.specs.Names.{guard_names, all_names}
-use Rattle.ta_meaning.specs.Faults.{in_parameters, in_guards}
-use Rattle.ta_meaning.specs.Inside.Resolved.{kinds_of, first_places}
-use Rattle.ta_meaning.specs.declared.places.Places.{Places}
+use Rattle.ta_meaning.proofs.Common.{◌≡◌, ℕ, ◌+◌, ◌-◌, List, ◌++◌, length, take, drop, arith, sym, ap, ◌∙◌, length-take-le, length-drop, take-append-drop, take-add, guard_names, all_names, in_parameters, in_guards, kinds_of, first_places, Places}
 
 -- the names that a guard may speak of are the first ones
 pub guard_names_are : (places : Places) → guard_names (kinds_of places) ≡ take (places.parameters + places.shared) places.names

@@ -1,14 +1,5 @@
 -- Where all places may stand, and where the locations alone may.
-use Rattle.std.proofs.Common.{◌≡◌, ℕ, ◌-◌, List, [], length, map, take, drop, Result, sym, ap, subst, ◌∙◌, arith}
-use Rattle.std.proofs.lemmas.List.{take_all, take_rest}
-use Rattle.ta_syntax.specs.PlainTrees.{plain_name, plain_comparison}
-use Rattle.ta_syntax.specs.declared.names.Spelled.{Spelled}
-use Rattle.ta_syntax.specs.declared.tree.TreeComparison.{TreeComparison}
-use Rattle.ta_syntax.specs.declared.fault.FileFault.{FileFault}
-use Rattle.ta_automaton.specs.declared.condition.Condition.{Condition}
-use Rattle.ta_meaning.specs.Faults.{Scope, Answers, condition_faults, listed_faults, Judges}
-use Rattle.ta_meaning.specs.Inside.Listed.{between, ListedMask}
-use Rattle.ta_meaning.specs.Inside.Resolved.{first_places, ResolvedCondition}
+use Rattle.ta_meaning.proofs.Common.{◌≡◌, ℕ, ◌-◌, List, [], length, map, take, drop, Result, sym, ap, subst, ◌∙◌, arith, take_all, take_rest, plain_name, plain_comparison, Spelled, TreeComparison, FileFault, Condition, Scope, Answers, condition_faults, listed_faults, Judges, between, ListedMask, first_places, ResolvedCondition}
 
 abbrev scope : List (List ℕ) → List (List ℕ) → Scope
 scope places allowed = record { places = places; allowed = allowed }

@@ -1,27 +1,6 @@
 -- rules read one after another, and the guards of all of them
-use Rattle.std.proofs.Common.{◌≡◌, ℕ, ◌≤◌, List, [], ◌∷◌, ◌++◌, map, length, Bool, true, false, arith, sym, ap, ◌∙◌, refl, subst}
-use Rattle.std.proofs.lemmas.List.{append-nil, append_assoc, map_push}
-use Rattle.std.proofs.lemmas.Bool.{true≢false, cond-true, cond-false}
-use Rattle.std.specs.List.{AllByRecursion}
-use Rattle.ta_base.proofs.Each.{distinct_push, distinct_unmap, each_at, each_weaker}
-use Rattle.ta_linear.specs.declared.row.Row.{Row}
-use Rattle.ta_syntax.specs.Grammar.{PlainRule}
-use Rattle.ta_syntax.specs.PlainTrees.{plain_rule}
-use Rattle.ta_syntax.specs.declared.tree.TreeRule.{TreeRule}
-use Rattle.ta_syntax.specs.declared.fault.FileFault.{FileFault}
-use Rattle.ta_base.specs.Lists.{Distinct}
-use Rattle.ta_automaton.specs.Forms.{RiseRow, FallRow}
-use Rattle.ta_automaton.specs.Shape.{RuleWithin, name_of}
-use Rattle.ta_automaton.specs.declared.rule.Rule.{Rule}
-use Rattle.ta_meaning.specs.Names.{Names, guard_names, all_names}
-use Rattle.ta_meaning.specs.Linear.{Linear, Pairwise, RowOf}
-use Rattle.ta_meaning.specs.Guards.{Guards, no_guards, falls, has_row, with_guards, rows_of, guards_after, NamesGuards}
-use Rattle.ta_meaning.specs.Meaning.{MeansRule, guards_of}
-use Rattle.ta_meaning.specs.Faults.{FirstOrMemory, in_guards, declared_faults, guards_with, rule_faults, rules_faults, used_faults, guards_faults, updates_faults}
-use Rattle.ta_meaning.specs.Inside.Resolved.{ResolvedGuards, ResolvedRules}
-use Rattle.ta_meaning.specs.Inside.Numbering.{linear_of, guards_so_far, GuardsKept, AmongGuards}
-use Rattle.ta_meaning.specs.Inside.RuleReading.{RuleSoFar, RuleRead}
-use Rattle.ta_meaning.specs.declared.guards.GuardList.{GuardList}
+use Rattle.ta_meaning.proofs.Common.{◌≡◌, ℕ, ◌≤◌, List, [], ◌∷◌, ◌++◌, map, length, Bool, true, false, arith, sym, ap, ◌∙◌, refl, subst, append-nil, map_push, true≢false, cond-true, cond-false, AllByRecursion, distinct_push, distinct_unmap, each_at, each_weaker, Row, PlainRule, plain_rule, TreeRule, FileFault, Distinct, RiseRow, FallRow, RuleWithin, name_of, Rule, Names, guard_names, all_names, Linear, Pairwise, RowOf, Guards, no_guards, falls, has_row, with_guards, rows_of, guards_after, NamesGuards, MeansRule, guards_of, FirstOrMemory, in_guards, declared_faults, guards_with, rule_faults, rules_faults, used_faults, guards_faults, updates_faults, ResolvedGuards, ResolvedRules, linear_of, guards_so_far, GuardsKept, AmongGuards, RuleSoFar, RuleRead, GuardList}
+use Rattle.std.proofs.lemmas.List.{append_assoc}
 use Rattle.ta_meaning.proofs.Declared.{declared-new}
 use Rattle.ta_meaning.proofs.PairwiseItems.{pairwise_with, pairwise_push, pairwise_each}
 use Rattle.ta_meaning.proofs.Answering.{append-left-none, append-left-first, none-append-left, none-append-right}
@@ -117,15 +96,15 @@ no_guards_kept ns guards r f =
       fall_kind = subst (λ (zs : List Row). AllByRecursion (λ (q : Linear). falls parameters q ≡ true) (map (linear_of places) zs)) (sym f) tt;
     }
 
-pub rules_begin : (ns : Names) (all : List TreeRule) (names : List (List ℕ)) (guards : GuardList) (rules : List Rule) → names ≡ [] → guards.rise.items ≡ [] → guards.fall.items ≡ [] → rules ≡ [] → RulesReading ns all all names guards rules
-rules_begin ns all names guards rules n r f e =
+pub rules_begin : (ns : Names) (all left : List TreeRule) (names : List (List ℕ)) (guards : GuardList) (rules : List Rule) → left ≡ all → names ≡ [] → guards.rise.items ≡ [] → guards.fall.items ≡ [] → rules ≡ [] → RulesReading ns all left names guards rules
+rules_begin ns all left names guards rules l n r f e =
     let places = length (guard_names ns) in
     let none : guards_so_far ns guards ≡ no_guards = guards_same (guards_so_far ns guards) no_guards (ap (map (linear_of places)) r) (ap (map (linear_of places)) f) in
     record {
-      faults = ap (λ (ms : List (List ℕ)). rules_faults ns ms no_guards all) (sym n) ∙ ap (λ (g : Guards). rules_faults ns names g all) (sym none);
+      faults = ap (λ (ms : List (List ℕ)). rules_faults ns ms no_guards all) (sym n) ∙ ap (λ (g : Guards). rules_faults ns names g all) (sym none) ∙ ap (rules_faults ns names (guards_so_far ns guards)) (sym l);
       kept = no_guards_kept ns guards r f;
       done = [];
-      split = refl;
+      split = ap (map plain_rule) (sym l);
       guards_are = none;
       so_far = subst (λ (zs : List Rule). Pairwise (RuleSoFar ns guards) [] zs) (sym e) tt;
       names_are = n ∙ sym (ap (map name_of) e);

@@ -1,22 +1,5 @@
 -- the parts of one rule
-use Rattle.std.proofs.Common.{◌≡◌, ℕ, ℤ, ◌<◌, ◌^◌, List, [], ◌∷◌, ◌++◌, map, length, slice_get, Some, arith, sym, subst}
-use Rattle.std.proofs.lemmas.Option.{slice_get_within}
-use Rattle.std.proofs.lemmas.List.{length-map}
-use Rattle.ta_linear.specs.declared.row.Row.{Row}
-use Rattle.ta_syntax.specs.PlainTrees.{plain_comparison, plain_update}
-use Rattle.ta_syntax.specs.declared.tree.TreeRule.{TreeRule}
-use Rattle.ta_syntax.specs.declared.fault.FileFault.{FileFault}
-use Rattle.ta_automaton.specs.Names.{Name}
-use Rattle.ta_automaton.specs.declared.rule.Rule.{Rule}
-use Rattle.ta_meaning.specs.Names.{Names, all_names, guard_names}
-use Rattle.ta_meaning.specs.Linear.{Linear}
-use Rattle.ta_meaning.specs.Guards.{Guards, NamesGuards, rows_of}
-use Rattle.ta_meaning.specs.Faults.{FirstOrMemory, declared_faults, used_faults, in_guards, guards_faults, updates_faults, rule_faults}
-use Rattle.ta_meaning.specs.Inside.Numbering.{linear_of, guards_so_far, GuardsNumbered}
-use Rattle.ta_meaning.specs.Inside.Updating.{UpdatesRead}
-use Rattle.ta_meaning.specs.Inside.RuleReading.{RuleRead}
-use Rattle.ta_meaning.specs.declared.guards.GuardList.{GuardList}
-use Rattle.ta_meaning.specs.declared.guards.GuardMasks.{GuardMasks}
+use Rattle.ta_meaning.proofs.Common.{◌≡◌, ℕ, ℤ, ◌<◌, ◌^◌, List, [], ◌∷◌, ◌++◌, map, length, slice_get, Some, arith, sym, subst, slice_get_within, length-map, Row, plain_comparison, plain_update, TreeRule, FileFault, Name, Rule, Names, all_names, guard_names, Linear, Guards, NamesGuards, rows_of, FirstOrMemory, declared_faults, used_faults, in_guards, guards_faults, updates_faults, rule_faults, linear_of, guards_so_far, GuardsNumbered, UpdatesRead, RuleRead, GuardList, GuardMasks}
 use Rattle.ta_meaning.proofs.Declared.{declared-legal}
 use Rattle.ta_meaning.proofs.Answering.{append-left-first, append-right-first, append-none}
 use Rattle.ta_meaning.proofs.GuardSteps.{mask_fits}

@@ -1,24 +1,7 @@
 -- Trees that are the same but for where their sums' lists lie in memory have the same faults.
-use Rattle.std.proofs.Common.{◌≡◌, ℕ, List, [], ◌∷◌, ◌++◌, length, map, refl, ap, ◌∙◌}
+use Rattle.ta_meaning.proofs.Common.{◌≡◌, ℕ, List, [], ◌∷◌, ◌++◌, length, map, refl, ap, ◌∙◌, PlainComparison, Terms, plain_sum, plain_comparison, plain_tree, Spelled, TreeSum, TreeComparison, TreeLocation, TreeUpdate, TreeRule, TreeEvent, TreePattern, Tree, FileFault, Names, guard_names, all_names, names_of, plain_names, Pairwise, comparison_rows, any_large, is_large_linear, linear_sum, Guards, no_guards, with_guards, is_no_threshold, is_one_more, Scope, WithFaults, where_, else_, is_long, declared_faults, declarations_faults, used_faults, listed_faults, sum_faults, comparison_faults, condition_faults, guard_faults, guards_faults, guards_with, in_parameters, in_guards, in_conditions, updates_faults, rule_faults, rules_faults, event_faults, events_faults, pattern_faults, patterns_faults, location_spelled, any_initial, processes_faults, names_faults, meaning_faults, counted, guards_then}
 use Rattle.std.specs.Prelude.{not}
-use Rattle.ta_syntax.specs.Grammar.{PlainComparison, Terms}
-use Rattle.ta_syntax.specs.PlainSums.{plain_sum}
-use Rattle.ta_syntax.specs.PlainTrees.{plain_comparison, plain_tree}
-use Rattle.ta_syntax.specs.declared.names.Spelled.{Spelled}
-use Rattle.ta_syntax.specs.declared.sums.TreeSum.{TreeSum}
-use Rattle.ta_syntax.specs.declared.tree.TreeComparison.{TreeComparison}
-use Rattle.ta_syntax.specs.declared.tree.TreeLocation.{TreeLocation}
-use Rattle.ta_syntax.specs.declared.tree.TreeUpdate.{TreeUpdate}
-use Rattle.ta_syntax.specs.declared.tree.TreeRule.{TreeRule}
-use Rattle.ta_syntax.specs.declared.tree.TreeEvent.{TreeEvent}
-use Rattle.ta_syntax.specs.declared.tree.TreePattern.{TreePattern}
-use Rattle.ta_syntax.specs.declared.tree.Tree.{Tree}
-use Rattle.ta_syntax.specs.declared.fault.FileFault.{FileFault}
 use Rattle.ta_syntax.specs.declared.fault.FileFault.TheVariants as fault
-use Rattle.ta_meaning.specs.Names.{Names, guard_names, all_names, names_of, plain_names}
-use Rattle.ta_meaning.specs.Linear.{Pairwise, comparison_rows, any_large, is_large_linear, linear_sum}
-use Rattle.ta_meaning.specs.Guards.{Guards, no_guards, with_guards, is_no_threshold, is_one_more}
-use Rattle.ta_meaning.specs.Faults.{Scope, WithFaults, where_, else_, is_long, declared_faults, declarations_faults, used_faults, listed_faults, sum_faults, comparison_faults, condition_faults, guard_faults, guards_faults, guards_with, in_parameters, in_guards, in_conditions, updates_faults, rule_faults, rules_faults, event_faults, events_faults, pattern_faults, patterns_faults, location_spelled, any_initial, processes_faults, names_faults, meaning_faults, counted, guards_then}
 use Rattle.ta_meaning.proofs.RuleSteps.{when_faults}
 use Rattle.ta_meaning.proofs.OneSum.{SameSum, same_sum-plain, same_sum-judged}
 use Rattle.ta_meaning.proofs.OnePart.{SameComparison, same_comparison-plain, SameRule, SameEvent, SamePattern, SameParts}

@@ -1,12 +1,5 @@
 -- Two lists of stated offsets that are placed on the same tokens, and what they say of parts that come one after another.
-use Rattle.std.proofs.Common.{◌≡◌, ℕ, List, [], ◌∷◌, ◌++◌, map, refl, sym, ap, subst, ◌∙◌, append_assoc}
-use Rattle.std.specs.List.{AllByRecursion}
-use Rattle.ta_base.proofs.Lists.{empty-not, heads, tails}
-use Rattle.ta_syntax.specs.Grammar.{further, listed, led, ended, each}
-use Rattle.ta_syntax.specs.Stated.{Offsets, unplaced, at_first, IsPlaced}
-use Rattle.ta_syntax.specs.declared.tokens.Mark.{Mark}
-use Rattle.ta_syntax.specs.declared.placed.Token.{Token}
-use Rattle.ta_meaning.specs.Linear.{Pairwise}
+use Rattle.ta_meaning.proofs.Common.{◌≡◌, ℕ, List, [], ◌∷◌, ◌++◌, map, refl, sym, ap, subst, ◌∙◌, append_assoc, AllByRecursion, empty-not, heads, tails, further, listed, led, ended, each, Offsets, unplaced, at_first, IsPlaced, Mark, Token, Pairwise}
 use Rattle.ta_meaning.proofs.StartedParts.{Starts}
 
 -- all that both state of a token is one number

@@ -1,19 +1,6 @@
 -- What is read off a sum as plain data is what the program's sum says.
-use Rattle.std.proofs.Common.{◌≡◌, ℕ, List, [], ◌∷◌, ◌++◌, Option, Some, None, map, refl, sym, ap, subst, ◌∙◌}
-use Rattle.ta_syntax.specs.Grammar.{Terms, Term, Factor, done, term, times, alone, nested}
-use Rattle.ta_syntax.specs.PlainSums.{plain_sum, plain_term, plain_factor, plain_terms, factor_layer, sum_layer, term_layer}
-use Rattle.ta_syntax.specs.Stated.{Offsets, at_first, leading, unplaced_sign, more_of, signed_sum, factor_stated, term_layer_stated, sum_layer_stated, sum_stated, sum_term_stated, sum_factor_stated}
-use Rattle.ta_syntax.specs.declared.sums.Sign.{Sign}
-use Rattle.ta_syntax.specs.declared.names.Digits.{Digits}
-use Rattle.ta_syntax.specs.declared.sums.TreeSum.{TreeSum}
-use Rattle.ta_syntax.specs.declared.sums.TreeTerm.{TreeTerm}
-use Rattle.ta_syntax.specs.declared.sums.TreeFactor.{TreeFactor}
-use Rattle.ta_syntax.specs.declared.sums.TreeFactor.TheOpen.{TreeFactor-F, TreeSum-F, TreeTerm-F, Named, Nested}
-use Rattle.ta_syntax.specs.declared.sums.TreeFactor.TheViews.{roll-TreeFactor, roll-TreeSum, roll-TreeTerm}
-use Rattle.ta_syntax.specs.declared.sums.TreeFactor.TheFolds.{fold-TreeTerm, fold-TreeFactor, fold-roll-TreeSum, fold-roll-TreeTerm, fold-roll-TreeFactor, map-TreeFactor, map-TreeTerm, ind-TreeSum}
+use Rattle.ta_meaning.proofs.Common.{◌≡◌, ℕ, List, [], ◌∷◌, ◌++◌, Option, Some, None, map, refl, sym, ap, subst, ◌∙◌, Terms, Term, Factor, done, term, times, alone, nested, plain_sum, plain_term, plain_factor, plain_terms, factor_layer, sum_layer, term_layer, Offsets, at_first, leading, unplaced_sign, more_of, signed_sum, factor_stated, term_layer_stated, sum_layer_stated, sum_stated, sum_term_stated, sum_factor_stated, Sign, Digits, TreeSum, TreeTerm, TreeFactor, TreeFactor-F, TreeSum-F, TreeTerm-F, Named, Nested, roll-TreeFactor, roll-TreeSum, roll-TreeTerm, fold-TreeTerm, fold-TreeFactor, fold-roll-TreeSum, fold-roll-TreeTerm, fold-roll-TreeFactor, map-TreeFactor, map-TreeTerm, ind-TreeSum, SeenTerms, SeenTerm, SeenFactor, seen_none, seen_more, seen_number, seen_times, seen_alone, seen_blank, seen_named, seen_nested, seen_list, factor_seen, sum_seen, term_seen, seen_sum, plain_of_terms, plain_of_term, plain_of_factor, Scope, WithFaults, judged_terms, factor_judged, sum_judged, term_judged, judged_sum}
 use Rattle.ta_syntax.proofs.SumSteps.{pairs, stated_sum_roll, plain_sum_roll}
-use Rattle.ta_meaning.specs.Seen.{SeenTerms, SeenTerm, SeenFactor, seen_none, seen_more, seen_number, seen_times, seen_alone, seen_blank, seen_named, seen_nested, seen_list, factor_seen, sum_seen, term_seen, seen_sum, plain_of_terms, plain_of_term, plain_of_factor}
-use Rattle.ta_meaning.specs.Faults.{Scope, WithFaults, judged_terms, factor_judged, sum_judged, term_judged, judged_sum}
 
 abbrev pub seen_term : TreeTerm → SeenTerm
 seen_term = fold-TreeTerm SeenFactor SeenTerms SeenTerm factor_seen sum_seen term_seen

@@ -1,24 +1,6 @@
 -- What an automaton's type keeps, of the parts that a tree resolves to
-use Rattle.std.proofs.Common.{ℕ, ◌+◌, ◌≤◌, ◌<◌, ◌≡◌, true, false, ◌||◌, if◌then◌else◌, List, [], ◌∷◌, length, map, arith}
-use Rattle.std.proofs.lemmas.List.{length-map}
-use Rattle.ta_base.proofs.Ranges.{rises-from}
+use Rattle.ta_meaning.proofs.Common.{ℕ, ◌+◌, ◌≤◌, ◌<◌, ◌≡◌, true, false, ◌||◌, if◌then◌else◌, List, [], ◌∷◌, length, map, arith, length-map, rises-from, PlainLocation, plain_location, TreeLocation, Rises, initial_from, plain_sum, plain_comparison, plain_rule, Tree, Form, Row, Condition, Rule, AutomatonShape, names_of, location_name, ResolvedForm, ResolvedCondition, ResolvedRules, any_initial, names_faults}
 use Rattle.ta_meaning.proofs.MadeForms.{paired_length}
-use Rattle.ta_syntax.specs.Grammar.{PlainLocation}
-use Rattle.ta_syntax.specs.PlainTrees.{plain_location}
-use Rattle.ta_syntax.specs.declared.tree.TreeLocation.{TreeLocation}
-use Rattle.ta_base.specs.Lists.{Rises}
-use Rattle.ta_meaning.specs.Meaning.{initial_from}
-use Rattle.ta_syntax.specs.PlainSums.{plain_sum}
-use Rattle.ta_syntax.specs.PlainTrees.{plain_comparison, plain_rule}
-use Rattle.ta_syntax.specs.declared.tree.Tree.{Tree}
-use Rattle.ta_linear.specs.declared.form.Form.{Form}
-use Rattle.ta_linear.specs.declared.row.Row.{Row}
-use Rattle.ta_automaton.specs.declared.condition.Condition.{Condition}
-use Rattle.ta_automaton.specs.declared.rule.Rule.{Rule}
-use Rattle.ta_automaton.specs.Shape.{AutomatonShape}
-use Rattle.ta_meaning.specs.Names.{names_of, location_name}
-use Rattle.ta_meaning.specs.Inside.Resolved.{ResolvedForm, ResolvedCondition, ResolvedRules}
-use Rattle.ta_meaning.specs.Faults.{any_initial, names_faults}
 use Rattle.ta_meaning.proofs.Declared.{name-legal, names-legal, names-distinct, some_initial}
 
 -- the numbers of the marked locations rise

@@ -1,20 +1,8 @@
 -- Forms with small numbers: their sums, negatives and multiples.
-use Rattle.std.proofs.Common.{◌≡◌, ℕ, ℤ, negsuc, ◌^◌, ◌≤◌, ◌+ℤ◌, ◌*ℤ◌, unsigned_abs, List, [], inl, inr, sym, ap, subst, ◌∙◌, arith}
-use Rattle.std.proofs.lemmas.Int.{unsigned_abs-mul}
-use Rattle.std.proofs.Math.Nat.{mul-le-mul}
-use Rattle.ta_base.proofs.Integers.{less_both, less_one, minus_one_times}
-use Rattle.ta_linear.specs.Numbers.{InRange}
-use Rattle.ta_linear.specs.Terms.{coefficient}
-use Rattle.ta_linear.specs.Forms.{IsSum, IsMultiple, MultipleOutOfRange}
-use Rattle.ta_linear.specs.declared.form.Form.{Form}
-use Rattle.ta_syntax.specs.declared.sums.Sign.{Sign}
+use Rattle.ta_meaning.proofs.Common.{◌≡◌, ℕ, ℤ, negsuc, ◌^◌, ◌≤◌, ◌+ℤ◌, ◌*ℤ◌, unsigned_abs, List, [], inl, inr, sym, ap, subst, ◌∙◌, arith, unsigned_abs-mul, mul-le-mul, less_both, less_one, minus_one_times, InRange, coefficient, IsMultiple, MultipleOutOfRange, Form, Sign, Result, Ok, Err, MatchResult, FileFault, FormWithin, IsDifference, IsSignedSum}
+use Rattle.ta_linear.specs.Forms.{IsSum}
 use Rattle.ta_syntax.specs.declared.sums.Sign.TheVariants as sign
-use Rattle.std.proofs.Common.{Result, Ok, Err}
-use Rattle.std.specs.Prelude.{MatchResult}
-use Rattle.ta_syntax.specs.declared.fault.FileFault.{FileFault}
 use Rattle.ta_syntax.specs.declared.fault.FileFault.TheVariants as fault
-use Rattle.ta_meaning.specs.SumParts.{FormWithin, IsDifference}
-use Rattle.ta_meaning.specs.Inside.SumParts.{IsSignedSum}
 
 small_times : (z x : ℤ) → unsigned_abs z ≤ 1000000000 → unsigned_abs x ≤ 2 ^ 94 → InRange (z *ℤ x)
 small_times z x h k = rw (unsigned_abs-mul z x) (omega (arith, mul-le-mul h k))

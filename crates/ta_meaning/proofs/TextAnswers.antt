@@ -1,17 +1,11 @@
 -- A text is a legal file, or has a first fault.
-use Rattle.std.proofs.Common.{◌≡◌, ◌≢◌, ℕ, ◌≤◌, List, [], ◌∷◌, length, inl, inr, refl}
-use Rattle.ta_syntax.specs.TreeOf.{IsTreeOf}
+use Rattle.ta_meaning.proofs.Common.{◌≡◌, ◌≢◌, ℕ, ◌≤◌, List, [], ◌∷◌, length, inl, inr, refl, IsTreeOf, Tree, FileFault, InScope, meaning_faults, OfText}
 use Rattle.ta_syntax.specs.Faults as syntax
 use Rattle.ta_syntax.specs.AnswerLaws.{Either, HasTree, HasGrammarFault}
-use Rattle.ta_syntax.specs.declared.tree.Tree.{Tree}
-use Rattle.ta_syntax.specs.declared.fault.FileFault.{FileFault}
 use Rattle.ta_syntax.specs.declared.fault.FileFault.TheVariants as fault
 use Rattle.ta_syntax.proofs.TextTrees.{texts_have_trees}
-use Rattle.ta_automaton.specs.Runs.{InScope}
 use Rattle.ta_scope.specs.Faults as scope
 use Rattle.ta_scope.proofs.ScopeAnswers.{scope_answers}
-use Rattle.ta_meaning.specs.Faults.{meaning_faults}
-use Rattle.ta_meaning.specs.FirstFault.{OfText}
 use Rattle.ta_meaning.specs.Answers.{HasFile, HasFault}
 use Rattle.ta_meaning.proofs.OneReading.{is-legal}
 use Rattle.ta_meaning.proofs.MadeFiles.{file_exists}

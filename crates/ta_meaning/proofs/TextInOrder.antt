@@ -1,18 +1,6 @@
 -- The tokens of a text lie one after another in it, and so the faults of what it means rise.
-use Rattle.std.proofs.Common.{ℕ, ◌+◌, ◌≤◌, ◌<◌, ◌≡◌, List, [], ◌∷◌, ◌++◌, length, length-append, map, inl, inr, sym, ap, subst, ◌∙◌, arith}
-use Rattle.std.specs.List.{AllByRecursion}
-use Rattle.ta_base.proofs.Each.{each_weaker}
-use Rattle.ta_syntax.specs.Kinds.{kind_bytes}
-use Rattle.ta_syntax.specs.Tokens.{ScansTo, IsLastGap}
-use Rattle.ta_syntax.specs.Stated.{Offsets, IsPlaced, tree_stated}
-use Rattle.ta_syntax.specs.TreeOf.{IsTreeOf}
-use Rattle.ta_syntax.specs.declared.placed.Token.{Token}
-use Rattle.ta_syntax.specs.declared.tree.Tree.{Tree}
-use Rattle.ta_syntax.specs.declared.fault.FileFault.{FileFault}
+use Rattle.ta_meaning.proofs.Common.{ℕ, ◌+◌, ◌≤◌, ◌<◌, ◌≡◌, List, [], ◌∷◌, ◌++◌, length, length-append, map, inl, inr, sym, ap, subst, ◌∙◌, arith, AllByRecursion, each_weaker, kind_bytes, ScansTo, IsLastGap, Offsets, IsPlaced, tree_stated, IsTreeOf, Token, Tree, FileFault, Rises, meaning_faults, fault_offset, IsOfMeaning, IsTokenAt}
 use Rattle.ta_syntax.proofs.Scans.{kind_some}
-use Rattle.ta_base.specs.Lists.{Rises}
-use Rattle.ta_meaning.specs.Faults.{meaning_faults}
-use Rattle.ta_meaning.specs.Offsets.{fault_offset, IsOfMeaning, IsTokenAt}
 use Rattle.ta_meaning.proofs.InOrder.{Lies, lies-wider, Within, IsAmong, IsStated}
 use Rattle.ta_meaning.proofs.TreesInOrder.{tree-in_order}
 

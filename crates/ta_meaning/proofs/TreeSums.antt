@@ -1,21 +1,7 @@
 -- Sums of a tree: what their parts have.
-use Rattle.std.proofs.Common.{◌≡◌, ℕ, List, [], ◌∷◌, ◌++◌, map, Option, Some, None, refl, sym, ap, subst, ◌∙◌}
-use Rattle.ta_syntax.specs.Grammar.{Terms, Term, Factor, term, nested}
-use Rattle.ta_syntax.specs.PlainSums.{plain_sum, plain_term, plain_factor, terms_of, term_of, factor_layer, sum_layer, term_layer}
-use Rattle.ta_syntax.specs.declared.names.Digits.{Digits}
-use Rattle.ta_syntax.specs.declared.sums.Sign.{Sign}
-use Rattle.ta_syntax.specs.declared.sums.TreeSum.{TreeSum}
-use Rattle.ta_syntax.specs.declared.sums.TreeTerm.{TreeTerm}
-use Rattle.ta_syntax.specs.declared.sums.TreeFactor.{TreeFactor, Named, Nested}
-use Rattle.ta_syntax.specs.declared.sums.TreeFactor.TheOpen.{TreeFactor-F, TreeSum-F, TreeTerm-F}
+use Rattle.ta_meaning.proofs.Common.{◌≡◌, ℕ, List, [], ◌∷◌, ◌++◌, map, Option, Some, None, refl, sym, ap, subst, ◌∙◌, Terms, Term, Factor, term, nested, plain_sum, plain_term, plain_factor, terms_of, term_of, factor_layer, sum_layer, term_layer, Digits, Sign, TreeSum, TreeTerm, TreeFactor, TreeFactor-F, TreeSum-F, TreeTerm-F, roll-TreeSum, roll-TreeTerm, roll-TreeFactor, out-TreeSum, out-TreeTerm, map-TreeFactor, map-TreeSum, map-TreeTerm, fold-roll-TreeSum, fold-roll-TreeTerm, fold-roll-TreeFactor, fold_out-TreeSum, fold_out-TreeTerm, ind-TreeFactor, FileFault, Scope, WithFaults, judged_sum, judged_terms, factor_judged, sum_judged, term_judged, sum_faults, number_faults, else_, where_, linear_term, is_large_linear, judged_term, judged_factor}
 use Rattle.ta_syntax.specs.declared.sums.TreeFactor.TheOpen as open_factor
-use Rattle.ta_syntax.specs.declared.sums.TreeFactor.TheViews.{roll-TreeSum, roll-TreeTerm, roll-TreeFactor, out-TreeSum, out-TreeTerm}
-use Rattle.ta_syntax.specs.declared.sums.TreeFactor.TheFolds.{map-TreeFactor, map-TreeSum, map-TreeTerm, fold-roll-TreeSum, fold-roll-TreeTerm, fold-roll-TreeFactor, fold_out-TreeSum, fold_out-TreeTerm, ind-TreeFactor}
-use Rattle.ta_syntax.specs.declared.fault.FileFault.{FileFault}
-use Rattle.ta_meaning.specs.Faults.{Scope, WithFaults, judged_sum, judged_terms, factor_judged, sum_judged, term_judged, sum_faults, number_faults, else_, where_, linear_term}
-use Rattle.ta_meaning.specs.Linear.{is_large_linear}
 use Rattle.ta_syntax.specs.declared.fault.FileFault.TheVariants as fault
-use Rattle.ta_meaning.specs.Inside.SumParts.{judged_term, judged_factor}
 
 -- the plain part of what is judged is the plain part
 abbrev SameFactor : Scope → TreeFactor → Type 0

@@ -1,26 +1,7 @@
 -- the updates of a rule, read one after another
-use Rattle.std.proofs.Common.{◌≡◌, inl, inr, ℕ, ℤ, pos, ◌+◌, ◌<◌, ◌≤◌, List, [], ◌∷◌, ◌++◌, map, length, get_or, eqb, cond, ltb, slice_get, Some, Contains, arith, sym, ap, ◌∙◌, refl, subst}
-use Rattle.std.proofs.lemmas.Int.{ints}
-use Rattle.std.proofs.lemmas.List.{append-nil, append_assoc, length-append, map_push, length-map}
-use Rattle.std.proofs.lemmas.List.Elements.{Contains-append_left, Contains-append_right}
-use Rattle.std.proofs.lemmas.Option.{slice_get_within, get_or_from_slice_get}
-use Rattle.std.proofs.lemmas.Bool.{ltb-false}
-use Rattle.std.proofs.lemmas.Bool.Decides.{eqb_tells}
-use Rattle.std.specs.List.{AllByRecursion}
-use Rattle.ta_base.proofs.Each.{distinct_push, each_at, each_push, each_weaker}
-use Rattle.ta_base.proofs.Members.{contains_at}
-use Rattle.ta_syntax.specs.Grammar.{PlainUpdate}
-use Rattle.ta_syntax.specs.PlainTrees.{plain_update}
-use Rattle.ta_syntax.specs.declared.tree.TreeUpdate.{TreeUpdate}
-use Rattle.ta_syntax.specs.declared.fault.FileFault.{FileFault}
+use Rattle.ta_meaning.proofs.Common.{◌≡◌, inl, inr, ℕ, ℤ, pos, ◌+◌, ◌<◌, ◌≤◌, List, [], ◌∷◌, ◌++◌, map, length, get_or, eqb, cond, ltb, slice_get, Some, Contains, arith, sym, ap, ◌∙◌, refl, subst, ints, append-nil, map_push, length-map, Contains-append_left, Contains-append_right, slice_get_within, get_or_from_slice_get, ltb-false, eqb_tells, AllByRecursion, distinct_push, each_at, each_push, each_weaker, contains_at, PlainUpdate, plain_update, TreeUpdate, FileFault, Distinct, Update, variable_of, Names, number_of, FirstOrMemory, digits_faults, updates_faults, MeansUpdates, names_at, variable_faults, IsNewVariable, UpdatesRead}
+use Rattle.std.proofs.lemmas.List.{append_assoc, length-append}
 use Rattle.ta_syntax.specs.declared.fault.FileFault.TheVariants as fault
-use Rattle.ta_base.specs.Lists.{Distinct}
-use Rattle.ta_automaton.specs.Shape.{Update, variable_of}
-use Rattle.ta_meaning.specs.Names.{Names}
-use Rattle.ta_meaning.specs.Sums.{number_of}
-use Rattle.ta_meaning.specs.Faults.{FirstOrMemory, digits_faults, updates_faults}
-use Rattle.ta_meaning.specs.Meaning.{MeansUpdates}
-use Rattle.ta_meaning.specs.Inside.Updating.{names_at, variable_faults, IsNewVariable, UpdatesRead}
 use Rattle.ta_meaning.proofs.Answering.{append-left-none, append-left-first, append-right-first, not-where}
 
 -- the updates so far are read, and the faults of all are those of the updates left

@@ -1,11 +1,6 @@
 -- The faults of used and of declared names.
-use Rattle.std.proofs.Common.{◌≡◌, ℕ, ◌<◌, ◌≤◌, true, false, not, List, [], length, ap, arith}
-use Rattle.std.proofs.lemmas.Bool.Decides.{nat_tests, Decides-ltb}
-use Rattle.std.proofs.lemmas.Bool.{not-false}
-use Rattle.ta_syntax.specs.declared.names.Spelled.{Spelled}
+use Rattle.ta_meaning.proofs.Common.{inr, ◌≡◌, ℕ, true, false, not, List, [], ap, not-false, Spelled, FileFault, has_name, First, FirstOrMemory, where_, is_long, used_faults, declared_faults}
 use Rattle.ta_syntax.specs.declared.fault.FileFault.TheVariants as fault
-use Rattle.ta_meaning.specs.Sums.{has_name}
-use Rattle.ta_meaning.specs.Faults.{First, FirstOrMemory, where_, is_long, used_faults, declared_faults}
 use Rattle.ta_meaning.proofs.Answering.{where-leads, else-left-leads, else-right-leads, where-first, where-false, not-where, else-left-first, else-right-first, else-none, none-else-right}
 
 pub unknown : (names allowed : List (List ℕ)) (n : Spelled) → has_name names n.name ≡ false → First (used_faults names allowed n) (fault.Unknown n.at)
@@ -35,15 +30,10 @@ pub declared_twice : (before : List (List ℕ)) (n : Spelled) → has_name befor
 declared_twice before n there =
     else-left-first (where_ (has_name before n.name) (fault.Duplicate n.at)) (where_ (is_long n) (fault.TooLarge n.at)) (fault.Duplicate n.at) (where-first (has_name before n.name) (fault.Duplicate n.at) there)
 
-pub declared_too_long : (before : List (List ℕ)) (n : Spelled) → has_name before n.name ≡ false → 64 < length n.name → FirstOrMemory (declared_faults before n) (fault.TooLarge n.at)
-declared_too_long before n new long =
-    else-right-first (where_ (has_name before n.name) (fault.Duplicate n.at)) (where_ (is_long n) (fault.TooLarge n.at)) (fault.TooLarge n.at)
-    (where-false (has_name before n.name) (fault.Duplicate n.at) new)
-    (where-first (is_long n) (fault.TooLarge n.at) ((Decides-ltb 64 (length n.name)).1 long))
+pub declared_too_long : (before : List (List ℕ)) (n : Spelled) (e : FileFault) → has_name before n.name ≡ false → First (where_ (is_long n) (fault.TooLarge n.at)) e → FirstOrMemory (declared_faults before n) e
+declared_too_long before n e new long =
+    else-right-first (where_ (has_name before n.name) (fault.Duplicate n.at)) (where_ (is_long n) (fault.TooLarge n.at)) e (where-false (has_name before n.name) (fault.Duplicate n.at) new) (inr long)
 
-pub declared_rightly : (before : List (List ℕ)) (n : Spelled) → has_name before n.name ≡ false → length n.name ≤ 64 → declared_faults before n ≡ []
+pub declared_rightly : (before : List (List ℕ)) (n : Spelled) → has_name before n.name ≡ false → where_ (is_long n) (fault.TooLarge n.at) ≡ [] → declared_faults before n ≡ []
 declared_rightly before n new short =
-    let is_short : is_long n ≡ false = grind (arith, nat_tests) in
-    else-none (where_ (has_name before n.name) (fault.Duplicate n.at)) (where_ (is_long n) (fault.TooLarge n.at))
-    (where-false (has_name before n.name) (fault.Duplicate n.at) new)
-    (where-false (is_long n) (fault.TooLarge n.at) is_short)
+    else-none (where_ (has_name before n.name) (fault.Duplicate n.at)) (where_ (is_long n) (fault.TooLarge n.at)) (where-false (has_name before n.name) (fault.Duplicate n.at) new) short

@@ -1,24 +1,7 @@
 -- The faults of a tree from those of its parts
-use Rattle.std.proofs.Common.{ℕ, ◌+◌, ◌≡◌, List, [], take, map, length, length-append, Result, refl, sym, ap, subst, ◌∙◌}
-use Rattle.std.specs.Global.{Vec}
-use Rattle.ta_linear.specs.declared.form.Form.{Form}
-use Rattle.ta_syntax.specs.PlainSums.{plain_sum}
-use Rattle.ta_syntax.specs.PlainTrees.{plain_comparison, plain_rule, plain_pattern, plain_tree}
-use Rattle.ta_syntax.specs.declared.tree.Tree.{Tree}
-use Rattle.ta_syntax.specs.declared.fault.FileFault.{FileFault}
+use Rattle.ta_meaning.proofs.Common.{ℕ, ◌+◌, ◌≡◌, List, [], take, map, length, length-append, Result, refl, sym, ap, subst, ◌∙◌, Vec, Form, Row, plain_sum, plain_comparison, plain_location, plain_rule, plain_pattern, plain_tree, Tree, FileFault, Condition, Pattern, Rule, Places, Automaton, PatternsShape, MeansAutomaton, initial_from, Names, guard_names, all_names, names_of, linear_sum, is_large_linear, no_guards, where_, else_, sum_faults, condition_faults, processes_faults, in_parameters, rules_faults, patterns_faults, names_faults, meaning_faults, Scope, FirstOrMemory, Answers, kinds_of, first_places, ResolvedForm, ResolvedCondition, ResolvedRules, ResolvedPatterns}
 use Rattle.ta_syntax.specs.declared.fault.FileFault.TheVariants as fault
-use Rattle.ta_automaton.specs.declared.condition.Condition.{Condition}
-use Rattle.ta_automaton.specs.declared.pattern.Pattern.{Pattern}
-use Rattle.ta_meaning.specs.declared.places.Places.{Places}
 use Rattle.ta_meaning.specs.declared.rules.Rules.{Rules}
-use Rattle.ta_automaton.specs.declared.automaton.Automaton.{Automaton}
-use Rattle.ta_automaton.specs.Patterns.{PatternsShape}
-use Rattle.ta_meaning.specs.Meaning.{MeansAutomaton}
-use Rattle.ta_meaning.specs.Names.{Names, guard_names, all_names, names_of}
-use Rattle.ta_meaning.specs.Linear.{linear_sum, is_large_linear}
-use Rattle.ta_meaning.specs.Guards.{no_guards}
-use Rattle.ta_meaning.specs.Faults.{where_, else_, sum_faults, condition_faults, processes_faults, in_parameters, rules_faults, patterns_faults, names_faults, meaning_faults, Scope, FirstOrMemory, Answers}
-use Rattle.ta_meaning.specs.Inside.Resolved.{kinds_of, first_places, ResolvedForm, ResolvedCondition, ResolvedRules, ResolvedPatterns}
 use Rattle.ta_meaning.proofs.Answering.{append-left-first, append-right-first, append-none}
 use Rattle.ta_meaning.proofs.PlaceNames.{in_parameters_are}
 
@@ -86,13 +69,35 @@ all-clean t clean rules patterns =
 
 -- the places that a pattern's shape counts are those of the automaton
 pub patterns_shape-of :
-    (t : Tree) (a : Automaton) (patterns patterns' : List Pattern)
-    → MeansAutomaton (plain_tree t) a → ResolvedPatterns (names_of t) (map plain_pattern t.patterns) patterns → patterns' ≡ patterns
-    → PatternsShape (length a.parameters + length a.shared + length a.locations) (length a.locations) patterns'
-patterns_shape-of t a patterns patterns' means resolved same =
+    (t : Tree) (parameters shared locations : List (List ℕ)) (patterns patterns' : List Pattern)
+    → parameters ≡ (names_of t).parameters → shared ≡ (names_of t).shared → locations ≡ (names_of t).locations → ResolvedPatterns (names_of t) (map plain_pattern t.patterns) patterns → patterns' ≡ patterns
+    → PatternsShape (length parameters + length shared + length locations) (length locations) patterns'
+patterns_shape-of t parameters shared locations patterns patterns' p s l resolved same =
     let ns = names_of t in
-    let count : length (all_names ns) ≡ length a.parameters + length a.shared + length a.locations =
+    let count : length (all_names ns) ≡ length parameters + length shared + length locations =
     length-append (guard_names ns) ns.locations
     ∙ (ap (λ (n : ℕ). n + length ns.locations) (length-append ns.parameters ns.shared)
-    ∙ rw (means.parameters, means.shared, means.locations) refl) in
-    rw (same, sym count, means.locations) resolved.shape
+    ∙ rw (p, s, l) refl) in
+    rw (same, sym count, l) resolved.shape
+
+-- an automaton of the parts that a tree resolves to
+pub means_automaton :
+    (t : Tree) (a : Automaton) (rise fall : List Row) (rules : List Rule)
+    → a.name ≡ t.name.name → a.parameters ≡ (names_of t).parameters → a.shared ≡ (names_of t).shared → a.locations ≡ (names_of t).locations
+    → a.initial ≡ initial_from 0 (map plain_location t.locations) → a.rise ≡ rise → a.fall ≡ fall → a.rules ≡ rules
+    → ResolvedForm (names_of t).parameters (plain_sum t.processes) a.processes
+    → ResolvedCondition (names_of t).parameters (map plain_comparison t.resilience) a.resilience
+    → ResolvedRules (names_of t) (map plain_rule t.rules) rise fall rules
+    → MeansAutomaton (plain_tree t) a
+means_automaton t a rise fall rules n p s l i r f u form condition all = record {
+  name = n;
+  parameters = p;
+  shared = s;
+  locations = l;
+  initial = i;
+  processes = form.means;
+  resilience = condition.means;
+  rise = rw r all.guards.rise_of;
+  fall = rw f all.guards.fall_of;
+  rules = rw u all.means;
+}

@@ -1,5 +1,6 @@
 -- That each text has an answer (this project's profile)
 use Rattle.std.specs.Prelude.{ℕ, ◌≤◌, ◌≡◌, List, [], length}
+use Rattle.ta_base.specs.declared.limits.TheConstants.{FILE_BYTES}
 use Rattle.ta_syntax.specs.AnswerLaws.{Either}
 use Rattle.ta_syntax.specs.PlainTrees.{plain_tree}
 use Rattle.ta_syntax.specs.declared.tree.Tree.{Tree}
@@ -24,4 +25,4 @@ HasFault bytes = (e : FileFault) × FirstFault bytes e
 
 -- a text of at most 1,048,576 bytes is a legal file, or has a first fault
 abbrev pub TextsHaveAnswers : Type 0
-TextsHaveAnswers = (bytes : List ℕ) → length bytes ≤ 1048576 → Either (HasFile bytes) (HasFault bytes)
+TextsHaveAnswers = (bytes : List ℕ) → length bytes ≤ FILE_BYTES → Either (HasFile bytes) (HasFault bytes)

@@ -3,6 +3,7 @@
 -- its tokens and inner terms is at fault; where one token has two faults, the lower code stands alone. So the offsets
 -- of a list rise, and the first of the list is the first fault of the file.
 use Rattle.std.specs.Prelude.{ℕ, ◌≡◌, ◌⊎◌, Bool, false, ◌||◌, not, ltb, List, [], ◌∷◌, ◌++◌, length, map, Option, Some, None, Result, Ok, Err, if◌then◌else◌}
+use Rattle.ta_base.specs.declared.limits.TheConstants.{LARGEST_NUMBER}
 use Rattle.ta_syntax.specs.Grammar.{Terms, Term, Factor, done, term, named, nested}
 use Rattle.ta_syntax.specs.PlainSums.{plain_sum, term_of}
 use Rattle.ta_syntax.specs.PlainTrees.{plain_comparison}
@@ -81,7 +82,7 @@ listed_faults declared allowed before (n ∷ ns) =
 
 -- F6 of a number
 abbrev pub digits_faults : Digits → List FileFault
-digits_faults d = where_ (ltb 1000000000 (number_of d.text)) (fault.TooLarge d.at)
+digits_faults d = where_ (ltb LARGEST_NUMBER (number_of d.text)) (fault.TooLarge d.at)
 
 -- ---- sums and comparisons
 

@@ -1,6 +1,7 @@
 -- Sums and comparisons as numbers: a constant, and a coefficient for each place (this project's profile)
 use Rattle.std.specs.Prelude.{ℕ, ℤ, pos, ◌-ℤ◌, ◌≡◌, Bool, false, ◌||◌, ltb, unsigned_abs, List, [], ◌∷◌, map, slice_index_or, IsTrue}
 use Rattle.std.specs.List.{list_any}
+use Rattle.ta_base.specs.declared.limits.TheConstants.{LARGEST_NUMBER}
 use Rattle.ta_linear.specs.Terms.{coefficient}
 use Rattle.ta_linear.specs.declared.form.Form.{Form}
 use Rattle.ta_linear.specs.declared.row.Row.{Row}
@@ -81,7 +82,7 @@ MeansCondition names cs condition = Pairwise (MeansComparison names) cs conditio
 
 -- numbers above 1,000,000,000 in absolute value
 abbrev pub is_large : ℤ → Bool
-is_large z = ltb 1000000000 (unsigned_abs z)
+is_large z = ltb LARGEST_NUMBER (unsigned_abs z)
 
 -- the constant or a coefficient is too large
 abbrev pub is_large_linear : Linear → Bool

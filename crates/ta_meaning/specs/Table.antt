@@ -1,6 +1,7 @@
 -- The table of the faults of meaning: what each code says is wrong, and at which token, whatever else is wrong in the text (this project's profile)
 use Rattle.std.specs.Prelude.{◌<◌, ◌≤◌, ◌≡◌, ◌⊎◌, Bool, true, false, if◌then◌else◌, List, [], ◌∷◌, ◌++◌, length, map, flat_map}
 use Rattle.std.specs.List.{AllByRecursion}
+use Rattle.ta_base.specs.declared.limits.TheConstants.{LARGEST_NUMBER}
 use Rattle.ta_syntax.specs.PlainSums.{plain_sum}
 use Rattle.ta_syntax.specs.PlainTrees.{plain_name, plain_comparison}
 use Rattle.ta_syntax.specs.declared.names.Spelled.{Spelled}
@@ -155,7 +156,7 @@ pub data IsFaultOf (t : Tree) (e : FileFault) : Type 0 where
   -- F6: a declared name above 64 bytes
   long : (n : Spelled) → IsDeclared t n → 64 < length n.name → e ≡ fault.TooLarge n.at → IsFaultOf t e
   -- F6: a number above 1,000,000,000
-  large_number : (d : Digits) → IsNumberOf t d → 1000000000 < number_of d.text → e ≡ fault.TooLarge d.at → IsFaultOf t e
+  large_number : (d : Digits) → IsNumberOf t d → LARGEST_NUMBER < number_of d.text → e ≡ fault.TooLarge d.at → IsFaultOf t e
   -- F6: a term whose form has such a number
   large_term : (s : Scope) (sum : TreeSum) (x : PlacedTerm) → HasSum t s sum → In x (terms_of_terms (seen_sum sum)) → is_large_linear (linear_term s.allowed x.term) ≡ true → e ≡ fault.TooLarge x.at → IsFaultOf t e
   -- F6: a comparison with a normal row that has one

@@ -5,9 +5,10 @@ ghost use Rattle.std.specs.Prelude.{◌≡◌, ◌++◌, map, not};
 ghost use Rattle.std.specs.List.{list_any};
 ghost use Rattle.ta_syntax.specs.PlainTrees.{plain_name};
 ghost use Rattle.ta_meaning.specs.Names.{all_names, names_of};
-ghost use Rattle.ta_meaning.specs.Faults.{Judges, Answers, where_, is_long, any_initial, location_spelled, declarations_faults, names_faults};
+ghost use Rattle.ta_meaning.specs.Faults.{Judges, Answers, where_, any_initial, location_spelled, declarations_faults, names_faults};
 ghost use Rattle.ta_meaning.specs.Inside.Resolved.{kinds_of};
 
+use crate::named::check_length;
 use crate::names::NameList;
 use crate::places::Places;
 use std::alloc::Global;
@@ -36,16 +37,6 @@ fn declare_tree(alloc: Global, tree: &Tree) -> Result<NameList, FileFault>
     check_initial(tree)?;
     declare_locations(alloc, &mut names, tree.locations.as_slice())?;
     Ok(names)
-}
-
-/// F6 where a name is too long.
-fn check_length(name: &Spelled) -> Result<(), FileFault>
-    ensures { Judges (where_ (is_long name.now) (FileFault.TooLarge name.now.at)) (λ _. Unit {0}) result }
-{
-    if name.name.as_str().len() > 64 {
-        return Err(FileFault::TooLarge(name.at));
-    }
-    Ok(())
 }
 
 /// F12 where no location is initial.

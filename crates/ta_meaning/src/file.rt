@@ -1,102 +1,97 @@
 //! From a tree to the file that it means.
 #![tactic(auto)]
 
-ghost use Rattle.std.specs.Prelude.{◌≡◌, ◌≤◌, [], IfOk, length, map};
-ghost use Rattle.ta_syntax.specs.PlainSums.{plain_sum};
-ghost use Rattle.ta_syntax.specs.PlainTrees.{plain_tree, plain_name, plain_location, plain_comparison, plain_rule};
-ghost use Rattle.ta_meaning.specs.Names.{names_of, location_name};
-ghost use Rattle.ta_meaning.specs.Faults.{Answers, names_faults, meaning_faults};
-ghost use Rattle.ta_meaning.specs.Meaning.{MeansAutomaton, MeansTree, initial_from};
-ghost use Rattle.ta_meaning.specs.Inside.Resolved.{ResolvedForm, ResolvedCondition, ResolvedRules};
+ghost use Rattle.std.specs.Prelude.{◌≡◌, ◌≤◌, IfOk, length, map};
+ghost use Rattle.ta_syntax.specs.PlainTrees.{plain_tree, plain_name, plain_location};
+ghost use Rattle.ta_meaning.specs.Names.{location_name};
+ghost use Rattle.ta_meaning.specs.Faults.{Answers, meaning_faults};
+ghost use Rattle.ta_meaning.specs.Meaning.{MeansTree, initial_from};
 
 use crate::conditions::{resolve_condition, resolve_sum};
 use crate::declarations::declare_places;
 use crate::patterns::resolve_patterns;
-use crate::rules::{Rules, resolve_rules};
+use crate::rules::resolve_rules;
 use std::alloc::{AllocError, Global};
-use ta_automaton::{Automaton, Condition, File};
+use ta_automaton::{Automaton, File};
 use ta_base::{List, Text};
-use ta_linear::Form;
 use ta_syntax::{FileFault, Spelled, Tree, TreeLocation};
 
 /// The file that a tree means: Ok exactly where no fault of meaning is there, else the first one.
-pub fn resolve(alloc: Global, tree: &Tree) -> Result<File, FileFault>
-    ensures { Answers (meaning_faults tree.now) (MeansTree (plain_tree tree.now)) result }
+pub fn resolve(alloc: Global, tree: Tree) -> Result<File, FileFault>
+    ensures { Answers (meaning_faults tree) (MeansTree (plain_tree tree)) result }
 {
-    let places = declare_places(alloc, tree)?;
+    let places = declare_places(alloc, &tree)?;
     let parameters = places.parameters;
     let at = tree.processes_at;
     let processes = resolve_sum(alloc, &places, parameters, at, &tree.processes)?;
     let resilience = resolve_condition(alloc, &places, parameters, tree.resilience.as_slice())?;
-    let rules = resolve_rules(alloc, &places, tree.rules.as_slice())?;
-    let patterns = resolve_patterns(alloc, &places, tree.patterns.as_slice())?;
-    let automaton = automaton_of(alloc, tree, processes, resilience, rules)?;
+    let rules = resolve_rules(alloc, &places, tree.rules.into_vec())?;
+    let patterns = resolve_patterns(alloc, &places, tree.patterns.into_vec())?;
+    let names = declared_names(alloc, tree.parameters, tree.shared, tree.locations)?;
+    let automaton = Automaton {
+        name: tree.name.name,
+        parameters: names.parameters,
+        shared: names.shared,
+        locations: names.locations,
+        initial: names.initial,
+        processes,
+        resilience,
+        rise: List::from_vec(rules.rise),
+        fall: List::from_vec(rules.fall),
+        rules: List::from_vec(rules.rules),
+    };
     Ok(File {
         automaton,
         patterns: List::from_vec(patterns),
     })
 }
 
-/// The automaton of a tree whose names are legal, with the parts that are resolved already.
-fn automaton_of(
+/// The names that a tree declares for its places, and the numbers of its initial locations.
+#[derive(Drop)]
+struct DeclaredNames {
+    parameters: List<Text>,
+    shared: List<Text>,
+    locations: List<Text>,
+    initial: List<u32>,
+}
+
+/// The names of a tree's places, without their offsets.
+fn declared_names(
     alloc: Global,
-    tree: &Tree,
-    processes: Form,
-    resilience: Condition,
-    rules: Rules,
-) -> Result<Automaton, AllocError>
-    requires names { names_faults (names_of tree.now) tree.now ≡ [] }
-    requires processes { ResolvedForm (names_of tree.now).parameters (plain_sum tree.now.processes) processes }
-    requires resilience { ResolvedCondition (names_of tree.now).parameters (map plain_comparison tree.now.resilience) resilience }
-    requires rules { ResolvedRules (names_of tree.now) (map plain_rule tree.now.rules) rules.rise.items rules.fall.items rules.rules.items }
-    ensures { IfOk result (λ automaton. MeansAutomaton (plain_tree tree.now) automaton) }
+    parameters: List<Spelled>,
+    shared: List<Spelled>,
+    locations: List<TreeLocation>,
+) -> Result<DeclaredNames, AllocError>
+    requires { length locations ≤ 32 }
+    ensures parameters { IfOk result (λ names. names.parameters ≡ map plain_name parameters) }
+    ensures shared { IfOk result (λ names. names.shared ≡ map plain_name shared) }
+    ensures locations { IfOk result (λ names. names.locations ≡ map location_name (map plain_location locations)) }
+    ensures initial { IfOk result (λ names. names.initial ≡ initial_from 0 (map plain_location locations)) }
 {
-    let name = text_of(alloc, &tree.name)?;
-    let parameters = texts_of(alloc, tree.parameters.as_slice())?;
-    let shared = texts_of(alloc, tree.shared.as_slice())?;
-    let locations = location_names(alloc, tree.locations.as_slice())?;
-    let initial = initial_locations(alloc, tree.locations.as_slice())?;
-    Ok(Automaton {
-        name,
-        parameters: List::from_vec(parameters),
-        shared: List::from_vec(shared),
-        locations: List::from_vec(locations),
+    let initial = initial_locations(alloc, locations.as_slice())?;
+    Ok(DeclaredNames {
+        parameters: List::from_vec(texts_of(alloc, parameters.into_vec())?),
+        shared: List::from_vec(texts_of(alloc, shared.into_vec())?),
+        locations: List::from_vec(location_names(alloc, locations.into_vec())?),
         initial: List::from_vec(initial),
-        processes,
-        resilience,
-        rise: List::from_vec(rules.rise),
-        fall: List::from_vec(rules.fall),
-        rules: List::from_vec(rules.rules),
     })
 }
 
-/// A copy of a name.
-pub(crate) fn text_of(alloc: Global, name: &Spelled) -> Result<Text, AllocError>
-    ensures { IfOk result (λ text. text ≡ name.now.name) }
+/// The texts of names, in order.
+fn texts_of(alloc: Global, names: Vec<Spelled>) -> Result<Vec<Text>, AllocError>
+    ensures { IfOk result (λ texts. texts.items ≡ map plain_name names.items) }
 {
-    Ok(Text::from_string(String::from_str(alloc, name.name.as_str())?))
-}
-
-/// Copies of names, in order.
-fn texts_of(alloc: Global, names: &[Spelled]) -> Result<Vec<Text>, AllocError>
-    ensures { IfOk result (λ texts. texts.items ≡ map plain_name names.now) }
-{
-    let mut texts = Vec::new(alloc);
-    for name in names {
-        texts.push(text_of(alloc, name)?)?;
-    }
-    Ok(texts)
+    names.into_iter().map(|name| name.name).collect(alloc)
 }
 
 /// The names of locations, in order.
-fn location_names(alloc: Global, locations: &[TreeLocation]) -> Result<Vec<Text>, AllocError>
-    ensures { IfOk result (λ texts. texts.items ≡ map location_name (map plain_location locations.now)) }
+fn location_names(alloc: Global, locations: Vec<TreeLocation>) -> Result<Vec<Text>, AllocError>
+    ensures { IfOk result (λ texts. texts.items ≡ map location_name (map plain_location locations.items)) }
 {
-    let mut texts = Vec::new(alloc);
-    for location in locations {
-        texts.push(text_of(alloc, &location.name)?)?;
-    }
-    Ok(texts)
+    locations
+        .into_iter()
+        .map(|location| location.name.name)
+        .collect(alloc)
 }
 
 /// The numbers of the locations that are marked as initial.

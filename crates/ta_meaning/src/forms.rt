@@ -7,8 +7,8 @@ ghost use Rattle.ta_meaning.specs.SumParts.{FormWithin, IsDifference};
 ghost use Rattle.ta_meaning.specs.Inside.SumParts.{is_large_form};
 ghost use Rattle.ta_meaning.specs.Linear.{is_large};
 
-use crate::numbers::LARGEST;
 use std::alloc::Global;
+use ta_base::limits::LARGEST_NUMBER;
 use ta_linear::{Form, LinearFault, Row};
 use ta_syntax::FileFault;
 
@@ -28,7 +28,7 @@ pub(crate) fn plus(alloc: Global, a: &Form, b: &Form) -> Result<Form, FileFault>
 /// The product of a small form and a small number.
 pub(crate) fn times(alloc: Global, a: &Form, factor: u32) -> Result<Form, FileFault>
     requires form { FormWithin (2 ^ 94) a.now }
-    requires factor { factor ≤ 1000000000 }
+    requires factor { factor ≤ LARGEST_NUMBER }
     ensures { MatchResult result (λ product. IsMultiple product a.now (pos factor)) (λ e. e ≡ FileFault.Memory) }
 {
     match a.scale(alloc, i128::from(factor)) {
@@ -53,7 +53,7 @@ pub(crate) fn negative(alloc: Global, a: &Form) -> Result<Form, FileFault>
 fn is_large(number: i128) -> bool
     ensures { result ≡ is_large number }
 {
-    number.unsigned_abs() > u128::from(LARGEST)
+    number.unsigned_abs() > u128::from(LARGEST_NUMBER)
 }
 
 /// Whether the constant or a coefficient of a form is above 1,000,000,000 in absolute value.

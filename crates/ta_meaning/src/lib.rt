@@ -9,6 +9,7 @@ mod forms;
 mod guards;
 mod laws;
 mod masks;
+mod named;
 mod names;
 mod numbers;
 mod offset_law;

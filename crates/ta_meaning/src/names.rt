@@ -4,6 +4,7 @@
 ghost use Rattle.std.specs.Prelude.{◌≡◌, ◌+◌, ◌-◌, ◌≤◌, ◌++◌, [], ◌∷◌, length, take, drop, slice_get, Some, OnOk};
 ghost use Rattle.ta_meaning.specs.Faults.{Judges, Answers, declared_faults, used_faults};
 
+use crate::named::check_length;
 use indexmap::IndexSet;
 use std::alloc::Global;
 use std::marker::Model;
@@ -48,9 +49,7 @@ impl NameList {
         if self.names.contains(name.name.as_str()) {
             return Err(FileFault::Duplicate(name.at));
         }
-        if name.name.as_str().len() > 64 {
-            return Err(FileFault::TooLarge(name.at));
-        }
+        check_length(name)?;
         let key = name.name.copy(alloc)?.into_string();
         self.names.insert(key)?;
         Ok(())

@@ -5,10 +5,8 @@ ghost use Rattle.std.specs.Prelude.{◌≡◌};
 ghost use Rattle.ta_meaning.specs.Sums.{number_of};
 ghost use Rattle.ta_meaning.specs.Faults.{Judges, digits_faults};
 
+use ta_base::limits::LARGEST_NUMBER;
 use ta_syntax::{Digits, FileFault};
-
-/// A number above it in absolute value is too large.
-pub(crate) const LARGEST: u64 = 1_000_000_000;
 
 /// The number that digits write, zeros in front included.
 pub(crate) fn read_number(digits: &Digits) -> Result<u32, FileFault>
@@ -17,7 +15,7 @@ pub(crate) fn read_number(digits: &Digits) -> Result<u32, FileFault>
     let mut number = 0u64;
     'digits: for digit in digits.text.as_str().as_bytes() {
         number = 10 * number + u64::from(*digit - b'0');
-        if number > LARGEST {
+        if number > LARGEST_NUMBER {
             return Err(FileFault::TooLarge(digits.at));
         }
     }

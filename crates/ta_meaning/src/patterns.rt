@@ -1,9 +1,10 @@
 //! Patterns and their events.
 #![tactic(auto)]
 
-ghost use Rattle.std.specs.Prelude.{◌≡◌, ◌+◌, ◌<◌, ◌≤◌, [], length, map};
+ghost use Rattle.std.specs.Prelude.{◌+◌, ◌<◌, ◌≤◌, ◌∷◌, ◌++◌, [], length, map};
 ghost use Rattle.ta_syntax.specs.PlainTrees.{plain_name, plain_comparison, plain_event, plain_pattern};
 ghost use Rattle.ta_base.specs.Lists.{Distinct};
+ghost use Rattle.ta_automaton.specs.Patterns.{pattern_name};
 ghost use Rattle.ta_meaning.specs.Names.{all_names};
 ghost use Rattle.ta_meaning.specs.Faults.{Judges, Answers, in_conditions, condition_faults, listed_faults, event_faults, events_faults, pattern_faults, patterns_faults};
 ghost use Rattle.ta_meaning.specs.Inside.Resolved.{kinds_of, ResolvedCondition, ResolvedPatterns};
@@ -11,8 +12,8 @@ ghost use Rattle.ta_meaning.specs.Inside.Listed.{ListedMask};
 ghost use Rattle.ta_meaning.specs.Inside.PatternParts.{ResolvedEvent, ResolvedEvents, ResolvedPattern};
 
 use crate::conditions::resolve_condition;
-use crate::file::text_of;
 use crate::masks::listed_mask;
+use crate::named::check_declared;
 use crate::names::NameList;
 use crate::places::Places;
 use std::alloc::Global;
@@ -24,35 +25,35 @@ use ta_syntax::{FileFault, Spelled, TreeComparison, TreeEvent, TreePattern};
 pub fn resolve_patterns(
     alloc: Global,
     places: &Places,
-    patterns: &[TreePattern],
+    patterns: Vec<TreePattern>,
 ) -> Result<Vec<Pattern>, FileFault>
-    requires { length patterns.now ≤ 16 }
-    ensures { Answers (patterns_faults (kinds_of places.now) [] patterns.now) (λ ps. ResolvedPatterns (kinds_of places.now) (map plain_pattern patterns.now) ps.items) result }
+    requires { length patterns.items ≤ 16 }
+    ensures { Answers (patterns_faults (kinds_of places.now) [] patterns.items) (λ ps. ResolvedPatterns (kinds_of places.now) (map plain_pattern patterns.items) ps.items) result }
 {
-    let mut names = NameList::new(alloc);
     let mut resolved = Vec::new(alloc);
     for pattern in patterns {
-        resolved.push(resolve_pattern(alloc, places, &mut names, pattern)?)?;
+        let one = resolve_pattern(alloc, places, resolved.as_slice(), pattern)?;
+        resolved.push(one)?;
     }
     Ok(resolved)
 }
 
-/// The pattern that a tree's pattern means, after others; its name is declared then.
+/// The pattern that a tree's pattern means, after others.
 fn resolve_pattern(
     alloc: Global,
     places: &Places,
-    names: &mut NameList,
-    pattern: &TreePattern,
+    before: &[Pattern],
+    pattern: TreePattern,
 ) -> Result<Pattern, FileFault>
-    requires { Distinct names.old }
-    ensures { Answers (pattern_faults (kinds_of places.now) names.old pattern.now) (ResolvedPattern (kinds_of places.now) names.old (plain_pattern pattern.now) names.new) result }
+    requires { Distinct (map pattern_name before.now) }
+    ensures { Answers (pattern_faults (kinds_of places.now) (map pattern_name before.now) pattern) (ResolvedPattern (kinds_of places.now) (map pattern_name before.now) (plain_pattern pattern) (map pattern_name before.now ++ pattern.name.name ∷ [])) result }
 {
-    names.declare(alloc, &pattern.name)?;
+    check_declared(before, &pattern.name)?;
     let start = resolve_over_all(alloc, places, pattern.start.as_slice())?;
     let empty = empty_mask(places, pattern.empty.as_slice())?;
-    let events = resolve_events(alloc, places, pattern.events.as_slice())?;
+    let events = resolve_events(alloc, places, pattern.events.into_vec())?;
     Ok(Pattern {
-        name: text_of(alloc, &pattern.name)?,
+        name: pattern.name.name,
         start,
         empty,
         events: List::from_vec(events),
@@ -63,10 +64,10 @@ fn resolve_pattern(
 fn resolve_events(
     alloc: Global,
     places: &Places,
-    events: &[TreeEvent],
+    events: Vec<TreeEvent>,
 ) -> Result<Vec<Event>, FileFault>
-    requires { length events.now ≤ 8 }
-    ensures { Answers (events_faults (kinds_of places.now) [] events.now) (λ es. ResolvedEvents (kinds_of places.now) (map plain_event events.now) es.items) result }
+    requires { length events.items ≤ 8 }
+    ensures { Answers (events_faults (kinds_of places.now) [] events.items) (λ es. ResolvedEvents (kinds_of places.now) (map plain_event events.items) es.items) result }
 {
     let mut names = NameList::new(alloc);
     let mut resolved = Vec::new(alloc);
@@ -83,18 +84,18 @@ fn resolve_event(
     alloc: Global,
     places: &Places,
     names: &mut NameList,
-    event: &TreeEvent,
+    event: TreeEvent,
 ) -> Result<Event, FileFault>
     requires few { length names.old < 8 }
     requires distinct { Distinct names.old }
-    ensures { Answers (event_faults (kinds_of places.now) names.old event.now) (ResolvedEvent (kinds_of places.now) names.old (plain_event event.now) names.new) result }
+    ensures { Answers (event_faults (kinds_of places.now) names.old event) (ResolvedEvent (kinds_of places.now) names.old (plain_event event) names.new) result }
 {
     let after = after_mask(names, event.after.as_slice());
     names.declare(alloc, &event.name)?;
     let after = after?;
     let condition = resolve_over_all(alloc, places, event.condition.as_slice())?;
     Ok(Event {
-        name: text_of(alloc, &event.name)?,
+        name: event.name.name,
         after,
         condition,
     })

@@ -6,6 +6,7 @@ ghost use Rattle.ta_meaning.specs.Reading.{Reads, file_fault};
 
 use crate::file::resolve;
 use std::alloc::Global;
+use ta_base::limits::FILE_BYTES;
 use ta_scope::{ScopeFault, ScopedFile, scope};
 use ta_syntax::{FileFault, read_tree};
 
@@ -13,11 +14,11 @@ use ta_syntax::{FileFault, read_tree};
 /// the bytes mean a file in scope and no stage finds a fault; else the first fault, the stages gone
 /// through in this order.
 pub fn read_file(alloc: Global, bytes: &[u8]) -> Result<ScopedFile, FileFault>
-    requires { length bytes.now ≤ 1048576 }
+    requires { length bytes.now ≤ FILE_BYTES }
     ensures { Reads bytes.now result }
 {
     let tree = read_tree(alloc, bytes)?;
-    let file = resolve(alloc, &tree)?;
+    let file = resolve(alloc, tree)?;
     match scope(alloc, file) {
         Ok(scoped) => Ok(scoped),
         Err(fault) => Err(fault_of(fault)),

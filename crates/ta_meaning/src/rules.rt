@@ -1,8 +1,9 @@
 //! Rules and their guards.
 #![tactic(auto)]
 
-ghost use Rattle.std.specs.Prelude.{◌≡◌, ◌≤◌, [], length, map, slice_get, Some};
+ghost use Rattle.std.specs.Prelude.{◌≡◌, ◌≤◌, ◌∷◌, ◌++◌, [], length, map, slice_get, Some};
 ghost use Rattle.ta_syntax.specs.PlainTrees.{plain_rule};
+ghost use Rattle.ta_automaton.specs.Shape.{name_of};
 ghost use Rattle.ta_meaning.specs.Guards.{no_guards};
 ghost use Rattle.ta_meaning.specs.Faults.{Judges, Answers, used_faults, rule_faults, rules_faults};
 ghost use Rattle.ta_meaning.specs.Names.{all_names};
@@ -10,9 +11,8 @@ ghost use Rattle.ta_meaning.specs.Inside.Numbering.{guards_so_far, GuardsKept};
 ghost use Rattle.ta_meaning.specs.Inside.RuleReading.{RuleRead};
 ghost use Rattle.ta_meaning.specs.Inside.Resolved.{kinds_of, ResolvedRules};
 
-use crate::file::text_of;
 use crate::guards::{GuardList, number_guards};
-use crate::names::NameList;
+use crate::named::check_declared;
 use crate::places::Places;
 use crate::updates::read_updates;
 use std::alloc::Global;
@@ -30,18 +30,21 @@ pub struct Rules {
 }
 
 /// The rules that a tree's rules mean.
-pub fn resolve_rules(alloc: Global, places: &Places, rules: &[TreeRule]) -> Result<Rules, FileFault>
-    requires { length rules.now ≤ 128 }
-    ensures { Answers (rules_faults (kinds_of places.now) [] no_guards rules.now) (λ r. ResolvedRules (kinds_of places.now) (map plain_rule rules.now) r.rise.items r.fall.items r.rules.items) result }
+pub fn resolve_rules(
+    alloc: Global,
+    places: &Places,
+    rules: Vec<TreeRule>,
+) -> Result<Rules, FileFault>
+    requires { length rules.items ≤ 128 }
+    ensures { Answers (rules_faults (kinds_of places.now) [] no_guards rules.items) (λ r. ResolvedRules (kinds_of places.now) (map plain_rule rules.items) r.rise.items r.fall.items r.rules.items) result }
 {
-    let mut names = NameList::new(alloc);
     let mut guards = GuardList {
         rise: Vec::new(alloc),
         fall: Vec::new(alloc),
     };
     let mut resolved = Vec::new(alloc);
     for rule in rules {
-        let one = resolve_rule(alloc, places, &mut names, &mut guards, rule)?;
+        let one = resolve_rule(alloc, places, resolved.as_slice(), &mut guards, rule)?;
         resolved.push(one)?;
     }
     Ok(Rules {
@@ -55,21 +58,20 @@ pub fn resolve_rules(alloc: Global, places: &Places, rules: &[TreeRule]) -> Resu
 fn resolve_rule(
     alloc: Global,
     places: &Places,
-    names: &mut NameList,
+    before: &[Rule],
     guards: &mut GuardList,
-    rule: &TreeRule,
+    rule: TreeRule,
 ) -> Result<Rule, FileFault>
     requires { GuardsKept (kinds_of places.now) guards.old }
-    ensures { Answers (rule_faults (kinds_of places.now) names.old (guards_so_far (kinds_of places.now) guards.old) rule.now) (λ r. RuleRead (kinds_of places.now) names.old guards.old rule.now names.new guards.new r) result }
+    ensures { Answers (rule_faults (kinds_of places.now) (map name_of before.now) (guards_so_far (kinds_of places.now) guards.old) rule) (λ r. RuleRead (kinds_of places.now) (map name_of before.now) guards.old rule (map name_of before.now ++ rule.name.name ∷ []) guards.new r) result }
 {
-    names.declare(alloc, &rule.name)?;
+    check_declared(before, &rule.name)?;
     let from = location_in(places, &rule.from)?;
     let to = location_in(places, &rule.to)?;
     let masks = number_guards(alloc, places, guards, rule.guards.as_slice())?;
     let updates = read_updates(alloc, places, rule.updates.as_slice())?;
-    let name = text_of(alloc, &rule.name)?;
     Ok(Rule {
-        name,
+        name: rule.name.name,
         from,
         to,
         rise: masks.rise,

@@ -16,6 +16,7 @@ use crate::numbers::read_number;
 use crate::places::Places;
 use std::alloc::Global;
 use ta_base::List;
+use ta_base::limits::LARGEST_NUMBER;
 use ta_linear::Form;
 use ta_syntax::{Digits, FileFault, Sign, Spelled, TreeFactor, TreeSum, TreeTerm};
 
@@ -62,7 +63,7 @@ pub(crate) fn small_form(form: Form, at: u32) -> Result<Form, FileFault>
 /// The sum of small forms, the second with its sign.
 fn plus_signed(alloc: Global, a: &Form, sign: Sign, b: &Form) -> Result<Form, FileFault>
     requires a { FormWithin (2 ^ 93) a.now }
-    requires b { FormWithin 1000000000 b.now }
+    requires b { FormWithin LARGEST_NUMBER b.now }
     ensures { MatchResult result (λ sum. IsSignedSum sum a.now sign b.now) (λ e. e ≡ FileFault.Memory) }
 {
     match sign {
@@ -99,7 +100,7 @@ fn term_form(
 ) -> Result<Form, FileFault>
     requires { allowed ≤ length places.now.names }
     ensures { let names = take allowed places.now.names in let plain = plain_term term.now in
-        Answers (judged_term (first_places places.now.names allowed) term.now).faults (PartOf (term_uses names plain) (linear_term names plain) 1000000000) result }
+        Answers (judged_term (first_places places.now.names allowed) term.now).faults (PartOf (term_uses names plain) (linear_term names plain) LARGEST_NUMBER) result }
 {
     match &term.body {
         None => {

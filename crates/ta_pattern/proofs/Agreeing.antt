@@ -1,20 +1,15 @@
 -- a configuration and the model's agree
-use Rattle.std.proofs.Common.{◌≡◌, ℕ, ℤ, pos, Bool, true, false, Option, Some, None, is_some, not, Ok, IsBitSet, arith, sym, ◌∙◌, subst, get_or}
+use Rattle.ta_pattern.proofs.Common.{◌≡◌, ℕ, ℤ, pos, Bool, true, false, Option, Some, None, is_some, not, Ok, IsBitSet, arith, sym, ◌∙◌, subst, get_or, point_of, Holds, HoldsAt, location_place, config_of, IsOf, FirstFalse, EventAnswer, TellsEvent}
 use Rattle.std.proofs.lemmas.Int.{ints}
 use Rattle.std.proofs.lemmas.Bool.{false≢true}
-use Rattle.ta_linear.specs.Values.{point_of}
 use Rattle.ta_automaton.specs.declared.automaton.Automaton.{Automaton}
 use Rattle.ta_automaton.specs.declared.condition.Condition.{Condition}
-use Rattle.ta_automaton.specs.Runs.{Holds, HoldsAt}
-use Rattle.ta_automaton.specs.Places.{location_place}
 use Rattle.ta_automaton.proofs.Moves.{value_at-location}
+use Rattle.ta_automaton.proofs.Fire.{fits_whole}
 use Rattle.ta_counter.specs.declared.config.Config.{Config}
-use Rattle.ta_counter.specs.Configs.{config_of, IsOf}
-use Rattle.ta_counter.specs.Checks.{FirstFalse}
-use Rattle.ta_counter.proofs.Models.{model_at, model_point, model_whole, whole_fits}
+use Rattle.ta_counter.proofs.Models.{model_at, model_point, model_whole}
 use Rattle.ta_counter.proofs.Rows.{holds_from, fails_from}
 use Rattle.ta_pattern.specs.Empty.{KeepsEmpty}
-use Rattle.ta_pattern.specs.Events.{EventAnswer, TellsEvent}
 
 pub holds_there : (a : Automaton) (condition : Condition) (c : Config) → HoldsAt (point_of c.values.items) condition → Holds condition (config_of a c)
 holds_there a condition c h = subst (λ (f : ℕ → ℤ). HoldsAt f condition) (sym (model_point a c.values.items c.natural)) h
@@ -34,7 +29,7 @@ tells_event a condition c false h = λ holds. fails_from (point_of c.values.item
 
 pub counter_there : (a : Automaton) (c : Config) → IsOf a c → (l : ℕ) → pos (get_or (config_of a c).counters l 0) ≡ point_of c.values.items (location_place a l)
 counter_there a c is l =
-    sym (value_at-location a (config_of a c) l (whole_fits a (config_of a c) (model_whole a c.values.items is.places)))
+    sym (value_at-location a (config_of a c) l (fits_whole a (config_of a c) (model_whole a c.values.items is.places)))
     ∙ model_at a c.values.items c.natural (location_place a l)
 
 -- where each location of the mask has value 0, no process is there, and the other way

@@ -1,2 +1,3 @@
 -- lemmas for the crates above
 pub mod Agreeing
+mod Common

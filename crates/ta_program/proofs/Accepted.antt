@@ -1,29 +1,7 @@
 -- what `verify` puts `check` accepts
-use Rattle.std.proofs.Common.{◌≡◌, ◌∙◌, ◌≤◌, ◌+◌, ℕ, List, [], length, Option, None, Some, refl, sym, ap, subst, inl}
-use Rattle.ta_automaton.specs.declared.file.File.{File}
-use Rattle.ta_automaton.specs.declared.pattern.Pattern.{Pattern}
+use Rattle.ta_program.proofs.Common.{◌≡◌, ◌∙◌, ◌≤◌, ◌+◌, ℕ, List, [], length, Option, None, Some, refl, sym, ap, subst, inl, File, Pattern, AllSafe, Certificate, check_text, Verdict, Safe, Unsafe, Spent, Overflow, Told, WhereTold, is_more, sub_told, IsSo, Performs, State, HoldsText, in_files, seen, Answer, FileMeans, claiming, CERTIFICATE, safe_numbers, tree_size, check_meaning, IsFile, certificate_kind, file_kind, SaysOrFails, WrittenIsAccepted, VerdictHolds}
 use Rattle.ta_automaton.specs.Runs as runs
-use Rattle.ta_check.specs.Certificate.{AllSafe, Certificate}
-use Rattle.ta_report.specs.Check.{check_text}
-use Rattle.ta_report.specs.declared.verdict.Verdict.{Verdict}
-use Rattle.ta_report.specs.declared.verdict.Verdict.TheVariants.{Safe, Unsafe, Spent, Overflow}
-use Rattle.ta_shelf.specs.Put.{Told, WhereTold}
-use Rattle.ta_shell.proofs.Read.{is_more}
-use Rattle.ta_shell.proofs.Views.{sub_told}
-use Rattle.ta_shell.specs.Commands.{IsSo}
-use Rattle.ta_shell.specs.Ends.{Performs, State}
-use Rattle.ta_shell.specs.Puts.{HoldsText}
-use Rattle.ta_shell.specs.Sights.{in_files, seen}
-use Rattle.ta_shell.specs.declared.answer.Answer.{Answer}
-use Rattle.ta_shell.specs.Stages.{FileMeans}
 use Rattle.ta_claim.specs.declared.claim.Claim.TheVariants as claim
-use Rattle.ta_check.specs.Subjects.{claiming}
-use Rattle.ta_program.specs.declared.limits.TheConstants.{CERTIFICATE}
-use Rattle.ta_verdict.specs.Certificates.{safe_numbers, tree_size}
-use Rattle.ta_program.specs.Check.{check_meaning}
-use Rattle.ta_program.specs.Kinds.{IsFile, certificate_kind, file_kind}
-use Rattle.ta_program.specs.Laws.{SaysOrFails, WrittenIsAccepted}
-use Rattle.ta_verdict.specs.Verdicts.{VerdictHolds}
 use Rattle.ta_program.proofs.Accepting.{is_kept, one_list, ones_hold, own_numbers, says_or_fails}
 use Rattle.ta_program.proofs.Clauses.{as_check, certificate_written, same_file}
 use Rattle.ta_program.proofs.Meanings.{check_decides}

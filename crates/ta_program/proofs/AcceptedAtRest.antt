@@ -1,33 +1,7 @@
 -- what `rest` puts `rest-check` accepts
-use Rattle.std.proofs.Common.{◌≡◌, ◌∙◌, ◌≤◌, ◌+◌, ℕ, zero, suc, List, [], ◌∷◌, length, map, Option, None, Some, slice_get, refl, sym, ap, subst, inl}
-use Rattle.ta_automaton.specs.declared.automaton.Automaton.{Automaton}
-use Rattle.ta_automaton.specs.declared.file.File.{File}
-use Rattle.ta_automaton.specs.declared.pattern.Pattern.{Pattern}
-use Rattle.ta_check.specs.Certificate.{AllRestSafe, RestCertificate}
-use Rattle.ta_check.specs.Subjects.{claiming}
+use Rattle.ta_program.proofs.Common.{◌≡◌, ◌∙◌, ◌≤◌, ◌+◌, ℕ, zero, suc, List, [], ◌∷◌, length, map, Option, None, Some, slice_get, refl, sym, ap, subst, inl, Automaton, File, Pattern, AllRestSafe, RestCertificate, claiming, rest_check_text, Verdict, Safe, Unsafe, Spent, Overflow, Endings, IsEnding, RestSafe, RestVerdictHolds, RestVerdictsHold, Told, WhereTold, is_more, sub_told, IsSo, Performs, State, HoldsText, in_files, seen, FileMeans, Answer, SafeOne, safe_numbers, safe_ones, tree_size, with_safe, CERTIFICATE, IsFile, certificate_kind, file_kind, SaysOrFails, WrittenAtRestIsAccepted, rest_check_meaning, FileEndings, IsEnds}
 use Rattle.ta_claim.specs.declared.claim.Claim.TheVariants as claim
-use Rattle.ta_report.specs.Check.{rest_check_text}
-use Rattle.ta_report.specs.declared.verdict.Verdict.{Verdict}
-use Rattle.ta_report.specs.declared.verdict.Verdict.TheVariants.{Safe, Unsafe, Spent, Overflow}
 use Rattle.ta_rest.proofs.EndingLaws.{endings_rest}
-use Rattle.ta_rest.specs.Endings.{Endings, IsEnding}
-use Rattle.ta_rest.specs.Rest.{RestSafe}
-use Rattle.ta_resting.specs.Verdicts.{RestVerdictHolds, RestVerdictsHold}
-use Rattle.ta_shelf.specs.Put.{Told, WhereTold}
-use Rattle.ta_shell.proofs.Read.{is_more}
-use Rattle.ta_shell.proofs.Views.{sub_told}
-use Rattle.ta_shell.specs.Commands.{IsSo}
-use Rattle.ta_shell.specs.Ends.{Performs, State}
-use Rattle.ta_shell.specs.Puts.{HoldsText}
-use Rattle.ta_shell.specs.Sights.{in_files, seen}
-use Rattle.ta_shell.specs.Stages.{FileMeans}
-use Rattle.ta_shell.specs.declared.answer.Answer.{Answer}
-use Rattle.ta_verdict.specs.Certificates.{SafeOne, safe_numbers, safe_ones, tree_size, with_safe}
-use Rattle.ta_program.specs.declared.limits.TheConstants.{CERTIFICATE}
-use Rattle.ta_program.specs.Kinds.{IsFile, certificate_kind, file_kind}
-use Rattle.ta_program.specs.Laws.{SaysOrFails, WrittenAtRestIsAccepted}
-use Rattle.ta_program.specs.RestCheck.{rest_check_meaning}
-use Rattle.ta_program.specs.RestEnds.{FileEndings, IsEnds}
 use Rattle.ta_program.proofs.Accepted.{told_before}
 use Rattle.ta_program.proofs.Accepting.{is_kept, one_list, ones_hold, own_numbers, says_or_fails}
 use Rattle.ta_program.proofs.Clauses.{as_rest_check, rests_report, same_file}

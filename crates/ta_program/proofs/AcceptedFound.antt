@@ -1,25 +1,8 @@
 -- what `search` puts `check` accepts
-use Rattle.std.proofs.Common.{◌≡◌, ◌≤◌, ℕ, List, [], ◌∷◌, ◌++◌, length, Bool, Option, Some, refl, sym, subst, inl, inr, arith}
-use Rattle.std.specs.Prelude.{IsSome}
-use Rattle.ta_base.specs.Masks.{numbers_from}
-use Rattle.ta_check.specs.Subjects.{claiming}
+use Rattle.ta_program.proofs.Common.{◌≡◌, ◌≤◌, ℕ, List, [], ◌∷◌, ◌++◌, length, Bool, Option, Some, refl, sym, subst, inl, inr, arith, IsSome, numbers_from, claiming, SearchEnd, Tried, Template, filled_text, AreTried, IsSearchEnd, LastIsFound, vectors, Told, WhereTold, is_more, sub_told, in_files, seen, FILE, IsFile, FoundIsAccepted, HoldFound, IsTemplate, template_kind}
 use Rattle.ta_claim.specs.declared.claim.Claim.TheVariants as claim
 use Rattle.ta_search.specs.declared.outcome.Outcome.{Outcome}
-use Rattle.ta_search.specs.declared.outcome.SearchEnd.{SearchEnd}
-use Rattle.ta_search.specs.declared.outcome.Tried.{Tried}
-use Rattle.ta_search.specs.declared.template.Template.{Template}
-use Rattle.ta_search.specs.Filling.{filled_text}
 use Rattle.ta_search.specs.Outcomes.{OutcomeHolds}
-use Rattle.ta_search.specs.Searching.{AreTried, IsSearchEnd, LastIsFound}
-use Rattle.ta_search.specs.Vectors.{vectors}
-use Rattle.ta_shelf.specs.Put.{Told, WhereTold}
-use Rattle.ta_shell.proofs.Read.{is_more}
-use Rattle.ta_shell.proofs.Views.{sub_told}
-use Rattle.ta_shell.specs.Sights.{in_files, seen}
-use Rattle.ta_program.specs.declared.limits.TheConstants.{FILE}
-use Rattle.ta_program.specs.Kinds.{IsFile}
-use Rattle.ta_program.specs.Laws.{FoundIsAccepted}
-use Rattle.ta_program.specs.Search.{HoldFound, IsTemplate, template_kind}
 use Rattle.ta_program.proofs.Accepted.{checks, told_before}
 use Rattle.ta_program.proofs.Accepting.{each_holds, is_kept, own_numbers}
 use Rattle.ta_program.proofs.Clauses.{as_check, searches}

@@ -1,28 +1,11 @@
 -- what a judge makes of a certificate that was put
-use Rattle.std.proofs.Common.{◌≡◌, ◌∙◌, ◌+◌, ℕ, suc, List, [], ◌∷◌, length, map, Option, None, Some, slice_get, refl, sym, ap, subst, inl, inr, arith}
-use Rattle.std.specs.List.{AllByRecursion}
+use Rattle.ta_program.proofs.Common.{◌≡◌, ◌∙◌, ◌+◌, ℕ, suc, List, [], ◌∷◌, length, map, Option, None, Some, slice_get, refl, sym, ap, subst, inl, inr, arith, AllByRecursion, Pattern, numbers_from, proofs_of, AllClaimsHold, CertificateFor, proof_number, Subject, Verdict, Told, with_text, answered, Decides, IsSo, Meaning, Performs, State, in_files, seen, FileMeans, Kind, Answer, SafeOne, safe_ones, tree_size, with_safe, SaysOrFails}
 use Rattle.ta_check.proofs.Accepting.{have_orders}
-use Rattle.ta_automaton.specs.declared.pattern.Pattern.{Pattern}
-use Rattle.ta_base.specs.Masks.{numbers_from}
 use Rattle.ta_cert.proofs.CertLines.{one_certificate}
-use Rattle.ta_cert.specs.Certificates.{proofs_of}
 use Rattle.ta_cert.specs.Tree.{Tree}
 use Rattle.ta_cert.specs.declared.line.Proof.{Proof}
-use Rattle.ta_check.specs.Certificate.{AllClaimsHold, CertificateFor, proof_number}
-use Rattle.ta_check.specs.Subjects.{Subject}
 use Rattle.ta_claim.specs.Claims.{claimed}
 use Rattle.ta_claim.specs.declared.claim.Claim.TheVariants as claim
-use Rattle.ta_report.specs.declared.verdict.Verdict.{Verdict}
-use Rattle.ta_shelf.specs.Put.{Told}
-use Rattle.ta_shelf.specs.Sink.{with_text}
-use Rattle.ta_shell.proofs.Clauses.{answered}
-use Rattle.ta_shell.specs.Commands.{Decides, IsSo, Meaning}
-use Rattle.ta_shell.specs.Ends.{Performs, State}
-use Rattle.ta_shell.specs.Sights.{in_files, seen}
-use Rattle.ta_shell.specs.Stages.{FileMeans, Kind}
-use Rattle.ta_shell.specs.declared.answer.Answer.{Answer}
-use Rattle.ta_verdict.specs.Certificates.{SafeOne, safe_ones, tree_size, with_safe}
-use Rattle.ta_program.specs.Laws.{SaysOrFails}
 
 -- a name means in told files what it meant in others in which its bytes are the same
 pub is_kept : {A F : Type 0} (kind : Kind A F) (told later : Told) (name : List ℕ) (value : A) → later name ≡ told name → FileMeans kind (in_files told) name value → FileMeans kind (in_files later) name value

@@ -1,26 +1,8 @@
 -- what the verdicts of `rest` and its report say
-use Rattle.std.proofs.Common.{◌≡◌, ◌∙◌, ◌+◌, ◌≤◌, ℕ, zero, suc, Bool, true, false, cond, length, length-append, List, [], ◌∷◌, Some, slice_get, sym, ap, subst, refl, arith}
-use Rattle.std.proofs.lemmas.Option.{same_Some}
-use Rattle.ta_automaton.specs.declared.file.File.{File}
-use Rattle.ta_automaton.specs.declared.pattern.Pattern.{Pattern}
-use Rattle.ta_base.specs.Masks.{has_bit}
-use Rattle.ta_replay.specs.declared.run.Run.{Run}
+use Rattle.ta_program.proofs.Common.{◌≡◌, ◌∙◌, ◌+◌, ◌≤◌, ℕ, zero, suc, Bool, true, false, cond, length, length-append, List, [], ◌∷◌, Some, slice_get, sym, ap, subst, refl, arith, same_Some, File, Pattern, has_bit, Run, run_text, run_text_short, rest_text, TellsRestUnsafe, ReportSample, Verdict, Safe, Unsafe, printed_rest_unsafe, printed_runs, runs_printed, RestOccurs, RestSafe, AreRestVerdicts, RestUnsafeHolds, RestVerdictHolds, RestVerdictsHold, IsSample, RUN, UnsafePrinted, rest_telling}
 use Rattle.ta_replay.specs.declared.run.RunLine.TheVariants.{Mark}
-use Rattle.ta_replay.specs.RunText.{run_text}
-use Rattle.ta_replay.proofs.TextsShort.{run_text_short}
-use Rattle.ta_report.specs.Report.{rest_text}
-use Rattle.ta_report.specs.Telling.{TellsRestUnsafe}
-use Rattle.ta_report.specs.declared.verdict.ReportSample.{ReportSample}
-use Rattle.ta_report.specs.declared.verdict.Verdict.{Verdict}
-use Rattle.ta_report.specs.declared.verdict.Verdict.TheVariants.{Safe, Unsafe}
-use Rattle.ta_report.proofs.Printed.{printed_rest_unsafe, printed_runs, runs_printed}
-use Rattle.ta_rest.specs.Rest.{RestOccurs, RestSafe}
 use Rattle.ta_rest_run.specs.Runs.{OccursAtRest, RestWitnessOf, ending_run, marked_at_end}
 use Rattle.ta_rest_run.proofs.OwnRuns.{ending_steps}
-use Rattle.ta_resting.specs.Verdicts.{AreRestVerdicts, RestUnsafeHolds, RestVerdictHolds, RestVerdictsHold}
-use Rattle.ta_verdict.specs.Verdicts.{IsSample}
-use Rattle.ta_program.specs.declared.limits.TheConstants.{RUN}
-use Rattle.ta_program.specs.Printed.{UnsafePrinted, rest_telling}
 use Rattle.ta_program.proofs.UnsafePrinted.{few_lines}
 
 -- the verdict of a number is one on the pattern of the number, beside its ending, and holds

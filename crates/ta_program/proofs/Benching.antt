@@ -1,28 +1,11 @@
 -- what `bench` makes and says
-use Rattle.std.proofs.Common.{◌≡◌, ◌∙◌, ◌<◌, ◌+◌, ◌++◌, List, [], ◌∷◌, ℕ, false, sym, ap, subst, slice_get, Some, Result, Ok, Err, length, take, get_or}
-use Rattle.std.specs.Prelude.{IfOk}
+use Rattle.ta_program.proofs.Common.{◌≡◌, ◌∙◌, ◌<◌, ◌+◌, ◌++◌, List, [], ◌∷◌, ℕ, false, sym, ap, subst, slice_get, Some, Result, Ok, Err, length, take, get_or, IfOk, take_more, File, Pattern, CertFault, Certificate, CheckerFinishAnswers, Accepted, Verdict, joined_more, texts_joined, Writes, Answer, claiming, BUDGET, SaysBench, bench_status, bench_text, family_text, CertificateOf, safe_numbers, AreVerdicts, is_unsafe}
 use Rattle.std.specs.declared.alloc.AllocError.{AllocError}
-use Rattle.std.proofs.lemmas.List.{take_more}
-use Rattle.ta_automaton.specs.declared.file.File.{File}
-use Rattle.ta_automaton.specs.declared.pattern.Pattern.{Pattern}
-use Rattle.ta_cert.specs.declared.fault.CertFault.{CertFault}
-use Rattle.ta_check.specs.Certificate.{Certificate}
-use Rattle.ta_check.specs.Checkers.{CheckerFinishAnswers}
-use Rattle.ta_check.specs.declared.accepted.Accepted.{Accepted}
 use Rattle.ta_maker.specs.Family.{family}
 use Rattle.ta_meaning.specs.Reading.{Legal}
-use Rattle.ta_report.specs.declared.verdict.Verdict.{Verdict}
-use Rattle.ta_shell.proofs.Joined.{joined_more}
-use Rattle.ta_shell.specs.Puts.{texts_joined}
-use Rattle.ta_shell.specs.Stages.{Writes}
-use Rattle.ta_shell.specs.declared.answer.Answer.{Answer}
 use Rattle.ta_syntax.specs.Grammar.{PlainTree, file_kinds}
 use Rattle.ta_syntax.specs.Printed.{printed}
 use Rattle.ta_claim.specs.declared.claim.Claim.TheVariants as claim
-use Rattle.ta_check.specs.Subjects.{claiming}
-use Rattle.ta_program.specs.Bench.{BUDGET, SaysBench, bench_status, bench_text, family_text}
-use Rattle.ta_verdict.specs.Certificates.{CertificateOf, safe_numbers}
-use Rattle.ta_verdict.specs.Verdicts.{AreVerdicts, is_unsafe}
 
 -- the printed text of the family's automaton means a file
 pub legal_family : (k : ℕ) (bytes : List ℕ) (tree : PlainTree) (file : File) → bytes ≡ printed (file_kinds tree) → tree ≡ family k → Legal bytes file → Legal (family_text k) file

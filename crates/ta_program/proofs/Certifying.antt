@@ -1,23 +1,5 @@
 -- what an answer with a certificate says
-use Rattle.std.proofs.Common.{◌≡◌, ◌∙◌, ◌≤◌, ℕ, Bool, true, false, List, [], ◌∷◌, length, Option, Some, Result, Ok, Err, refl, sym, ap, subst, arith, rules}
-use Rattle.std.specs.Prelude.{Contains, if◌then◌else◌}
-use Rattle.std.specs.List.{list_any}
-use Rattle.ta_automaton.specs.declared.file.File.{File}
-use Rattle.ta_check.specs.Certificate.{Certificate}
-use Rattle.ta_report.specs.declared.verdict.Verdict.{Verdict}
-use Rattle.ta_shelf.specs.Put.{Told}
-use Rattle.ta_shell.specs.declared.answer.Answer.{Answer}
-use Rattle.ta_shell.specs.declared.answer.Put.{Put}
-use Rattle.ta_shell.specs.declared.answer.Refusal.{Refusal}
-use Rattle.ta_shell.specs.declared.answer.Refusal.TheVariants.{Refused, ReadFailed, PutFailed, Memory}
-use Rattle.ta_shell.specs.Commands.{Says}
-use Rattle.ta_shell.specs.Puts.{PutsWithin}
-use Rattle.ta_verdict.specs.Certificates.{CertificateOf, safe_numbers}
-use Rattle.ta_program.specs.Inside.Certifying.{Certifies}
-use Rattle.ta_program.specs.Inside.Reported.{SampleReported}
-use Rattle.ta_program.specs.Reporting.{report_meaning}
-use Rattle.ta_verdict.specs.Verdicts.{AreVerdicts}
-use Rattle.ta_program.specs.Statuses.{verdicts_number}
+use Rattle.ta_program.proofs.Common.{◌≡◌, ◌∙◌, ◌≤◌, ℕ, Bool, true, false, List, [], ◌∷◌, length, Option, Some, Result, Ok, Err, refl, sym, ap, subst, arith, rules, Contains, if◌then◌else◌, list_any, File, Certificate, Verdict, Told, Answer, Put, Refusal, Refused, ReadFailed, PutFailed, Memory, Says, PutsWithin, CertificateOf, safe_numbers, Certifies, SampleReported, report_meaning, AreVerdicts, verdicts_number}
 
 pub low_by : (some unknown : Bool) → (if some then 1 else (if unknown then 2 else 0)) ≤ 2
 low_by true unknown = omega arith

@@ -1,70 +1,15 @@
 -- from how a run ends to its clauses
-use Rattle.std.proofs.Common.{◌≡◌, ◌≢◌, ◌≤◌, ◌+◌, ◌||◌, ℕ, zero, nat_eq, Bool, true, false, List, [], ◌∷◌, Option, None, Some, slice_get, refl, sym, ap, subst, ◌∙◌, inl, arith, rules}
-use Rattle.std.specs.Prelude.{codes, if◌then◌else◌}
-use Rattle.std.specs.List.{list_any, AllByRecursion}
-use Rattle.std.specs.Str.{bytes_eq}
-use Rattle.std.proofs.lemmas.Bool.{eqb-true, or_parts}
-use Rattle.ta_automaton.specs.declared.file.File.{File}
-use Rattle.ta_automaton.specs.declared.pattern.Pattern.{Pattern}
+use Rattle.ta_program.proofs.Common.{◌≡◌, ◌≢◌, ◌≤◌, ◌+◌, ℕ, zero, Bool, true, false, List, [], ◌∷◌, Option, None, Some, slice_get, refl, sym, ap, subst, ◌∙◌, inl, arith, rules, codes, if◌then◌else◌, list_any, AllByRecursion, bytes_eq, or_parts, File, Pattern, PatternSafe, one_legal, printed_proved, printed_rest_proved, printed_rest_safe, told_safe, check_text, rest_check_text, report_of, Verdict, Safe, Unsafe, Spent, Overflow, filled_text, Grew, OthersStay, Told, WhereTold, with_text, answered, hindered, kept_refused, never_five, whole_one, Decides, Meaning, IsAnswered, Performs, Quiet, ShelfState, SinkState, State, HoldsPut, HoldsText, KeptBut, Stand, put_bytes, View, in_files, seen, run_text, unit_steps, Answer, Put, plain_tree, Asked, LegalFile, Runs, ask, ask_where, Command, NoCommand, BenchHolds, bench_meaning, bench_of, bench_status, bench_words, CheckHolds, check_meaning, check_of, IsFile, file_kind, EachPrintedUnsafe, EachToldSafe, rest_telling, verify_telling, AdmitAsked, AdmitHolds, admit_meaning, admit_of, admit_words, ExportHolds, export_meaning, export_of, export_words, Admitting, Benches, CertificateWritten, CheckProves, ExactlySo, Exports, KeepsFiles, PassesLegal, PrintedHolds, ReplayShows, RestProves, RestsReport, RunShortens, Searches, VerifyReports, put_by, CompressHolds, compress_meaning, compress_of, ReplayHolds, replay_meaning, replay_of, request_of, ClaimHolds, claiming, rest_text, RestOccurs, RestSafe, RestCertificateStands, RestReportHolds, rest_meaning, RestCheckHolds, rest_check_meaning, LegalAtRest, rest_check_of, rest_of, rest_words, CertificateStands, ReportHolds, verify_meaning, VerdictHolds, VerdictsHold, is_unsafe, is_unknown, LegalTemplate, SearchHolds, end_number, leaves_unknown, search_meaning, SearchWords, search_of, search_words, TwoNames, two_names, VerifyWords, verify_of, verify_words, WordAsked, behind_name}
 use Rattle.ta_automaton.specs.Runs as runs
-use Rattle.ta_check.specs.Certificate.{PatternSafe}
-use Rattle.ta_meaning.proofs.OneTree.{one_legal}
-use Rattle.ta_report.proofs.Printed.{printed_proved, printed_rest_proved, printed_rest_safe}
-use Rattle.ta_report.proofs.Tellings.{told_safe}
-use Rattle.ta_report.specs.Check.{check_text, rest_check_text}
-use Rattle.ta_report.specs.Telling.{report_of}
-use Rattle.ta_report.specs.declared.verdict.Verdict.{Verdict}
-use Rattle.ta_report.specs.declared.verdict.Verdict.TheVariants.{Safe, Unsafe, Spent, Overflow}
-use Rattle.ta_search.specs.Filling.{filled_text}
-use Rattle.ta_shelf.specs.Calls.{Grew}
-use Rattle.ta_shelf.specs.Put.{OthersStay, Told, WhereTold}
-use Rattle.ta_shelf.specs.Sink.{with_text}
-use Rattle.ta_shell.proofs.Clauses.{answered, hindered, kept_refused, never_five}
-use Rattle.ta_shell.proofs.Views.{whole_one}
-use Rattle.ta_shell.specs.Commands.{Decides, Meaning}
-use Rattle.ta_shell.specs.Ends.{IsAnswered, Performs, Quiet, ShelfState, SinkState, State}
-use Rattle.ta_shell.specs.Puts.{HoldsPut, HoldsText, KeptBut, Stand, put_bytes}
-use Rattle.ta_shell.specs.Sights.{View, in_files, seen}
-use Rattle.ta_replay.specs.RunText.{run_text}
-use Rattle.ta_replay.specs.Shows.{unit_steps}
-use Rattle.ta_shell.specs.declared.answer.Answer.{Answer}
-use Rattle.ta_shell.specs.declared.answer.Put.{Put}
-use Rattle.ta_syntax.specs.PlainTrees.{plain_tree}
-use Rattle.ta_program.specs.Asked.{Asked, LegalFile, Runs, ask, ask_where}
-use Rattle.ta_program.specs.Asked.Asked.{Command, NoCommand}
-use Rattle.ta_program.specs.Bench.{BenchHolds, bench_meaning, bench_of, bench_status, bench_words}
-use Rattle.ta_program.specs.Check.{CheckHolds, check_meaning, check_of}
 use Rattle.ta_program.specs.Headline.{EachPatternSafe, EachPrinted, HoldsFile, SomePatternOccurs, StatusTells}
-use Rattle.ta_program.specs.Kinds.{IsFile, file_kind}
-use Rattle.ta_program.specs.Printed.{EachPrintedUnsafe, EachToldSafe, rest_telling, verify_telling}
-use Rattle.ta_program.specs.Admit.{AdmitAsked, AdmitHolds, admit_meaning, admit_of, admit_words}
-use Rattle.ta_program.specs.Export.{ExportHolds, export_meaning, export_of, export_words}
-use Rattle.ta_program.specs.Program.{Admitting, Benches, CertificateWritten, CheckProves, ExactlySo, Exports, KeepsFiles, PassesLegal, PrintedHolds, ReplayShows, RestProves, RestsReport, RunShortens, Searches, VerifyReports, put_by}
-use Rattle.ta_program.specs.Compress.{CompressHolds, compress_meaning, compress_of}
-use Rattle.ta_program.specs.Replay.{ReplayHolds, replay_meaning, replay_of}
-use Rattle.ta_program.specs.Requests.{request_of}
 use Rattle.ta_check.proofs.OwnPatterns.{all_own}
-use Rattle.ta_check.specs.Subjects.{ClaimHolds, claiming}
 use Rattle.ta_claim.specs.declared.claim.Claim.TheVariants as claim
-use Rattle.ta_report.specs.Report.{rest_text}
-use Rattle.ta_rest.specs.Rest.{RestOccurs, RestSafe}
-use Rattle.ta_program.specs.Rest.{RestCertificateStands, RestReportHolds, rest_meaning}
-use Rattle.ta_program.specs.RestCheck.{RestCheckHolds, rest_check_meaning}
-use Rattle.ta_program.specs.RestEnds.{LegalAtRest}
-use Rattle.ta_program.specs.RestWords.{rest_check_of, rest_of, rest_words}
-use Rattle.ta_program.specs.Reporting.{CertificateStands, ReportHolds, verify_meaning}
-use Rattle.ta_verdict.specs.Verdicts.{VerdictHolds, VerdictsHold, is_unsafe, is_unknown}
-use Rattle.ta_program.specs.Search.{LegalTemplate, SearchHolds, end_number, leaves_unknown, search_meaning}
-use Rattle.ta_program.specs.SearchWords.{SearchWords, search_of, search_words}
-use Rattle.ta_program.specs.Values.{TwoNames, two_names}
-use Rattle.ta_program.specs.VerifyWords.{VerifyWords, verify_of, verify_words}
-use Rattle.ta_program.specs.WordAsked.{WordAsked}
-use Rattle.ta_program.specs.Words.{behind_name}
 use Rattle.ta_program.proofs.AtRest.{rest_safe_at, rest_unsafe_printed}
 use Rattle.ta_program.proofs.FoundStands.{found_stands}
 use Rattle.ta_program.proofs.WordsDiffer.{Apart, names_apart}
 use Rattle.ta_program.proofs.UnsafePrinted.{hold_at, run_within, some_occurs, unsafe_printed}
 use Rattle.ta_program.proofs.WordMeanings.{admit_decides}
+use Rattle.ta_base.proofs.Members.{listed}
 
 -- the number of a report is 0 only where nothing is unsafe and nothing unknown, 1 only where something is unsafe, and 2 only where
 -- something is unknown
@@ -112,15 +57,6 @@ each_safe file budget number (p ∷ ps) (v ∷ vs) f u h =
     let found = or_parts (is_unsafe v) (list_any is_unsafe vs) f in
     let unknown = or_parts (is_unknown v) (list_any is_unknown vs) u in
     (safe_of file budget number p v found.0 unknown.0 h.0, each_safe file budget (number + 1) ps vs found.1 unknown.1 h.1)
-
--- a pattern that is among the proved ones is safe
-listed_in : (P : ℕ → Type 0) (x y : ℕ) (rest first : Bool) → first ≡ nat_eq y x → P y → (rest ≡ true → P x) → (first || rest) ≡ true → P x
-listed_in P x y rest true is here later among = subst P (eqb-true y x (sym is)) here
-listed_in P x y rest false is here later among = later among
-
-listed : (P : ℕ → Type 0) (x : ℕ) (xs : List ℕ) → AllByRecursion P xs → list_any (λ y. nat_eq y x) xs ≡ true → P x
-listed P x [] each among = absurd (cc)
-listed P x (y ∷ xs) each among = listed_in P x y (list_any (λ z. nat_eq z x) xs) (nat_eq y x) refl each.0 (listed P x xs each.1) among
 
 -- the command whose name the words begin with was done, if the table of commands has it under this name
 by_name : {W : Type 0} (name : List ℕ) (read : List (List ℕ) → Option W) (legal : W → Told → Type 0) (says : W → Meaning) (number : ℕ) (before after : State) → ((rest : List (List ℕ)) → Runs (request_of (name ∷ rest)) number before after → Runs (ask_where legal says (read rest)) number before after) → (named : Bool) (word : List ℕ) (rest : List (List ℕ)) → (named ≡ true → word ≡ name) → (asked : W) → (if named then read rest else None) ≡ Some asked → Runs (request_of (word ∷ rest)) number before after → Performs (says asked) number before after

@@ -1,25 +1,5 @@
 -- what a report of verdicts ends with where told files hold a legal FILE
-use Rattle.std.proofs.Common.{◌≡◌, ◌≢◌, ◌≤◌, ◌+◌, ℕ, suc, Bool, true, false, List, [], ◌∷◌, Option, None, Some, slice_get, refl, sym, ap, subst, ◌∙◌, inl, inr, arith}
-use Rattle.std.specs.Prelude.{IsSome}
-use Rattle.std.specs.List.{list_any}
-use Rattle.ta_automaton.specs.declared.file.File.{File}
-use Rattle.ta_report.specs.declared.verdict.Verdict.{Verdict}
-use Rattle.ta_shelf.specs.Put.{Told}
-use Rattle.ta_shell.proofs.Clauses.{answered}
-use Rattle.ta_shell.specs.Commands.{Decides, Meaning}
-use Rattle.ta_shell.specs.Ends.{Performs, State}
-use Rattle.ta_shell.specs.Sights.{in_files, seen}
-use Rattle.ta_shell.specs.declared.answer.Answer.{Answer}
-use Rattle.ta_verdict.specs.Verdicts.{IsKnown, is_unknown, is_unsafe}
-use Rattle.ta_program.specs.Asked.{Runs}
-use Rattle.ta_program.specs.Certified.{HindersCertificate, LongCertificate, long_line}
-use Rattle.ta_program.specs.Kinds.{IsFile}
-use Rattle.ta_program.specs.Program.{Completes, EndsSo}
-use Rattle.ta_program.specs.Reporting.{Reports, verify_meaning}
-use Rattle.ta_program.specs.Requests.{request_of}
-use Rattle.ta_program.specs.Rest.{HindersRest, IsKnownAtRest, LongAtRest, LongRest, RestReports, rest_meaning}
-use Rattle.ta_program.specs.RestEnds.{FileEndings, IsEnds}
-use Rattle.ta_program.specs.Statuses.{verdicts_number}
+use Rattle.ta_program.proofs.Common.{◌≡◌, ◌≢◌, ◌≤◌, ◌+◌, ℕ, suc, Bool, true, false, List, [], ◌∷◌, Option, None, Some, slice_get, refl, sym, ap, subst, ◌∙◌, inl, inr, arith, IsSome, list_any, File, Verdict, Told, answered, Decides, Meaning, Performs, State, in_files, seen, Answer, IsKnown, is_unknown, is_unsafe, Runs, HindersCertificate, LongCertificate, long_line, IsFile, Completes, EndsSo, Reports, verify_meaning, request_of, HindersRest, IsKnownAtRest, LongAtRest, LongRest, RestReports, rest_meaning, FileEndings, IsEnds, verdicts_number}
 use Rattle.ta_program.proofs.AtRest.{rest_held}
 use Rattle.ta_program.proofs.Clauses.{as_rest, as_verify, hinders_told, kinds_of_two, passes_legal, quiet, same_file}
 use Rattle.ta_program.proofs.Meanings.{hinders_long, verify_decides}

@@ -1,13 +1,8 @@
 -- a file has one list of endings
-use Rattle.std.proofs.Common.{◌≡◌, inl, inr, List, [], ◌∷◌, ◌++◌, length, length-append, arith, sym, ap, ◌∙◌, refl}
+use Rattle.ta_program.proofs.Common.{◌≡◌, inl, inr, List, [], ◌∷◌, ◌++◌, length, length-append, arith, sym, ap, ◌∙◌, refl, same_parts, Pattern, File, Endings, IsEnding, LastMoved, RestAdded, events_below, FileEndings, IsEnds}
 use Rattle.ta_base.proofs.Bits.{mask-one}
-use Rattle.ta_base.proofs.Lists.{same_parts}
 use Rattle.ta_automaton.specs.declared.pattern.Event.{Event}
-use Rattle.ta_automaton.specs.declared.pattern.Pattern.{Pattern}
-use Rattle.ta_automaton.specs.declared.file.File.{File}
 use Rattle.ta_meaning.proofs.EqualParts.{condition-equal, event-equal, file-equal, pattern-equal}
-use Rattle.ta_rest.specs.Endings.{Endings, IsEnding, LastMoved, RestAdded, events_below}
-use Rattle.ta_program.specs.RestEnds.{FileEndings, IsEnds}
 
 -- the last events that are moved are the same
 moved_same : (old xs ys : List Event) → LastMoved old xs → LastMoved old ys → xs ≡ ys

@@ -1,53 +1,11 @@
 -- What is told names the fault.
-use Rattle.std.proofs.Common.{◌≡◌, ◌∙◌, ◌≤◌, ℕ, Bool, true, false, List, [], ◌∷◌, Option, None, Some, refl, sym, ap, subst, inl, inr, arith}
-use Rattle.std.specs.Prelude.{◌⊎◌, codes}
-use Rattle.std.specs.Str.{bytes_eq}
-use Rattle.ta_automaton.specs.declared.file.File.{File}
-use Rattle.ta_meaning.proofs.OneTree.{one_legal}
+use Rattle.ta_program.proofs.Common.{◌≡◌, ◌∙◌, ◌≤◌, ℕ, Bool, true, false, List, [], ◌∷◌, Option, None, Some, refl, sym, ap, subst, inl, inr, arith, codes, bytes_eq, File, one_legal, check_text, rest_check_text, run_text, Template, one_fault, Told, replies_monotone, Monotone, Decides, Meaning, Performs, State, Tells, file_line, in_files, seen, Writes, after, finds, replies, whole_faults_once, word_faults_once, whole_exact, words_exact, IsWholeWordOf, IsWordOf, Spelling, WholeFaultOf, WordFaultOf, WordFault, claiming, AdmitAsked, admit_meaning, admit_words, run_meaning, values_kind, values_meaning, Asked, LegalFile, Runs, ask, ask_where, choose, Command, NoCommand, SaysBench, bench_meaning, bench_words, HindersCertificate, may_put, check_meaning, proved_meaning, SaysShort, compress_meaning, long_kind, short_meaning, SaysSystem, WordHinders, export_meaning, export_words, system_meaning, word_fault_text, FaultsAreNamed, HinderOnce, NamesFault, OfCommand, certificate_kind, file_kind, run_kind, SaysShown, replay_meaning, shown_meaning, Reports, report_meaning, verify_meaning, request_of, HindersRest, RestReports, rest_meaning, rest_report_meaning, rest_check_meaning, rest_proved_meaning, CycleHinders, FileEndings, IsEnds, LegalAtRest, cycle_text, with_ends, rest_words, Finds, HindersFound, LegalTemplate, found_meaning, found_names, search_meaning, template_kind, SearchWords, search_words, two_names, verify_words, WordAsked}
+use Rattle.std.specs.Prelude.{◌⊎◌}
 use Rattle.ta_meaning.specs.Laws.{FirstFaultsAreUnique}
-use Rattle.ta_report.specs.Check.{check_text, rest_check_text}
-use Rattle.ta_replay.specs.RunText.{run_text}
-use Rattle.ta_search.specs.declared.template.Template.{Template}
-use Rattle.ta_search.proofs.OneFault.{one_fault}
-use Rattle.ta_shelf.specs.Put.{Told}
-use Rattle.ta_shell.proofs.Read.{replies_monotone}
-use Rattle.ta_shell.proofs.Views.{Monotone}
-use Rattle.ta_shell.specs.Commands.{Decides, Meaning}
-use Rattle.ta_shell.specs.Ends.{Performs, State, Tells}
-use Rattle.ta_shell.specs.Lines.{file_line}
-use Rattle.ta_shell.specs.Sights.{in_files, seen}
-use Rattle.ta_shell.specs.Stages.{Writes, after, finds, replies}
-use Rattle.ta_smt.proofs.FaultsOnce.{whole_faults_once, word_faults_once}
-use Rattle.ta_smt.proofs.WordsNamed.{whole_exact, words_exact}
 use Rattle.ta_smt.specs.Admit.{AskedWord as Word}
-use Rattle.ta_smt.specs.Named.{IsWholeWordOf, IsWordOf, Spelling, WholeFaultOf, WordFaultOf}
-use Rattle.ta_smt.specs.declared.fault.WordFault.{WordFault}
 use Rattle.ta_claim.specs.declared.claim.Claim.TheVariants as claim
-use Rattle.ta_check.specs.Subjects.{claiming}
-use Rattle.ta_program.specs.Admit.{AdmitAsked, admit_meaning, admit_words, run_meaning, values_kind, values_meaning}
-use Rattle.ta_program.specs.Asked.{Asked, LegalFile, Runs, ask, ask_where, choose}
-use Rattle.ta_program.specs.Asked.Asked.{Command, NoCommand}
-use Rattle.ta_program.specs.Bench.{SaysBench, bench_meaning, bench_words}
-use Rattle.ta_program.specs.Certified.{HindersCertificate, may_put}
-use Rattle.ta_program.specs.Check.{check_meaning, proved_meaning}
-use Rattle.ta_program.specs.Compress.{SaysShort, compress_meaning, long_kind, short_meaning}
-use Rattle.ta_program.specs.Export.{SaysSystem, WordHinders, export_meaning, export_words, system_meaning, word_fault_text}
-use Rattle.ta_program.specs.Faults.{FaultsAreNamed, HinderOnce, NamesFault, OfCommand}
-use Rattle.ta_program.specs.Kinds.{certificate_kind, file_kind, run_kind}
-use Rattle.ta_program.specs.Replay.{SaysShown, replay_meaning, shown_meaning}
-use Rattle.ta_program.specs.Reporting.{Reports, report_meaning, verify_meaning}
-use Rattle.ta_program.specs.Requests.{request_of}
-use Rattle.ta_program.specs.Rest.{HindersRest, RestReports, rest_meaning, rest_report_meaning}
-use Rattle.ta_program.specs.RestCheck.{rest_check_meaning, rest_proved_meaning}
-use Rattle.ta_program.specs.RestEnds.{CycleHinders, FileEndings, IsEnds, LegalAtRest, cycle_text, with_ends}
-use Rattle.ta_program.specs.RestWords.{rest_words}
 use Rattle.ta_program.proofs.EndsOnce.{ends_once}
 use Rattle.ta_program.proofs.RestMeanings.{cycle_rule, ends_monotone, hinders_rest, no_cycle, rest_proved_monotone, rest_report_monotone}
-use Rattle.ta_program.specs.Search.{Finds, HindersFound, LegalTemplate, found_meaning, found_names, search_meaning, template_kind}
-use Rattle.ta_program.specs.SearchWords.{SearchWords, search_words}
-use Rattle.ta_program.specs.Values.{two_names}
-use Rattle.ta_program.specs.VerifyWords.{verify_words}
-use Rattle.ta_program.specs.WordAsked.{WordAsked}
 use Rattle.ta_program.proofs.FaultsOnce.{certificate_settled, long_once, run_once, settled, values_once}
 use Rattle.ta_program.proofs.Meanings.{hinders_long, proved_monotone, report_monotone, short_monotone, shown_monotone}
 use Rattle.ta_program.proofs.SearchMeanings.{found_monotone, hinders_four, one_text, template_fits}

@@ -1,32 +1,19 @@
 -- Bytes have one fault of each kind.
-use Rattle.std.proofs.Common.{◌≡◌, ◌∙◌, ◌++◌, ℕ, List, sym, ap, subst, inl, inr}
+use Rattle.ta_program.proofs.Common.{◌≡◌, ◌∙◌, ◌++◌, ℕ, List, sym, ap, subst, inl, inr, File, CertFault, IsFirstFaultFor, IsLastingFor, Subject, lasting_faults_last, Run, IsRunText, Kind, admit_faults_once, values_kind, CompressFaultIn, IsRefusedRun, IsTextFault, long_kind, of_run, OneFault, IsReplayFault, certificate_kind, run_kind}
 use Rattle.std.specs.Prelude.{◌≢◌}
 use Rattle.ta_check.proofs.Answering.{first_of_lasting}
-use Rattle.ta_automaton.specs.declared.file.File.{File}
-use Rattle.ta_cert.specs.declared.fault.CertFault.{CertFault}
 use Rattle.ta_cert.specs.declared.fault.CertFault.TheVariants as cert
-use Rattle.ta_check.specs.Faults.{IsFirstFaultFor, IsLastingFor}
-use Rattle.ta_check.specs.Subjects.{Subject}
-use Rattle.ta_check.proofs.Lasting.{lasting_faults_last}
 use Rattle.ta_check.proofs.OneFault.{one_fault}
 use Rattle.ta_compress.specs.declared.fault.CompressFault.{CompressFault}
 use Rattle.ta_compress.specs.Faults.{CompressFaultOf}
 use Rattle.ta_compress.proofs.Once.{refusals_once as compressed_once}
 use Rattle.ta_replay.specs.declared.fault.RunFault.{RunFault}
 use Rattle.ta_replay.specs.declared.fault.RunFault.TheVariants as runs
-use Rattle.ta_replay.specs.declared.run.Run.{Run}
 use Rattle.ta_replay.specs.ReplayFaults.{ReplayFault}
-use Rattle.ta_replay.specs.RunText.{IsRunText}
 use Rattle.ta_replay.specs.TextFaults.{TextFault}
 use Rattle.ta_replay.proofs.OneRefusal.{one_refusal}
 use Rattle.ta_replay.proofs.Once.{text_fault_once, texts_once}
-use Rattle.ta_shell.specs.Stages.{Kind}
 use Rattle.ta_smt.specs.Admit.{AskedWord}
-use Rattle.ta_smt.proofs.FaultsOnce.{admit_faults_once}
-use Rattle.ta_program.specs.Admit.{values_kind}
-use Rattle.ta_program.specs.Compress.{CompressFaultIn, IsRefusedRun, IsTextFault, long_kind, of_run}
-use Rattle.ta_program.specs.Faults.{OneFault}
-use Rattle.ta_program.specs.Kinds.{IsReplayFault, certificate_kind, run_kind}
 use Rattle.ta_program.proofs.OneLine.{Settled}
 
 -- a text of a run has no fault as a text

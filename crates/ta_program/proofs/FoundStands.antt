@@ -1,9 +1,5 @@
 -- what the files hold where values were found
-use Rattle.std.proofs.Common.{◌≡◌, ◌≢◌, ◌∙◌, ℕ, List, [], ◌∷◌, map, Option, None, Some, refl, sym, ap, subst}
-use Rattle.ta_shelf.specs.Put.{Told, WhereTold}
-use Rattle.ta_shell.specs.Puts.{HoldsText, Stand}
-use Rattle.ta_shell.specs.declared.answer.Put.{Put}
-use Rattle.ta_program.specs.Search.{HoldFound, PutText, found_files, put_text}
+use Rattle.ta_program.proofs.Common.{◌≡◌, ◌≢◌, ◌∙◌, ℕ, List, [], ◌∷◌, map, Option, None, Some, refl, sym, ap, subst, Told, WhereTold, HoldsText, Stand, Put, HoldFound, PutText, found_files, put_text}
 use Rattle.ta_program.proofs.WordsDiffer.{Apart}
 
 -- these texts stand, one after the other

@@ -25,3 +25,4 @@ mod Benching
 mod OneLine
 mod FaultsOnce
 mod FaultsNamed
+mod Common

@@ -1,31 +1,7 @@
 -- what each command says grows with what is seen, and told files leave one number
-use Rattle.std.proofs.Common.{◌≡◌, ◌∙◌, ℕ, List, [], length, slice_get, Option, None, Some, refl, sym, ap, subst, inl, inr, arith, Bool}
-use Rattle.std.specs.Prelude.{IsSome, option_map}
-use Rattle.ta_automaton.specs.declared.file.File.{File}
-use Rattle.ta_automaton.specs.declared.pattern.Pattern.{Pattern}
-use Rattle.ta_meaning.proofs.OneTree.{one_legal}
-use Rattle.ta_report.specs.Check.{check_text}
-use Rattle.ta_report.specs.declared.verdict.Verdict.{Verdict}
-use Rattle.ta_shelf.specs.Put.{Told}
-use Rattle.ta_shell.specs.Commands.{Decides, IsSo, Meaning}
-use Rattle.ta_shell.specs.Puts.{put_bytes}
-use Rattle.ta_shell.specs.Sights.{View, in_files}
-use Rattle.ta_shell.specs.declared.answer.Answer.{Answer}
-use Rattle.ta_shell.specs.Stages.{Kind, Writes, after, replies}
-use Rattle.ta_shell.proofs.Read.{after_monotone, decides, no_hindrance, one_number, replies_monotone, replies_one, settles_monotone}
-use Rattle.ta_shell.proofs.Views.{Monotone}
-use Rattle.ta_program.specs.Asked.{IsAskedFor, LegalFile, Passes, PassesWhere, ask, ask_where}
+use Rattle.ta_program.proofs.Common.{◌≡◌, ◌∙◌, ℕ, List, [], length, slice_get, Option, None, Some, refl, sym, ap, subst, inl, inr, arith, Bool, IsSome, File, Pattern, one_legal, check_text, Verdict, Told, Decides, IsSo, Meaning, put_bytes, View, in_files, Answer, Kind, Writes, after, replies, after_monotone, decides, no_hindrance, one_number, replies_monotone, replies_one, settles_monotone, Monotone, IsAskedFor, LegalFile, Passes, PassesWhere, ask, ask_where, claiming, BUDGET, IsBench, SaysBench, bench_meaning, bench_status, family_text, check_meaning, proved_meaning, SaysShort, compress_meaning, long_kind, short_meaning, certificate_kind, file_kind, run_kind, SaysShown, replay_meaning, shown_meaning, HindersCertificate, LongCertificate, may_put, Reports, report_meaning, verify_meaning, AreVerdicts, verdicts_number}
+use Rattle.std.specs.Prelude.{option_map}
 use Rattle.ta_claim.specs.declared.claim.Claim.TheVariants as claim
-use Rattle.ta_check.specs.Subjects.{claiming}
-use Rattle.ta_program.specs.Bench.{BUDGET, IsBench, SaysBench, bench_meaning, bench_status, family_text}
-use Rattle.ta_program.specs.Check.{check_meaning, proved_meaning}
-use Rattle.ta_program.specs.Compress.{SaysShort, compress_meaning, long_kind, short_meaning}
-use Rattle.ta_program.specs.Kinds.{certificate_kind, file_kind, run_kind}
-use Rattle.ta_program.specs.Replay.{SaysShown, replay_meaning, shown_meaning}
-use Rattle.ta_program.specs.Certified.{HindersCertificate, LongCertificate, may_put}
-use Rattle.ta_program.specs.Reporting.{Reports, report_meaning, verify_meaning}
-use Rattle.ta_verdict.specs.Verdicts.{AreVerdicts}
-use Rattle.ta_program.specs.Statuses.{verdicts_number}
 use Rattle.ta_verdict.proofs.CertificatesOnce.{certificates_once}
 use Rattle.ta_verdict.proofs.VerdictsOnce.{verdicts_once}
 

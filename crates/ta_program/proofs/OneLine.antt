@@ -1,18 +1,5 @@
 -- Told files hinder a command with one number and one line.
-use Rattle.std.proofs.Common.{◌≡◌, ◌∙◌, ◌+◌, ◌-◌, ◌<◌, ◌≤◌, ◌⊎◌, ℕ, List, ◌++◌, length, length-append, take, Option, None, Some, sym, ap, subst, inl, inr, arith}
-use Rattle.std.proofs.Math.Seq.{take-append-add}
-use Rattle.std.proofs.lemmas.List.{take-append-le}
-use Rattle.ta_base.proofs.Lists.{none_not_some, one_content}
-use Rattle.ta_shelf.specs.Put.{Told}
-use Rattle.ta_shell.specs.Commands.{Meaning}
-use Rattle.ta_shell.specs.Lines.{file_line, longer_than, missing}
-use Rattle.ta_shell.specs.Reading.{IsUnreadable}
-use Rattle.ta_shell.specs.Sights.{HasMore, in_files}
-use Rattle.ta_shell.specs.Stages.{ReadingGoesOn, Hinders, FileIsAtFault, IsBroken, Kind, after, finds, replies, settles}
-use Rattle.ta_shell.specs.declared.answer.Answer.{Answer}
-use Rattle.ta_shell.proofs.Read.{no_hindrance}
-use Rattle.ta_shell.proofs.Views.{Monotone, whole_one}
-use Rattle.ta_program.specs.Faults.{HinderAlike, HinderOnce}
+use Rattle.ta_program.proofs.Common.{◌≡◌, ◌∙◌, ◌+◌, ◌-◌, ◌<◌, ◌≤◌, ◌⊎◌, ℕ, List, ◌++◌, length, length-append, take, Option, None, Some, sym, ap, subst, inl, inr, arith, take-append-add, take-append-le, none_not_some, one_content, Told, Meaning, file_line, longer_than, missing, IsUnreadable, HasMore, in_files, ReadingGoesOn, Hinders, FileIsAtFault, IsBroken, Kind, after, finds, replies, settles, Answer, no_hindrance, Monotone, whole_one, HinderAlike, HinderOnce}
 
 -- the faults of a kind are of those of which bytes have one, and bytes that are broken stay so, whatever comes behind
 pub record Settled {A F : Type 0} (kind : Kind A F) : Type 1 where

@@ -1,34 +1,13 @@
 -- a certificate that is judged while it is read
-use Rattle.std.proofs.Common.{◌≡◌, ◌∙◌, ◌+◌, ◌-◌, ◌<◌, ◌≤◌, ◌⊎◌, ℕ, Bool, true, false, List, [], ◌∷◌, ◌++◌, length, take, drop, min, Option, None, Some, Result, Ok, Err, refl, sym, ap, subst, inl, inr, arith, append_assoc, length-append, ltb-false, ltb-true}
-use Rattle.std.proofs.Math.Seq.{take-append-add}
-use Rattle.std.proofs.lemmas.List.{append-nil, length-drop, length-take-le, take-append-drop}
+use Rattle.ta_program.proofs.Common.{◌≡◌, ◌∙◌, ◌+◌, ◌-◌, ◌<◌, ◌≤◌, ◌⊎◌, ℕ, Bool, true, false, List, [], ◌∷◌, ◌++◌, length, take, drop, min, Option, None, Some, Result, Ok, Err, refl, sym, ap, subst, inl, inr, arith, append_assoc, length-append, ltb-false, ltb-true, take-append-add, append-nil, length-drop, length-take-le, take-append-drop, Subject, CertFault, Accepted, Checker, AllClaimsHold, CheckerFeedAnswers, CheckerFinishAnswers, IsExactCheck, IsExactFeed, CheckerStandsFor, subject_of, IsFirstFaultFor, IsLastingFor, no_longer_certificate, Call, Grew, PieceBy, ReadsFirst, Spells, Told, Refusal, Refused, ReadFailed, PutFailed, Memory, longer_than, IsReading, ReadCause, SaysOfFile, UnreadBy, Begins, seen, where_told, Stage, CERTIFICATE, IsAllowed, Breaks, JudgedTo, JudgedWhole, PassesLimit, PieceFed, RefusedBy, Turn, IsUnproved, certificate_kind}
 use Rattle.std.specs.Option.{IfSome}
 use Rattle.std.specs.Result.{IsOk}
-use Rattle.ta_check.specs.Subjects.{Subject}
-use Rattle.ta_cert.specs.declared.fault.CertFault.{CertFault}
 use Rattle.ta_cert.specs.declared.fault.CertFault.TheVariants as fault
 use Rattle.ta_cert.specs.Laws.{IsErrOrMemory}
-use Rattle.ta_check.specs.declared.accepted.Accepted.{Accepted}
-use Rattle.ta_check.specs.declared.checker.Checker.{Checker}
-use Rattle.ta_check.specs.Certificate.{AllClaimsHold}
-use Rattle.ta_check.specs.Checkers.{CheckerFeedAnswers, CheckerFinishAnswers, IsExactCheck, IsExactFeed, CheckerStandsFor, subject_of}
-use Rattle.ta_check.specs.Faults.{IsFirstFaultFor, IsLastingFor}
-use Rattle.ta_check.proofs.Lasting.{no_longer_certificate}
 use Rattle.ta_report.specs.Faults.{cert_fault_text}
-use Rattle.ta_shelf.specs.Calls.{Call, Grew, PieceBy, ReadsFirst, Spells}
-use Rattle.ta_shelf.specs.Put.{Told}
 use Rattle.ta_shelf.specs.ReadPiece.{ReadsPiece}
 use Rattle.ta_shelf.specs.declared.fault.ShelfFault.{ShelfFault}
-use Rattle.ta_shell.specs.declared.answer.Refusal.{Refusal}
-use Rattle.ta_shell.specs.declared.answer.Refusal.TheVariants.{Refused, ReadFailed, PutFailed, Memory}
-use Rattle.ta_shell.specs.Lines.{longer_than}
-use Rattle.ta_shell.specs.Reading.{IsReading, ReadCause, SaysOfFile, UnreadBy}
-use Rattle.ta_shell.specs.Sights.{Begins, seen, where_told}
-use Rattle.ta_shell.specs.Stages.{Stage}
 use Rattle.ta_shell.proofs.PiecesSeen.{first_seen, first_spelled, piece_read, piece_refused, stage_faulty, stage_memory, stage_too_long, stage_unread, told_absent, told_front, told_more, told_whole, whole_spelled}
-use Rattle.ta_program.specs.declared.limits.TheConstants.{CERTIFICATE}
-use Rattle.ta_program.specs.Inside.Judged.{IsAllowed, Breaks, JudgedTo, JudgedWhole, PassesLimit, PieceFed, RefusedBy, Turn, IsUnproved}
-use Rattle.ta_program.specs.Kinds.{certificate_kind}
 
 -- the first line at fault lasts, or there was no memory
 fault_lasts : (subject : Subject) (name text piece : List ℕ) (new : Checker) (f : CertFault) (refusal : Refusal) → (subject_of new) ≡ subject → CheckerFeedAnswers text piece new (Err f) → RefusedBy name f refusal → (refusal ≡ Memory) ⊎ (IsLastingFor subject (text ++ piece) f × SaysOfFile CERTIFICATE name (cert_fault_text f) refusal)

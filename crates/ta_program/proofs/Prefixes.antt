@@ -1,9 +1,6 @@
 -- what stands behind a text at the beginning of another
-use Rattle.std.proofs.Common.{◌≡◌, ◌∙◌, ℕ, Bool, true, false, List, [], ◌∷◌, ◌++◌, refl, sym, ap, None, Some}
-use Rattle.std.specs.Prelude.{◌==◌, if◌then◌else◌}
-use Rattle.std.proofs.lemmas.Bool.{eqb-true}
+use Rattle.ta_program.proofs.Common.{◌≡◌, ◌∙◌, ℕ, Bool, true, false, List, [], ◌∷◌, ◌++◌, refl, sym, ap, None, Some, ◌==◌, if◌then◌else◌, eqb-true, behind}
 use Rattle.ta_base.proofs.Naturals.{eqb_same}
-use Rattle.ta_program.specs.Words.{behind}
 
 pub behind_prefix : (text rest : List ℕ) → behind text (text ++ rest) ≡ Some rest
 behind_prefix [] rest = refl

@@ -1,33 +1,8 @@
 -- what `rest` and `rest-check` say grows with what is seen, and told files leave one number
-use Rattle.std.proofs.Common.{◌≡◌, ◌∙◌, ℕ, List, [], length, Option, None, Some, refl, sym, ap, subst, inl, inr, arith}
-use Rattle.std.specs.Prelude.{IsSome}
-use Rattle.std.proofs.lemmas.Bool.{cases_order}
-use Rattle.ta_automaton.specs.declared.automaton.Automaton.{Automaton}
-use Rattle.ta_automaton.specs.declared.file.File.{File}
-use Rattle.ta_scope.specs.LongerCycles.{FirstLongerCycle}
-use Rattle.ta_check.specs.Subjects.{claiming}
+use Rattle.ta_program.proofs.Common.{◌≡◌, ◌∙◌, ℕ, List, [], length, Option, None, Some, refl, sym, ap, subst, inl, inr, arith, IsSome, cases_order, Automaton, File, FirstLongerCycle, claiming, one_legal, rest_check_text, Verdict, RestCertificateOf, Told, Decides, IsSo, Meaning, put_bytes, in_files, Answer, Writes, finds, replies, after_monotone, finds_monotone, finds_one, no_hindrance, one_number, replies_monotone, replies_one, settles_monotone, Monotone, whole_one, PassesWhere, may_put, certificate_kind, file_kind, HindersRest, LongRest, RestReports, rest_meaning, rest_report_meaning, rest_check_meaning, rest_proved_meaning, CycleHinders, FileEndings, IsEnds, LegalAtRest, with_ends, verdicts_number}
 use Rattle.ta_claim.specs.declared.claim.Claim.TheVariants.{RestSafe}
-use Rattle.ta_meaning.proofs.OneTree.{one_legal}
-use Rattle.ta_report.specs.Check.{rest_check_text}
-use Rattle.ta_report.specs.declared.verdict.Verdict.{Verdict}
 use Rattle.ta_resting.proofs.VerdictsOnce.{verdicts_once}
 use Rattle.ta_rest_verdict.proofs.CertificatesOnce.{rest_certificates_once}
-use Rattle.ta_rest_verdict.specs.Certificates.{RestCertificateOf}
-use Rattle.ta_shelf.specs.Put.{Told}
-use Rattle.ta_shell.specs.Commands.{Decides, IsSo, Meaning}
-use Rattle.ta_shell.specs.Puts.{put_bytes}
-use Rattle.ta_shell.specs.Sights.{in_files}
-use Rattle.ta_shell.specs.declared.answer.Answer.{Answer}
-use Rattle.ta_shell.specs.Stages.{Writes, finds, replies}
-use Rattle.ta_shell.proofs.Read.{after_monotone, finds_monotone, finds_one, no_hindrance, one_number, replies_monotone, replies_one, settles_monotone}
-use Rattle.ta_shell.proofs.Views.{Monotone, whole_one}
-use Rattle.ta_program.specs.Asked.{PassesWhere}
-use Rattle.ta_program.specs.Certified.{may_put}
-use Rattle.ta_program.specs.Kinds.{certificate_kind, file_kind}
-use Rattle.ta_program.specs.Rest.{HindersRest, LongRest, RestReports, rest_meaning, rest_report_meaning}
-use Rattle.ta_program.specs.RestCheck.{rest_check_meaning, rest_proved_meaning}
-use Rattle.ta_program.specs.RestEnds.{CycleHinders, FileEndings, IsEnds, LegalAtRest, with_ends}
-use Rattle.ta_program.specs.Statuses.{verdicts_number}
 use Rattle.ta_program.proofs.EndsOnce.{ends_once}
 use Rattle.ta_program.proofs.Meanings.{file_decides, second_passes}
 

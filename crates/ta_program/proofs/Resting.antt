@@ -1,40 +1,12 @@
 -- what the commands on runs that come to rest make of FILE's endings
-use Rattle.std.proofs.Common.{◌≡◌, ◌∙◌, ◌+◌, ◌≤◌, ℕ, true, List, [], ◌∷◌, ◌++◌, codes, Option, None, Some, Result, Ok, Err, refl, sym, ap, subst, arith, length}
-use Rattle.std.specs.List.{list_any}
-use Rattle.ta_automaton.specs.declared.automaton.Automaton.{Automaton}
-use Rattle.ta_automaton.specs.declared.file.File.{File}
-use Rattle.ta_automaton.specs.declared.pattern.Pattern.{Pattern}
-use Rattle.ta_check.specs.Certificate.{RestCertificate}
-use Rattle.ta_report.specs.Check.{proofs_told, rest_check_text, word_told}
-use Rattle.ta_report.specs.Report.{rest_text}
-use Rattle.ta_report.specs.declared.verdict.ReportSample.{ReportSample}
+use Rattle.ta_program.proofs.Common.{◌≡◌, ◌∙◌, ◌+◌, ◌≤◌, ℕ, true, List, [], ◌∷◌, ◌++◌, Option, None, Some, Result, Ok, Err, refl, sym, ap, subst, arith, length, list_any, Automaton, File, Pattern, RestCertificate, proofs_told, rest_check_text, word_told, rest_text, ReportSample, Verdict, Endings, AreRestVerdicts, RestCertificateOf, Told, Answer, Refusal, Refused, ReadFailed, PutFailed, Memory, Meaning, Says, PutsWithin, ReadCause, finds, finds_memory, finds_wrong, safe_numbers, IsSample, NoSample, SampleReal, place_of, Certifies, EndsRefused, RestReported, rest_report_meaning, CycleHinders, FileEndings, IsEnds, ends_of, verdicts_number}
+use Rattle.std.proofs.Common.{codes}
 use Rattle.ta_report.specs.declared.verdict.ReportSample.TheVariants as sample
-use Rattle.ta_report.specs.declared.verdict.Verdict.{Verdict}
-use Rattle.ta_rest.specs.Endings.{Endings}
 use Rattle.ta_rest.specs.Faults.{EndingsOf}
 use Rattle.ta_rest.specs.declared.rest_file.RestFile.{RestFile}
-use Rattle.ta_resting.specs.Verdicts.{AreRestVerdicts}
 use Rattle.ta_resting.proofs.TextsAlike.{texts_alike}
-use Rattle.ta_rest_verdict.specs.Certificates.{RestCertificateOf}
-use Rattle.ta_shelf.specs.Put.{Told}
-use Rattle.ta_shell.specs.declared.answer.Answer.{Answer}
-use Rattle.ta_shell.specs.declared.answer.Refusal.{Refusal}
-use Rattle.ta_shell.specs.declared.answer.Refusal.TheVariants.{Refused, ReadFailed, PutFailed, Memory}
-use Rattle.ta_shell.specs.Commands.{Meaning, Says}
-use Rattle.ta_shell.specs.Puts.{PutsWithin}
-use Rattle.ta_shell.specs.Reading.{ReadCause}
-use Rattle.ta_shell.specs.Stages.{finds}
-use Rattle.ta_shell.proofs.Read.{finds_memory, finds_wrong}
-use Rattle.ta_verdict.specs.Certificates.{safe_numbers}
-use Rattle.ta_verdict.specs.Verdicts.{IsSample, NoSample, SampleReal, place_of}
 use Rattle.ta_walk.specs.Samples.{IsSampleEnd}
 use Rattle.ta_walk.specs.declared.end.SampleEnd.TheVariants as samples
-use Rattle.ta_program.specs.Inside.Certifying.{Certifies}
-use Rattle.ta_program.specs.Inside.Found.{EndsRefused}
-use Rattle.ta_program.specs.Inside.Reported.{RestReported}
-use Rattle.ta_program.specs.Rest.{rest_report_meaning}
-use Rattle.ta_program.specs.RestEnds.{CycleHinders, FileEndings, IsEnds, ends_of}
-use Rattle.ta_program.specs.Statuses.{verdicts_number}
 use Rattle.ta_program.proofs.Certifying.{low_by, puts_within}
 
 -- a file without endings is told of, and nothing more is read

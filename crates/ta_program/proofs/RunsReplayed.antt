@@ -1,20 +1,5 @@
 -- What `verify` prints as a run `replay` shows.
-use Rattle.std.proofs.Common.{◌≡◌, ◌⊎◌, inl, ℕ, List, [], Option, Some, refl, sym, ◌∙◌, subst, length, ◌≤◌}
-use Rattle.ta_automaton.specs.declared.file.File.{File}
-use Rattle.ta_replay.specs.declared.run.Run.{Run}
-use Rattle.ta_replay.specs.Shows.{shown_of}
-use Rattle.ta_report.specs.Telling.{report_of}
-use Rattle.ta_report.specs.Shown.{shown_line}
-use Rattle.ta_shelf.specs.Put.{Told}
-use Rattle.ta_shell.specs.declared.answer.Answer.{Answer}
-use Rattle.ta_shell.specs.Ends.{Performs, State}
-use Rattle.ta_shell.specs.Sights.{in_files, seen}
-use Rattle.ta_shell.specs.Stages.{FileMeans}
-use Rattle.ta_program.specs.declared.limits.TheConstants.{RUN}
-use Rattle.ta_program.specs.Kinds.{IsFile, ShowsRun, run_kind}
-use Rattle.ta_program.specs.Laws.{PrintedRunsAreReplayed}
-use Rattle.ta_program.specs.Replay.{SaysShown, replay_meaning}
-use Rattle.ta_program.specs.Reporting.{ReportHolds}
+use Rattle.ta_program.proofs.Common.{◌≡◌, ◌⊎◌, inl, ℕ, List, [], Option, Some, refl, sym, ◌∙◌, subst, length, ◌≤◌, File, Run, shown_of, report_of, shown_line, Told, Answer, Performs, State, in_files, seen, FileMeans, RUN, IsFile, ShowsRun, run_kind, PrintedRunsAreReplayed, SaysShown, replay_meaning, ReportHolds}
 use Rattle.ta_program.proofs.Clauses.{as_replay, verify_reports}
 use Rattle.ta_program.proofs.Meanings.{replay_decides}
 use Rattle.ta_program.proofs.UnsafePrinted.{unsafe_printed}

@@ -1,29 +1,8 @@
 -- what the answers of `search` say
-use Rattle.std.proofs.Common.{◌≡◌, ◌∙◌, ◌<◌, ◌≤◌, ℕ, suc, Bool, true, false, List, [], ◌∷◌, ◌++◌, length, map, Option, None, Some, Ok, Err, refl, sym, ap, subst, inl, inr, rules, arith}
-use Rattle.std.specs.Prelude.{Contains, IsSome}
-use Rattle.std.specs.List.{AllByRecursion}
-use Rattle.ta_base.proofs.Each.{each_append, each_last}
+use Rattle.ta_program.proofs.Common.{◌≡◌, ◌∙◌, ◌<◌, ◌≤◌, ℕ, suc, Bool, true, false, List, [], ◌∷◌, ◌++◌, length, map, Option, None, Some, Ok, Err, refl, sym, ap, subst, inl, inr, rules, arith, Contains, IsSome, AllByRecursion, each_append, each_last, Tried, Template, filled_text, AreTried, LastIsFound, each_before, hole_values, vectors, Told, Says, file_line, phrase_text, PutsWithin, Answer, Put, Refusal, Refused, ReadFailed, PutFailed, Memory, long_line, may_put, CERTIFICATE, SaysLong, HindersFound, PutText, end_number, found_files, found_meaning, found_names, put_text, SearchWords}
 use Rattle.ta_search.specs.declared.outcome.Outcome.TheVariants.{Safe}
-use Rattle.ta_search.specs.declared.outcome.Tried.{Tried}
 use Rattle.ta_search.specs.declared.template.Hole.{Hole}
-use Rattle.ta_search.specs.declared.template.Template.{Template}
-use Rattle.ta_search.specs.Filling.{filled_text}
-use Rattle.ta_search.specs.Searching.{AreTried, LastIsFound}
-use Rattle.ta_search.specs.Vectors.{each_before, hole_values, vectors}
-use Rattle.ta_shelf.specs.Put.{Told}
-use Rattle.ta_shell.specs.Commands.{Says}
-use Rattle.ta_shell.specs.Lines.{file_line, phrase_text}
-use Rattle.ta_shell.specs.Puts.{PutsWithin}
-use Rattle.ta_shell.specs.declared.answer.Answer.{Answer}
-use Rattle.ta_shell.specs.declared.answer.Put.{Put}
-use Rattle.ta_shell.specs.declared.answer.Refusal.{Refusal}
-use Rattle.ta_shell.specs.declared.answer.Refusal.TheVariants.{Refused, ReadFailed, PutFailed, Memory}
-use Rattle.ta_program.specs.Certified.{long_line, may_put}
-use Rattle.ta_program.specs.declared.limits.TheConstants.{CERTIFICATE}
-use Rattle.ta_program.specs.Inside.Certifying.{SaysLong}
 use Rattle.ta_program.specs.Inside.FoundFiles.{FoundBy}
-use Rattle.ta_program.specs.Search.{HindersFound, PutText, end_number, found_files, found_meaning, found_names, put_text}
-use Rattle.ta_program.specs.SearchWords.{SearchWords}
 use Rattle.ta_program.proofs.SearchMeanings.{one_last}
 
 -- the names of these files are among those that may be put

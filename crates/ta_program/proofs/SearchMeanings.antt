@@ -1,23 +1,8 @@
 -- what `search` says grows with what is seen, and told files leave one number
+use Rattle.ta_program.proofs.Common.{◌≡◌, ◌∙◌, ℕ, List, [], ◌∷◌, ◌++◌, length, Option, None, Some, refl, sym, ap, subst, inl, inr, arith, TemplateFault, SearchEnd, Tried, Template, LastIsFound, SearchesAreDetermined, FirstTemplateFault, no_fault, one_template, Decides, IsSo, View, in_files, Answer, after_monotone, decides, no_hindrance, one_number, settles_monotone, Monotone, PassesWhere, Finds, HindersFound, IsTemplateText, LegalTemplate, end_number, found_meaning, found_names, search_meaning, template_kind, SearchWords}
 use mathlib.Core.HLevel.{is_prop→PathP}
-use Rattle.std.proofs.Common.{◌≡◌, ◌∙◌, ℕ, List, [], ◌∷◌, ◌++◌, length, Option, None, Some, refl, sym, ap, subst, inl, inr, arith}
-use Rattle.ta_search.specs.declared.fault.TemplateFault.{TemplateFault}
 use Rattle.ta_search.specs.declared.outcome.Outcome.TheVariants.{Safe}
-use Rattle.ta_search.specs.declared.outcome.SearchEnd.{SearchEnd}
-use Rattle.ta_search.specs.declared.outcome.Tried.{Tried}
-use Rattle.ta_search.specs.declared.template.Template.{Template}
 use Rattle.ta_search.specs.Holes.{AreHoles, AreHoles-prop, unknown_place, unknown-prop}
-use Rattle.ta_search.specs.Searching.{LastIsFound, SearchesAreDetermined}
-use Rattle.ta_search.specs.TemplateFaults.{FirstTemplateFault}
-use Rattle.ta_search.proofs.OneFault.{no_fault, one_template}
-use Rattle.ta_shell.specs.Commands.{Decides, IsSo}
-use Rattle.ta_shell.specs.Sights.{View, in_files}
-use Rattle.ta_shell.specs.declared.answer.Answer.{Answer}
-use Rattle.ta_shell.proofs.Read.{after_monotone, decides, no_hindrance, one_number, settles_monotone}
-use Rattle.ta_shell.proofs.Views.{Monotone}
-use Rattle.ta_program.specs.Asked.{PassesWhere}
-use Rattle.ta_program.specs.Search.{Finds, HindersFound, IsTemplateText, LegalTemplate, end_number, found_meaning, found_names, search_meaning, template_kind}
-use Rattle.ta_program.specs.SearchWords.{SearchWords}
 
 -- what a template's type keeps besides its data are propositions
 template_equal : (t u : Template) → t.holes ≡ u.holes → t.body ≡ u.body → t ≡ u

@@ -1,31 +1,12 @@
 -- What the report says of unsafe patterns
-use Rattle.std.proofs.Common.{◌≡◌, ◌+◌, ◌≤◌, ℕ, zero, suc, true, length, map, List, [], ◌∷◌, Some, slice_get, Bool, refl, sym, ap, subst, ◌∙◌, arith}
-use Rattle.std.specs.List.{list_any}
-use Rattle.std.proofs.lemmas.Option.{same_Some}
+use Rattle.ta_program.proofs.Common.{◌≡◌, ◌+◌, ◌≤◌, ℕ, zero, suc, true, length, map, List, [], ◌∷◌, Some, slice_get, Bool, refl, sym, ap, subst, ◌∙◌, arith, list_any, same_Some, each_at, File, Pattern, pair_of, Run, run_text, IsFirstConfig, Shows, ShowsPattern, unit_steps, lines_counted, run_text_short, VerdictFits, TellsUnsafe, report_of, ReportSample, Verdict, Safe, Unsafe, Spent, Overflow, run_told, told_run, told_unsafe, RUN, UnsafePrinted, verify_telling, AreVerdicts, IsSample, UnsafeHolds, VerdictHolds, VerdictsHold, is_unsafe}
 use Rattle.std.proofs.Math.Nat.{mul-le-mul_right}
-use Rattle.ta_base.proofs.Each.{each_at}
 use Rattle.ta_automaton.proofs.Thresholds.{pattern_within}
-use Rattle.ta_automaton.specs.declared.file.File.{File}
-use Rattle.ta_automaton.specs.declared.pattern.Pattern.{Pattern}
 use Rattle.ta_automaton.specs.Runs as runs
-use Rattle.ta_cert.specs.Certificates.{pair_of}
-use Rattle.ta_replay.specs.declared.run.Run.{Run}
-use Rattle.ta_replay.specs.RunText.{run_text}
 use Rattle.ta_replay.specs.Fits.{Fits}
-use Rattle.ta_replay.specs.Shows.{IsFirstConfig, Shows, ShowsPattern, unit_steps}
 use Rattle.ta_replay.proofs.Counting.{marks_are_events}
 use Rattle.ta_replay.proofs.Occurring.{shown_occurs}
-use Rattle.ta_replay.proofs.TextsShort.{lines_counted, run_text_short}
-use Rattle.ta_report.specs.Report.{VerdictFits}
-use Rattle.ta_report.specs.Telling.{TellsUnsafe, report_of}
-use Rattle.ta_report.specs.declared.verdict.ReportSample.{ReportSample}
-use Rattle.ta_report.specs.declared.verdict.Verdict.{Verdict}
-use Rattle.ta_report.specs.declared.verdict.Verdict.TheVariants.{Safe, Unsafe, Spent, Overflow}
-use Rattle.ta_report.proofs.Tellings.{run_told, told_run, told_unsafe}
 use Rattle.ta_witness.specs.Witness.{IsShortRun}
-use Rattle.ta_program.specs.declared.limits.TheConstants.{RUN}
-use Rattle.ta_program.specs.Printed.{UnsafePrinted, verify_telling}
-use Rattle.ta_verdict.specs.Verdicts.{AreVerdicts, IsSample, UnsafeHolds, VerdictHolds, VerdictsHold, is_unsafe}
 
 -- the verdict of a number is one on the pattern of the number, and holds
 pub held_at : (file : File) (budget number : ℕ) (ps : List Pattern) (vs : List Verdict) → VerdictsHold file budget number ps vs → (k : ℕ) (v : Verdict) → slice_get vs k ≡ Some v → (p : Pattern) × (slice_get ps k ≡ Some p) × VerdictHolds file budget (number + k) p v

@@ -1,8 +1,5 @@
 -- texts that are counted together
-use Rattle.std.proofs.Common.{◌≡◌, ◌∙◌, ◌<◌, ◌≤◌, ◌+◌, ℕ, List, [], ◌∷◌, ◌++◌, length, length-append, take, drop, get_or, sym, ap, arith}
-use Rattle.std.proofs.lemmas.List.{take_more, take-append-drop}
-use Rattle.ta_shell.proofs.Joined.{joined_append, joined_more}
-use Rattle.ta_shell.specs.Puts.{texts_joined}
+use Rattle.ta_program.proofs.Common.{◌≡◌, ◌∙◌, ◌<◌, ◌≤◌, ◌+◌, ℕ, List, [], ◌∷◌, ◌++◌, length, length-append, take, drop, get_or, sym, ap, arith, take_more, take-append-drop, joined_append, joined_more, texts_joined}
 
 -- how long the first of some texts are together
 abbrev pub size_of : List (List ℕ) → ℕ → ℕ

@@ -1,25 +1,6 @@
 -- what `export` and `admit` say grows with what is seen, and told files leave one number
-use Rattle.std.proofs.Common.{◌≡◌, ◌∙◌, ℕ, List, [], Option, Some, Err, refl, sym, subst, inl, inr, arith}
-use Rattle.ta_automaton.specs.declared.file.File.{File}
-use Rattle.ta_replay.specs.RunText.{run_text}
-use Rattle.ta_shelf.specs.Put.{Told}
-use Rattle.ta_shell.specs.Commands.{Decides, IsSo, Meaning, Says}
-use Rattle.ta_shell.specs.Reading.{ReadCause}
-use Rattle.ta_shell.specs.Sights.{View, in_files}
-use Rattle.ta_shell.specs.Stages.{Writes, finds, replies}
-use Rattle.ta_shell.specs.declared.answer.Refusal.{Refusal}
-use Rattle.ta_shell.specs.declared.answer.Refusal.TheVariants.{Refused, ReadFailed, PutFailed, Memory}
-use Rattle.ta_shell.proofs.Read.{after_monotone, finds_memory, finds_monotone, finds_one, finds_wrong, one_number, replies_monotone, replies_one}
-use Rattle.ta_shell.proofs.Views.{Monotone}
-use Rattle.ta_smt.specs.declared.fault.WordFault.{WordFault}
+use Rattle.ta_program.proofs.Common.{◌≡◌, ◌∙◌, ℕ, List, [], Option, Some, Err, refl, sym, subst, inl, inr, arith, File, run_text, Told, Decides, IsSo, Meaning, Says, ReadCause, View, in_files, Writes, finds, replies, Refusal, Refused, ReadFailed, PutFailed, Memory, after_monotone, finds_memory, finds_monotone, finds_one, finds_wrong, one_number, replies_monotone, replies_one, Monotone, WordFault, IsWholeWordOf, IsWordOf, Spelling, WholeFaultOf, WordFaultOf, whole_exact, words_exact, AdmitAsked, admit_meaning, run_meaning, values_kind, values_meaning, Passes, SaysSystem, WordHinders, export_meaning, system_meaning, WordRefused, WordAsked}
 use Rattle.ta_smt.specs.Admit.{AskedWord as Word}
-use Rattle.ta_smt.specs.Named.{IsWholeWordOf, IsWordOf, Spelling, WholeFaultOf, WordFaultOf}
-use Rattle.ta_smt.proofs.WordsNamed.{whole_exact, words_exact}
-use Rattle.ta_program.specs.Admit.{AdmitAsked, admit_meaning, run_meaning, values_kind, values_meaning}
-use Rattle.ta_program.specs.Asked.{Passes}
-use Rattle.ta_program.specs.Export.{SaysSystem, WordHinders, export_meaning, system_meaning}
-use Rattle.ta_program.specs.Inside.Found.{WordRefused}
-use Rattle.ta_program.specs.WordAsked.{WordAsked}
 use Rattle.ta_program.proofs.Meanings.{file_decides, file_passes, second_passes}
 
 -- where what is looked for hinders with 4, and what comes then is never refused with 3

@@ -1,14 +1,11 @@
 -- a budget of nodes and its digits
-use Rattle.std.proofs.Common.{arith, ◌≡◌, ◌≤◌, ◌<◌, ◌^◌, ◌&&◌, ℕ, List, length, nat_lt, nat_le, true, false}
+use Rattle.ta_program.proofs.Common.{arith, ◌≡◌, ◌≤◌, ◌<◌, ◌^◌, ◌&&◌, ℕ, List, length, nat_lt, nat_le, true, false, list_all, false_from_ne_true, is_budget}
 use Rattle.std.specs.Char.{is_ascii_digit}
-use Rattle.std.specs.List.{list_all}
 use Rattle.std.specs.Str.Parse.{digits_value, without_leading_plus, IsNumeral}
-use Rattle.std.proofs.lemmas.Bool.{false_from_ne_true}
 use Rattle.std.proofs.lemmas.Bool.Decides.{nat_tests}
 use Rattle.std.proofs.lemmas.Str.Parse.{not_in_digits, without_leading_plus_none}
 use Rattle.ta_base.proofs.Booleans.{and_left}
 use Rattle.ta_base.proofs.DecimalDigits.{digits_model}
-use Rattle.ta_program.specs.Values.{is_budget}
 
 -- digits that no number of 64 bits has are no budget
 pub no_budget : (text : List ℕ) → list_all is_ascii_digit text ≡ true → 0 < length text → ¬ (IsNumeral 10 (without_leading_plus text) × digits_value 10 (without_leading_plus text) < 2 ^ 64) → is_budget text ≡ false

@@ -1,5 +1,6 @@
 -- The command `bench` (this project's profile)
 use Rattle.std.specs.Prelude.{ℕ, ◌*◌, ◌-◌, ◌≡◌, ◌&&◌, nat_le, Bool, true, false, List, [], ◌∷◌, ◌++◌, codes, decimal, slice_get, Option, None, Some, if◌then◌else◌, option_and_then}
+use Rattle.ta_base.specs.declared.limits.TheConstants.{DEFAULT_NODES}
 use Rattle.ta_automaton.specs.declared.file.File.{File}
 use Rattle.ta_automaton.specs.declared.pattern.Pattern.{Pattern}
 use Rattle.ta_check.specs.Certificate.{Certificate}
@@ -37,7 +38,7 @@ family_text k = printed (file_kinds (family k))
 
 -- how many nodes may be visited
 abbrev pub BUDGET : ℕ
-BUDGET = 1000000
+BUDGET = DEFAULT_NODES
 
 -- the line that says that the certificate was accepted, where the pattern is safe
 abbrev pub accepted_line : Bool → List ℕ

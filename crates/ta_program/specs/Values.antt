@@ -4,6 +4,7 @@ use Rattle.std.specs.Char.{is_ascii_digit}
 use Rattle.std.specs.List.{list_all}
 use Rattle.std.specs.Str.{bytes_eq}
 use Rattle.std.specs.Str.Parse.{digits_value}
+use Rattle.ta_base.specs.declared.limits.TheConstants.{DEFAULT_NODES, MOST_NODES}
 use Rattle.ta_program.specs.Words.{plain_of, taken_by}
 
 -- the name of a file, which isn't empty
@@ -12,11 +13,11 @@ file_name_of name = if nat_lt 0 (length name) then Some name else None
 
 -- whether a text is a budget of nodes: 1 to 10 digits, and its value within the limits
 abbrev pub is_budget : List ℕ → Bool
-is_budget text = nat_lt 0 (length text) && nat_le (length text) 10 && list_all is_ascii_digit text && nat_le 1 (digits_value 10 text) && nat_le (digits_value 10 text) 1000000000
+is_budget text = nat_lt 0 (length text) && nat_le (length text) 10 && list_all is_ascii_digit text && nat_le 1 (digits_value 10 text) && nat_le (digits_value 10 text) MOST_NODES
 
 -- the budget that is asked for: 1,000,000 where none is given
 abbrev pub budget_of : Option (List ℕ) → Option ℕ
-budget_of None = Some 1000000
+budget_of None = Some DEFAULT_NODES
 budget_of (Some text) = if is_budget text then Some (digits_value 10 text) else None
 
 -- the name of the file OUT, where it is given: it isn't empty, and differs from that of FILE

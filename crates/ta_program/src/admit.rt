@@ -21,7 +21,7 @@ use crate::limits::VALUES;
 use crate::reading::read_legal;
 use crate::request::Request;
 use crate::spelled::WordAsked;
-use crate::values::name_of;
+use crate::values::file_name_of;
 use crate::word_asked::{asked_of, find_whole};
 use crate::words::take_words;
 use std::alloc::{AllocError, Global};
@@ -78,7 +78,7 @@ fn read_admit<'a>(words: &[&'a str]) -> Option<Admit<'a>>
     let Some(asked) = asked_of(&taken) else {
         return None;
     };
-    match name_of(taken.plain(4)) {
+    match file_name_of(taken.plain(4)) {
         Some(values) => Some(Admit { asked, values }),
         None => None,
     }
@@ -196,23 +196,14 @@ fn admit_fault_phrase(fault: &AdmitFault) -> Phrase
 {
     match *fault {
         AdmitFault::Incomplete => Phrase::Plain("V4 word not complete"),
-        AdmitFault::Line(line) => one("V5 malformed at line ", line, ""),
-        AdmitFault::Count(lines) => one("V6 ", lines, " values"),
-        AdmitFault::Row(row) => one("V7 row ", u64::from(row), " is false"),
-        AdmitFault::Overflow(row) => one("V8 outside 128 bits in row ", u64::from(row), ""),
+        AdmitFault::Line(line) => Phrase::between("V5 malformed at line ", line, ""),
+        AdmitFault::Count(lines) => Phrase::between("V6 ", lines, " values"),
+        AdmitFault::Row(row) => Phrase::between("V7 row ", u64::from(row), " is false"),
+        AdmitFault::Overflow(row) => {
+            Phrase::between("V8 outside 128 bits in row ", u64::from(row), "")
+        }
         AdmitFault::Run => Phrase::Plain("V9 run outside 128 bits"),
         AdmitFault::Memory => Phrase::Plain("out of memory"),
-    }
-}
-
-/// A number between words.
-fn one(head: &'static str, number: u64, tail: &'static str) -> Phrase
-    ensures { phrase_text result ≡ head.now ++ (decimal number ++ tail.now) }
-{
-    Phrase::One {
-        head,
-        number: u128::from(number),
-        tail,
     }
 }
 

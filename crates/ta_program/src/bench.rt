@@ -19,6 +19,7 @@ use std::alloc::{AllocError, Global};
 use std::thread::Threads;
 use ta_automaton::Pattern;
 use ta_base::Text;
+use ta_base::limits::DEFAULT_NODES;
 use ta_cert::CertFault;
 use ta_check::{Accepted, Checker};
 use ta_maker::make_family;
@@ -103,7 +104,7 @@ fn bench_family<R: Threads + Sync>(rt: &R, alloc: Global, k: u32) -> Result<Answ
     ensures { IfOk result (SaysBench k) }
 {
     let scoped = read_family(alloc, k)?;
-    let judged = judge_file(rt, alloc, &scoped, 1_000_000, true)?;
+    let judged = judge_file(rt, alloc, &scoped, DEFAULT_NODES, true)?;
     if accept(alloc, &scoped, judged.certificate.as_slice()).is_err() {
         return Err(AllocError);
     }

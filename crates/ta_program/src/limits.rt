@@ -1,27 +1,28 @@
 //! How long the files of the commands may be, and the numbers where they are no use.
 
+use ta_base::limits::{CERTIFICATE_BYTES, FILE_BYTES, RUN_BYTES};
 use ta_shell::Limit;
 
 /// An automaton file.
 pub const FILE: Limit = Limit {
-    bytes: 1_048_576,
+    bytes: FILE_BYTES as u64,
     number: 3,
 };
 
 /// A certificate, read or written.
 pub const CERTIFICATE: Limit = Limit {
-    bytes: 1_073_741_824,
+    bytes: CERTIFICATE_BYTES,
     number: 4,
 };
 
 /// A run.
 pub const RUN: Limit = Limit {
-    bytes: 16_777_216,
+    bytes: RUN_BYTES,
     number: 4,
 };
 
 /// Values for the unknowns of a word.
 pub const VALUES: Limit = Limit {
-    bytes: 1_048_576,
+    bytes: FILE_BYTES as u64,
     number: 4,
 };

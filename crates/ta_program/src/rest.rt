@@ -24,7 +24,7 @@ use crate::certified::answer_certified;
 use crate::ends::find_ends;
 use crate::reading::read_legal;
 use crate::request::Request;
-use crate::values::{budget_of, name_of, out_of};
+use crate::values::{budget_of, file_name_of, out_of};
 use crate::verify::number_of;
 use crate::words::{OptionWord, Taken, take_words};
 use std::alloc::{AllocError, Global};
@@ -98,7 +98,7 @@ fn read_rest<'a>(words: &[&'a str]) -> Option<Rest<'a>>
 fn rest_taken(taken: Taken<'_>) -> Option<Rest<'_>>
     ensures { option_map rest_seen result ≡ rest_taken (taken_of taken.entry) }
 {
-    let Some(file) = name_of(taken.plain(0)) else {
+    let Some(file) = file_name_of(taken.plain(0)) else {
         return None;
     };
     let Some(nodes) = budget_of(taken.value(0)) else {

@@ -23,10 +23,11 @@ use crate::budget::Budget;
 use crate::certified::{are_within, long_certificate, put_of};
 use crate::limits::{CERTIFICATE, FILE};
 use crate::request::Request;
-use crate::values::{budget_of, filled_of, name_of, out_of};
+use crate::values::{budget_of, file_name_of, filled_of, out_of};
 use crate::words::{OptionWord, Taken, take_words};
 use std::alloc::{AllocError, Global};
 use std::thread::Threads;
+use ta_base::limits::FILE_BYTES;
 use ta_base::{List, Text};
 use ta_search::{
     Outcome, SearchEnd, Template, TemplateFault, Tried, fill, read_template, search, search_text,
@@ -100,7 +101,7 @@ fn read_search<'a>(words: &[&'a str]) -> Option<Search<'a>>
 fn search_taken(taken: Taken<'_>) -> Option<Search<'_>>
     ensures { option_map search_seen result ≡ search_taken (taken_of taken.entry) }
 {
-    let Some(file) = name_of(taken.plain(0)) else {
+    let Some(file) = file_name_of(taken.plain(0)) else {
         return None;
     };
     let Some(nodes) = budget_of(taken.value(0)) else {
@@ -164,7 +165,7 @@ fn read_searched<'a, S: Shelf>(
 
 /// The template that bytes are the text of.
 fn template_of(alloc: Global, bytes: &[u8]) -> Result<Template, TemplateFault>
-    requires { length bytes.now ≤ 1048576 }
+    requires { length bytes.now ≤ FILE_BYTES }
     ensures text { IfOk result (IsTemplateText bytes.now) }
     ensures fault { IfErr result (λ found. found ≢ fault.Memory → FirstTemplateFault bytes.now found) }
 {

@@ -8,6 +8,7 @@ ghost use Rattle.ta_program.specs.Taken.{names_seen};
 ghost use Rattle.ta_program.specs.Values.{are_same, budget_of, filled_of, file_name_of, out_of, two_names};
 
 use crate::words::take_words;
+use ta_base::limits::{DEFAULT_NODES, MOST_NODES};
 
 /// The names of two files: FILE, and one that belongs to it.
 #[derive(Clone, Copy, Drop)]
@@ -23,17 +24,17 @@ pub(crate) fn two_names<'a>(words: &[&'a str]) -> Option<TwoNames<'a>>
     let Some(taken) = take_words(2, &[], words) else {
         return None;
     };
-    let Some(file) = name_of(taken.plain(0)) else {
+    let Some(file) = file_name_of(taken.plain(0)) else {
         return None;
     };
-    match name_of(taken.plain(1)) {
+    match file_name_of(taken.plain(1)) {
         Some(other) => Some(TwoNames { file, other }),
         None => None,
     }
 }
 
 /// The name of a file, which isn't empty.
-pub(crate) fn name_of(name: &str) -> Option<&str>
+pub(crate) fn file_name_of(name: &str) -> Option<&str>
     ensures { option_map (λ w. w.now) result ≡ file_name_of name.now }
 {
     if name.is_empty() { None } else { Some(name) }
@@ -79,25 +80,25 @@ fn are_same(name: Option<&str>, other: Option<&str>) -> bool
 /// The budget of nodes that is asked for: 1,000,000 where none is given.
 pub(crate) fn budget_of(nodes: Option<&str>) -> Option<u64>
     ensures asked { result ≡ budget_of (option_map (λ w. w.now) nodes.entry) }
-    ensures limits { IfSome result (λ n. (1 ≤ n) × (n ≤ 1000000000)) }
+    ensures limits { IfSome result (λ n. (1 ≤ n) × (n ≤ MOST_NODES)) }
 {
     match nodes {
         Some(text) => read_budget(text),
-        None => Some(1_000_000),
+        None => Some(DEFAULT_NODES),
     }
 }
 
 /// The budget of nodes that a text is: 1 to 10 digits, with a value within the limits.
 fn read_budget(text: &str) -> Option<u64>
     ensures asked { result ≡ budget_of (Some text.now) }
-    ensures limits { IfSome result (λ n. (1 ≤ n) × (n ≤ 1000000000)) }
+    ensures limits { IfSome result (λ n. (1 ≤ n) × (n ≤ MOST_NODES)) }
 {
     let digits = text.as_bytes();
     if digits.is_empty() || digits.len() > 10 || !are_digits(digits) {
         return None;
     }
     match text.parse::<u64>() {
-        Ok(value) if 1 <= value && value <= 1_000_000_000 => Some(value),
+        Ok(value) if 1 <= value && value <= MOST_NODES => Some(value),
         _ => None,
     }
 }

@@ -18,7 +18,7 @@ use crate::budget::Budget;
 use crate::certified::answer_certified;
 use crate::reading::read_legal;
 use crate::request::Request;
-use crate::values::{budget_of, name_of, out_of};
+use crate::values::{budget_of, file_name_of, out_of};
 use crate::words::{OptionWord, Taken, take_words};
 use std::alloc::{AllocError, Global};
 use std::thread::Threads;
@@ -101,7 +101,7 @@ fn read_verify<'a>(words: &[&'a str]) -> Option<Verify<'a>>
 fn verify_taken(taken: Taken<'_>) -> Option<Verify<'_>>
     ensures { option_map verify_seen result ≡ verify_taken (taken_of taken.entry) }
 {
-    let Some(file) = name_of(taken.plain(0)) else {
+    let Some(file) = file_name_of(taken.plain(0)) else {
         return None;
     };
     let Some(nodes) = budget_of(taken.value(0)) else {

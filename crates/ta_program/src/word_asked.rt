@@ -13,7 +13,7 @@ ghost use Rattle.ta_program.specs.WordSeen.{asked_seen, word_seen};
 
 use crate::limits::VALUES;
 use crate::spelled::WordAsked;
-use crate::values::name_of;
+use crate::values::file_name_of;
 use crate::words::Taken;
 use std::alloc::{AllocError, Global};
 use ta_automaton::File;
@@ -26,7 +26,7 @@ use ta_smt::{
 pub(crate) fn asked_of<'a>(taken: &Taken<'a>) -> Option<WordAsked<'a>>
     ensures { option_map asked_seen result ≡ asked_of (taken_of taken.now) }
 {
-    let Some(file) = name_of(taken.plain(0)) else {
+    let Some(file) = file_name_of(taken.plain(0)) else {
         return None;
     };
     let Some(pattern) = pattern_of(taken.plain(1)) else {

@@ -1,29 +1,6 @@
 -- a replay from line to line
-use Rattle.std.proofs.Common.{◌≡◌, inl, inr, ℕ, ◌+◌, ◌<◌, ◌↔◌, ℤ, ◌+ℤ◌, ◌*ℤ◌, List, [], ◌∷◌, ◌++◌, length, take, arith, sym, ap, ◌∙◌, subst, slice_get, Some, Option, IsBitSet}
-use Rattle.std.proofs.lemmas.Int.{ints}
-use Rattle.std.proofs.lemmas.Bool.{cases_lt}
-use Rattle.std.proofs.lemmas.Option.{same_Some}
-use Rattle.ta_base.proofs.Each.{each_at}
-use Rattle.ta_base.proofs.Lists.{some_at, take_next}
-use Rattle.ta_linear.specs.Values.{point_of}
-use Rattle.ta_automaton.specs.declared.automaton.Automaton.{Automaton}
-use Rattle.ta_automaton.specs.declared.rule.Rule.{Rule}
-use Rattle.ta_automaton.specs.declared.pattern.Pattern.{Pattern}
-use Rattle.ta_automaton.specs.Places.{rule_change}
-use Rattle.ta_automaton.specs.Sums.{total}
-use Rattle.ta_automaton.proofs.Sums.{total-append}
-use Rattle.ta_counter.specs.declared.config.Config.{Config}
-use Rattle.ta_counter.specs.Configs.{config_of, IsOf}
-use Rattle.ta_replay.specs.declared.run.Run.{Run}
-use Rattle.ta_replay.specs.declared.run.RunLine.{RunLine}
-use Rattle.ta_replay.specs.declared.run.RunLine.TheVariants.{Step, Mark}
-use Rattle.ta_replay.specs.declared.fault.RunFault.{RunFault}
-use Rattle.ta_replay.specs.declared.fault.RunFault.TheVariants.{Line, Name, Resilience, Processes, Start, NotEmpty, Guard, Count, Event, MissingEvent, Overflow, Order, Memory}
-use Rattle.ta_replay.specs.Fits.{LineFits}
-use Rattle.ta_replay.specs.Shows.{IsMarked, steps_before}
-use Rattle.ta_replay.specs.Replays.{ValuesAfter, Takes, LineTakes, LinePasses, InOrder, line_change}
-use Rattle.ta_replay.specs.ReplayFaults.{LineRefuses, LineStops, FirstRefusal, run_line_number}
-use Rattle.ta_replay.specs.Inside.Following.{FitsPattern, Following, MarksAfter}
+use Rattle.ta_replay.proofs.Common.{◌≡◌, inl, inr, ℕ, ◌+◌, ◌<◌, ◌↔◌, ℤ, ◌+ℤ◌, ◌*ℤ◌, List, [], ◌∷◌, ◌++◌, length, take, arith, sym, ap, ◌∙◌, subst, slice_get, Some, Option, IsBitSet, ints, cases_lt, same_Some, each_at, some_at, take_next, point_of, Automaton, Rule, Pattern, rule_change, total, total-append, Config, config_of, IsOf, Run, RunLine, Step, Mark, RunFault, Line, Resilience, Processes, Start, NotEmpty, Guard, Count, MissingEvent, Overflow, Order, Memory, LineFits, IsMarked, steps_before, ValuesAfter, Takes, LineTakes, LinePasses, InOrder, line_change, LineRefuses, LineStops, FirstRefusal, run_line_number, FitsPattern, Following, MarksAfter}
+use Rattle.ta_replay.specs.declared.fault.RunFault.TheVariants.{Name, Event}
 use Rattle.ta_replay.proofs.Lines.{marked-next}
 use Rattle.ta_replay.proofs.Paths.{line_moves, path_next}
 

@@ -1,32 +1,6 @@
 -- where a replay begins
-use Rattle.std.proofs.Common.{◌≡◌, inl, inr, ℕ, zero, suc, ◌+◌, ◌<◌, ℤ, pos, List, [], length, arith, sym, ap, ◌∙◌, refl, subst, slice_get, get_or, Some}
-use Rattle.std.proofs.lemmas.Int.{ints}
-use Rattle.std.proofs.lemmas.List.{ext_get_or, get_or-take}
-use Rattle.std.proofs.lemmas.Option.{same_Some, slice_get_within}
-use Rattle.ta_base.proofs.Bits.{no_bit}
-use Rattle.ta_base.proofs.Integers.{pos_same}
-use Rattle.ta_base.proofs.Ranges.{rises_length_most}
-use Rattle.ta_linear.specs.Values.{point_of}
-use Rattle.ta_automaton.specs.declared.automaton.Automaton.{Automaton}
-use Rattle.ta_automaton.specs.declared.pattern.Pattern.{Pattern}
+use Rattle.ta_replay.proofs.Common.{◌≡◌, inl, inr, ℕ, zero, suc, ◌+◌, ◌<◌, ℤ, pos, List, [], length, arith, sym, ap, ◌∙◌, refl, subst, slice_get, get_or, Some, ints, ext_get_or, get_or-take, same_Some, slice_get_within, no_bit, pos_same, rises_length_most, point_of, Automaton, Pattern, At, total, place_cases, Config, ConditionPasses, config_of, naturals, StartsAt, naturals_at, holds_from, in_or_not, not_contained, KeepsEmpty, holds_there, counter_there, Run, RunLine, Mark, ValuesAfter, NoneFilled, FirstFilled, FitsPattern, Following, StartsWith}
 use Rattle.ta_automaton.specs.Runs as runs
-use Rattle.ta_automaton.specs.Runs.{At}
-use Rattle.ta_automaton.specs.Sums.{total}
-use Rattle.ta_automaton.proofs.Moves.{place_cases}
-use Rattle.ta_counter.specs.declared.config.Config.{Config}
-use Rattle.ta_counter.specs.Checks.{ConditionPasses}
-use Rattle.ta_counter.specs.Configs.{config_of, naturals}
-use Rattle.ta_counter.specs.Starts.{StartsAt}
-use Rattle.ta_counter.proofs.Models.{naturals_at}
-use Rattle.ta_counter.proofs.Rows.{holds_from}
-use Rattle.ta_counter.proofs.Starting.{in_or_not, not_contained}
-use Rattle.ta_pattern.specs.Empty.{KeepsEmpty}
-use Rattle.ta_pattern.proofs.Agreeing.{holds_there, counter_there}
-use Rattle.ta_replay.specs.declared.run.Run.{Run}
-use Rattle.ta_replay.specs.declared.run.RunLine.{RunLine}
-use Rattle.ta_replay.specs.declared.run.RunLine.TheVariants.{Mark}
-use Rattle.ta_replay.specs.Replays.{ValuesAfter, NoneFilled, FirstFilled}
-use Rattle.ta_replay.specs.Inside.Following.{FitsPattern, Following, StartsWith}
 
 counter_at_start : (a : Automaton) (run : Run) (config : Config) → StartsWith a run config → (j l : ℕ) → slice_get a.initial j ≡ Some l → pos (get_or (config_of a config).counters l 0) ≡ point_of run.counts j
 counter_at_start a run config s j l at = counter_there a config s.is_of l ∙ s.starts.counts_there j l at

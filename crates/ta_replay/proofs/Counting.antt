@@ -1,17 +1,5 @@
 -- how many marks a run has
-use Rattle.std.proofs.Common.{◌≡◌, inl, inr, ℕ, zero, suc, ◌+◌, ◌<◌, ◌≤◌, List, [], ◌∷◌, length, eqb, cond, arith, sym, ap, ◌∙◌, refl, Some}
-use Rattle.std.proofs.lemmas.Bool.Decides.{eqb_tells}
-use Rattle.std.specs.List.{AllByRecursion}
-use Rattle.ta_base.proofs.Lists.{some_at}
-use Rattle.ta_base.proofs.Naturals.{sum_below}
-use Rattle.ta_base.proofs.Sums.{sum-ones}
-use Rattle.ta_automaton.specs.declared.automaton.Automaton.{Automaton}
-use Rattle.ta_automaton.specs.declared.pattern.Pattern.{Pattern}
-use Rattle.ta_replay.specs.declared.run.Run.{Run}
-use Rattle.ta_replay.specs.declared.run.RunLine.{RunLine}
-use Rattle.ta_replay.specs.declared.run.RunLine.TheVariants.{Step, Mark}
-use Rattle.ta_replay.specs.Fits.{LineFits}
-use Rattle.ta_replay.specs.Shows.{MarksAt, ShowsPattern, marks_count}
+use Rattle.ta_replay.proofs.Common.{◌≡◌, inl, inr, ℕ, zero, suc, ◌+◌, ◌<◌, ◌≤◌, List, [], ◌∷◌, length, eqb, cond, arith, sym, ap, ◌∙◌, refl, Some, eqb_tells, AllByRecursion, some_at, sum_below, sum-ones, Automaton, Pattern, Run, RunLine, Step, Mark, LineFits, MarksAt, ShowsPattern, marks_count}
 
 -- how many lines mark an event
 marks_of : List RunLine → ℕ → ℕ

@@ -1,12 +1,7 @@
 -- Values in decimal.
-use Rattle.std.proofs.Common.{ℕ, ℤ, pos, negsuc, to_z, of_z, ◌^◌, ◌<◌, ◌≡◌, refl, sym, ap, subst, ◌∙◌, decimal, arith, rules, lit≤}
-use Rattle.std.specs.Fmt.{signed_decimal}
+use Rattle.ta_replay.proofs.Common.{ℕ, ℤ, pos, negsuc, to_z, of_z, ◌^◌, ◌<◌, ◌≡◌, refl, sym, ap, subst, ◌∙◌, decimal, arith, rules, lit≤, signed_decimal, w128, ints, to_z-of_z, Avoids, Value}
 use Rattle.std.specs.Prelude.{FitsSigned}
-use Rattle.std.specs.Int.{w128}
-use Rattle.std.proofs.lemmas.Int.{ints, to_z-of_z}
-use Rattle.ta_base.specs.Bytes.{Avoids}
 use Rattle.ta_base.proofs.DecimalDigits.{decimal_avoids, decimal_same}
-use Rattle.ta_counter.specs.Values.{Value}
 
 -- a value is a natural number below 2^127
 pub natural : (z : ℤ) → Value z → (n : ℕ) × (n < 2 ^ 127) × (z ≡ pos n)

@@ -1,24 +1,5 @@
 -- where all lines pass
-use Rattle.std.proofs.Common.{◌≡◌, inl, inr, ℕ, ◌<◌, ℤ, List, length, take, arith, subst, slice_get, Some, IsBitSet}
-use Rattle.std.proofs.lemmas.Bool.{cases_lt}
-use Rattle.std.proofs.lemmas.Option.{slice_get_within}
-use Rattle.ta_base.proofs.Lists.{front_get, get_front, take_all}
-use Rattle.ta_linear.specs.Values.{point_of}
-use Rattle.ta_linear.specs.declared.row.Row.{Row}
-use Rattle.ta_automaton.specs.declared.automaton.Automaton.{Automaton}
-use Rattle.ta_automaton.specs.declared.condition.Condition.{Condition}
-use Rattle.ta_automaton.specs.declared.pattern.Pattern.{Pattern}
-use Rattle.ta_automaton.specs.Runs.{Steps}
-use Rattle.ta_counter.specs.declared.config.Config.{Config}
-use Rattle.ta_counter.specs.Checks.{ConditionPasses}
-use Rattle.ta_counter.specs.Guards.{MaskedPass}
-use Rattle.ta_replay.specs.declared.run.Run.{Run}
-use Rattle.ta_replay.specs.declared.run.RunLine.{RunLine}
-use Rattle.ta_replay.specs.declared.run.RunLine.TheVariants.{Step, Mark}
-use Rattle.ta_replay.specs.Shows.{unit_steps, MarksAt, IsMarked, ShowsPattern}
-use Rattle.ta_replay.specs.Replays.{LineTakes, LinePasses, InOrder, ConditionStays, MaskedStay, LineStays, NumbersStay}
-use Rattle.ta_replay.specs.ReplayFaults.{LacksMark}
-use Rattle.ta_replay.specs.Inside.Following.{Following, FirstUnmarked}
+use Rattle.ta_replay.proofs.Common.{◌≡◌, inl, inr, ℕ, ◌<◌, ℤ, List, length, take, arith, subst, slice_get, Some, IsBitSet, cases_lt, slice_get_within, front_get, get_front, take_all, point_of, Row, Automaton, Condition, Pattern, Steps, Config, ConditionPasses, MaskedPass, Run, RunLine, Step, Mark, unit_steps, MarksAt, IsMarked, ShowsPattern, LineTakes, LinePasses, InOrder, ConditionStays, MaskedStay, LineStays, NumbersStay, LacksMark, Following, FirstUnmarked}
 use Rattle.ta_replay.proofs.Begins.{starts_same, after_same}
 
 -- an event isn't marked on two lines

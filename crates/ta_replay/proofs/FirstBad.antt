@@ -1,14 +1,5 @@
 -- Of two first bad items, both are one.
-use Rattle.std.proofs.lemmas.Bool.{cases_order}
-use Rattle.std.proofs.Common.{◌≡◌, inl, inr, ℕ, ◌+◌, ℤ, List, length, sym, ap, ◌∙◌, subst, slice_get, IsBitSet}
-use Rattle.std.proofs.lemmas.Option.{same_Some}
-use Rattle.ta_linear.specs.declared.row.Row.{Row}
-use Rattle.ta_automaton.specs.declared.automaton.Automaton.{Automaton}
-use Rattle.ta_automaton.specs.declared.condition.Comparison.{Comparison}
-use Rattle.ta_automaton.specs.declared.condition.Condition.{Condition}
-use Rattle.ta_automaton.specs.declared.rule.Rule.{Rule}
-use Rattle.ta_counter.specs.Checks.{AllPass, StopsAt, RowPasses, RowFails, RowOutOfRange, RowsPass, RowsStop, ConditionPasses, ConditionStopsAt}
-use Rattle.ta_counter.specs.Guards.{MaskedPass, MaskedStop, BadGuard}
+use Rattle.ta_replay.proofs.Common.{cases_order, ◌≡◌, inl, inr, ℕ, ◌+◌, ℤ, List, length, sym, ap, ◌∙◌, subst, slice_get, IsBitSet, same_Some, Row, Automaton, Comparison, Condition, Rule, AllPass, StopsAt, RowPasses, RowFails, RowOutOfRange, RowsPass, RowsStop, ConditionPasses, ConditionStopsAt, MaskedPass, MaskedStop, BadGuard}
 
 -- one item is bad in two ways
 pub record Meets {X : Type 0} (Bad Worse : ℕ → X → Type 0) (j k : ℕ) : Type 0 where

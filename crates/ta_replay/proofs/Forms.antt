@@ -1,11 +1,5 @@
 -- The forms of lines.
-use Rattle.std.proofs.Common.{ℕ, ℤ, ◌≡◌, List, ◌∷◌, ◌++◌, refl, sym, subst, ◌∙◌}
-use Rattle.std.specs.Fmt.{signed_decimal}
-use Rattle.std.proofs.lemmas.List.{append_cancel_left}
-use Rattle.ta_base.specs.Bytes.{Avoids, IsWord, SplitAt}
-use Rattle.ta_base.proofs.Each.{word_avoids}
-use Rattle.ta_base.proofs.Lists.{first_byte, not_parted}
-use Rattle.ta_replay.specs.TextFaults.{IsValued}
+use Rattle.ta_replay.proofs.Common.{ℕ, ℤ, ◌≡◌, List, ◌∷◌, ◌++◌, refl, sym, subst, ◌∙◌, signed_decimal, append_cancel_left, Avoids, IsWord, SplitAt, word_avoids, first_byte, not_parted, IsValued}
 use Rattle.ta_replay.specs.Reading.{IsNumber}
 use Rattle.ta_replay.proofs.Decimals.{number_same}
 

@@ -1,26 +1,7 @@
 -- The first fault of a text.
-use Rattle.std.proofs.Common.{ℕ, ℤ, zero, suc, pos, ◌+◌, ◌-◌, ◌<◌, ◌≡◌, ◌≢◌, ◌⊎◌, List, [], ◌∷◌, ◌++◌, length, map, replicate, refl, sym, ap, subst, ◌∙◌, Some, None, Option, inl, inr, append_assoc, length-append, arith, codes}
+use Rattle.ta_replay.proofs.Common.{ℕ, ℤ, zero, suc, pos, ◌+◌, ◌-◌, ◌<◌, ◌≡◌, ◌≢◌, ◌⊎◌, List, [], ◌∷◌, ◌++◌, length, map, replicate, refl, sym, ap, subst, ◌∙◌, Some, None, Option, inl, inr, append_assoc, length-append, arith, codes, length-map, length-replicate, append_cancel_left, slice_get_within, slice_get_past, AllByRecursion, each_append, each_at, some_at, Automaton, Pattern, File, pattern_name, Value, Run, RunLine, RunFault, Fits, LineFits, Slot, name_at, valued_line, slots, value_lines, line_of, head_line, run_lines, lines_text, IsValued, FormFor, IsFront, IsMalformedRun, IsMisnamed, TextFault, Avoids, SplitAt, HeadRead, NoValue, OtherValue, ValueRefused, ValuesRead, ValuesStopped, ValuesFault, IsStatement, StatementRefused, StepRefused, StepsBegun, StepsStopped, StepsFault, Unfinished, Refused, Trailing}
 use Rattle.std.specs.Prelude.{slice_get}
-use Rattle.std.proofs.lemmas.List.{length-map, length-replicate, append_cancel_left}
-use Rattle.std.proofs.lemmas.Option.{slice_get_within, slice_get_past}
-use Rattle.std.specs.List.{AllByRecursion}
-use Rattle.ta_base.proofs.Each.{each_append, each_at}
-use Rattle.ta_base.proofs.Lists.{some_at}
-use Rattle.ta_automaton.specs.declared.automaton.Automaton.{Automaton}
-use Rattle.ta_automaton.specs.declared.pattern.Pattern.{Pattern}
-use Rattle.ta_automaton.specs.declared.file.File.{File}
-use Rattle.ta_automaton.specs.Patterns.{pattern_name}
-use Rattle.ta_counter.specs.Values.{Value}
-use Rattle.ta_replay.specs.declared.run.Run.{Run}
-use Rattle.ta_replay.specs.declared.run.RunLine.{RunLine}
-use Rattle.ta_replay.specs.declared.fault.RunFault.{RunFault}
 use Rattle.ta_replay.specs.declared.fault.RunFault.TheVariants as fault
-use Rattle.ta_replay.specs.Fits.{Fits, LineFits}
-use Rattle.ta_replay.specs.RunText.{Slot, name_at, valued_line, slots, value_lines, line_of, head_line, run_lines, lines_text}
-use Rattle.ta_replay.specs.TextFaults.{IsValued, FormFor, IsFront, IsMalformedRun, IsMisnamed, TextFault}
-use Rattle.ta_base.specs.Bytes.{Avoids, SplitAt}
-use Rattle.ta_replay.specs.Inside.Reading.{HeadRead, NoValue, OtherValue, ValueRefused, ValuesRead, ValuesStopped, ValuesFault, IsStatement, StatementRefused, StepRefused, StepsBegun, StepsStopped, StepsFault}
-use Rattle.ta_replay.specs.Inside.Reading.StepRefused.{Unfinished, Refused, Trailing}
 use Rattle.ta_replay.proofs.NumberedNames.{one_name}
 use Rattle.ta_replay.proofs.ListSteps.{read_more, read_both}
 use Rattle.ta_replay.proofs.Decimals.{value_is}

@@ -30,3 +30,4 @@ mod TextAnswers
 pub mod FirstBad
 pub mod OneRefusal
 pub mod Once
+mod Common

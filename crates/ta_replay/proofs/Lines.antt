@@ -1,11 +1,5 @@
 -- lines one after another
-use Rattle.std.proofs.Common.{◌≡◌, ◌⊎◌, inl, inr, ℕ, ◌+◌, ◌↔◌, List, [], ◌∷◌, ◌++◌, length, take, replicate, unsigned_abs, arith, sym, ap, ◌∙◌, refl, slice_get, Some, length-append, append_assoc}
-use Rattle.std.proofs.lemmas.Bool.{cases_lt}
-use Rattle.std.proofs.lemmas.Option.{same_Some}
-use Rattle.ta_base.proofs.Lists.{front_get, get_front, take_next}
-use Rattle.ta_replay.specs.declared.run.RunLine.{RunLine}
-use Rattle.ta_replay.specs.declared.run.RunLine.TheVariants.{Step, Mark}
-use Rattle.ta_replay.specs.Shows.{unit_steps, steps_before, IsMarked, factor_of, factors_sum}
+use Rattle.ta_replay.proofs.Common.{◌≡◌, ◌⊎◌, inl, inr, ℕ, ◌+◌, ◌↔◌, List, [], ◌∷◌, ◌++◌, length, take, replicate, unsigned_abs, arith, sym, ap, ◌∙◌, refl, slice_get, Some, length-append, append_assoc, cases_lt, same_Some, front_get, get_front, take_next, RunLine, Step, Mark, unit_steps, steps_before, IsMarked, factor_of, factors_sum}
 
 pub factors_sum-append : (xs ys : List RunLine) → factors_sum (xs ++ ys) ≡ factors_sum xs + factors_sum ys
 factors_sum-append [] ys = omega arith

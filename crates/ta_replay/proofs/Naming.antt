@@ -1,13 +1,5 @@
 -- the pattern that a replay reads
-use Rattle.std.proofs.Common.{◌≡◌, List, length, arith, sym, ap, ◌∙◌, subst, slice_get, get_or, Some}
-use Rattle.std.proofs.lemmas.Option.{same_Some, slice_get_within}
-use Rattle.ta_base.proofs.Lists.{read_same}
-use Rattle.ta_automaton.specs.declared.file.File.{File}
-use Rattle.ta_automaton.specs.declared.pattern.Pattern.{Pattern}
-use Rattle.ta_replay.specs.declared.run.Run.{Run}
-use Rattle.ta_replay.specs.Fits.{Fits}
-use Rattle.ta_replay.specs.Shows.{Shows, ShowsPattern}
-use Rattle.ta_replay.specs.Inside.Following.{FitsPattern}
+use Rattle.ta_replay.proofs.Common.{◌≡◌, List, length, arith, sym, ap, ◌∙◌, subst, slice_get, get_or, Some, same_Some, slice_get_within, read_same, File, Pattern, Run, Fits, Shows, ShowsPattern, FitsPattern}
 
 pub named_read : (file : File) (run : Run) (patterns : List Pattern) (p : Pattern) → Fits file run → patterns ≡ file.patterns → p ≡ get_or patterns run.pattern p → slice_get file.patterns run.pattern ≡ Some p
 named_read file run patterns p fits same is =

@@ -1,10 +1,5 @@
 -- Numbers of items by their names.
-use Rattle.std.proofs.Common.{ℕ, zero, suc, ◌<◌, ◌≤◌, ◌≡◌, List, [], ◌∷◌, map, length, get_or, refl, sym, ap, ◌∙◌, arith}
-use Rattle.std.proofs.lemmas.List.{get_or-map, length-map}
-use Rattle.ta_base.specs.Lists.{Distinct}
-use Rattle.ta_base.proofs.Each.{each_get_or}
-use Rattle.ta_replay.specs.RunText.{name_at}
-use Rattle.ta_replay.specs.Inside.Reading.{IsNameOf, NoNameOf}
+use Rattle.ta_replay.proofs.Common.{ℕ, zero, suc, ◌<◌, ◌≤◌, ◌≡◌, List, [], ◌∷◌, map, length, get_or, refl, sym, ap, ◌∙◌, arith, get_or-map, length-map, Distinct, each_get_or, name_at, IsNameOf, NoNameOf}
 
 -- an item of this name
 pub name_of_item : {X : Type 0} (f : X → List ℕ) (xs : List X) (i : ℕ) (d : X) (name : List ℕ) → i < length xs → f (get_or xs i d) ≡ name → IsNameOf (map f xs) name i

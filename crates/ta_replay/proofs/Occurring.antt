@@ -1,13 +1,6 @@
 -- a run that shows its pattern is an occurrence of it
-use Rattle.std.proofs.Common.{◌≡◌, inl, inr, ℕ, zero, suc, ◌<◌, ◌≤◌, List, [], ◌∷◌, length, take, replicate, unsigned_abs, arith, sym, ap, refl, subst, slice_get, Some, length-append}
-use Rattle.std.proofs.lemmas.Bool.{cases_lt}
-use Rattle.std.proofs.lemmas.List.{get_or_past}
-use Rattle.std.proofs.lemmas.Option.{slice_get-get_or, slice_get_within}
-use Rattle.ta_automaton.specs.declared.pattern.Event.{Event}
-use Rattle.ta_automaton.specs.Runs.{Config, HappensAt}
-use Rattle.ta_replay.specs.declared.run.RunLine.{RunLine}
-use Rattle.ta_replay.specs.declared.run.RunLine.TheVariants.{Step, Mark}
-use Rattle.ta_replay.specs.Shows.{unit_steps, steps_before, MarksAt, MarkedOnce, ShownRunsOccur}
+use Rattle.ta_replay.proofs.Common.{◌≡◌, inl, inr, ℕ, zero, suc, ◌<◌, ◌≤◌, List, [], ◌∷◌, length, take, replicate, unsigned_abs, arith, sym, ap, refl, subst, slice_get, Some, length-append, cases_lt, get_or_past, slice_get-get_or, slice_get_within, Event, HappensAt, RunLine, Step, Mark, unit_steps, steps_before, MarksAt, MarkedOnce, ShownRunsOccur}
+use Rattle.ta_automaton.specs.Runs.{Config}
 
 -- the further down a line, the more steps stand before it
 pub steps_before_le : (lines : List RunLine) (j i : ℕ) → j ≤ i → steps_before lines j ≤ steps_before lines i

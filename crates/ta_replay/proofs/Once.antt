@@ -1,16 +1,8 @@
 -- Texts and runs have one answer.
-use Rattle.std.proofs.Common.{◌≡◌, ℕ, List, refl, sym, ap, subst}
+use Rattle.ta_replay.proofs.Common.{◌≡◌, ℕ, List, refl, sym, ap, subst, File, Run, RunFault, Fits, FirstRefusal, ReplayFault, ReplayStays, Shows, TextFault}
 use Rattle.std.specs.Prelude.{◌≢◌}
-use Rattle.ta_automaton.specs.declared.file.File.{File}
-use Rattle.ta_replay.specs.declared.run.Run.{Run}
-use Rattle.ta_replay.specs.declared.fault.RunFault.{RunFault}
 use Rattle.ta_replay.specs.declared.fault.RunFault.TheVariants as fault
 use Rattle.ta_replay.specs.Determined.{RefusalsAreDetermined, TextsAreDetermined}
-use Rattle.ta_replay.specs.Fits.{Fits}
-use Rattle.ta_replay.specs.ReplayFaults.{FirstRefusal, ReplayFault}
-use Rattle.ta_replay.specs.Replays.{ReplayStays}
-use Rattle.ta_replay.specs.Shows.{Shows}
-use Rattle.ta_replay.specs.TextFaults.{TextFault}
 use Rattle.ta_replay.proofs.Naming.{fits_read}
 use Rattle.ta_replay.proofs.OneFault.{not_both, one_malformed, one_misnamed}
 use Rattle.ta_replay.proofs.OneRefusal.{one_refusal}

@@ -1,16 +1,6 @@
 -- A text has one first fault.
-use Rattle.std.proofs.Common.{ℕ, ◌+◌, ◌≡◌, ◌⊎◌, List, [], ◌∷◌, ◌++◌, length, refl, sym, ap, subst, ◌∙◌, inl, inr, append_assoc, append-nil}
-use Rattle.std.specs.List.{AllByRecursion}
-use Rattle.ta_base.proofs.Each.{each_back}
-use Rattle.ta_base.proofs.Lists.{first_byte, not_parted}
-use Rattle.ta_automaton.specs.declared.file.File.{File}
-use Rattle.ta_replay.specs.declared.run.Run.{Run}
-use Rattle.ta_replay.specs.declared.fault.RunFault.{RunFault}
+use Rattle.ta_replay.proofs.Common.{ℕ, ◌+◌, ◌≡◌, ◌⊎◌, List, [], ◌∷◌, ◌++◌, length, refl, sym, ap, subst, ◌∙◌, inl, inr, append_assoc, append-nil, AllByRecursion, each_back, first_byte, not_parted, File, Run, RunFault, Fits, run_lines, lines_text, FormAt, LinesGoOn, IsTrailingRun, IsUnfinishedRun, IsMisformed, IsMalformedRun, IsMisnamed, TextFault, Avoids}
 use Rattle.ta_replay.specs.declared.fault.RunFault.TheVariants as fault
-use Rattle.ta_replay.specs.Fits.{Fits}
-use Rattle.ta_replay.specs.RunText.{run_lines, lines_text}
-use Rattle.ta_replay.specs.TextFaults.{FormAt, LinesGoOn, IsTrailingRun, IsUnfinishedRun, IsMisformed, IsMalformedRun, IsMisnamed, TextFault}
-use Rattle.ta_base.specs.Bytes.{Avoids}
 use Rattle.ta_replay.proofs.OneRun.{run_clear, run_formed, not_longer, begun_clear, fault_clear, formed_clear}
 
 -- a run begins with the lines, or they are none

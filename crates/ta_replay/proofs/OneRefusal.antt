@@ -1,32 +1,10 @@
 -- A run has one first refusal.
-use Rattle.std.proofs.lemmas.Bool.{cases_order}
-use Rattle.std.proofs.Common.{◌≡◌, inl, inr, ℕ, ◌+◌, ◌<◌, ℤ, pos, List, length, take, refl, sym, ap, ◌∙◌, subst, slice_get, Some}
-use Rattle.std.proofs.lemmas.List.{ext_get_or}
-use Rattle.std.proofs.lemmas.Option.{same_Some}
-use Rattle.std.specs.List.{AllByRecursion}
-use Rattle.ta_base.proofs.Each.{each_at}
-use Rattle.ta_base.proofs.Lists.{some_at}
-use Rattle.ta_linear.specs.Values.{point_of}
-use Rattle.ta_automaton.specs.declared.automaton.Automaton.{Automaton}
-use Rattle.ta_automaton.specs.declared.file.File.{File}
-use Rattle.ta_automaton.specs.declared.pattern.Pattern.{Pattern}
-use Rattle.ta_automaton.specs.declared.rule.Rule.{Rule}
-use Rattle.ta_counter.specs.Checks.{RowFails, RowOutOfRange, ConditionPasses}
-use Rattle.ta_counter.specs.Starts.{MayStart, StartsAt, StartFails}
-use Rattle.ta_counter.specs.Steps.{StepFails, StepIsTaken, before_last}
+use Rattle.ta_replay.proofs.Common.{cases_order, ◌≡◌, inl, inr, ℕ, ◌+◌, ◌<◌, ℤ, pos, List, length, take, refl, sym, ap, ◌∙◌, subst, slice_get, Some, ext_get_or, same_Some, AllByRecursion, each_at, some_at, point_of, Automaton, File, Pattern, Rule, RowFails, RowOutOfRange, ConditionPasses, MayStart, StartsAt, StartFails, StepFails, StepIsTaken, before_last, Run, RunLine, Step, Mark, RunFault, Line, Resilience, Processes, Start, NotEmpty, Guard, Count, MissingEvent, Overflow, Order, Memory, Fits, LineFits, IsMarked, EmptyAt, FirstFilled, LinePasses, LineTakes, MarkPasses, MayTakeLines, Takes, ValuesAfter, ConfigRefuses, StartRefuses, FilledAt, LineStops, LineRefuses, StepRefuses, StepFills, MarkRefuses, LacksMark, FirstRefusal, ReplayFault, run_line_number}
 use Rattle.ta_counter.specs.declared.fault.StartFault.{StartFault}
 use Rattle.ta_counter.specs.declared.fault.StartFault.TheVariants as start
 use Rattle.ta_counter.specs.declared.fault.StepFault.{StepFault}
 use Rattle.ta_counter.specs.declared.fault.StepFault.TheVariants as step
-use Rattle.ta_replay.specs.declared.run.Run.{Run}
-use Rattle.ta_replay.specs.declared.run.RunLine.{RunLine}
-use Rattle.ta_replay.specs.declared.run.RunLine.TheVariants.{Step, Mark}
-use Rattle.ta_replay.specs.declared.fault.RunFault.{RunFault}
-use Rattle.ta_replay.specs.declared.fault.RunFault.TheVariants.{Line, Name, Resilience, Processes, Start, NotEmpty, Guard, Count, Event, MissingEvent, Overflow, Order, Memory}
-use Rattle.ta_replay.specs.Fits.{Fits, LineFits}
-use Rattle.ta_replay.specs.Shows.{IsMarked}
-use Rattle.ta_replay.specs.Replays.{EmptyAt, FirstFilled, LinePasses, LineTakes, MarkPasses, MayTakeLines, Takes, ValuesAfter}
-use Rattle.ta_replay.specs.ReplayFaults.{ConfigRefuses, StartRefuses, FilledAt, LineStops, LineRefuses, StepRefuses, StepFills, MarkRefuses, LacksMark, FirstRefusal, ReplayFault, run_line_number}
+use Rattle.ta_replay.specs.declared.fault.RunFault.TheVariants.{Name, Event}
 use Rattle.ta_replay.proofs.Begins.{starts_same, after_same}
 use Rattle.ta_replay.proofs.FirstBad.{condition_clash, condition_meets, fails_clash, guards_clash, guards_meet, leaves_clash, not_both_bad}
 

@@ -1,30 +1,7 @@
 -- A text is that of at most one run, and has then no fault.
-use Rattle.std.proofs.Common.{ℕ, ℤ, zero, suc, ◌+◌, ◌<◌, ◌≡◌, ◌⊎◌, List, [], ◌∷◌, ◌++◌, length, map, refl, sym, ap, subst, ◌∙◌, Some, None, Option, inl, inr, append_assoc, append-nil, arith, codes}
+use Rattle.ta_replay.proofs.Common.{ℕ, ℤ, zero, suc, ◌+◌, ◌<◌, ◌≡◌, ◌⊎◌, List, [], ◌∷◌, ◌++◌, length, map, refl, sym, ap, subst, ◌∙◌, Some, None, Option, inl, inr, append_assoc, append-nil, arith, codes, signed_decimal, length-map, append_cancel_left, same_from_push, slice_get_within, AllByRecursion, each_append, each_at, each_back, each_front, last_only, word_avoids, avoids-append, avoids_known, differ, first_byte, not_parted, same_parts, pattern_within, Automaton, Pattern, File, EachFrom, event_name, pattern_name, EventWithin, PatternWithin, Event, name_of, Value, Run, RunLine, Step, Mark, RunFault, Fits, LineFits, Slot, name_at, named_line, valued_line, slots, value_lines, line_of, head_line, run_lines, lines_text, IsRunText, FormFor, FormAt, LinesGoOn, IsTrailingRun, IsUnfinishedRun, IsMisformed, IsMalformedRun, IsMisnamed, TextFault, Avoids, IsWord}
 use Rattle.std.specs.Prelude.{slice_get}
-use Rattle.std.specs.Fmt.{signed_decimal}
-use Rattle.std.proofs.lemmas.List.{length-map, append_cancel_left, same_from_push}
-use Rattle.std.proofs.lemmas.Option.{slice_get_within}
-use Rattle.std.specs.List.{AllByRecursion}
-use Rattle.ta_base.proofs.Each.{each_append, each_at, each_back, each_front, last_only, word_avoids}
-use Rattle.ta_base.proofs.Lists.{avoids-append, avoids_known, differ, first_byte, not_parted, same_parts}
-use Rattle.ta_automaton.proofs.Thresholds.{pattern_within}
-use Rattle.ta_automaton.specs.declared.automaton.Automaton.{Automaton}
-use Rattle.ta_automaton.specs.declared.pattern.Pattern.{Pattern}
-use Rattle.ta_automaton.specs.declared.file.File.{File}
-use Rattle.ta_base.specs.Lists.{EachFrom}
-use Rattle.ta_automaton.specs.Patterns.{event_name, pattern_name, EventWithin, PatternWithin}
-use Rattle.ta_automaton.specs.declared.pattern.Event.{Event}
-use Rattle.ta_automaton.specs.Shape.{name_of}
-use Rattle.ta_counter.specs.Values.{Value}
-use Rattle.ta_replay.specs.declared.run.Run.{Run}
-use Rattle.ta_replay.specs.declared.run.RunLine.{RunLine}
-use Rattle.ta_replay.specs.declared.run.RunLine.TheVariants.{Step, Mark}
-use Rattle.ta_replay.specs.declared.fault.RunFault.{RunFault}
 use Rattle.ta_replay.specs.declared.fault.RunFault.TheVariants as fault
-use Rattle.ta_replay.specs.Fits.{Fits, LineFits}
-use Rattle.ta_replay.specs.RunText.{Slot, name_at, named_line, valued_line, slots, value_lines, line_of, head_line, run_lines, lines_text, IsRunText}
-use Rattle.ta_replay.specs.TextFaults.{FormFor, FormAt, LinesGoOn, IsTrailingRun, IsUnfinishedRun, IsMisformed, IsMalformedRun, IsMisnamed, TextFault}
-use Rattle.ta_base.specs.Bytes.{Avoids, IsWord}
 use Rattle.ta_replay.proofs.NumberedNames.{one_name}
 use Rattle.ta_replay.proofs.Decimals.{number_avoids}
 use Rattle.ta_replay.proofs.Forms.{valued_same}

@@ -1,32 +1,6 @@
 -- the model's steps along the lines
-use Rattle.std.proofs.Common.{◌≡◌, ◌≢◌, ◌⊎◌, inl, inr, ℕ, zero, suc, ◌+◌, ◌≤◌, ℤ, pos, negsuc, List, [], ◌∷◌, ◌++◌, length, take, replicate, eqb, false, arith, sym, ap, ◌∙◌, refl, subst, slice_get, get_or, Some, append-nil}
-use Rattle.std.proofs.lemmas.Int.{ints}
-use Rattle.std.proofs.lemmas.Bool.{cases_lt}
-use Rattle.std.proofs.lemmas.Bool.Decides.{nat_tests}
-use Rattle.std.proofs.lemmas.Option.{same_Some}
-use Rattle.std.proofs.lemmas.List.{length-replicate}
-use Rattle.ta_base.proofs.Lists.{slice_get_left, some_at}
-use Rattle.ta_linear.specs.Values.{point_of}
-use Rattle.ta_automaton.specs.declared.automaton.Automaton.{Automaton}
-use Rattle.ta_automaton.specs.declared.rule.Rule.{Rule}
-use Rattle.ta_automaton.specs.declared.pattern.Event.{Event}
-use Rattle.ta_automaton.specs.declared.pattern.Pattern.{Pattern}
+use Rattle.ta_replay.proofs.Common.{◌≡◌, ◌≢◌, ◌⊎◌, inl, inr, ℕ, zero, suc, ◌+◌, ◌≤◌, ℤ, pos, negsuc, List, [], ◌∷◌, ◌++◌, length, take, replicate, eqb, false, arith, sym, ap, ◌∙◌, refl, subst, slice_get, get_or, Some, append-nil, ints, cases_lt, nat_tests, same_Some, length-replicate, slice_get_left, some_at, point_of, Automaton, Rule, Event, Pattern, At, Holds, Steps, run_length, Config, config_of, model_of, IsOf, Fires, holds_from, taken_fires, KeepsEmpty, holds_there, RunLine, Step, Mark, LineFits, unit_steps, steps_before, LineTakes, Path}
 use Rattle.ta_automaton.specs.Runs as runs
-use Rattle.ta_automaton.specs.Runs.{At, Holds, Steps}
-use Rattle.ta_automaton.proofs.Trails.{run_length}
-use Rattle.ta_counter.specs.declared.config.Config.{Config}
-use Rattle.ta_counter.specs.Configs.{config_of, model_of, IsOf}
-use Rattle.ta_counter.specs.Steps.{Fires}
-use Rattle.ta_counter.proofs.Rows.{holds_from}
-use Rattle.ta_counter.proofs.Stepping.{taken_fires}
-use Rattle.ta_pattern.specs.Empty.{KeepsEmpty}
-use Rattle.ta_pattern.proofs.Agreeing.{holds_there}
-use Rattle.ta_replay.specs.declared.run.RunLine.{RunLine}
-use Rattle.ta_replay.specs.declared.run.RunLine.TheVariants.{Step, Mark}
-use Rattle.ta_replay.specs.Fits.{LineFits}
-use Rattle.ta_replay.specs.Shows.{unit_steps, steps_before}
-use Rattle.ta_replay.specs.Replays.{LineTakes}
-use Rattle.ta_replay.specs.Inside.Following.{Path}
 use Rattle.ta_replay.proofs.Lines.{unit_steps-next, steps_before-next}
 use Rattle.ta_replay.proofs.Values.{keeps_at}
 

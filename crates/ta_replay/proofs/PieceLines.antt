@@ -1,20 +1,6 @@
 -- the lines of pieces: how many steps they have, and where their marks stand
-use Rattle.std.proofs.Common.{◌≡◌, inl, inr, ℕ, zero, suc, ◌+◌, ◌*◌, ◌<◌, ◌≤◌, ℤ, List, [], ◌∷◌, ◌++◌, map, length, take, replicate, unsigned_abs, Option, Some, None, slice_get, arith, refl, sym, ap, ◌∙◌, subst, length-append, append_assoc, append-nil}
-use Rattle.std.proofs.lemmas.Bool.{cases_lt, cases_order}
-use Rattle.std.proofs.lemmas.Bool.Decides.{eqb_tells}
-use Rattle.std.proofs.lemmas.Option.{slice_get_within}
-use Rattle.std.specs.List.{AllByRecursion}
-use Rattle.ta_base.proofs.Lists.{get_parts}
-use Rattle.ta_base.proofs.Naturals.{sum_below}
-use Rattle.ta_base.proofs.Sums.{sum_most}
-use Rattle.ta_automaton.specs.declared.automaton.Automaton.{Automaton}
+use Rattle.ta_replay.proofs.Common.{◌≡◌, inl, inr, ℕ, zero, suc, ◌+◌, ◌*◌, ◌<◌, ◌≤◌, ℤ, List, [], ◌∷◌, ◌++◌, map, length, take, replicate, unsigned_abs, Option, Some, None, slice_get, arith, refl, sym, ap, ◌∙◌, subst, length-append, append_assoc, append-nil, cases_lt, cases_order, eqb_tells, slice_get_within, AllByRecursion, get_parts, sum_below, sum_most, Automaton, HappensAt, times_in, RunLine, Step, Mark, unit_steps, steps_before, MarksAt, Piece, OncePerRule, PiecesAreShort, PiecesShow, step_line, last_lines, piece_lines, pieces_lines, pieces_marks, steps_count, steps_until, rule_of}
 use Rattle.ta_base.specs.Masks.{In}
-use Rattle.ta_automaton.specs.Runs.{HappensAt}
-use Rattle.ta_automaton.specs.Sums.{times_in}
-use Rattle.ta_replay.specs.declared.run.RunLine.{RunLine}
-use Rattle.ta_replay.specs.declared.run.RunLine.TheVariants.{Step, Mark}
-use Rattle.ta_replay.specs.Shows.{unit_steps, steps_before, MarksAt}
-use Rattle.ta_replay.specs.Pieces.{Piece, OncePerRule, PiecesAreShort, PiecesShow, step_line, last_lines, piece_lines, pieces_lines, pieces_marks, steps_count, steps_until, rule_of}
 use Rattle.ta_replay.proofs.Lines.{unit_steps-append}
 
 steps_count-append : (xs ys : List RunLine) → steps_count (xs ++ ys) ≡ steps_count xs + steps_count ys

@@ -1,16 +1,6 @@
 -- The lines of a run, as they are written.
-use Rattle.std.proofs.Common.{ℕ, ℤ, zero, suc, pos, ◌+◌, ◌<◌, ◌≡◌, List, [], ◌∷◌, ◌++◌, length, map, drop, get_or, refl, sym, ap, ◌∙◌, Some, append_assoc, append-nil, arith, codes, ◌≤◌}
-use Rattle.std.specs.Prelude.{slice_get, option_map}
-use Rattle.std.specs.Fmt.{signed_decimal}
-use Rattle.std.proofs.lemmas.Option.{slice_get-map, slice_get_read, get_or_from_slice_get}
-use Rattle.std.proofs.lemmas.List.{at_drop_all, length-map}
-use Rattle.ta_automaton.specs.declared.automaton.Automaton.{Automaton}
-use Rattle.ta_automaton.specs.declared.pattern.Pattern.{Pattern}
-use Rattle.ta_replay.specs.declared.run.RunLine.{RunLine}
-use Rattle.ta_replay.specs.RunText.{Slot, name_at, parameter_slot, parameter_slots, start_slots, slots, valued_line, value_lines, line_of, head_line, lines_text, run_text}
-use Rattle.ta_replay.specs.declared.run.Run.{Run}
-use Rattle.ta_automaton.specs.declared.file.File.{File}
-use Rattle.ta_automaton.specs.Patterns.{pattern_name}
+use Rattle.ta_replay.proofs.Common.{ℕ, ℤ, zero, suc, pos, ◌+◌, ◌<◌, ◌≡◌, List, [], ◌∷◌, ◌++◌, length, map, drop, get_or, refl, sym, ap, ◌∙◌, Some, append_assoc, append-nil, arith, codes, ◌≤◌, option_map, signed_decimal, slice_get-map, slice_get_read, get_or_from_slice_get, at_drop_all, length-map, Automaton, Pattern, RunLine, Slot, name_at, parameter_slot, parameter_slots, start_slots, slots, valued_line, value_lines, line_of, head_line, lines_text, run_text, Run, File, pattern_name}
+use Rattle.std.specs.Prelude.{slice_get}
 use Rattle.ta_replay.proofs.ListSteps.{lines_text-append}
 use Rattle.ta_replay.proofs.ValueLines.{value_lines-append}
 use Rattle.ta_replay.proofs.RunFacts.{behind_head, run_lines_are}

@@ -1,38 +1,10 @@
 -- a run that shows its pattern within the range isn't refused
-use Rattle.std.proofs.Common.{◌≡◌, inl, inr, ℕ, ◌+◌, ◌<◌, ℤ, pos, List, ◌∷◌, length, take, unsigned_abs, arith, sym, ap, ◌∙◌, refl, subst, slice_get, Some}
+use Rattle.ta_replay.proofs.Common.{◌≡◌, inl, inr, ℕ, ◌+◌, ◌<◌, ℤ, pos, List, ◌∷◌, length, take, unsigned_abs, arith, sym, ap, ◌∙◌, refl, subst, slice_get, Some, same_Some, slice_get_within, each_at, front_get, get_front, some_at, point_of, Automaton, Condition, File, Pattern, Rule, location_place, HoldsAt, Initial, value_at, value_at-location, fits_whole, RowFails, RowOutOfRange, ConditionStopsAt, config_of, Fires, StepFails, model_at, model_whole, naturals_at, same_model, fails_from, no_start, no_steps, Run, RunLine, Step, Mark, RunFault, Line, Resilience, Processes, Start, NotEmpty, Guard, Count, MissingEvent, Overflow, Order, Memory, LineFits, IsMarked, MarksAt, ShowsPattern, steps_before, InOrder, ConditionStays, StepStays, NumbersStay, ConfigRefuses, StartStops, FilledAt, LineStops, LineRefuses, StepRefuses, MarkRefuses, LacksMark, FirstRefusal, RefusedThough, run_line_number, FitsPattern}
 use mathlib.Core.Path.{fun_ext}
-use Rattle.std.proofs.lemmas.Option.{same_Some, slice_get_within}
-use Rattle.ta_base.proofs.Each.{each_at}
-use Rattle.ta_base.proofs.Lists.{front_get, get_front, some_at}
-use Rattle.ta_linear.specs.Values.{point_of}
-use Rattle.ta_automaton.specs.declared.automaton.Automaton.{Automaton}
-use Rattle.ta_automaton.specs.declared.condition.Condition.{Condition}
-use Rattle.ta_automaton.specs.declared.file.File.{File}
-use Rattle.ta_automaton.specs.declared.pattern.Pattern.{Pattern}
-use Rattle.ta_automaton.specs.declared.rule.Rule.{Rule}
-use Rattle.ta_automaton.specs.Places.{location_place}
 use Rattle.ta_automaton.specs.Runs as runs
-use Rattle.ta_automaton.specs.Runs.{HoldsAt, Initial, value_at}
-use Rattle.ta_automaton.proofs.Moves.{value_at-location}
-use Rattle.ta_counter.specs.Checks.{RowFails, RowOutOfRange, ConditionStopsAt}
-use Rattle.ta_counter.specs.Configs.{config_of}
-use Rattle.ta_counter.specs.Steps.{Fires, StepFails}
 use Rattle.ta_counter.specs.declared.fault.StepFault.TheVariants as step
 use Rattle.ta_counter.specs.declared.fault.StartFault.TheVariants as start
-use Rattle.ta_counter.proofs.Models.{model_at, model_whole, naturals_at, same_model, whole_fits}
-use Rattle.ta_counter.proofs.Rows.{fails_from}
-use Rattle.ta_counter.proofs.Starting.{no_start}
-use Rattle.ta_counter.proofs.Stepping.{no_steps}
-use Rattle.ta_replay.specs.declared.run.Run.{Run}
-use Rattle.ta_replay.specs.declared.run.RunLine.{RunLine}
-use Rattle.ta_replay.specs.declared.run.RunLine.TheVariants.{Step, Mark}
-use Rattle.ta_replay.specs.declared.fault.RunFault.{RunFault}
-use Rattle.ta_replay.specs.declared.fault.RunFault.TheVariants.{Line, Name, Resilience, Processes, Start, NotEmpty, Guard, Count, Event, MissingEvent, Overflow, Order, Memory}
-use Rattle.ta_replay.specs.Fits.{LineFits}
-use Rattle.ta_replay.specs.Shows.{IsMarked, MarksAt, ShowsPattern, steps_before}
-use Rattle.ta_replay.specs.Replays.{InOrder, ConditionStays, StepStays, NumbersStay}
-use Rattle.ta_replay.specs.ReplayFaults.{ConfigRefuses, StartStops, FilledAt, LineStops, LineRefuses, StepRefuses, MarkRefuses, LacksMark, FirstRefusal, RefusedThough, run_line_number}
-use Rattle.ta_replay.specs.Inside.Following.{FitsPattern}
+use Rattle.ta_replay.specs.declared.fault.RunFault.TheVariants.{Name, Event}
 use Rattle.ta_replay.proofs.Along.{step_values}
 use Rattle.ta_replay.proofs.Showing.{shown_starts, shown_model, shown_first, ShownAt, shown_at, shown_fires, values_of}
 
@@ -145,7 +117,7 @@ step_denied a p run fits s fault stop r factor number is other h =
           let after = g.1.0 in
           let reached = step_values a run stop.i r factor stop.config.values.items after fit.0 at stop.reached g.1.1 in
           let c = shown_at a p run fits s (stop.i + 1) (let b = slice_get_within run.lines stop.i (Step r factor) at in omega arith) in
-          g.1.2 (λ l bit. sym (c.same after reached (location_place a l)) ∙ value_at-location a c.config l (whole_fits a c.config c.whole) ∙ ap pos (s.kept_empty (steps_before run.lines (stop.i + 1)) c.config c.at l bit))
+          g.1.2 (λ l bit. sym (c.same after reached (location_place a l)) ∙ value_at-location a c.config l (fits_whole a c.config c.whole) ∙ ap pos (s.kept_empty (steps_before run.lines (stop.i + 1)) c.config c.at l bit))
       by_fault (Line line) g = g
       by_fault (Name line) g = g
       by_fault (Resilience k) g = g

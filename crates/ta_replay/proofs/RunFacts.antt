@@ -1,21 +1,6 @@
 -- The lines of runs that fit a file.
-use Rattle.std.proofs.Common.{ℕ, ℤ, ◌+◌, ◌-◌, ◌<◌, ◌≡◌, List, [], ◌∷◌, ◌++◌, length, map, take, drop, refl, sym, ap, subst, ◌∙◌, Some, None, length-append, take-append-drop, length-take-le, length-drop, arith, codes}
+use Rattle.ta_replay.proofs.Common.{ℕ, ℤ, ◌+◌, ◌-◌, ◌<◌, ◌≡◌, List, [], ◌∷◌, ◌++◌, length, map, take, drop, refl, sym, ap, subst, ◌∙◌, Some, None, length-append, take-append-drop, length-take-le, length-drop, arith, codes, AllByRecursion, length-map, each_append, each_back, each_front, each_get_or, each_map, avoids_known, differ, each_below, Automaton, Pattern, File, Name, Value, Run, RunLine, Fits, LineFits, Slot, name_at, valued_line, parameter_slot, start_slot, parameter_slots, start_slots, slots, value_lines, line_of, lines_of, head_line, run_lines, Avoids, IsWord}
 use Rattle.std.specs.Prelude.{slice_get}
-use Rattle.std.specs.List.{AllByRecursion}
-use Rattle.std.proofs.lemmas.List.{length-map}
-use Rattle.ta_base.proofs.Each.{each_append, each_back, each_front, each_get_or, each_map}
-use Rattle.ta_base.proofs.Lists.{avoids_known, differ}
-use Rattle.ta_base.proofs.Ranges.{each_below}
-use Rattle.ta_automaton.specs.declared.automaton.Automaton.{Automaton}
-use Rattle.ta_automaton.specs.declared.pattern.Pattern.{Pattern}
-use Rattle.ta_automaton.specs.declared.file.File.{File}
-use Rattle.ta_automaton.specs.Names.{Name}
-use Rattle.ta_counter.specs.Values.{Value}
-use Rattle.ta_replay.specs.declared.run.Run.{Run}
-use Rattle.ta_replay.specs.declared.run.RunLine.{RunLine}
-use Rattle.ta_replay.specs.Fits.{Fits, LineFits}
-use Rattle.ta_replay.specs.RunText.{Slot, name_at, valued_line, parameter_slot, start_slot, parameter_slots, start_slots, slots, value_lines, line_of, lines_of, head_line, run_lines}
-use Rattle.ta_base.specs.Bytes.{Avoids, IsWord}
 use Rattle.ta_replay.proofs.Statements.{word_of}
 
 -- a line is no end

@@ -1,21 +1,6 @@
 -- A run's text in front of others: the run is determined, and so is what stands behind it.
-use Rattle.std.proofs.Common.{ℕ, ℤ, ◌≡◌, List, [], ◌∷◌, ◌++◌, map, refl, sym, ap, subst, ◌∙◌, Some, None, Option, append_assoc, codes}
+use Rattle.ta_replay.proofs.Common.{ℕ, ℤ, ◌≡◌, List, [], ◌∷◌, ◌++◌, map, refl, sym, ap, subst, ◌∙◌, Some, None, Option, append_assoc, codes, append_cancel_left, AllByRecursion, each_append, each_front, avoids_known, first_byte, Automaton, Pattern, File, event_name, pattern_name, name_of, Run, RunLine, Step, Mark, Fits, Slot, name_at, named_line, valued_line, parameter_slot, start_slot, slots, value_lines, line_of, lines_of, run_lines, lines_text, run_text, Avoids}
 use Rattle.std.specs.Prelude.{slice_get}
-use Rattle.std.proofs.lemmas.List.{append_cancel_left}
-use Rattle.std.specs.List.{AllByRecursion}
-use Rattle.ta_base.proofs.Each.{each_append, each_front}
-use Rattle.ta_base.proofs.Lists.{avoids_known, first_byte}
-use Rattle.ta_automaton.specs.declared.automaton.Automaton.{Automaton}
-use Rattle.ta_automaton.specs.declared.pattern.Pattern.{Pattern}
-use Rattle.ta_automaton.specs.declared.file.File.{File}
-use Rattle.ta_automaton.specs.Patterns.{event_name, pattern_name}
-use Rattle.ta_automaton.specs.Shape.{name_of}
-use Rattle.ta_replay.specs.declared.run.Run.{Run}
-use Rattle.ta_replay.specs.declared.run.RunLine.{RunLine}
-use Rattle.ta_replay.specs.declared.run.RunLine.TheVariants.{Step, Mark}
-use Rattle.ta_replay.specs.Fits.{Fits}
-use Rattle.ta_replay.specs.RunText.{Slot, name_at, named_line, valued_line, parameter_slot, start_slot, slots, value_lines, line_of, lines_of, run_lines, lines_text, run_text}
-use Rattle.ta_base.specs.Bytes.{Avoids}
 use Rattle.ta_replay.proofs.RunFacts.{IsNoEnd}
 use Rattle.ta_replay.proofs.OneRun.{front_lines, front_no_end, front_whole, one_run, run_clear}
 
@@ -46,10 +31,6 @@ run_front file r s x y fits fit e =
     let parts = ended_same first second x y plain clean (front_no_end file r fits) (front_no_end file s fit) (sym (ap (λ ls. lines_text ls ++ x) whole) ∙ e ∙ ap (λ ls. lines_text ls ++ y) wholes) in
     let text : run_text file r ≡ run_text file s = ap lines_text (whole ∙ ap (λ ls. ls ++ end) parts.0 ∙ sym wholes) in
     (one_run file (run_text file r) s r record { fits = fit; text = text } record { fits = fits; text = refl }, parts.1)
-
--- no line of a run has a line feed
-pub no_feeds : (file : File) (run : Run) → Fits file run → AllByRecursion (Avoids 10) (run_lines file run)
-no_feeds file run fits = run_clear file run fits
 
 -- a property of the lines of parameters, and of those behind them
 each_valued : (Q : List ℕ → Type 0) (names : List (List ℕ)) (ss : List Slot) (vs : List ℤ) → ((name : List ℕ) (v : ℤ) → Q (valued_line (codes "parameter ") name v)) → ((ws : List ℤ) → AllByRecursion Q (value_lines ss ws)) → AllByRecursion Q (value_lines (map parameter_slot names ++ ss) vs)

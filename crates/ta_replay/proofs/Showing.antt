@@ -1,38 +1,11 @@
 -- the configurations of a run that shows a pattern, and their values
-use Rattle.std.proofs.Common.{◌≡◌, ℕ, zero, suc, ◌+◌, ◌<◌, ◌≤◌, ℤ, pos, ◌+ℤ◌, ◌*ℤ◌, List, [], ◌∷◌, ◌++◌, length, take, drop, map, replicate, unsigned_abs, arith, sym, ap, ◌∙◌, refl, subst, slice_get, get_or, Some, length-append, append_assoc}
-use Rattle.std.proofs.lemmas.Int.{ints}
-use Rattle.std.proofs.lemmas.List.{ext_get_or, get_or-take, length-map, length-take-le, take-append-drop, append-nil, length-replicate}
-use Rattle.std.proofs.lemmas.Option.{same_Some}
+use Rattle.ta_replay.proofs.Common.{◌≡◌, ℕ, zero, suc, ◌+◌, ◌<◌, ◌≤◌, ℤ, pos, ◌+ℤ◌, ◌*ℤ◌, List, [], ◌∷◌, ◌++◌, length, take, drop, map, replicate, unsigned_abs, arith, sym, ap, ◌∙◌, refl, subst, slice_get, get_or, Some, length-append, append_assoc, ints, ext_get_or, get_or-take, length-map, length-replicate, same_Some, AllByRecursion, each_take, abs_natural, distributes_right, one_times, get_or-pos, slice_get_left, some_at, take_all, take_next, point_of, Automaton, Pattern, location_place, rule_change, At, Initial, Steps, value_at, total, Whole, fits_after, move_at, value_at-parameter, value_at-shared, value_at-location, total-append, run_length, model_of, places_of, StartsAt, Fires, naturals_at, model_at, model_whole, same_model, starts_natural, Run, RunLine, Step, Mark, LineFits, unit_steps, steps_before, ShowsPattern, ValuesAfter, line_change, FitsPattern}
+use Rattle.std.proofs.lemmas.List.{length-take-le, take-append-drop, append-nil}
 use Rattle.std.proofs.Math.Seq.{take-append_seam}
 use Rattle.std.proofs.Math.IntN.{zero-*ℤ}
-use Rattle.std.specs.List.{AllByRecursion}
-use Rattle.ta_base.proofs.Each.{each_take}
-use Rattle.ta_base.proofs.Integers.{abs_natural, distributes_right, one_times}
-use Rattle.ta_base.proofs.Lists.{get_or-pos, slice_get_left, some_at, take_all, take_next}
-use Rattle.ta_linear.specs.Values.{point_of}
-use Rattle.ta_automaton.specs.declared.automaton.Automaton.{Automaton}
-use Rattle.ta_automaton.specs.declared.pattern.Pattern.{Pattern}
-use Rattle.ta_automaton.specs.Places.{location_place, rule_change}
 use Rattle.ta_automaton.specs.Runs as runs
-use Rattle.ta_automaton.specs.Runs.{At, Initial, Steps, value_at}
-use Rattle.ta_automaton.specs.Sums.{total}
-use Rattle.ta_automaton.proofs.Fire.{Whole}
-use Rattle.ta_automaton.proofs.Moves.{Fits, fits_after, move_at, value_at-parameter, value_at-shared, value_at-location}
+use Rattle.ta_automaton.proofs.Moves.{Fits}
 use Rattle.ta_automaton.proofs.RunLaws.{along, fits_at}
-use Rattle.ta_automaton.proofs.Sums.{total-append}
-use Rattle.ta_automaton.proofs.Trails.{run_length}
-use Rattle.ta_counter.specs.Configs.{model_of, places_of}
-use Rattle.ta_counter.specs.Starts.{StartsAt}
-use Rattle.ta_counter.specs.Steps.{Fires}
-use Rattle.ta_counter.proofs.Models.{naturals_at, model_at, model_whole, same_model}
-use Rattle.ta_counter.proofs.Starting.{starts_natural}
-use Rattle.ta_replay.specs.declared.run.Run.{Run}
-use Rattle.ta_replay.specs.declared.run.RunLine.{RunLine}
-use Rattle.ta_replay.specs.declared.run.RunLine.TheVariants.{Step, Mark}
-use Rattle.ta_replay.specs.Fits.{LineFits}
-use Rattle.ta_replay.specs.Shows.{unit_steps, steps_before, ShowsPattern}
-use Rattle.ta_replay.specs.Replays.{ValuesAfter, line_change}
-use Rattle.ta_replay.specs.Inside.Following.{FitsPattern}
 use Rattle.ta_replay.proofs.Lines.{unit_steps-append}
 use Rattle.ta_replay.proofs.Begins.{first_same}
 use Rattle.ta_replay.proofs.Occurring.{steps_before_le}

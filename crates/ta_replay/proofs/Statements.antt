@@ -1,20 +1,5 @@
 -- Steps and marks, and what is none.
-use Rattle.std.proofs.Common.{ℕ, ℤ, zero, suc, pos, ◌<◌, ◌≡◌, ◌≤ℤ◌, eqb, List, [], ◌∷◌, length, map, get_or, refl, sym, ap, subst, ◌∙◌, Some, None, Option, inl, inr, arith, codes}
-use Rattle.std.proofs.lemmas.List.{length-map}
-use Rattle.std.specs.List.{AllByRecursion}
-use Rattle.ta_base.proofs.Integers.{natural_of}
-use Rattle.ta_base.proofs.Lists.{differ}
-use Rattle.ta_automaton.specs.declared.automaton.Automaton.{Automaton}
-use Rattle.ta_automaton.specs.declared.pattern.Pattern.{Pattern}
-use Rattle.ta_automaton.specs.Names.{Name}
-use Rattle.ta_automaton.specs.Shape.{name_of, RuleWithin}
-use Rattle.ta_replay.specs.declared.run.RunLine.{RunLine}
-use Rattle.ta_replay.specs.declared.run.RunLine.TheVariants.{Step, Mark}
-use Rattle.ta_replay.specs.Fits.{LineFits}
-use Rattle.ta_replay.specs.RunText.{name_at, valued_line, line_of}
-use Rattle.ta_replay.specs.TextFaults.{IsNamedLine, IsValued, FormFor}
-use Rattle.ta_base.specs.Bytes.{IsWord}
-use Rattle.ta_replay.specs.Inside.Reading.{NoNameOf, IsStatement}
+use Rattle.ta_replay.proofs.Common.{ℕ, ℤ, zero, suc, pos, ◌<◌, ◌≡◌, ◌≤ℤ◌, eqb, List, [], ◌∷◌, length, map, get_or, refl, sym, ap, subst, ◌∙◌, Some, None, Option, inl, inr, arith, codes, length-map, AllByRecursion, natural_of, differ, Automaton, Pattern, Name, name_of, RuleWithin, RunLine, Step, Mark, LineFits, name_at, valued_line, line_of, IsNamedLine, IsValued, FormFor, IsWord, NoNameOf, IsStatement}
 use Rattle.ta_replay.proofs.Forms.{valued_same}
 
 -- a name of a file is a word

@@ -1,15 +1,6 @@
 -- The lines of steps and marks.
-use Rattle.std.proofs.Common.{ℕ, ◌+◌, ◌≡◌, List, [], ◌∷◌, ◌++◌, length, map, sym, ap, subst, ◌∙◌}
-use Rattle.std.proofs.lemmas.List.{map_push}
-use Rattle.ta_base.proofs.Each.{each_push}
-use Rattle.ta_automaton.specs.declared.automaton.Automaton.{Automaton}
-use Rattle.ta_automaton.specs.declared.pattern.Pattern.{Pattern}
-use Rattle.ta_replay.specs.declared.run.RunLine.{RunLine}
-use Rattle.ta_replay.specs.declared.fault.RunFault.{RunFault}
+use Rattle.ta_replay.proofs.Common.{ℕ, ◌+◌, ◌≡◌, List, [], ◌∷◌, ◌++◌, length, map, sym, ap, subst, ◌∙◌, map_push, each_push, Automaton, Pattern, RunLine, RunFault, LineFits, line_of, lines_text, StepRead, StepRefused, StepsBegun, StepsStopped, StepsFault}
 use Rattle.ta_replay.specs.declared.fault.RunFault.TheVariants as fault
-use Rattle.ta_replay.specs.Fits.{LineFits}
-use Rattle.ta_replay.specs.RunText.{line_of, lines_text}
-use Rattle.ta_replay.specs.Inside.Reading.{StepRead, StepRefused, StepsBegun, StepsStopped, StepsFault}
 use Rattle.ta_replay.proofs.ListSteps.{read_more}
 
 -- one step more is read

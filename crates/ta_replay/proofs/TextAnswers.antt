@@ -1,13 +1,6 @@
 -- A text is that of a run, or has a first fault at a line.
-use Rattle.std.proofs.Common.{◌≡◌, ◌≢◌, ◌⊎◌, ℕ, zero, suc, ◌+◌, ◌<◌, List, [], ◌∷◌, ◌++◌, length, inl, inr, ⊎_elim, refl, sym, ap, ◌∙◌, append_assoc, append-nil, length-append, arith}
-use Rattle.std.proofs.lemmas.Bool.{cases_eq}
-use Rattle.ta_automaton.specs.declared.file.File.{File}
-use Rattle.ta_replay.specs.declared.run.Run.{Run}
+use Rattle.ta_replay.proofs.Common.{◌≡◌, ◌≢◌, ◌⊎◌, ℕ, zero, suc, ◌+◌, ◌<◌, List, [], ◌∷◌, ◌++◌, length, inl, inr, ⊎_elim, refl, sym, ap, ◌∙◌, append_assoc, append-nil, length-append, arith, cases_eq, File, Run, Fits, run_lines, lines_text, LinesGoOn, IsTrailingRun, IsUnfinishedRun, IsMisformed, Avoids}
 use Rattle.ta_replay.specs.declared.fault.RunFault.TheVariants as fault
-use Rattle.ta_replay.specs.Fits.{Fits}
-use Rattle.ta_replay.specs.RunText.{run_lines, lines_text}
-use Rattle.ta_replay.specs.TextFaults.{LinesGoOn, IsTrailingRun, IsUnfinishedRun, IsMisformed}
-use Rattle.ta_base.specs.Bytes.{Avoids}
 use Rattle.ta_replay.specs.Answers.{HasRunText, HasTextFault}
 
 -- the bytes before the first line feed, and what stands behind it

@@ -1,29 +1,6 @@
 -- The text of a run is short where the run has few lines.
-use Rattle.std.proofs.Common.{ℕ, ℤ, zero, suc, pos, negsuc, ◌+◌, ◌*◌, ◌<◌, ◌≤◌, ◌^◌, ◌≡◌, List, [], ◌∷◌, ◌++◌, length, map, arith, length-append, codes, lit<, lit≤, ap, subst, sym}
-use Rattle.std.specs.Fmt.{signed_decimal}
+use Rattle.ta_replay.proofs.Common.{ℕ, ℤ, zero, suc, pos, negsuc, ◌+◌, ◌*◌, ◌<◌, ◌≤◌, ◌^◌, ◌≡◌, List, [], ◌∷◌, ◌++◌, length, map, arith, length-append, codes, lit<, lit≤, ap, subst, sym, signed_decimal, ints, length-map, AllByRecursion, each_append, each_back, each_front, rises_length, pattern_within, Automaton, Event, Pattern, File, EachFrom, Name, EventWithin, PatternWithin, event_name, pattern_name, RuleWithin, name_of, Value, Run, RunLine, Step, Mark, Fits, LineFits, steps_count, Slot, name_at, named_line, valued_line, parameter_slot, start_slot, parameter_slots, start_slots, slots, value_lines, line_of, head_line, run_lines, lines_text, run_text, marks_count}
 use Rattle.std.proofs.lemmas.Fmt.{length-decimal-le_wide}
-use Rattle.std.proofs.lemmas.Int.{ints}
-use Rattle.std.proofs.lemmas.List.{length-map}
-use Rattle.std.specs.List.{AllByRecursion}
-use Rattle.ta_base.proofs.Each.{each_append, each_back, each_front}
-use Rattle.ta_base.proofs.Ranges.{rises_length}
-use Rattle.ta_automaton.proofs.Thresholds.{pattern_within}
-use Rattle.ta_automaton.specs.declared.automaton.Automaton.{Automaton}
-use Rattle.ta_automaton.specs.declared.pattern.Event.{Event}
-use Rattle.ta_automaton.specs.declared.pattern.Pattern.{Pattern}
-use Rattle.ta_automaton.specs.declared.file.File.{File}
-use Rattle.ta_base.specs.Lists.{EachFrom}
-use Rattle.ta_automaton.specs.Names.{Name}
-use Rattle.ta_automaton.specs.Patterns.{EventWithin, PatternWithin, event_name, pattern_name}
-use Rattle.ta_automaton.specs.Shape.{RuleWithin, name_of}
-use Rattle.ta_counter.specs.Values.{Value}
-use Rattle.ta_replay.specs.declared.run.Run.{Run}
-use Rattle.ta_replay.specs.declared.run.RunLine.{RunLine}
-use Rattle.ta_replay.specs.declared.run.RunLine.TheVariants.{Step, Mark}
-use Rattle.ta_replay.specs.Fits.{Fits, LineFits}
-use Rattle.ta_replay.specs.Pieces.{steps_count}
-use Rattle.ta_replay.specs.RunText.{Slot, name_at, named_line, valued_line, parameter_slot, start_slot, parameter_slots, start_slots, slots, value_lines, line_of, head_line, run_lines, lines_text, run_text}
-use Rattle.ta_replay.specs.Shows.{marks_count}
 use Rattle.ta_replay.proofs.RunFacts.{behind_head, run_lines_are, values_natural, values_of}
 
 -- names of at most 64 bytes, and one of them by its number

@@ -1,14 +1,7 @@
 -- The lines of values.
-use Rattle.std.proofs.Common.{ℕ, ℤ, ◌+◌, ◌<◌, ◌≤◌, ◌≡◌, List, [], ◌∷◌, ◌++◌, length, map, refl, sym, ap, subst, ◌∙◌, Some, length-append, arith, get_or}
-use Rattle.std.specs.Prelude.{slice_get, option_map}
-use Rattle.std.proofs.lemmas.Option.{slice_get-map, slice_get_read, slice_get_within}
-use Rattle.ta_base.proofs.Each.{each_append, each_push}
-use Rattle.ta_base.proofs.Lists.{slice_get_left, slice_get_right}
-use Rattle.ta_counter.specs.Values.{Value}
-use Rattle.ta_replay.specs.declared.fault.RunFault.{RunFault}
+use Rattle.ta_replay.proofs.Common.{ℕ, ℤ, ◌+◌, ◌<◌, ◌≤◌, ◌≡◌, List, [], ◌∷◌, ◌++◌, length, map, refl, sym, ap, subst, ◌∙◌, Some, length-append, arith, get_or, option_map, slice_get-map, slice_get_read, slice_get_within, each_append, each_push, slice_get_left, slice_get_right, Value, RunFault, Slot, valued_line, value_lines, lines_text, ValueRead, ValueRefused, ValuesBegun, ValuesRead, ValuesStopped, ValuesFault}
+use Rattle.std.specs.Prelude.{slice_get}
 use Rattle.ta_replay.specs.declared.fault.RunFault.TheVariants as fault
-use Rattle.ta_replay.specs.RunText.{Slot, valued_line, value_lines, lines_text}
-use Rattle.ta_replay.specs.Inside.Reading.{ValueRead, ValueRefused, ValuesBegun, ValuesRead, ValuesStopped, ValuesFault}
 use Rattle.ta_replay.proofs.ListSteps.{read_more, read_both}
 
 pub value_lines-nil : (asked : List Slot) → value_lines asked [] ≡ []

@@ -1,23 +1,7 @@
 -- what the values of a configuration say
-use Rattle.std.proofs.Common.{◌≡◌, ℕ, pos, length, sym, ap, ◌∙◌, subst, slice_get, Some}
-use Rattle.std.specs.List.{AllByRecursion}
-use Rattle.ta_base.proofs.Each.{each_from_at, weaker_each}
-use Rattle.ta_linear.specs.declared.row.Row.{Row}
-use Rattle.ta_automaton.specs.declared.automaton.Automaton.{Automaton}
-use Rattle.ta_automaton.specs.declared.condition.Comparison.{Comparison}
-use Rattle.ta_automaton.specs.declared.condition.Condition.{Condition}
-use Rattle.ta_automaton.specs.declared.pattern.Event.{Event}
-use Rattle.ta_automaton.specs.declared.pattern.Pattern.{Pattern}
+use Rattle.ta_replay.proofs.Common.{◌≡◌, ℕ, pos, length, sym, ap, ◌∙◌, subst, slice_get, Some, AllByRecursion, each_from_at, weaker_each, Row, Automaton, Comparison, Condition, Event, Pattern, EventWithin, Config, Over, RowsOver, config_of, places_of, IsOf, KeepsEmpty, counter_there, keeps_empty, PatternOf, EmptyAt}
 use Rattle.ta_automaton.specs.Forms.{ConditionOver, RowOver}
-use Rattle.ta_automaton.specs.Patterns.{EventWithin}
-use Rattle.ta_counter.specs.declared.config.Config.{Config}
-use Rattle.ta_counter.specs.Checks.{Over, RowsOver}
 use Rattle.ta_linear.specs.Terms.{IsNormal}
-use Rattle.ta_counter.specs.Configs.{config_of, places_of, IsOf}
-use Rattle.ta_pattern.specs.Empty.{KeepsEmpty}
-use Rattle.ta_pattern.proofs.Agreeing.{counter_there, keeps_empty}
-use Rattle.ta_replay.specs.Inside.Following.{PatternOf}
-use Rattle.ta_replay.specs.Replays.{EmptyAt}
 
 over_condition : (places : ℕ) (condition : Condition) → ConditionOver places condition → Over places condition
 over_condition places condition all =

@@ -1,15 +1,6 @@
 -- What the whole of a text says.
-use Rattle.std.proofs.Common.{ℕ, ℤ, ◌+◌, ◌≡◌, List, [], ◌∷◌, ◌++◌, length, map, refl, sym, ap, ◌∙◌, Some, append_assoc, append-nil, codes}
+use Rattle.ta_replay.proofs.Common.{ℕ, ℤ, ◌+◌, ◌≡◌, List, [], ◌∷◌, ◌++◌, length, map, refl, sym, ap, ◌∙◌, Some, append_assoc, append-nil, codes, length-map, Pattern, File, Run, RunLine, RunFault, parameter_slot, start_slot, parameter_slots, start_slots, slots, value_lines, line_of, head_line, lines_text, IsRunText, TextFault, HeadRead, ValuesRead, ValuesFault, StepsRead, StepsFault}
 use Rattle.std.specs.Prelude.{slice_get}
-use Rattle.std.proofs.lemmas.List.{length-map}
-use Rattle.ta_automaton.specs.declared.pattern.Pattern.{Pattern}
-use Rattle.ta_automaton.specs.declared.file.File.{File}
-use Rattle.ta_replay.specs.declared.run.Run.{Run}
-use Rattle.ta_replay.specs.declared.run.RunLine.{RunLine}
-use Rattle.ta_replay.specs.declared.fault.RunFault.{RunFault}
-use Rattle.ta_replay.specs.RunText.{parameter_slot, start_slot, parameter_slots, start_slots, slots, value_lines, line_of, head_line, lines_text, IsRunText}
-use Rattle.ta_replay.specs.TextFaults.{TextFault}
-use Rattle.ta_replay.specs.Inside.Reading.{HeadRead, ValuesRead, ValuesFault, StepsRead, StepsFault}
 use Rattle.ta_replay.proofs.ListSteps.{read_more}
 use Rattle.ta_replay.proofs.ValueLines.{values_left, values_right, values_both}
 use Rattle.ta_replay.proofs.RunFacts.{run_lines_are}

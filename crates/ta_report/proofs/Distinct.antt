@@ -1,24 +1,8 @@
 -- Reports of a file with one text have the same sample and the same verdicts.
-use Rattle.std.proofs.Common.{ℕ, ℤ, ◌<◌, ◌^◌, ◌≡◌, List, [], ◌∷◌, ◌++◌, length, codes, decimal, refl, sym, ap, ◌∙◌, append_assoc, arith, inl, inr, lit<, lit≤}
-use Rattle.std.specs.Fmt.{signed_decimal}
-use Rattle.std.proofs.lemmas.List.{append_cancel_left}
-use Rattle.std.specs.List.{AllByRecursion}
-use Rattle.ta_base.proofs.DecimalDigits.{number_other, number_same}
-use Rattle.ta_base.proofs.Lists.{apart_third, first_byte, heads_apart}
-use Rattle.ta_automaton.specs.declared.pattern.Pattern.{Pattern}
-use Rattle.ta_automaton.specs.declared.file.File.{File}
-use Rattle.ta_counter.specs.Values.{Value}
+use Rattle.ta_report.proofs.Common.{ℕ, ℤ, ◌<◌, ◌^◌, ◌≡◌, List, [], ◌∷◌, ◌++◌, length, codes, decimal, refl, sym, ap, ◌∙◌, append_assoc, arith, inl, inr, lit<, lit≤, signed_decimal, append_cancel_left, AllByRecursion, number_other, number_same, apart_third, first_byte, heads_apart, Pattern, File, Value, run_text, number_avoids, run_front, ReportKind, Pivot, Leaf, Run, ReportSample, Verdict, Safe, Unsafe, Spent, Overflow, PlaceFits, ReportsAreDistinct, SampleFits, VerdictFits, overflow_text, place_text, run_part, sample_line, sample_text, spent_text, values_text, verdict_line, verdict_lines, verdict_text}
 use Rattle.ta_replay.specs.declared.run.Run.{Run as RunOf}
-use Rattle.ta_replay.specs.RunText.{run_text}
-use Rattle.ta_replay.proofs.Decimals.{number_avoids, number_same as value_once}
-use Rattle.ta_replay.proofs.RunFronts.{run_front}
-use Rattle.ta_report.specs.declared.verdict.ReportKind.{ReportKind}
-use Rattle.ta_report.specs.declared.verdict.ReportKind.TheVariants.{Pivot, Leaf, Run}
-use Rattle.ta_report.specs.declared.verdict.ReportSample.{ReportSample}
+use Rattle.ta_replay.proofs.Decimals.{number_same as value_once}
 use Rattle.ta_report.specs.declared.verdict.ReportSample.TheVariants as sample
-use Rattle.ta_report.specs.declared.verdict.Verdict.{Verdict}
-use Rattle.ta_report.specs.declared.verdict.Verdict.TheVariants.{Safe, Unsafe, Spent, Overflow}
-use Rattle.ta_report.specs.Report.{PlaceFits, ReportsAreDistinct, SampleFits, VerdictFits, overflow_text, place_text, run_part, sample_line, sample_text, spent_text, values_text, verdict_line, verdict_lines, verdict_text}
 
 -- the place in front of a line's end is determined
 pub place_same : (j k : ReportKind) (r s : List ℕ) → PlaceFits j → PlaceFits k → place_text j ++ (10 ∷ r) ≡ place_text k ++ (10 ∷ s) → (j ≡ k) × (r ≡ s)

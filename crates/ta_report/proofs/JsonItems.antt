@@ -1,23 +1,9 @@
 -- The items of an array of JSON, as they are pushed.
-use Rattle.std.proofs.Common.{ℕ, ℤ, zero, suc, ◌+◌, ◌-◌, ◌<◌, ◌≤◌, ◌≡◌, false, ◌||◌, List, [], ◌∷◌, ◌++◌, map, length, take, get_or, refl, sym, ap, ◌∙◌, arith, length-append}
-use Rattle.std.specs.Prelude.{◌==◌}
-use Rattle.std.specs.List.{slice_split, take-map, AllByRecursion}
+use Rattle.ta_report.proofs.Common.{ℕ, ℤ, zero, suc, ◌+◌, ◌-◌, ◌<◌, ◌≤◌, ◌≡◌, false, ◌||◌, List, [], ◌∷◌, ◌++◌, map, length, take, get_or, refl, sym, ap, ◌∙◌, arith, length-append, ◌==◌, slice_split, take-map, AllByRecursion, map-append, length-map, take_all, take_more, take-append-le, items_of, items_view, view, has_float, items_have_float, split_line, File, Pattern, lines_text, run_lines, Avoids, ReportSample, Verdict, Safe, Unsafe, Spent, Overflow, report_data, sample_data, texts_data, value_data, values_data, verdict_data, verdicts_data}
 use Rattle.std.proofs.Math.Seq.{take-length}
-use Rattle.std.proofs.lemmas.List.{map-append, length-map, take_all, take_more, take-append-le}
 use Rattle.serde_json.specs.Data as json
-use Rattle.serde_json.specs.View.{items_of, items_view, view}
-use Rattle.serde_json.specs.Written.{has_float, items_have_float}
 use Rattle.serde_json.specs.declared.value.Value.{Value}
-use Rattle.ta_base.proofs.Lists.{split_line}
-use Rattle.ta_automaton.specs.declared.file.File.{File}
-use Rattle.ta_automaton.specs.declared.pattern.Pattern.{Pattern}
-use Rattle.ta_replay.specs.RunText.{lines_text, run_lines}
-use Rattle.ta_base.specs.Bytes.{Avoids}
-use Rattle.ta_report.specs.declared.verdict.ReportSample.{ReportSample}
 use Rattle.ta_report.specs.declared.verdict.ReportSample.TheVariants as sample
-use Rattle.ta_report.specs.declared.verdict.Verdict.{Verdict}
-use Rattle.ta_report.specs.declared.verdict.Verdict.TheVariants.{Safe, Unsafe, Spent, Overflow}
-use Rattle.ta_report.specs.Json.{report_data, sample_data, texts_data, value_data, values_data, verdict_data, verdicts_data}
 
 -- the items of lists
 pub texts_listed : (texts : List (List ℕ)) → items_of (map json.string texts) ≡ texts_data texts

@@ -1,34 +1,14 @@
 -- The line of JSON says what the report says.
-use Rattle.std.proofs.Common.{ℕ, ℤ, zero, suc, ◌<◌, ◌^◌, ◌≡◌, false, eqb, List, [], ◌∷◌, ◌++◌, map, length, get_or, codes, decimal, refl, sym, ap, ◌∙◌, arith, slice_get, Some}
-use Rattle.std.specs.Fmt.{signed_decimal}
+use Rattle.ta_report.proofs.Common.{ℕ, ℤ, zero, suc, ◌<◌, ◌^◌, ◌≡◌, false, eqb, List, [], ◌∷◌, ◌++◌, length, get_or, codes, decimal, refl, sym, ap, ◌∙◌, arith, slice_get, Some, signed_decimal, append_cancel_right, AllByRecursion, read, compact_text, differ, File, Pattern, distinct_map_at, pattern_name, Value, lines_text, run_lines, run_front, ReportKind, ReportSample, Verdict, Safe, Unsafe, Spent, Overflow, JsonIsDistinct, JsonRuns, JsonSafe, JsonSays, JsonUnsafe, json_text, report_data, sample_data, texts_data, value_data, values_data, verdict_data, verdicts_data, PlaceFits, SampleFits, VerdictFits, place_text}
 use Rattle.std.proofs.lemmas.Fmt.{decimal_injective}
-use Rattle.std.proofs.lemmas.List.{append_cancel_right}
 use Rattle.std.proofs.lemmas.Option.{same_Some}
-use Rattle.std.specs.List.{AllByRecursion}
 use Rattle.serde_json.specs.Data as json
 use Rattle.serde_json.specs.Find.{get, get_item}
-use Rattle.serde_json.specs.Read.{read}
-use Rattle.serde_json.specs.Written.{compact_text}
-use Rattle.ta_base.proofs.Lists.{differ}
-use Rattle.ta_automaton.specs.declared.file.File.{File}
-use Rattle.ta_automaton.specs.declared.pattern.Pattern.{Pattern}
-use Rattle.ta_base.specs.Lists.{Distinct}
-use Rattle.ta_automaton.specs.Patterns.{pattern_name}
-use Rattle.ta_counter.specs.Values.{Value}
 use Rattle.ta_replay.specs.declared.run.Run.{Run as RunOf}
-use Rattle.ta_replay.specs.RunText.{lines_text, run_lines}
 use Rattle.ta_replay.proofs.Decimals.{number_same as value_once}
-use Rattle.ta_replay.proofs.RunFronts.{run_front}
-use Rattle.ta_report.specs.declared.verdict.ReportKind.{ReportKind}
-use Rattle.ta_report.specs.declared.verdict.ReportSample.{ReportSample}
 use Rattle.ta_report.specs.declared.verdict.ReportSample.TheVariants as sample
-use Rattle.ta_report.specs.declared.verdict.Verdict.{Verdict}
-use Rattle.ta_report.specs.declared.verdict.Verdict.TheVariants.{Safe, Unsafe, Spent, Overflow}
-use Rattle.ta_report.specs.Json.{JsonIsDistinct, JsonRuns, JsonSafe, JsonSays, JsonUnsafe, json_text, report_data, sample_data, texts_data, value_data, values_data, verdict_data, verdicts_data}
-use Rattle.ta_report.specs.Report.{PlaceFits, SampleFits, VerdictFits, place_text}
 use Rattle.ta_report.proofs.Distinct.{place_same}
 use Rattle.ta_report.proofs.ReadBack.{json_read}
-use Rattle.ta_report.proofs.Printed.{not_there}
 
 -- texts of a string, and the items of an array
 string_same : (xs ys : List ℕ) → Some (json.string xs) ≡ Some (json.string ys) → xs ≡ ys
@@ -171,14 +151,6 @@ name_at file p (Unsafe nodes run) = refl
 name_at file p (Spent nodes) = refl
 name_at file p (Overflow node kind) = refl
 
--- patterns have names of their own
-once : (ps : List Pattern) (i k : ℕ) (p q : Pattern) → Distinct (map pattern_name ps) → slice_get ps i ≡ Some p → slice_get ps k ≡ Some q → p.name ≡ q.name → i ≡ k
-once [] i k p q distinct at there same = cc
-once (o ∷ ps) zero zero p q distinct at there same = refl
-once (o ∷ ps) zero (suc k) p q distinct at there same = let here : o ≡ p = cc in absurd (not_there o.name ps k q there (sym same ∙ ap pattern_name (sym here)) distinct.0)
-once (o ∷ ps) (suc i) zero p q distinct at there same = let here : o ≡ q = cc in absurd (not_there o.name ps i p at (same ∙ ap pattern_name (sym here)) distinct.0)
-once (o ∷ ps) (suc i) (suc k) p q distinct at there same = ap suc (once ps i k p q distinct.1 at there same)
-
 -- what a line says of a pattern
 pub record SaidIn (file : File) (vs : List Verdict) (number : ℕ) (p : Pattern) (found : json.Data) : Type 0 where
   pub verdict : Verdict
@@ -192,7 +164,7 @@ said_in file x vs number p told at says =
     let patterns : says.patterns ≡ verdicts_data file file.patterns vs = array_same _ _ (sym says.listed ∙ at_key (codes "patterns") _ _ whole) in
     let item = item_at file file.patterns vs says.place says.found (ap (get_item says.place) (sym patterns) ∙ says.at) in
     let name : item.pattern.name ≡ p.name = string_same _ _ (sym (name_at file item.pattern item.verdict) ∙ at_key (codes "name") _ _ (sym item.is) ∙ says.named) in
-    let place : says.place ≡ number = once file.patterns says.place number item.pattern p file.shape.distinct item.here at name in
+    let place : says.place ≡ number = distinct_map_at pattern_name file.patterns says.place number item.pattern p file.shape.distinct item.here at name in
     let same : item.pattern ≡ p = same_Some _ _ (sym item.here ∙ ap (slice_get file.patterns) place ∙ at) in
     record { verdict = item.verdict; at = ap (slice_get vs) (sym place) ∙ item.at; is = item.is ∙ ap (λ (q : Pattern). verdict_data file q item.verdict) same }
 

@@ -5,3 +5,4 @@ pub mod ReadBack
 mod JsonSayings
 mod JsonItems
 pub mod Tellings
+mod Common

@@ -1,34 +1,13 @@
 -- What a printed line of a pattern says.
-use Rattle.std.proofs.Common.{ℕ, ℤ, zero, suc, ◌+◌, ◌<◌, ◌^◌, ◌≡◌, ◌⊎◌, inl, inr, Bool, true, false, List, [], ◌∷◌, ◌++◌, map, codes, decimal, refl, sym, ap, subst, ◌∙◌, append_assoc, arith, lit<, slice_get, Some, if◌then◌else◌}
-use Rattle.std.specs.Fmt.{signed_decimal}
-use Rattle.std.proofs.lemmas.List.{append_cancel_left}
-use Rattle.std.specs.List.{AllByRecursion}
-use Rattle.ta_base.proofs.DecimalDigits.{between, number_clear}
-use Rattle.ta_base.proofs.Each.{each_at, each_front, word_avoids}
-use Rattle.ta_base.proofs.Lists.{apart_third, avoids-append, avoids_known, behind_line, differ, either_clear, first_byte, heads_apart}
-use Rattle.ta_automaton.specs.declared.file.File.{File}
-use Rattle.ta_automaton.specs.declared.pattern.Pattern.{Pattern}
+use Rattle.ta_report.proofs.Common.{ℕ, ℤ, zero, suc, ◌+◌, ◌<◌, ◌^◌, ◌≡◌, ◌⊎◌, inl, inr, Bool, true, false, List, [], ◌∷◌, ◌++◌, map, codes, decimal, refl, sym, ap, subst, ◌∙◌, append_assoc, arith, lit<, slice_get, Some, if◌then◌else◌, signed_decimal, append_cancel_left, AllByRecursion, between, number_clear, each_at, each_front, word_avoids, apart_third, avoids-append, avoids_known, behind_line, differ, either_clear, first_byte, heads_apart, File, Pattern, PatternWithin, pattern_name, Value, lines_text, named_line, run_lines, run_text, valued_line, Avoids, number_avoids, each_run_line, run_clear, ReportKind, Pivot, Leaf, Run, ReportSample, Verdict, Safe, Unsafe, Spent, Overflow, is_proved, proofs_text, proofs_told, word_told, PlaceFits, SampleFits, VerdictFits, overflow_text, place_text, rest_word, run_part, sample_line, sample_text, spent_text, told_lines, told_text, values_text, verdict_text, word_before}
 use Rattle.ta_base.specs.Lists.{Distinct}
 use Rattle.ta_automaton.specs.Names.{Name}
-use Rattle.ta_automaton.specs.Patterns.{PatternWithin, pattern_name}
-use Rattle.ta_counter.specs.Values.{Value}
 use Rattle.ta_replay.specs.declared.run.Run.{Run as RunOf}
 use Rattle.ta_replay.specs.Fits.{Fits}
-use Rattle.ta_replay.specs.RunText.{lines_text, named_line, run_lines, run_text, valued_line}
-use Rattle.ta_base.specs.Bytes.{Avoids}
-use Rattle.ta_replay.proofs.Decimals.{number_avoids}
-use Rattle.ta_replay.proofs.RunFronts.{each_run_line, no_feeds}
 use Rattle.ta_replay.proofs.Statements.{word_of}
-use Rattle.ta_report.specs.declared.verdict.ReportKind.{ReportKind}
-use Rattle.ta_report.specs.declared.verdict.ReportKind.TheVariants.{Pivot, Leaf, Run}
-use Rattle.ta_report.specs.declared.verdict.ReportSample.{ReportSample}
 use Rattle.ta_report.specs.declared.verdict.ReportSample.TheVariants as sample
-use Rattle.ta_report.specs.declared.verdict.Verdict.{Verdict}
-use Rattle.ta_report.specs.declared.verdict.Verdict.TheVariants.{Safe, Unsafe, Spent, Overflow}
-use Rattle.ta_report.specs.Check.{is_proved, proofs_text, proofs_told, word_told}
 use Rattle.ta_report.specs.Printed.{LineAt, PrintedProved, PrintedRestProved, PrintedRestSafe, PrintedRestUnsafe, PrintedSafe, PrintedUnsafe, told_of}
 use Rattle.ta_report.specs.PrintedRuns.{BeginsText, IsPlain, PrintedRuns, RunsArePrinted, unsafe_words}
-use Rattle.ta_report.specs.Report.{PlaceFits, SampleFits, VerdictFits, overflow_text, place_text, rest_word, run_part, sample_line, sample_text, spent_text, told_lines, told_text, values_text, verdict_text, word_before}
 use Rattle.ta_report.proofs.Distinct.{sample_flat}
 
 -- a line begins so, or one behind it does
@@ -222,7 +201,7 @@ each_plain [] free other = tt
 each_plain (l ∷ ls) free other = (record { no_feed = free.0; other = other.0 }, each_plain ls free.1 other.1)
 
 run_plain : (file : File) (run : RunOf) → Fits file run → AllByRecursion IsPlain (run_lines file run)
-run_plain file run fits = each_plain (run_lines file run) (no_feeds file run fits) (run_other file run)
+run_plain file run fits = each_plain (run_lines file run) (run_clear file run fits) (run_other file run)
 
 place_clear : (kind : ReportKind) → PlaceFits kind → Avoids 10 (place_text kind)
 place_clear (Pivot pivot) fits = avoids-append 10 (codes "pivot ") (decimal pivot) (avoids_known 10 (codes "pivot ") refl) (number_clear pivot fits)

@@ -1,7 +1,5 @@
 -- The line of JSON is read as the report.
-use Rattle.std.proofs.Common.{ℕ, ℤ, suc, ◌≤◌, ◌≡◌, List, [], ◌∷◌, ◌++◌, codes, refl, sym, ap, ◌∙◌, arith, append-nil, Option, Some, option_map}
-use Rattle.std.specs.Prelude.{option_and_then}
-use Rattle.std.specs.Fmt.{signed_decimal}
+use Rattle.ta_report.proofs.Common.{ℕ, ℤ, suc, ◌≤◌, ◌≡◌, List, [], ◌∷◌, ◌++◌, codes, refl, sym, ap, ◌∙◌, arith, append-nil, Option, Some, option_map, option_and_then, signed_decimal, read, of_json, of_items, of_members, compact_text, outline, items_outline, members_outline, File, Pattern, run_lines, ReportSample, Verdict, Safe, Unsafe, Spent, Overflow, JsonIsRead, digits_data, report_data, sample_data, texts_data, value_data, values_data, verdict_data, verdict_member, verdicts_data}
 use Rattle.json.specs.Token.{Token}
 use Rattle.json.specs.Lex.{tokens}
 use Rattle.json.specs.Json as grammar
@@ -9,17 +7,8 @@ use Rattle.json.specs.Tree.{HasNumbers, ItemsHaveNumbers, depth, items_depth, js
 use Rattle.json.proofs.Printed.Tokens.{tokens-print}
 use Rattle.json.proofs.Printed.Trees.{ArePrintable-json_tokens, value-json_tokens}
 use Rattle.serde_json.specs.Data as json
-use Rattle.serde_json.specs.Read.{read, of_json, of_items, of_members}
-use Rattle.serde_json.specs.Written.{compact_text, outline, items_outline, members_outline}
 use Rattle.serde_json.proofs.Texts.{print-outline}
-use Rattle.ta_automaton.specs.declared.file.File.{File}
-use Rattle.ta_automaton.specs.declared.pattern.Pattern.{Pattern}
-use Rattle.ta_replay.specs.RunText.{run_lines}
-use Rattle.ta_report.specs.declared.verdict.ReportSample.{ReportSample}
 use Rattle.ta_report.specs.declared.verdict.ReportSample.TheVariants as sample
-use Rattle.ta_report.specs.declared.verdict.Verdict.{Verdict}
-use Rattle.ta_report.specs.declared.verdict.Verdict.TheVariants.{Safe, Unsafe, Spent, Overflow}
-use Rattle.ta_report.specs.Json.{JsonIsRead, digits_data, report_data, sample_data, texts_data, value_data, values_data, verdict_data, verdict_member, verdicts_data}
 
 -- data that is read back from its text: it has no number, nests no deeper than this, and its members are in order
 pub record IsRead (d : json.Data) (deep : ℕ) : Type 0 where

@@ -1,14 +1,6 @@
 -- What a report tells, in either form, is so of its verdicts.
-use Rattle.std.proofs.Common.{ℕ, ◌≡◌, Bool, true, false, List, slice_get, Some, sym, ◌∙◌, subst}
-use Rattle.std.specs.List.{AllByRecursion}
-use Rattle.ta_automaton.specs.declared.file.File.{File}
-use Rattle.ta_automaton.specs.declared.pattern.Pattern.{Pattern}
+use Rattle.ta_report.proofs.Common.{ℕ, ◌≡◌, Bool, true, false, List, slice_get, Some, sym, ◌∙◌, subst, AllByRecursion, File, Pattern, run_text, ReportSample, Verdict, Safe, Unsafe, SampleFits, VerdictFits}
 use Rattle.ta_replay.specs.declared.run.Run.{Run as RunOf}
-use Rattle.ta_replay.specs.RunText.{run_text}
-use Rattle.ta_report.specs.declared.verdict.ReportSample.{ReportSample}
-use Rattle.ta_report.specs.declared.verdict.Verdict.{Verdict}
-use Rattle.ta_report.specs.declared.verdict.Verdict.TheVariants.{Safe, Unsafe}
-use Rattle.ta_report.specs.Report.{SampleFits, VerdictFits}
 use Rattle.ta_report.specs.Telling.{TellsRun, TellsSafe, TellsUnsafe, report_of}
 use Rattle.ta_report.proofs.JsonSayings.{json_runs, json_safe, json_unsafe}
 use Rattle.ta_report.proofs.Printed.{printed_runs, printed_safe, printed_unsafe, runs_printed}

@@ -69,18 +69,24 @@ pub fn run_fault_phrase(fault: &RunFault) -> Phrase
     match *fault {
         RunFault::Line(line) => one("N1 malformed at line ", line),
         RunFault::Name(line) => one("N2 name at line ", line),
-        RunFault::Resilience(comparison) => closed(
+        RunFault::Resilience(comparison) => Phrase::between(
             "N3 resilience comparison ",
-            comparison,
+            u64::from(comparison),
             " is false",
         ),
         RunFault::Processes => Phrase::Plain("N4 wrong number of processes"),
-        RunFault::Start(comparison) => closed("N5 start comparison ", comparison, " is false"),
+        RunFault::Start(comparison) => Phrase::between(
+            "N5 start comparison ",
+            u64::from(comparison),
+            " is false",
+        ),
         RunFault::NotEmpty(line) => one("N6 not empty at line ", line),
         RunFault::Guard { line, guard } => two("N7 guard ", guard, " is false at line ", line),
         RunFault::Count(line) => one("N8 too few processes at line ", line),
         RunFault::Event(line) => one("N9 event is false at line ", line),
-        RunFault::MissingEvent(event) => closed("N10 event ", event, " has no mark"),
+        RunFault::MissingEvent(event) => {
+            Phrase::between("N10 event ", u64::from(event), " has no mark")
+        }
         RunFault::Overflow(line) => one("N11 outside 128 bits at line ", line),
         RunFault::Order(line) => one("N12 order of marks at line ", line),
         RunFault::Memory => Phrase::Plain("out of memory"),
@@ -95,17 +101,6 @@ fn one(head: &'static str, number: u64) -> Phrase
         head,
         number: u128::from(number),
         tail: "",
-    }
-}
-
-/// A number between words.
-fn closed(head: &'static str, number: u32, tail: &'static str) -> Phrase
-    ensures { phrase_text result ≡ head.now ++ (decimal number ++ tail.now) }
-{
-    Phrase::One {
-        head,
-        number: u128::from(number),
-        tail,
     }
 }
 

@@ -1,21 +1,5 @@
 -- a run comes to rest for a pattern as it does for the pattern's ending
-use Rattle.std.proofs.Common.{◌≡◌, ◌⊎◌, inl, inr, ℕ, zero, suc, ◌+◌, ◌^◌, ◌<◌, ◌≤◌, List, [], ◌∷◌, ◌++◌, length, length-append, arith, sym, ap, ◌∙◌, refl, subst, slice_get, get_or, Some, IsBitSet, All}
-use Rattle.std.proofs.lemmas.Bool.{cases_lt}
-use Rattle.std.proofs.lemmas.Nat.{pow_pos}
-use Rattle.std.proofs.lemmas.Option.{slice_get_within, slice_get-get_or, same_Some}
-use Rattle.ta_base.proofs.Bits.{bit_below, no_bit}
-use Rattle.ta_base.proofs.Lists.{at_most_first, get_end, push_cases, slice_get_left, some_at}
-use Rattle.ta_automaton.specs.declared.condition.Comparison.{Comparison}
-use Rattle.ta_automaton.specs.declared.condition.Condition.{Condition}
-use Rattle.ta_automaton.specs.declared.automaton.Automaton.{Automaton}
-use Rattle.ta_automaton.specs.declared.pattern.Event.{Event}
-use Rattle.ta_automaton.specs.declared.pattern.Pattern.{Pattern}
-use Rattle.ta_automaton.specs.Runs.{Config, Holds, Occurs, value_at}
-use Rattle.ta_linear.specs.Values.{RowHolds}
-use Rattle.ta_automaton.proofs.Trails.{run_length}
-use Rattle.ta_rest.specs.Endings.{IsEnding, LastMoved, RestAdded, events_below}
-use Rattle.ta_rest.specs.Laws.{EndingsRestAlike}
-use Rattle.ta_rest.specs.Rest.{ComeAfterEarlier, RestOccurs}
+use Rattle.ta_rest.proofs.Common.{◌≡◌, ◌⊎◌, inl, inr, ℕ, zero, suc, ◌+◌, ◌^◌, ◌<◌, ◌≤◌, List, [], ◌∷◌, ◌++◌, length, length-append, arith, sym, ap, ◌∙◌, refl, subst, slice_get, get_or, Some, IsBitSet, All, cases_lt, pow_pos, slice_get_within, slice_get-get_or, same_Some, bit_below, no_bit, at_most_first, get_end, push_cases, slice_get_left, some_at, Comparison, Condition, Automaton, Event, Pattern, Config, Holds, Occurs, value_at, RowHolds, run_length, IsEnding, LastMoved, RestAdded, events_below, EndingsRestAlike, ComeAfterEarlier, RestOccurs}
 
 -- patterns whose events have the same conditions and, but for the last, come after the same events
 record Alike (p q : Pattern) : Type 0 where

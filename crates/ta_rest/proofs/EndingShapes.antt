@@ -1,21 +1,11 @@
 -- the endings of a file's patterns are patterns of such a file, and their last events come last
-use Rattle.std.proofs.Common.{◌≡◌, inl, inr, ℕ, suc, ◌+◌, ◌^◌, ◌<◌, List, [], ◌∷◌, ◌++◌, map, length, length-append, append_assoc, arith, sym, ap, ◌∙◌, refl, subst, slice_get, get_or, eqb, take, drop, Some}
-use Rattle.std.proofs.lemmas.Bool.{false≢true}
-use Rattle.std.proofs.lemmas.Nat.{pow_pos}
-use Rattle.std.specs.List.{AllByRecursion}
-use Rattle.ta_base.proofs.Lists.{push_cases}
+use Rattle.ta_rest.proofs.Common.{◌≡◌, inl, inr, ℕ, suc, ◌+◌, ◌^◌, ◌<◌, List, [], ◌∷◌, ◌++◌, map, length, length-append, append_assoc, arith, sym, ap, ◌∙◌, refl, subst, slice_get, get_or, eqb, take, drop, Some, false≢true, pow_pos, AllByRecursion, push_cases, Comparison, Condition, Event, Pattern, Distinct, EachFrom, ComesLast, Endings, FewEvents, IsEnding, RestAdded, events_below, rest_name}
 use Rattle.ta_syntax.specs.declared.tokens.Mark.{Mark}
 use Rattle.ta_syntax.specs.declared.tokens.Mark.TheVariants as mark
 use Rattle.ta_syntax.specs.Kinds.{mark_bytes}
-use Rattle.ta_automaton.specs.declared.condition.Comparison.{Comparison}
-use Rattle.ta_automaton.specs.declared.condition.Condition.{Condition}
-use Rattle.ta_automaton.specs.declared.pattern.Event.{Event}
-use Rattle.ta_automaton.specs.declared.pattern.Pattern.{Pattern}
 use Rattle.ta_automaton.specs.Forms.{ConditionOver, RowOver}
-use Rattle.ta_base.specs.Lists.{Distinct, EachFrom}
 use Rattle.ta_automaton.specs.Names.{Name}
 use Rattle.ta_automaton.specs.Patterns.{EventWithin, PatternWithin, PatternsShape, event_name, pattern_name}
-use Rattle.ta_rest.specs.Endings.{ComesLast, Endings, FewEvents, IsEnding, RestAdded, events_below, rest_name}
 use Rattle.ta_rest.proofs.EndingLaws.{ending_has}
 
 no_mark : (m : Mark) → mark_bytes m ≡ rest_name → ⊥

@@ -1,17 +1,6 @@
 -- where every cycle is a self-loop, each location has a height: the most rules that lead on from it, one after another, to other locations
-use Rattle.std.proofs.Common.{◌≡◌, ◌≢◌, ◌⊎◌, inl, inr, ℕ, zero, suc, ◌+◌, ◌<◌, ◌≤◌, List, [], ◌∷◌, length, eqb, cond, not, ◌&&◌, Bool, true, false, arith, sym, ap, ◌∙◌, refl, subst, slice_get, Some, eqb-true}
-use Rattle.std.proofs.lemmas.Bool.{cases_Bool, and_parts}
-use Rattle.std.proofs.lemmas.Bool.Decides.{nat_tests}
-use Rattle.std.specs.List.{AllByRecursion}
+use Rattle.ta_rest.proofs.Common.{◌≡◌, ◌≢◌, ◌⊎◌, inl, inr, ℕ, zero, suc, ◌+◌, ◌<◌, ◌≤◌, List, [], ◌∷◌, length, eqb, cond, not, ◌&&◌, Bool, true, false, arith, sym, ap, ◌∙◌, refl, subst, slice_get, Some, eqb-true, cases_Bool, and_parts, nat_tests, AllByRecursion, not_same, Rule, Automaton, Distinct, In, Walk, from_within, to_within, LoopsAlone}
 use Rattle.ta_base.proofs.Each.{distinct_length, each_from_in}
-use Rattle.ta_base.proofs.Naturals.{not_same}
-use Rattle.ta_automaton.specs.declared.rule.Rule.{Rule}
-use Rattle.ta_automaton.specs.declared.automaton.Automaton.{Automaton}
-use Rattle.ta_base.specs.Lists.{Distinct}
-use Rattle.ta_base.specs.Masks.{In}
-use Rattle.ta_automaton.specs.Runs.{Walk}
-use Rattle.ta_automaton.proofs.Thresholds.{from_within, to_within}
-use Rattle.ta_scope.specs.LongerCycles.{LoopsAlone}
 
 -- rules that lead on, one after another, each to another location
 abbrev pub LeadOn : Automaton → ℕ → List ℕ → Type 0

@@ -6,3 +6,4 @@ mod PatternMasks
 mod Heights
 pub mod Moving
 pub mod Solutions
+mod Common

@@ -1,15 +1,7 @@
 -- the heights of the locations of all processes together fall with each step between locations
-use Rattle.std.proofs.Common.{◌≡◌, inl, inr, ℕ, zero, suc, ◌+◌, ◌*◌, ◌-◌, ◌<◌, ◌≤◌, pos, ◌*ℤ◌, ◌≤ℤ◌, List, [], ◌∷◌, length, sum, eqb, cond, not, Bool, true, false, arith, sym, ap, ◌∙◌, refl, subst, slice_get, get_or, add-mul}
-use Rattle.std.proofs.lemmas.Int.{ints}
+use Rattle.ta_rest.proofs.Common.{◌≡◌, inl, inr, ℕ, zero, suc, ◌+◌, ◌*◌, ◌-◌, ◌<◌, ◌≤◌, pos, ◌*ℤ◌, ◌≤ℤ◌, List, [], ◌∷◌, length, sum, eqb, cond, not, Bool, true, false, arith, sym, ap, ◌∙◌, refl, subst, slice_get, get_or, add-mul, ints, false≢true, true≢false, eqb_tells, nat_tests, item_moves, times_le_left, Automaton, Config, Step, Steps, from_within, to_within, LoopsAlone}
 use Rattle.std.proofs.lemmas.List.Sums.{sum_by-cons}
-use Rattle.std.proofs.lemmas.Bool.{false≢true, true≢false}
-use Rattle.std.proofs.lemmas.Bool.Decides.{eqb_tells, nat_tests}
 use Rattle.std.proofs.Math.IntN.{pos-*ℤ-pos}
-use Rattle.ta_base.proofs.Naturals.{item_moves, times_le_left}
-use Rattle.ta_automaton.specs.declared.automaton.Automaton.{Automaton}
-use Rattle.ta_automaton.specs.Runs.{Config, Step, Steps}
-use Rattle.ta_automaton.proofs.Thresholds.{from_within, to_within}
-use Rattle.ta_scope.specs.LongerCycles.{LoopsAlone}
 use Rattle.ta_rest.specs.Moves.{MovesAreBounded, is_move, moves_count}
 use Rattle.ta_rest.proofs.Heights.{height_of, height_below, height_falls}
 

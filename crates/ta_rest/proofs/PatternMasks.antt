@@ -1,8 +1,5 @@
 -- masks of patterns without events
-use Rattle.std.proofs.Common.{◌≡◌, ◌⊎◌, inl, inr, ℕ, ◌+◌, ◌<◌, List, [], arith, sym, ap, ◌∙◌, subst, slice_get, Some, IsBitSet, ◌↔◌}
-use Rattle.std.proofs.lemmas.Bool.Decides.{eqb_tells}
-use Rattle.std.proofs.lemmas.Option.{same_Some}
-use Rattle.ta_automaton.specs.declared.pattern.Pattern.{Pattern}
+use Rattle.ta_rest.proofs.Common.{◌≡◌, ◌⊎◌, inl, inr, ℕ, ◌+◌, ◌<◌, List, [], arith, sym, ap, ◌∙◌, subst, slice_get, Some, IsBitSet, ◌↔◌, eqb_tells, same_Some, Pattern}
 
 -- a pattern of a list that has no events
 abbrev pub Eventless : List Pattern → ℕ → Type 0

@@ -1,48 +1,14 @@
 -- a run that has come to rest solves the system of rest of its word
-use Rattle.std.proofs.Common.{◌≡◌, inl, inr, ℕ, zero, suc, ◌+◌, ◌-◌, ◌≤◌, ◌^◌, pos, List, [], ◌∷◌, map, length, eqb, cond, Bool, true, false, not, arith, sym, ap, ◌∙◌, refl, subst, slice_get, get_or, Some, None, Option, reverse}
-use Rattle.std.specs.Prelude.{filter}
-use Rattle.std.proofs.lemmas.Int.{ints}
+use Rattle.ta_rest.proofs.Common.{◌≡◌, inl, inr, ℕ, zero, suc, ◌+◌, ◌-◌, ◌≤◌, ◌^◌, pos, List, [], ◌∷◌, map, length, eqb, cond, Bool, true, false, not, arith, sym, ap, ◌∙◌, refl, subst, slice_get, get_or, Some, None, Option, reverse, filter, ints, false≢true, true≢false, cases_Bool, and_parts, eq-eqb, not-false, not-true, slice_get_within, same_Some, all_below-at, all_below-false, bit_true, implies-at, cond_child, in_filter, value_of, RowHolds, Row, Rule, Automaton, Pattern, has_bit, all_below, implies, numbers_from, In, Whole, location_place, Config, MaskedHold, Steps, value_at, Fits, value_at-location, run_length, Element, LegalWord, children, has_fallen, has_rise, is_complete, EndsAt, LinearRow, AllHold, counter_row, guard_rows, negated, opposite, word_rows, meanings, AllHold-append, AllHold-left, Moment, RowFails, guards_fail, opposite_value, SolvesAlong, extend, none_along, prefix_legal, prefix_rows, take_apart, AtRest, end_rows, leads_out, must_be_left, rest_rows, rest_search, RestingRunsSolve, RefutedEndingsRest, RefutedEndingsShow}
 use Rattle.std.proofs.lemmas.List.{append-nil}
-use Rattle.std.proofs.lemmas.Bool.{false≢true, true≢false, cases_Bool, and_parts, eqb-true, eq-eqb, not-false, not-true}
-use Rattle.std.proofs.lemmas.Option.{slice_get_within, same_Some}
-use Rattle.ta_base.proofs.Bits.{all_below-at, all_below-false, bit_true}
-use Rattle.ta_base.proofs.Booleans.{implies-at}
+use Rattle.std.proofs.lemmas.Bool.{eqb-true}
 use Rattle.ta_base.proofs.Integers.{is_negative, negative_false, negative_true}
-use Rattle.ta_base.proofs.Members.{cond_child, in_filter}
-use Rattle.ta_linear.specs.Values.{value_of, RowHolds}
-use Rattle.ta_linear.specs.declared.row.Row.{Row}
-use Rattle.ta_automaton.specs.declared.rule.Rule.{Rule}
-use Rattle.ta_automaton.specs.declared.automaton.Automaton.{Automaton}
-use Rattle.ta_automaton.specs.declared.pattern.Pattern.{Pattern}
-use Rattle.ta_base.specs.Masks.{has_bit, all_below, implies, numbers_from, In}
-use Rattle.ta_automaton.specs.Places.{Whole, location_place}
-use Rattle.ta_automaton.specs.Runs.{Config, MaskedHold, Step, Steps, value_at}
-use Rattle.ta_automaton.proofs.Fire.{fire, fire_step}
-use Rattle.ta_automaton.proofs.Moves.{Fits, value_at-location}
-use Rattle.ta_automaton.proofs.Trails.{run_length}
+use Rattle.ta_automaton.proofs.Fire.{fire, fire_step, step_whole}
 use Rattle.ta_implied.specs.Implied.{Good}
 use Rattle.ta_implied.proofs.Chains.{nothing_leads}
-use Rattle.ta_words.specs.declared.element.Element.{Element}
-use Rattle.ta_words.specs.Words.{LegalWord, children, has_fallen, has_rise, is_complete}
-use Rattle.ta_encode.specs.Laws.{EndsAt}
-use Rattle.ta_encode.specs.System.{LinearRow, AllHold, counter_row, guard_rows, negated, opposite, word_rows}
-use Rattle.ta_encode.specs.Unknowns.{meanings}
 use Rattle.ta_encode.specs.declared.meaning.Meaning.{Meaning}
-use Rattle.ta_encode.proofs.Moments.{AllHold-append, AllHold-left, Moment, RowFails, guards_fail, opposite_value}
-use Rattle.ta_encode.proofs.Safety.{SolvesAlong, extend, none_along, prefix_legal, prefix_rows, take_apart}
 use Rattle.ta_encode.proofs.Theorems.{reordered_to}
-use Rattle.ta_rest.specs.Rest.{AtRest}
-use Rattle.ta_rest.specs.RestSearch.{end_rows, leads_out, must_be_left, rest_rows, rest_search}
-use Rattle.ta_rest.specs.Laws.{RestingRunsSolve, RefutedEndingsRest, RefutedEndingsShow}
 use Rattle.ta_rest.proofs.EndingLaws.{ending_early, ending_has, endings_rest}
-
--- each configuration of a run has a value for each place
-step_whole : (a : Automaton) (r : ℕ) (c d : Config) → Whole a c → Step a r c d → Whole a d
-step_whole a r c d w step = record {
-  parameters = ap (λ (xs : List ℕ). length xs) step.move.parameters ∙ w.parameters;
-  shared = step.move.shared_count ∙ w.shared;
-  counters = step.move.counters_count ∙ w.counters;
-}
 
 pub whole_at : (a : Automaton) (c : Config) (rules : List ℕ) (later : List Config) → Whole a c → Steps a c rules later → (k : ℕ) (d : Config) → slice_get (c ∷ later) k ≡ Some d → Whole a d
 whole_at a c rules later w steps zero d at = subst (Whole a) (same_Some c d at) w

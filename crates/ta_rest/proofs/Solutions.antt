@@ -1,44 +1,14 @@
 -- the run of a solution of a word's system of rest comes to rest
-use Rattle.std.proofs.Common.{◌≡◌, ◌≢◌, inl, inr, ℕ, ◌+◌, ◌<◌, ◌≤◌, ℤ, pos, ◌≤ℤ◌, List, [], ◌∷◌, ◌++◌, map, length, eqb, cond, Bool, true, false, not, arith, sym, ap, ◌∙◌, refl, subst, slice_get, get_or, Some, None, Option, IsBitSet}
-use Rattle.std.specs.Prelude.{filter}
-use Rattle.std.proofs.lemmas.Int.{ints}
+use Rattle.ta_rest.proofs.Common.{◌≡◌, ◌≢◌, inl, inr, ℕ, ◌+◌, ◌<◌, ◌≤◌, ℤ, pos, ◌≤ℤ◌, List, [], ◌∷◌, ◌++◌, map, length, eqb, cond, Bool, true, false, not, arith, sym, ap, ◌∙◌, refl, subst, slice_get, get_or, Some, None, Option, IsBitSet, filter, ints, false≢true, true≢false, cases_Bool, and_parts, and_from, not-true, not_from_false, eqb_tells, slice_get_within, same_Some, all_below-at, all_below-from, at_set, bit_set, implies-from, some_at, In-filter, value_of, RowHolds, Row, Rule, Automaton, Pattern, has_bit, all_below, implies, numbers_from, In, Whole, location_place, Config, Move, value_at, Fits, value_at-location, from_within, Element, LegalWord, children, follows, has_event, has_fallen, has_rise, is_complete, RunsThrough, WordFires, position_in, steps_of, AllHold, counter_row, guard_rows, negated, opposite, row_value, word_rows, meanings, start_meanings, AllHold-left, RowFails, opposite_value, take_apart, ComesLast, events_below, EndsOfSolutionsRest, SolutionsComeToRest, StepsOfSolutionsRest, AtRest, end_rows, leads_out, must_be_left, rest_rows, some_below}
 use Rattle.std.proofs.lemmas.Nat.Bits.{bit_at_ones}
-use Rattle.std.proofs.lemmas.Bool.{false≢true, true≢false, cases_Bool, and_parts, and_from, not-true, not_from_false}
-use Rattle.std.proofs.lemmas.Bool.Decides.{eqb_tells}
-use Rattle.std.proofs.lemmas.Option.{slice_get_within, same_Some}
-use Rattle.ta_base.proofs.Bits.{all_below-at, all_below-from, at_set, bit_set}
-use Rattle.ta_base.proofs.Booleans.{implies-from}
-use Rattle.ta_base.proofs.Lists.{some_at}
-use Rattle.ta_base.proofs.Members.{In-filter}
 use Rattle.ta_base.proofs.Ranges.{In-numbers, at_index}
-use Rattle.ta_linear.specs.Values.{value_of, RowHolds}
-use Rattle.ta_linear.specs.declared.row.Row.{Row}
-use Rattle.ta_automaton.specs.declared.rule.Rule.{Rule}
-use Rattle.ta_automaton.specs.declared.automaton.Automaton.{Automaton}
 use Rattle.ta_automaton.specs.declared.pattern.Event.{Event as PatternEvent}
-use Rattle.ta_automaton.specs.declared.pattern.Pattern.{Pattern}
-use Rattle.ta_base.specs.Masks.{has_bit, all_below, implies, numbers_from, In}
-use Rattle.ta_automaton.specs.Places.{Whole, location_place}
-use Rattle.ta_automaton.specs.Runs.{Config, Move, value_at}
-use Rattle.ta_automaton.proofs.Moves.{Fits, value_at-location}
 use Rattle.ta_automaton.proofs.Sums.{terms_value-same}
-use Rattle.ta_automaton.proofs.Thresholds.{from_within}
-use Rattle.ta_words.specs.declared.element.Element.{Element}
 use Rattle.ta_words.specs.declared.element.Element.TheVariants.{Event, Rise, Fall}
-use Rattle.ta_words.specs.Words.{LegalWord, children, follows, has_event, has_fallen, has_rise, is_complete}
-use Rattle.ta_encode.specs.Laws.{RunsThrough, WordFires, position_in, steps_of}
-use Rattle.ta_encode.specs.System.{AllHold, counter_row, guard_rows, negated, opposite, row_value, word_rows}
-use Rattle.ta_encode.specs.Unknowns.{meanings, start_meanings}
 use Rattle.ta_encode.proofs.Fallen.{fallen_fail, guard_fails}
-use Rattle.ta_encode.proofs.Moments.{AllHold-left, RowFails, opposite_value}
 use Rattle.ta_encode.proofs.Prefixes.{prefix_fewer}
 use Rattle.ta_encode.proofs.Realize.{solution_end, solution_runs, some_firings}
-use Rattle.ta_encode.proofs.Safety.{take_apart}
 use Rattle.ta_encode.proofs.Values.{AllHold-right, event_ready, place_value}
-use Rattle.ta_rest.specs.Endings.{ComesLast, events_below}
-use Rattle.ta_rest.specs.Laws.{EndsOfSolutionsRest, SolutionsComeToRest, StepsOfSolutionsRest}
-use Rattle.ta_rest.specs.Rest.{AtRest}
-use Rattle.ta_rest.specs.RestSearch.{end_rows, leads_out, must_be_left, rest_rows, some_below}
 use Rattle.ta_rest.proofs.EndingLaws.{positions_within}
 use Rattle.ta_rest.proofs.Resting.{not_followed}
 

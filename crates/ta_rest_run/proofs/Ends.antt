@@ -1,16 +1,11 @@
 -- runs with the same start and the same steps have the same end
-use Rattle.std.proofs.Common.{◌≡◌, inl, inr, ℕ, List, arith, sym, ap, ◌∙◌, get_or}
-use Rattle.std.proofs.lemmas.List.{ext_get_or}
+use Rattle.ta_rest_run.proofs.Common.{◌≡◌, inl, inr, ℕ, List, arith, sym, ap, ◌∙◌, get_or, ext_get_or, Automaton, At, Config, Initial, Run, IsFirstConfig}
 use Rattle.ta_base.proofs.Integers.{pos_same}
-use Rattle.ta_automaton.specs.declared.automaton.Automaton.{Automaton}
 use Rattle.ta_automaton.specs.Places.{Whole}
 use Rattle.ta_automaton.specs.Runs as runs
-use Rattle.ta_automaton.specs.Runs.{At, Config, Initial}
 use Rattle.ta_automaton.proofs.RunLaws.{counters_by_firings, parameters_stay, shared_by_firings}
 use Rattle.ta_counter.proofs.Starting.{in_or_not, not_contained}
 use Rattle.ta_rest.proofs.Resting.{whole_at}
-use Rattle.ta_replay.specs.declared.run.Run.{Run}
-use Rattle.ta_replay.specs.Shows.{IsFirstConfig}
 
 -- two configurations with the same parameters and counters
 pub record SameStart (c d : Config) : Type 0 where

@@ -1,21 +1,5 @@
 -- what is known of the run that is given
-use Rattle.std.proofs.Common.{◌≡◌, inl, inr, ℕ, true, cond, List, ◌∷◌, [], ◌++◌, sym, ap, ◌∙◌, subst, slice_get, Some}
-use Rattle.std.proofs.lemmas.Bool.{cases_Bool}
-use Rattle.std.specs.List.{AllByRecursion}
-use Rattle.ta_automaton.specs.declared.file.File.{File}
-use Rattle.ta_base.specs.Masks.{has_bit}
-use Rattle.ta_automaton.specs.Runs.{InScope}
-use Rattle.ta_encode.specs.declared.encoded.Solution.{Solution}
-use Rattle.ta_rest.specs.Endings.{ComesLast}
-use Rattle.ta_rest.specs.Faults.{EndingsOf}
-use Rattle.ta_replay.specs.declared.run.Run.{Run}
-use Rattle.ta_replay.specs.declared.run.RunLine.{RunLine}
-use Rattle.ta_replay.specs.declared.run.RunLine.TheVariants.{Mark}
-use Rattle.ta_replay.specs.Fits.{Fits}
-use Rattle.ta_replay.specs.Replays.{ReplayStays}
-use Rattle.ta_replay.specs.Shows.{Shows}
-use Rattle.ta_witness.specs.Witness.{IsShortRun, WitnessOf}
-use Rattle.ta_rest_run.specs.Runs.{ComesToRest, IsRestSolution, OccursAtRest, RestWitnessOf, ending_run, marked_at_end}
+use Rattle.ta_rest_run.proofs.Common.{◌≡◌, inl, inr, ℕ, true, cond, List, ◌∷◌, [], ◌++◌, sym, ap, ◌∙◌, subst, slice_get, Some, cases_Bool, AllByRecursion, File, has_bit, InScope, Solution, ComesLast, EndingsOf, Run, RunLine, Mark, Fits, ReplayStays, Shows, IsShortRun, WitnessOf, ComesToRest, IsRestSolution, OccursAtRest, RestWitnessOf, ending_run, marked_at_end}
 use Rattle.ta_rest_run.proofs.LastMark.{ends_with_mark}
 use Rattle.ta_rest_run.proofs.OwnRuns.{ending_steps, own_occurs, own_rest}
 use Rattle.ta_rest_run.proofs.Resting.{solution_occurs, witnesses_rest}

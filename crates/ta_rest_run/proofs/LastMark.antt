@@ -1,31 +1,10 @@
 -- the run of a solution of an added event's word ends with its mark
-use Rattle.std.proofs.Common.{◌≡◌, inl, inr, ℕ, ◌≤◌, ℤ, true, List, [], ◌∷◌, ◌++◌, map, length, length-append, append_assoc, append-nil, reverse, arith, sym, ap, ◌∙◌, subst, slice_get, None, Option}
-use Rattle.std.proofs.lemmas.List.{reverse-append, reverse-reverse}
-use Rattle.std.proofs.lemmas.Option.{same_Some}
-use Rattle.std.specs.List.{AllByRecursion}
-use Rattle.ta_base.proofs.Bits.{bit_set}
-use Rattle.ta_base.proofs.Each.{each_back}
+use Rattle.ta_rest_run.proofs.Common.{◌≡◌, inl, inr, ℕ, ◌≤◌, ℤ, true, List, [], ◌∷◌, ◌++◌, map, length, length-append, append_assoc, append-nil, reverse, arith, sym, ap, ◌∙◌, subst, slice_get, None, Option, reverse-append, reverse-reverse, same_Some, AllByRecursion, bit_set, each_back, Automaton, Pattern, File, has_bit, Element, Solution, EndingsOf, by_event, Run, RunLine, Mark, Fits, LineFits, WitnessOf, PiecesBack, pieces_back, values_of, parts_of, IsRestSolution}
 use Rattle.ta_witness.proofs.Making.{pieces_lines-append}
-use Rattle.ta_automaton.specs.declared.automaton.Automaton.{Automaton}
 use Rattle.ta_automaton.specs.declared.pattern.Event.{Event as PatternEvent}
-use Rattle.ta_automaton.specs.declared.pattern.Pattern.{Pattern}
-use Rattle.ta_automaton.specs.declared.file.File.{File}
-use Rattle.ta_base.specs.Masks.{has_bit}
-use Rattle.ta_words.specs.declared.element.Element.{Element}
 use Rattle.ta_words.specs.declared.element.Element.TheVariants.{Event}
-use Rattle.ta_encode.specs.declared.encoded.Solution.{Solution}
 use Rattle.ta_encode.specs.declared.meaning.Meaning.{Meaning}
-use Rattle.ta_rest.specs.Faults.{EndingsOf}
-use Rattle.ta_rest.proofs.Solutions.{by_event}
-use Rattle.ta_replay.specs.declared.run.Run.{Run}
-use Rattle.ta_replay.specs.declared.run.RunLine.{RunLine}
-use Rattle.ta_replay.specs.declared.run.RunLine.TheVariants.{Mark}
-use Rattle.ta_replay.specs.Fits.{Fits, LineFits}
 use Rattle.ta_replay.specs.Pieces.{Piece, last_lines, piece_lines, pieces_lines, step_line}
-use Rattle.ta_witness.specs.Witness.{WitnessOf}
-use Rattle.ta_witness.proofs.Backward.{PiecesBack, pieces_back, values_of}
-use Rattle.ta_witness.proofs.Witnesses.{parts_of}
-use Rattle.ta_rest_run.specs.Runs.{IsRestSolution}
 use Rattle.ta_rest_run.proofs.OwnRuns.{ending_at}
 use Rattle.ta_rest_run.proofs.Resting.{rest_at, solutions_solve}
 

@@ -5,3 +5,4 @@ pub mod OwnRuns
 mod LastMark
 pub mod Once
 mod Giving
+mod Common

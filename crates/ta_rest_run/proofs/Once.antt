@@ -1,14 +1,7 @@
 -- a solution of a system of rest has one run less the mark of an added event
-use Rattle.std.proofs.Common.{◌≡◌, Bool, true, false, cond, [], ◌∷◌, ap, sym, ◌∙◌}
-use Rattle.std.proofs.lemmas.Bool.{false≢true, true≢false}
-use Rattle.std.proofs.lemmas.List.{append_cancel_right}
-use Rattle.ta_base.specs.Masks.{has_bit}
+use Rattle.ta_rest_run.proofs.Common.{◌≡◌, Bool, true, false, cond, [], ◌∷◌, ap, sym, ◌∙◌, false≢true, true≢false, append_cancel_right, has_bit, Run, Mark, RestWitnessesAreDetermined, ending_run, marked_at_end}
 use Rattle.ta_replay.proofs.OneRun.{run_same}
-use Rattle.ta_replay.specs.declared.run.Run.{Run}
-use Rattle.ta_replay.specs.declared.run.RunLine.TheVariants.{Mark}
 use Rattle.ta_witness.proofs.WitnessOnce.{one_witness}
-use Rattle.ta_rest_run.specs.Laws.{RestWitnessesAreDetermined}
-use Rattle.ta_rest_run.specs.Runs.{ending_run, marked_at_end}
 use Rattle.ta_rest_run.proofs.OwnRuns.{ending_steps}
 use Rattle.ta_rest_run.proofs.Resting.{solutions_solve}
 

@@ -1,40 +1,16 @@
 -- a run of an ending is, less the mark of an added event, a run of the pattern itself
-use Rattle.std.proofs.Common.{◌≡◌, inl, inr, ℕ, zero, suc, ◌+◌, ◌<◌, ◌≤◌, ℤ, Bool, true, false, List, [], ◌∷◌, ◌++◌, length, length-append, append-nil, cond, take, get_or, arith, sym, ap, ◌∙◌, refl, subst, slice_get, Some, IsBitSet}
-use Rattle.std.specs.Prelude.{slice_index}
-use Rattle.std.proofs.lemmas.Bool.{cases_Bool, false≢true}
+use Rattle.ta_rest_run.proofs.Common.{◌≡◌, inl, inr, ℕ, zero, suc, ◌+◌, ◌<◌, ◌≤◌, ℤ, Bool, true, false, List, [], ◌∷◌, ◌++◌, length, length-append, append-nil, cond, take, get_or, arith, sym, ap, ◌∙◌, refl, subst, slice_get, Some, IsBitSet, slice_index, cases_Bool, false≢true, same_Some, slice_get-get_or, slice_get_within, AllByRecursion, at_set, bit_set, bit_true, each_at, each_from, each_front, Automaton, Pattern, File, has_bit, At, Config, Holds, after_earlier, pattern_within, Endings, IsEnding, LastMoved, RestAdded, events_below, EndingsOf, AtRest, ComeAfterEarlier, RestOccurs, back_of, endings_rest, moved_count, no_event, Run, RunLine, Step, Mark, LineFits, ConditionStays, LineStays, NumbersStay, ValuesAfter, IsFirstConfig, MarkedOnce, MarksAt, ShowsPattern, unit_steps, OwnRunsRest, OccursAtRest, ending_run, marked_at_end}
 use Rattle.std.proofs.lemmas.Nat.Bits.{bit_at_ones}
-use Rattle.std.proofs.lemmas.Option.{same_Some, slice_get-get_or, slice_get_within}
-use Rattle.std.specs.List.{AllByRecursion}
-use Rattle.ta_base.proofs.Bits.{at_set, bit_set, bit_true}
-use Rattle.ta_base.proofs.Each.{each_at, each_from, each_front}
 use Rattle.ta_base.proofs.Lists.{slice_get_left, slice_get_right}
 use Rattle.ta_linear.specs.Values.{point_of}
-use Rattle.ta_automaton.specs.declared.automaton.Automaton.{Automaton}
 use Rattle.ta_automaton.specs.declared.condition.Condition.{Condition}
 use Rattle.ta_automaton.specs.declared.pattern.Event.{Event}
-use Rattle.ta_automaton.specs.declared.pattern.Pattern.{Pattern}
-use Rattle.ta_automaton.specs.declared.file.File.{File}
-use Rattle.ta_base.specs.Masks.{has_bit}
 use Rattle.ta_automaton.specs.Runs as runs
-use Rattle.ta_automaton.specs.Runs.{At, Config, Holds}
-use Rattle.ta_automaton.proofs.Thresholds.{after_earlier, pattern_within}
 use Rattle.ta_automaton.proofs.Trails.{run_length}
 use Rattle.ta_counter.specs.Configs.{naturals}
 use Rattle.ta_counter.specs.Values.{Value}
-use Rattle.ta_rest.specs.Endings.{Endings, IsEnding, LastMoved, RestAdded, events_below}
-use Rattle.ta_rest.specs.Faults.{EndingsOf}
-use Rattle.ta_rest.specs.Rest.{AtRest, ComeAfterEarlier, RestOccurs}
-use Rattle.ta_rest.proofs.EndingLaws.{back_of, endings_rest, moved_count, no_event}
 use Rattle.ta_rest.proofs.EndingShapes.{ending_last}
-use Rattle.ta_replay.specs.declared.run.Run.{Run}
-use Rattle.ta_replay.specs.declared.run.RunLine.{RunLine}
-use Rattle.ta_replay.specs.declared.run.RunLine.TheVariants.{Step, Mark}
-use Rattle.ta_replay.specs.Fits.{LineFits}
-use Rattle.ta_replay.specs.Replays.{ConditionStays, LineStays, NumbersStay, ValuesAfter}
-use Rattle.ta_replay.specs.Shows.{IsFirstConfig, MarkedOnce, MarksAt, ShowsPattern, unit_steps}
 use Rattle.ta_replay.proofs.Lines.{unit_steps-append}
-use Rattle.ta_rest_run.specs.Laws.{OwnRunsRest}
-use Rattle.ta_rest_run.specs.Runs.{OccursAtRest, ending_run, marked_at_end}
 use Rattle.ta_rest_run.proofs.Ends.{begins_same, ends_same}
 
 -- the pattern of an ending

@@ -1,37 +1,14 @@
 -- the run of a solution of a system of rest ends at rest
-use Rattle.std.proofs.Common.{◌≡◌, ℕ, ◌+◌, ◌<◌, ◌^◌, ℤ, true, List, [], ◌∷◌, ◌++◌, map, length, take, reverse, unsigned_abs, arith, sym, ap, ◌∙◌, refl, subst}
-use Rattle.std.specs.Prelude.{slice_index}
-use Rattle.std.specs.List.{AllByRecursion}
-use Rattle.ta_base.proofs.Bits.{bit_set}
-use Rattle.ta_base.proofs.Each.{each_at}
-use Rattle.ta_automaton.specs.declared.automaton.Automaton.{Automaton}
-use Rattle.ta_automaton.specs.declared.pattern.Pattern.{Pattern}
-use Rattle.ta_automaton.specs.declared.file.File.{File}
-use Rattle.ta_base.specs.Masks.{has_bit}
-use Rattle.ta_automaton.specs.Runs.{At, Config, InScope}
-use Rattle.ta_automaton.proofs.Thresholds.{after_earlier, pattern_within}
-use Rattle.ta_words.specs.declared.element.Element.{Element}
+use Rattle.ta_rest_run.proofs.Common.{◌≡◌, ℕ, ◌+◌, ◌<◌, ◌^◌, ℤ, true, List, [], ◌∷◌, ◌++◌, map, length, take, reverse, unsigned_abs, arith, sym, ap, ◌∙◌, refl, subst, slice_index, AllByRecursion, bit_set, each_at, Automaton, Pattern, File, has_bit, At, Config, InScope, after_earlier, pattern_within, Element, Solution, ComesLast, AtRest, ComeAfterEarlier, RestOccurs, end_config, end_hold, steps_rest, Run, IsFirstConfig, ShowsPattern, unit_steps, WitnessOf, piece_rules, pieces_back, pieces_fire, values_of, Parts, parts_of, RestSolutionsSolve, RestWitnessesRest, IsRestSolution, OccursAtRest}
 use Rattle.ta_words.specs.Words.{LegalWord, is_complete}
-use Rattle.ta_encode.specs.declared.encoded.Solution.{Solution}
 use Rattle.ta_encode.specs.Laws.{SolvedWord, WordFires, start_values, steps_of}
 use Rattle.ta_encode.specs.Search.{SolvesAt}
 use Rattle.ta_encode.specs.System.{AllHold, LinearRow, word_rows}
 use Rattle.ta_encode.specs.Unknowns.{start_meanings}
-use Rattle.ta_rest.specs.Endings.{ComesLast}
 use Rattle.ta_rest.specs.Laws.{RestSolved}
-use Rattle.ta_rest.specs.Rest.{AtRest, ComeAfterEarlier, RestOccurs}
 use Rattle.ta_rest.specs.RestSearch.{rest_search}
-use Rattle.ta_rest.proofs.EndingLaws.{end_config}
-use Rattle.ta_rest.proofs.Solutions.{end_hold, steps_rest}
-use Rattle.ta_replay.specs.declared.run.Run.{Run}
-use Rattle.ta_replay.specs.Shows.{IsFirstConfig, ShowsPattern, unit_steps}
-use Rattle.ta_witness.specs.Witness.{WitnessOf}
-use Rattle.ta_witness.proofs.Backward.{piece_rules, pieces_back, pieces_fire, values_of}
 use Rattle.ta_witness.proofs.Marks.{all_steps}
 use Rattle.ta_witness.proofs.Starts.{counts_are, parameters_are}
-use Rattle.ta_witness.proofs.Witnesses.{Parts, parts_of}
-use Rattle.ta_rest_run.specs.Laws.{RestSolutionsSolve, RestWitnessesRest}
-use Rattle.ta_rest_run.specs.Runs.{IsRestSolution, OccursAtRest}
 use Rattle.ta_rest_run.proofs.Ends.{begins_same, ends_same}
 
 -- the same solution, of the word and the start set that it names

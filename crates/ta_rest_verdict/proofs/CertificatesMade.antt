@@ -1,23 +1,13 @@
 -- the text of the trees of safe endings is a certificate that a judge accepts
-use Rattle.std.proofs.Common.{◌≡◌, ◌∙◌, ℕ, ◌≤◌, List, [], ◌++◌, Some, slice_get, refl, sym, ap, subst}
-use Rattle.ta_automaton.specs.declared.file.File.{File}
-use Rattle.ta_automaton.specs.declared.pattern.Pattern.{Pattern}
-use Rattle.ta_cert.specs.Certificates.{AreWritable, cert_lines, cert_text, head_text, proofs_text}
+use Rattle.ta_rest_verdict.proofs.Common.{◌≡◌, ◌∙◌, ℕ, ◌≤◌, List, [], ◌++◌, Some, slice_get, refl, sym, ap, subst, File, Pattern, AreWritable, cert_lines, cert_text, head_text, proofs_text, Node, Proof, Verdict, rest_search, AreTreesOf, safe_numbers, safe_ones, ended_line, RestCertificateOf, rest_tree}
 use Rattle.ta_cert.specs.Laws.{AreShort}
 use Rattle.ta_cert.specs.declared.line.Line.TheVariants as line
-use Rattle.ta_cert.specs.declared.line.Node.{Node}
-use Rattle.ta_cert.specs.declared.line.Proof.{Proof}
 use Rattle.ta_check.specs.Certificate.{RestCertificate}
 use Rattle.ta_check.specs.Subjects.{claiming}
 use Rattle.ta_claim.specs.declared.claim.Claim.TheVariants.{RestSafe}
-use Rattle.ta_report.specs.declared.verdict.Verdict.{Verdict}
-use Rattle.ta_rest.specs.RestSearch.{rest_search}
 use Rattle.ta_rest.proofs.Resting.{no_pairs_good}
 use Rattle.ta_resting.proofs.RestsVisited.{proof_made}
-use Rattle.ta_verdict.specs.Certificates.{AreTreesOf, safe_numbers, safe_ones}
-use Rattle.ta_verdict.specs.Drafts.{ended_line}
 use Rattle.ta_verdict.proofs.CertificatesMade.{Judgeable, all_short, cert_written, made, ones_distinct, safe_named}
-use Rattle.ta_rest_verdict.specs.Certificates.{RestCertificateOf, rest_tree}
 
 -- the nodes of such a tree
 judgeable : (ending : File) (budget : ℕ) → budget ≤ 1000000000 → (number : ℕ) (p : Pattern) → slice_get ending.patterns number ≡ Some p → (nodes : List Node) (count : ℕ) → rest_tree ending budget p nodes count → Judgeable (rest_search ending.automaton p) nodes

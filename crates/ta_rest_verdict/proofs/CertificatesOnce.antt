@@ -1,14 +1,6 @@
 -- verdicts at rest have one certificate
-use Rattle.std.proofs.Common.{◌≡◌, ◌∙◌, ℕ, List, [], ◌∷◌, refl, sym, ap}
-use Rattle.ta_automaton.specs.declared.file.File.{File}
-use Rattle.ta_cert.specs.Certificates.{cert_text}
-use Rattle.ta_cert.specs.declared.line.Node.{Node}
-use Rattle.ta_cert.specs.declared.line.Proof.{Proof}
-use Rattle.ta_rest.specs.RestSearch.{rest_search}
-use Rattle.ta_verdict.specs.Certificates.{AreTreesOf, HasNodes, SafeOne, safe_ones}
-use Rattle.ta_walk.specs.Ends.{Ending, Left, Solved, Stopped, Whole}
+use Rattle.ta_rest_verdict.proofs.Common.{◌≡◌, ◌∙◌, ℕ, List, [], ◌∷◌, refl, sym, ap, File, cert_text, Node, Proof, rest_search, AreTreesOf, HasNodes, SafeOne, safe_ones, Ending, Left, Solved, Stopped, Whole, RestCertificatesAreDetermined, rest_tree}
 use Rattle.ta_walk.proofs.DeterminedEnds.{endings_once}
-use Rattle.ta_rest_verdict.specs.Certificates.{RestCertificatesAreDetermined, rest_tree}
 
 -- the nodes of an end
 nodes_of : Ending → List Node

@@ -3,3 +3,4 @@ pub mod CertificatesOnce
 pub mod CertificatesMade
 mod VerdictsMade
 mod Drafting
+mod Common

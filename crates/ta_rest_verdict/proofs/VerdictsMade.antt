@@ -1,20 +1,14 @@
 -- what is known of verdicts at rest as they are made and counted
-use Rattle.std.proofs.Common.{◌≡◌, ℕ, ◌+◌, ◌<◌, List, [], ◌∷◌, ◌++◌, length, length-append, take, arith, sym, ap, subst, ◌∙◌}
-use Rattle.std.proofs.Math.Seq.{take-length}
+use Rattle.ta_rest_verdict.proofs.Common.{◌≡◌, ℕ, ◌+◌, ◌<◌, List, [], ◌∷◌, ◌++◌, length, length-append, take, arith, sym, ap, subst, ◌∙◌, take-length, File, Pattern, Verdict, Safe, Unsafe, Spent, Overflow, OwnVerdict, RestVerdictHolds, RestVerdictsHold}
 use Rattle.std.proofs.lemmas.List.{length-take-le}
 use Rattle.std.specs.List.{AllByRecursion}
 use Rattle.ta_base.proofs.Each.{each_push}
 use Rattle.ta_base.proofs.Lists.{some_at, take_next}
-use Rattle.ta_automaton.specs.declared.file.File.{File}
-use Rattle.ta_automaton.specs.declared.pattern.Pattern.{Pattern}
 use Rattle.ta_words.specs.Calls.{OfPattern}
-use Rattle.ta_report.specs.declared.verdict.Verdict.{Verdict}
-use Rattle.ta_report.specs.declared.verdict.Verdict.TheVariants.{Safe, Unsafe, Spent, Overflow}
 use Rattle.ta_report.specs.Report.{VerdictFits}
 use Rattle.ta_rest.specs.Faults.{EndingsOf}
 use Rattle.ta_rest.specs.declared.rest_file.RestFile.{RestFile}
 use Rattle.ta_rest.proofs.EndingShapes.{endings_count}
-use Rattle.ta_resting.specs.Verdicts.{OwnVerdict, RestVerdictHolds, RestVerdictsHold}
 use Rattle.ta_rest_verdict.specs.Verdicts.{OwnVerdicts}
 
 -- one more verdict at the end

@@ -9,12 +9,13 @@ ghost use Rattle.ta_resting.specs.Verdicts.{OwnVerdict};
 ghost use Rattle.ta_shell.specs.Puts.{texts_joined};
 ghost use Rattle.ta_words.specs.Calls.{OfPattern};
 ghost use Rattle.ta_verdict.specs.Certificates.{safe_numbers, safe_ones};
-ghost use Rattle.ta_verdict.specs.Drafts.{AddsTree, DraftHasTree, HasProofs, HasTrees};
+ghost use Rattle.ta_verdict.specs.Drafts.{AddsTree, HasProofs, HasTrees};
 ghost use Rattle.ta_rest_verdict.specs.Certificates.{RestCertificateOf, rest_tree};
 ghost use Rattle.ta_rest_verdict.specs.Verdicts.{OwnVerdicts};
 
 use std::alloc::{AllocError, Global};
 use ta_base::List;
+use ta_base::limits::MOST_NODES;
 use ta_cert::Line;
 use ta_dense::NarrowDictionary;
 use ta_report::Verdict;
@@ -31,7 +32,7 @@ pub fn judge_rest(
     wanted: bool,
 ) -> Result<Judged, AllocError>
     requires some { 0 < nodes }
-    requires limit { nodes ≤ 1000000000 }
+    requires limit { nodes ≤ MOST_NODES }
     ensures verdicts { IfOk result (λ judged. OwnVerdicts rest.now nodes judged.verdicts) }
     ensures all { IfOk result (λ judged. length judged.verdicts ≡ length rest.now.ending.file.patterns) }
     ensures fit { IfOk result (λ judged. AllByRecursion (VerdictFits rest.now.ending.file) judged.verdicts) }
@@ -56,7 +57,7 @@ fn verdicts_on(
     nodes: u64,
     draft: &mut Draft,
 ) -> Result<Vec<Verdict>, AllocError>
-    requires limit { nodes ≤ 1000000000 }
+    requires limit { nodes ≤ MOST_NODES }
     ensures verdicts { IfOk result (λ verdicts. OwnVerdicts rest.now nodes verdicts.items) }
     ensures all { IfOk result (λ verdicts. length verdicts.items ≡ length rest.now.ending.file.patterns) }
     ensures fit { IfOk result (λ verdicts. AllByRecursion (VerdictFits rest.now.ending.file) verdicts.items) }
@@ -79,7 +80,7 @@ fn next_verdict(
     nodes: u64,
     draft: &mut Draft,
 ) -> Result<Verdict, AllocError>
-    requires limit { nodes ≤ 1000000000 }
+    requires limit { nodes ≤ MOST_NODES }
     requires exists { pattern < length rest.now.ending.file.patterns }
     ensures holds { IfOk result (λ verdict. OfPattern rest.now.ending.file pattern (λ p. OwnVerdict rest.now nodes pattern p verdict)) }
     ensures fits { IfOk result (VerdictFits rest.now.ending.file) }
@@ -87,28 +88,10 @@ fn next_verdict(
     ensures wanted { IfOk result (λ verdict. draft.new.wanted ≡ draft.old.wanted) }
 {
     let mut proof = Draft::begin(alloc, draft.wanted, &Line::Pattern(pattern))?;
-    let verdict = drafted_verdict(alloc, rest, pattern, nodes, &mut proof)?;
+    let verdict = rest_verdict::<NarrowDictionary, Draft>(alloc, rest, pattern, nodes, &mut proof)?;
     if !is_safe(&verdict) {
         return Ok(verdict);
     }
     draft.add(alloc, proof)?;
     Ok(verdict)
-}
-
-/// The verdict on the pattern of a number. The lines of its tree, if it is safe, stand at the end of
-/// a draft then.
-fn drafted_verdict(
-    alloc: Global,
-    rest: &RestFile,
-    pattern: u32,
-    nodes: u64,
-    draft: &mut Draft,
-) -> Result<Verdict, AllocError>
-    requires limit { nodes ≤ 1000000000 }
-    requires exists { pattern < length rest.now.ending.file.patterns }
-    ensures holds { IfOk result (λ verdict. OfPattern rest.now.ending.file pattern (λ p. OwnVerdict rest.now nodes pattern p verdict)) }
-    ensures fits { IfOk result (VerdictFits rest.now.ending.file) }
-    ensures drafted { IfOk result (λ verdict. OfPattern rest.now.ending.file pattern (λ p. DraftHasTree (rest_tree rest.now.ending.file nodes) p verdict draft.old draft.new)) }
-{
-    rest_verdict::<NarrowDictionary, Draft>(alloc, rest, pattern, nodes, draft)
 }

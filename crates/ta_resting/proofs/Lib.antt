@@ -3,3 +3,4 @@ pub mod RestsVisited
 pub mod VerdictsMade
 pub mod VerdictsOnce
 pub mod TextsAlike
+mod Common

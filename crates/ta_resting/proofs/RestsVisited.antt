@@ -1,37 +1,20 @@
 -- the nodes of a whole tree of words of rest are a proof, and a whole node solves its word
-use Rattle.std.proofs.Common.{◌≡◌, ℕ, ◌+◌, ◌≤◌, List, [], ◌∷◌, ◌++◌, length, Some, slice_get, arith, sym, ap, ◌∙◌, append-nil, subst}
-use Rattle.std.specs.List.{AllByRecursion}
+use Rattle.ta_resting.proofs.Common.{◌≡◌, ℕ, ◌+◌, ◌≤◌, List, [], ◌∷◌, ◌++◌, length, Some, slice_get, arith, sym, ap, ◌∙◌, append-nil, subst, AllByRecursion, Automaton, File, Pattern, Node, IsLeaf, Pending, parts, in_order, weaker_proof, IsJudged, rest_rows, rest_search, refuted_rests, come_after, HasFewPairs, TreeIs, NodeAt, Visits, Waits, left_wait, next_wait, roots_wait, starts_unbounded, IsProofOf, RefutedRestsAreSafe, RestsAreSolved}
 use Rattle.ta_walk.proofs.Nodes.{few_variables}
-use Rattle.ta_automaton.specs.declared.automaton.Automaton.{Automaton}
-use Rattle.ta_automaton.specs.declared.file.File.{File}
-use Rattle.ta_automaton.specs.declared.pattern.Pattern.{Pattern}
-use Rattle.ta_cert.specs.declared.line.Node.{Node}
 use Rattle.ta_cert.specs.declared.line.Node.TheVariants as node
 use Rattle.ta_cert.specs.Lines.{IsNode}
 use Rattle.ta_words.specs.Words.{LegalWord}
 use Rattle.ta_encode.specs.PatternSearch.{all_starts}
-use Rattle.ta_encode.specs.Refutes.{IsLeaf}
-use Rattle.ta_encode.specs.Search.{Pending, parts}
 use Rattle.ta_encode.specs.System.{AllHold}
 use Rattle.ta_encode.proofs.Moments.{AllHold-left}
-use Rattle.ta_encode.proofs.Preorders.{in_order, weaker_proof}
-use Rattle.ta_cursor.specs.Range.{IsJudged}
 use Rattle.ta_cursor.proofs.PatternWords.{comes_legal}
 use Rattle.ta_cursor.proofs.RowCounts.{few_unknowns}
 use Rattle.ta_simplex.proofs.FewMultipliers.{few_multipliers}
-use Rattle.ta_rest.specs.RestSearch.{rest_rows, rest_search}
-use Rattle.ta_rest.proofs.Resting.{refuted_rests}
-use Rattle.ta_claim.proofs.ClaimsShown.{come_after}
 use Rattle.ta_claim.proofs.RestRows.{rest_comes, rest_legal, rest_small}
-use Rattle.ta_walk.specs.Ends.{HasFewPairs, TreeIs}
-use Rattle.ta_walk.specs.Visit.{NodeAt, Visits}
 use Rattle.ta_walk.proofs.NodesShort.{nodes_short}
 use Rattle.ta_walk.proofs.NodesWritten.{node_written}
 use Rattle.ta_walk.proofs.ProofsMade.{refuted_in_order}
 use Rattle.ta_walk.proofs.WordsSolved.{whole_solves}
-use Rattle.ta_walk.proofs.WordsVisited.{Waits, left_wait, next_wait, roots_wait, starts_unbounded}
-use Rattle.ta_resting.specs.Ends.{IsProofOf}
-use Rattle.ta_resting.specs.Laws.{RefutedRestsAreSafe, RestsAreSolved}
 
 -- the words with which the search of rest begins
 starts_wait : (a : Automaton) (p : Pattern) → AllByRecursion (Waits (rest_search a p) 0) (all_starts a)

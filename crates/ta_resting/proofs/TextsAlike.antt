@@ -1,25 +1,16 @@
 -- a report names a file's own patterns as it names their endings
-use Rattle.std.proofs.Common.{◌≡◌, inl, inr, ℕ, zero, suc, true, List, [], ◌∷◌, ◌++◌, map, length, codes, Option, Some, slice_get, arith, sym, ap, ◌∙◌, refl, subst}
+use Rattle.ta_resting.proofs.Common.{◌≡◌, inl, inr, ℕ, zero, suc, true, List, [], ◌∷◌, ◌++◌, map, length, codes, Option, Some, slice_get, arith, sym, ap, ◌∙◌, refl, subst, AllByRecursion, Automaton, File, Pattern, Run, Endings, IsEnding, Verdict, Safe, Unsafe, Spent, Overflow, RestTextsAreAlike}
 use Rattle.std.proofs.lemmas.List.{map-append}
-use Rattle.std.specs.List.{AllByRecursion}
 use Rattle.ta_rest.proofs.EndingShapes.{endings_names}
-use Rattle.ta_automaton.specs.declared.automaton.Automaton.{Automaton}
-use Rattle.ta_automaton.specs.declared.file.File.{File}
-use Rattle.ta_automaton.specs.declared.pattern.Pattern.{Pattern}
 use Rattle.ta_automaton.specs.Patterns.{event_name, pattern_name}
-use Rattle.ta_replay.specs.declared.run.Run.{Run}
 use Rattle.ta_replay.specs.declared.run.RunLine.{RunLine}
 use Rattle.ta_replay.specs.declared.run.RunLine.TheVariants.{Step, Mark}
 use Rattle.ta_replay.specs.Fits.{Fits, LineFits}
 use Rattle.ta_replay.specs.RunText.{line_of, lines_of, lines_text, name_at, named_line, run_text, slots, value_lines}
-use Rattle.ta_rest.specs.Endings.{Endings, IsEnding}
 use Rattle.ta_rest.specs.Faults.{EndingsOf}
 use Rattle.ta_report.specs.declared.verdict.ReportSample.{ReportSample}
 use Rattle.ta_report.specs.declared.verdict.ReportSample.TheVariants as sample
-use Rattle.ta_report.specs.declared.verdict.Verdict.{Verdict}
-use Rattle.ta_report.specs.declared.verdict.Verdict.TheVariants.{Safe, Unsafe, Spent, Overflow}
 use Rattle.ta_report.specs.Report.{VerdictFits, rest_word, run_part, sample_line, told_line, told_lines, values_text, verdict_text}
-use Rattle.ta_resting.specs.Laws.{RestTextsAreAlike}
 
 -- the line of a step or of a mark
 line_alike : (a : Automaton) (p q : Pattern) → IsEnding p q → (l : RunLine) → LineFits a p l → line_of a q l ≡ line_of a p l

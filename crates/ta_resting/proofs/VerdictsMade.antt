@@ -1,37 +1,14 @@
 -- what is known of verdicts on runs that come to rest, as they are made
-use Rattle.std.proofs.Common.{◌≡◌, ℕ, zero, suc, ◌<◌, ◌≤◌, List, [], ◌∷◌, length, sym, subst, Some, slice_get, Result, Ok, Err, IfOk}
+use Rattle.ta_resting.proofs.Common.{◌≡◌, ℕ, zero, suc, ◌<◌, ◌≤◌, List, [], ◌∷◌, length, sym, subst, Some, slice_get, Result, Ok, Err, IfOk, Automaton, File, Pattern, Node, IsLeaf, Pending, Search, Solution, in_order, weaker_proof, IsJudged, Endings, IsEnding, rest_search, refuted_show, IsRestSolution, Run, Verdict, Safe, Unsafe, Spent, Overflow, come_after, IsSpent, NodeOf, TreeKept, IsOutOfRangeAt, PlaceKind, node_with, SolutionIn, IsNotSafe, KeepsSafe, OwnVerdict, RestIsOutOfRangeIn, place_of}
 use Rattle.std.specs.declared.alloc.AllocError.{AllocError}
 use Rattle.ta_base.proofs.Lists.{some_at}
-use Rattle.ta_automaton.specs.declared.automaton.Automaton.{Automaton}
-use Rattle.ta_automaton.specs.declared.file.File.{File}
-use Rattle.ta_automaton.specs.declared.pattern.Pattern.{Pattern}
-use Rattle.ta_cert.specs.declared.line.Node.{Node}
 use Rattle.ta_words.specs.Calls.{OfPattern}
-use Rattle.ta_encode.specs.Refutes.{IsLeaf}
-use Rattle.ta_encode.specs.Search.{Pending, Search}
-use Rattle.ta_encode.specs.declared.encoded.Solution.{Solution}
-use Rattle.ta_encode.proofs.Preorders.{in_order, weaker_proof}
-use Rattle.ta_cursor.specs.Range.{IsJudged}
-use Rattle.ta_rest.specs.Endings.{Endings, IsEnding}
 use Rattle.ta_rest.specs.Rest.{RestSafe}
-use Rattle.ta_rest.specs.RestSearch.{rest_search}
 use Rattle.ta_rest.specs.declared.rest_file.RestFile.{RestFile}
-use Rattle.ta_rest.proofs.Resting.{refuted_show}
-use Rattle.ta_rest_run.specs.Runs.{IsRestSolution}
-use Rattle.ta_replay.specs.declared.run.Run.{Run}
 use Rattle.ta_report.specs.declared.verdict.ReportKind.{ReportKind}
 use Rattle.ta_report.specs.declared.verdict.ReportKind.TheVariants as kind
-use Rattle.ta_report.specs.declared.verdict.Verdict.{Verdict}
-use Rattle.ta_report.specs.declared.verdict.Verdict.TheVariants.{Safe, Unsafe, Spent, Overflow}
 use Rattle.ta_scope.proofs.Judging.{loops_pure}
-use Rattle.ta_claim.proofs.ClaimsShown.{come_after}
-use Rattle.ta_walk.specs.Ends.{IsSpent, NodeOf, TreeKept}
-use Rattle.ta_walk.specs.Visit.{IsOutOfRangeAt}
-use Rattle.ta_walk.specs.declared.end.PlaceKind.{PlaceKind}
-use Rattle.ta_walk.proofs.DeterminedEnds.{node_with}
 use Rattle.ta_walk.proofs.SpentSplits.{split_of_words}
-use Rattle.ta_resting.specs.Ends.{SolutionIn}
-use Rattle.ta_resting.specs.Verdicts.{IsNotSafe, KeepsSafe, OwnVerdict, RestIsOutOfRangeIn, place_of}
 use Rattle.ta_resting.proofs.RestsVisited.{found_solved, proof_made}
 
 -- the ending of a pattern of a number

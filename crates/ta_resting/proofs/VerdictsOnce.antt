@@ -1,28 +1,12 @@
 -- a pattern of a file has one verdict on its runs that come to rest for one budget
-use Rattle.std.proofs.Common.{◌≡◌, ◌⊎◌, inl, inr, ◌+◌, ℕ, ℤ, suc, List, [], ◌∷◌, Some, slice_get, refl, sym, ap, subst, ◌∙◌, arith}
-use Rattle.ta_automaton.specs.declared.file.File.{File}
-use Rattle.ta_automaton.specs.declared.pattern.Pattern.{Pattern}
-use Rattle.ta_encode.specs.Search.{Pending}
-use Rattle.ta_encode.specs.declared.encoded.Solution.{Solution}
-use Rattle.ta_replay.specs.declared.run.Run.{Run}
+use Rattle.ta_resting.proofs.Common.{◌≡◌, ◌⊎◌, inl, inr, ◌+◌, ℕ, ℤ, suc, List, [], ◌∷◌, Some, slice_get, refl, sym, ap, subst, ◌∙◌, arith, File, Pattern, Pending, Solution, Run, rest_search, IsRestSolution, ending_run, PlaceKind, Ending, IsVisitEnding, Left, NodeOf, Solved, Stopped, Whole, leaf_count, WholeAt, endings_once, node_with, word_same, Verdict, Safe, Unsafe, Spent, Overflow, SolutionIn, RestVerdictsAreDetermined, RestVerdictHolds, RestVerdictsHold}
 use Rattle.ta_replay.specs.Replays.{ReplayStays}
-use Rattle.ta_rest.specs.RestSearch.{rest_search}
-use Rattle.ta_rest_run.specs.Runs.{IsRestSolution, ending_run}
 use Rattle.ta_rest_run.proofs.Once.{one_rest_witness}
 use Rattle.ta_rest_run.proofs.Resting.{solutions_solve}
-use Rattle.ta_walk.specs.declared.end.PlaceKind.{PlaceKind}
 use Rattle.ta_walk.specs.declared.end.PlaceKind.TheVariants as place
-use Rattle.ta_walk.specs.Ends.{Ending, IsVisitEnding, Left, NodeOf, Solved, Stopped, Whole, leaf_count}
-use Rattle.ta_walk.specs.Visit.{WholeAt}
-use Rattle.ta_walk.proofs.DeterminedEnds.{endings_once, node_with, word_same}
 use Rattle.ta_report.specs.declared.verdict.ReportKind.TheVariants as kind
-use Rattle.ta_report.specs.declared.verdict.Verdict.{Verdict}
-use Rattle.ta_report.specs.declared.verdict.Verdict.TheVariants.{Safe, Unsafe, Spent, Overflow}
 use Rattle.ta_witness.specs.Witness.{WitnessOutOfRange, WitnessOf}
 use Rattle.ta_witness.proofs.WitnessOnce.{one_witness}
-use Rattle.ta_resting.specs.Ends.{SolutionIn}
-use Rattle.ta_resting.specs.Laws.{RestVerdictsAreDetermined}
-use Rattle.ta_resting.specs.Verdicts.{RestVerdictHolds, RestVerdictsHold}
 use Rattle.ta_resting.proofs.RestsVisited.{found_solved}
 
 -- a solution at a word, with the values of a whole node

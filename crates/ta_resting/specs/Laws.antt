@@ -1,6 +1,7 @@
 -- What the ends of visits of words of rest say
 use Rattle.std.specs.Prelude.{ℕ, ◌≤◌, ◌≡◌, List, length, slice_get, Some}
 use Rattle.std.specs.List.{AllByRecursion}
+use Rattle.ta_base.specs.declared.limits.TheConstants.{MOST_NODES}
 use Rattle.ta_automaton.specs.declared.file.File.{File}
 use Rattle.ta_automaton.specs.declared.pattern.Pattern.{Pattern}
 use Rattle.ta_automaton.specs.Runs.{LoopsPure}
@@ -22,7 +23,7 @@ use Rattle.ta_resting.specs.Verdicts.{AreRestVerdicts}
 abbrev pub RefutedRestsAreSafe : Type 0
 RefutedRestsAreSafe =
     (file : File) (number : ℕ) (p : Pattern) → slice_get file.patterns number ≡ Some p → 1 ≤ length p.events → LoopsPure file.automaton
-    → (budget : ℕ) → budget ≤ 1000000000
+    → (budget : ℕ) → budget ≤ MOST_NODES
     → (nodes : List Node) (count : ℕ) → TreeIs (rest_search file.automaton p) budget nodes count
     → IsProofOf (rest_search file.automaton p) nodes × RestSafe file.automaton p
 

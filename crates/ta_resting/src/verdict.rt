@@ -13,6 +13,7 @@ ghost use Rattle.ta_words.specs.Calls.{OfPattern};
 
 use crate::visiting::rest_visit;
 use std::alloc::{AllocError, Global};
+use ta_base::limits::MOST_NODES;
 use ta_dense::Dictionary;
 use ta_encode::Solution;
 use ta_report::{ReportKind, Verdict};
@@ -32,7 +33,7 @@ pub fn rest_verdict<D: Dictionary, K: Keeper>(
     keeper: &mut K,
 ) -> Result<Verdict, AllocError>
     requires exists { pattern < length rest.now.ending.file.patterns }
-    requires limit { nodes ≤ 1000000000 }
+    requires limit { nodes ≤ MOST_NODES }
     requires keeps { K.keeps keeper.old keeper.old [] }
     ensures holds { IfOk result (λ verdict. OfPattern rest.now.ending.file pattern (λ p. OwnVerdict rest.now nodes pattern p verdict)) }
     ensures fits { IfOk result (VerdictFits rest.now.ending.file) }

@@ -7,6 +7,7 @@ ghost use Rattle.ta_rest.specs.RestSearch.{rest_search};
 ghost use Rattle.ta_resting.specs.Ends.{IsVisitEndOf};
 
 use std::alloc::{AllocError, Global};
+use ta_base::limits::MOST_NODES;
 use ta_claim::RestTree;
 use ta_dense::Dictionary;
 use ta_encode::Solution;
@@ -24,7 +25,7 @@ pub fn rest_visit<D: Dictionary, K: Keeper>(
     keeper: &mut K,
 ) -> Result<VisitEnd, AllocError>
     requires exists { pattern < length rest.now.ending.file.patterns }
-    requires limit { nodes ≤ 1000000000 }
+    requires limit { nodes ≤ MOST_NODES }
     requires keeps { K.keeps keeper.old keeper.old [] }
     ensures { IfOk result (λ end. OfPattern rest.now.ending.file pattern (λ p. IsVisitEndOf (rest_search rest.now.ending.file.automaton p) pattern nodes (K.keeps keeper.old keeper.new) end)) }
 {

@@ -9,6 +9,7 @@ ghost use Rattle.ta_resting.specs.Ends.{IsWalkEndOf};
 use crate::visiting::rest_visit;
 use std::alloc::{AllocError, Global};
 use ta_base::List;
+use ta_base::limits::MOST_NODES;
 use ta_cert::Node;
 use ta_dense::Dictionary;
 use ta_rest::RestFile;
@@ -23,7 +24,7 @@ pub fn rest_walk<D: Dictionary>(
     nodes: u64,
 ) -> Result<WalkEnd, AllocError>
     requires exists { pattern < length rest.now.ending.file.patterns }
-    requires limit { nodes ≤ 1000000000 }
+    requires limit { nodes ≤ MOST_NODES }
     ensures { IfOk result (λ end. OfPattern rest.now.ending.file pattern (λ p. IsWalkEndOf (rest_search rest.now.ending.file.automaton p) pattern nodes end)) }
 {
     let mut kept = Kept {

@@ -1,21 +1,7 @@
 -- arranged steps are legal
-use Rattle.std.proofs.Common.{◌≡◌, ℕ, ℤ, pos, ◌+ℤ◌, ◌≤ℤ◌, List, [], ◌∷◌, ◌++◌, inl, arith, sym, ap, ◌∙◌, refl, subst, slice_get, Some}
-use Rattle.std.proofs.lemmas.Int.{ints}
-use Rattle.ta_base.proofs.Lists.{without_last}
-use Rattle.ta_base.proofs.Members.{In-right, last_of}
+use Rattle.ta_scope.proofs.Common.{◌≡◌, ℕ, ℤ, pos, ◌+ℤ◌, ◌≤ℤ◌, List, [], ◌∷◌, ◌++◌, inl, arith, sym, ap, ◌∙◌, refl, subst, slice_get, Some, ints, without_last, In-right, last_of, Rule, Automaton, In, location_place, Config, value_at, InScope, total, total-append, terms_value-same, fall_back, change_of, Onward, Piece, after, later_after, fire_in_order, each_rule_from, AreRuleCounts, ArrangedOf, count_at, steps_along, ArrangedStepsAreLegal, ArrangedStepsReachTheEnd, GuardsHold, Passable, LeadsToEnd, arranged_steps, fall_mask, value_after_steps, value_at_end}
 use Rattle.ta_linear.specs.Values.{RowHolds}
-use Rattle.ta_automaton.specs.declared.rule.Rule.{Rule}
-use Rattle.ta_automaton.specs.declared.automaton.Automaton.{Automaton}
-use Rattle.ta_base.specs.Masks.{In}
-use Rattle.ta_automaton.specs.Places.{location_place}
-use Rattle.ta_automaton.specs.Runs.{Config, value_at, InScope}
-use Rattle.ta_automaton.specs.Sums.{total}
-use Rattle.ta_automaton.proofs.Sums.{total-append, terms_value-same}
-use Rattle.ta_automaton.proofs.Thresholds.{falls as falls_rows, fall_back}
-use Rattle.ta_automaton.proofs.Onward.{change_of, Onward, Piece, after, later_after, fire_in_order}
-use Rattle.ta_automaton.proofs.Rearranged.{each_rule_from}
-use Rattle.ta_scope.specs.Arranged.{AreRuleCounts, ArrangedOf, count_at, steps_along}
-use Rattle.ta_scope.specs.Legal.{ArrangedStepsAreLegal, ArrangedStepsReachTheEnd, GuardsHold, Passable, LeadsToEnd, arranged_steps, fall_mask, value_after_steps, value_at_end}
+use Rattle.ta_automaton.proofs.Thresholds.{falls as falls_rows}
 use Rattle.ta_scope.proofs.Circulations.{Rest, rest_same, rest_all, weighted}
 use Rattle.ta_scope.proofs.Listing.{in_along, along_total, along_onward}
 

@@ -1,16 +1,6 @@
 -- Counts have one list of arranged steps.
-use Rattle.std.proofs.Common.{◌≡◌, inl, inr, ℕ, ℤ, suc, ◌<◌, List, [], ◌∷◌, ◌++◌, length, take, arith, sym, ap, ◌∙◌, refl, subst, slice_get, Some, Contains, append_assoc, append-nil}
+use Rattle.ta_scope.proofs.Common.{◌≡◌, inl, inr, ℕ, ℤ, suc, ◌<◌, List, [], ◌∷◌, ◌++◌, length, take, arith, sym, ap, ◌∙◌, refl, subst, slice_get, Some, Contains, append_assoc, append-nil, cases_lt, ints, AllByRecursion, in_or, Rule, Automaton, AllTakenOut, FirstPath, LeastCount, LeastCycle, NoLater, NotAbove, SubtractsFrom, Support, TakenOut, count_at, steps_along, NoCycle, ArrangedStepsAreDetermined, IsLocationOrder, Next, Ready}
 use Rattle.std.specs.Prelude.{IsBitSet}
-use Rattle.std.proofs.lemmas.Bool.{cases_lt}
-use Rattle.std.proofs.lemmas.Int.{ints}
-use Rattle.std.specs.List.{AllByRecursion}
-use Rattle.ta_base.proofs.Members.{in_or}
-use Rattle.ta_automaton.specs.declared.rule.Rule.{Rule}
-use Rattle.ta_automaton.specs.declared.automaton.Automaton.{Automaton}
-use Rattle.ta_scope.specs.Arranged.{AllTakenOut, FirstPath, LeastCount, LeastCycle, NoLater, NotAbove, SubtractsFrom, Support, TakenOut, count_at, steps_along}
-use Rattle.ta_scope.specs.Cycles.{NoCycle}
-use Rattle.ta_scope.specs.Legal.{ArrangedStepsAreDetermined}
-use Rattle.ta_scope.specs.Order.{IsLocationOrder, Next, Ready}
 use Rattle.ta_scope.proofs.OrderLaws.{placed}
 
 -- each rule of a mask is one of another

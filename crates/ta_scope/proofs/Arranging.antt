@@ -1,21 +1,5 @@
 -- arranged steps are of existing rules, each at most once, and no rule fires more often than its count
-use Rattle.std.proofs.Common.{◌≡◌, ◌⊎◌, inl, inr, ℕ, ◌+◌, ◌<◌, ◌≤◌, ℤ, pos, ◌≤ℤ◌, List, [], ◌∷◌, ◌++◌, map, length, Bool, true, arith, sym, ap, ◌∙◌, refl, subst, slice_get, Some}
-use Rattle.std.specs.Prelude.{filter}
-use Rattle.std.proofs.lemmas.Bool.{cases_Bool}
-use Rattle.std.proofs.lemmas.Bool.Decides.{eqb_tells}
-use Rattle.std.proofs.lemmas.List.{map-append}
-use Rattle.std.proofs.lemmas.Option.{slice_get_within, same_Some}
-use Rattle.std.specs.List.{AllByRecursion}
-use Rattle.ta_base.proofs.Each.{each_append, each_listed}
-use Rattle.ta_base.proofs.Lists.{filter_false, filter_true}
-use Rattle.ta_automaton.specs.declared.rule.Rule.{Rule}
-use Rattle.ta_automaton.specs.declared.automaton.Automaton.{Automaton}
-use Rattle.ta_base.specs.Masks.{In, numbers_from}
-use Rattle.ta_automaton.specs.Sums.{times_in}
-use Rattle.ta_automaton.proofs.Thresholds.{from_within}
-use Rattle.ta_scope.specs.Arranged.{count_at, is_step_from, steps_along}
-use Rattle.ta_scope.specs.Legal.{ArrangedStepsAreWithin, StepsWithin}
-use Rattle.ta_scope.specs.Inside.Listed.{steps_from}
+use Rattle.ta_scope.proofs.Common.{◌≡◌, ◌⊎◌, inl, inr, ℕ, ◌+◌, ◌<◌, ◌≤◌, ℤ, pos, ◌≤ℤ◌, List, [], ◌∷◌, ◌++◌, map, length, Bool, true, arith, sym, ap, ◌∙◌, refl, subst, slice_get, Some, filter, cases_Bool, eqb_tells, map-append, slice_get_within, same_Some, AllByRecursion, each_append, each_listed, filter_false, filter_true, Rule, Automaton, In, numbers_from, times_in, from_within, count_at, is_step_from, steps_along, ArrangedStepsAreWithin, StepsWithin, steps_from}
 use Rattle.ta_scope.proofs.Circulations.{Rest, rest_same, rest_all, numbers_once}
 use Rattle.ta_scope.proofs.Listing.{StepFrom, step_from}
 

@@ -1,25 +1,7 @@
 -- taking circulations out leaves natural counts with the same end
-use Rattle.std.proofs.Common.{◌≡◌, ◌⊎◌, inl, inr, ℕ, zero, suc, ◌+◌, ◌<◌, ◌≤◌, ℤ, pos, ◌+ℤ◌, ◌*ℤ◌, ◌≤ℤ◌, List, [], ◌∷◌, length, arith, sym, ap, ◌∙◌, refl, subst, IsBitSet}
-use Rattle.std.proofs.lemmas.Int.{ints}
-use Rattle.std.proofs.lemmas.Bool.Decides.{eqb_tells}
-use Rattle.std.proofs.lemmas.Option.{slice_get_within}
-use Rattle.std.proofs.Math.IntN.{*ℤ-zero}
-use Rattle.std.specs.List.{AllByRecursion}
-use Rattle.ta_base.proofs.Each.{each_in, each_weaker}
-use Rattle.ta_base.proofs.Integers.{by_one, distributes, mul_left_comm}
-use Rattle.ta_automaton.specs.declared.automaton.Automaton.{Automaton}
-use Rattle.ta_base.specs.Lists.{Distinct}
-use Rattle.ta_base.specs.Masks.{In, numbers_from}
-use Rattle.ta_automaton.specs.Runs.{Walk, InScope}
-use Rattle.ta_automaton.specs.Sums.{total, times_in}
-use Rattle.ta_automaton.proofs.Sums.{total-same, total-add, total-times}
+use Rattle.ta_scope.proofs.Common.{◌≡◌, ◌⊎◌, inl, inr, ℕ, zero, suc, ◌+◌, ◌<◌, ◌≤◌, ℤ, pos, ◌+ℤ◌, ◌*ℤ◌, ◌≤ℤ◌, List, [], ◌∷◌, length, arith, sym, ap, ◌∙◌, refl, subst, IsBitSet, ints, eqb_tells, slice_get_within, *ℤ-zero, AllByRecursion, each_in, each_weaker, by_one, distributes, mul_left_comm, Automaton, Distinct, In, numbers_from, Walk, InScope, total, times_in, total-same, total-add, total-times, change_of, circuit_pure, NoCycle, IsLeastCycle, count_at, AreRuleCounts, Support, LeastCount, SubtractsFrom, TakenOut, AllTakenOut}
 use Rattle.ta_automaton.proofs.Fired.{EachOnce, firings}
-use Rattle.ta_automaton.proofs.Onward.{change_of}
 use Rattle.ta_automaton.proofs.Circuits.{circuit_total}
-use Rattle.ta_automaton.proofs.Rearranged.{circuit_pure}
-use Rattle.ta_scope.specs.Cycles.{NoCycle}
-use Rattle.ta_scope.specs.Inside.Taking.{IsLeastCycle}
-use Rattle.ta_scope.specs.Arranged.{count_at, AreRuleCounts, Support, LeastCount, SubtractsFrom, TakenOut, AllTakenOut}
 use Rattle.ta_scope.proofs.Taken.{sum_of, sum_less, counted}
 use Rattle.ta_scope.proofs.FirstPaths.{cycle_distinct, cycle_walk}
 

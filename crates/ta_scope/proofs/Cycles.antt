@@ -1,18 +1,5 @@
 -- where every remaining location has a remaining other one that leads to it, there is a cycle
-use Rattle.std.proofs.Common.{◌≡◌, ◌⊎◌, inl, inr, ℕ, zero, suc, ◌+◌, ◌<◌, List, [], ◌∷◌, length, arith, sym, ap, ◌∙◌, refl, subst, slice_get, Some, Contains, IsBitSet}
-use Rattle.std.proofs.lemmas.Bool.Decides.{eqb_tells}
-use Rattle.std.proofs.lemmas.Option.{slice_get_within}
-use Rattle.std.specs.List.{AllByRecursion}
-use Rattle.ta_base.proofs.Bits.{set_or}
-use Rattle.ta_base.proofs.Each.{distinct_length, each_weaker, find_or}
-use Rattle.ta_base.proofs.Members.{contains_or}
-use Rattle.ta_automaton.specs.declared.rule.Rule.{Rule}
-use Rattle.ta_automaton.specs.declared.automaton.Automaton.{Automaton}
-use Rattle.ta_base.specs.Lists.{Distinct}
-use Rattle.ta_automaton.specs.Runs.{Walk}
-use Rattle.ta_automaton.proofs.Thresholds.{from_within}
-use Rattle.ta_scope.specs.Cycles.{Reaches, NoCycle}
-use Rattle.ta_scope.specs.Order.{Blocks, Ready}
+use Rattle.ta_scope.proofs.Common.{◌≡◌, ◌⊎◌, inl, inr, ℕ, zero, suc, ◌+◌, ◌<◌, List, [], ◌∷◌, length, arith, sym, ap, ◌∙◌, refl, subst, slice_get, Some, Contains, IsBitSet, eqb_tells, slice_get_within, AllByRecursion, set_or, distinct_length, each_weaker, find_or, contains_or, Rule, Automaton, Distinct, Walk, from_within, Reaches, NoCycle, Blocks, Ready}
 
 -- a rule of the mask that leads to a location from another one that remains
 abbrev pub Blocker : List Rule → ℕ → List ℕ → ℕ → Type 0

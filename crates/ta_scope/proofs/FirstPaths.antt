@@ -1,15 +1,5 @@
 -- first paths have no rule twice
-use Rattle.std.proofs.Common.{◌≡◌, ◌⊎◌, inl, inr, ℕ, ◌<◌, List, [], ◌∷◌, ◌++◌, length, arith, sym, ap, ◌∙◌, refl, subst, slice_get, Some, IsBitSet}
-use Rattle.std.proofs.lemmas.Bool.Decides.{eqb_tells}
-use Rattle.std.specs.List.{AllByRecursion}
-use Rattle.std.proofs.lemmas.Option.{same_Some}
-use Rattle.ta_base.proofs.Each.{each_behind}
-use Rattle.ta_base.proofs.Lists.{longer_front}
-use Rattle.ta_automaton.specs.declared.rule.Rule.{Rule}
-use Rattle.ta_automaton.specs.declared.automaton.Automaton.{Automaton}
-use Rattle.ta_base.specs.Lists.{Distinct}
-use Rattle.ta_automaton.specs.Runs.{Walk}
-use Rattle.ta_scope.specs.Arranged.{NotAbove, NoLater, FirstPath, LeastCycle}
+use Rattle.ta_scope.proofs.Common.{◌≡◌, ◌⊎◌, inl, inr, ℕ, ◌<◌, List, [], ◌∷◌, ◌++◌, length, arith, sym, ap, ◌∙◌, refl, subst, slice_get, Some, IsBitSet, eqb_tells, AllByRecursion, same_Some, each_behind, longer_front, Rule, Automaton, Distinct, Walk, NotAbove, NoLater, FirstPath, LeastCycle}
 
 -- an item of a list with the items before it and behind it
 pub record Cut (q : ℕ) (rs : List ℕ) : Type 0 where

@@ -1,17 +1,7 @@
 -- rules at fault and scope
-use Rattle.std.proofs.Common.{◌≡◌, ◌≢◌, inl, inr, ℕ, ℤ, pos, ◌≤ℤ◌, List, [], ◌∷◌, length, arith, refl, sym, slice_get, get_or, Some, IsBitSet, ◌↔◌}
-use Rattle.std.proofs.lemmas.Int.{ints}
-use Rattle.std.proofs.lemmas.Bool.Decides.{eqb_tells}
-use Rattle.std.specs.List.{AllByRecursion}
-use Rattle.ta_base.proofs.Integers.{zero_or_more}
+use Rattle.ta_scope.proofs.Common.{◌≡◌, ◌≢◌, inl, inr, ℕ, ℤ, pos, ◌≤ℤ◌, List, [], ◌∷◌, length, arith, refl, sym, slice_get, get_or, Some, IsBitSet, ◌↔◌, ints, eqb_tells, AllByRecursion, zero_or_more, Rule, Automaton, InScope, LoopsPure, rule_within, natural_terms, updates_natural, to_within, every_rule, IsReachTable, AtFault}
 use Rattle.ta_linear.specs.Terms.{coefficient}
-use Rattle.ta_automaton.specs.declared.rule.Rule.{Rule}
-use Rattle.ta_automaton.specs.declared.automaton.Automaton.{Automaton}
 use Rattle.ta_automaton.specs.Shape.{Update}
-use Rattle.ta_automaton.specs.Runs.{InScope, LoopsPure}
-use Rattle.ta_automaton.proofs.Thresholds.{rule_within, natural_terms, updates_natural, to_within}
-use Rattle.ta_scope.specs.Cycles.{every_rule, IsReachTable}
-use Rattle.ta_scope.specs.Faults.{AtFault}
 use Rattle.ta_scope.proofs.Reaching.{every_walk}
 
 -- where no rule is at fault, the automaton is in scope

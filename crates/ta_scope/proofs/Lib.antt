@@ -14,3 +14,4 @@ mod Stepping
 mod Taken
 mod Circulations
 mod Listing
+mod Common

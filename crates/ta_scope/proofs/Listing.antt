@@ -1,33 +1,9 @@
 -- steps along an order of the locations go forward, and have the end of the counts
-use Rattle.std.proofs.Common.{◌≡◌, ◌≢◌, inl, inr, ℕ, zero, suc, ◌+◌, ◌<◌, ℤ, pos, ◌+ℤ◌, ◌*ℤ◌, ◌≤ℤ◌, List, [], ◌∷◌, ◌++◌, map, length, replicate, eqb, cond, Bool, true, false, ◌&&◌, arith, sym, ap, ◌∙◌, refl, subst, slice_get, Option, Some, None, IsBitSet, Contains, append_assoc, append-nil, zero-add}
-use Rattle.std.specs.Prelude.{filter, int_lt, unsigned_abs}
-use Rattle.std.proofs.lemmas.Int.{ints}
-use Rattle.std.proofs.lemmas.Bool.{cases_Bool, and_parts, false≢true, eqb-true}
-use Rattle.std.proofs.lemmas.Bool.Decides.{eqb_tells}
+use Rattle.ta_scope.proofs.Common.{◌≡◌, ◌≢◌, inl, inr, ℕ, zero, suc, ◌+◌, ◌<◌, ℤ, pos, ◌+ℤ◌, ◌*ℤ◌, ◌≤ℤ◌, List, [], ◌∷◌, ◌++◌, map, length, replicate, eqb, cond, Bool, true, false, ◌&&◌, arith, sym, ap, ◌∙◌, refl, subst, slice_get, Option, Some, None, IsBitSet, Contains, append_assoc, append-nil, zero-add, filter, int_lt, unsigned_abs, ints, cases_Bool, and_parts, false≢true, eqb-true, eqb_tells, map-append, *ℤ-zero, zero-*ℤ, same_Some, above_zero, abs_natural, by_one, distributes, not_above_zero, filter_false, filter_true, get_middle, one_step, take_front, contains_left, in_append, in_replicate, Rule, Automaton, In, numbers_from, rule_change, total, times_in, total-append, total-same, total-zero, total-swap, from_within, change_of, NoneInto, Onward, none_from, NoCycle, Next, IsBuilt, IsLocationOrder, count_at, Support, is_step_from, steps_along, arranged_steps, steps_from}
 use Rattle.std.proofs.lemmas.Grind.{flat_map-append}
-use Rattle.std.proofs.lemmas.List.{map-append}
 use Rattle.std.proofs.lemmas.List.Elements.{filter-append}
-use Rattle.std.proofs.Math.IntN.{*ℤ-zero, zero-*ℤ}
-use Rattle.std.proofs.lemmas.Option.{same_Some}
-use Rattle.ta_base.proofs.Integers.{above_zero, abs_natural, by_one, distributes, not_above_zero}
-use Rattle.ta_base.proofs.Lists.{filter_false, filter_true, get_middle, one_step, take_front}
-use Rattle.ta_base.proofs.Members.{contains_left, in_append, in_replicate}
 use Rattle.ta_base.proofs.Ranges.{numbers_more}
-use Rattle.ta_automaton.specs.declared.rule.Rule.{Rule}
-use Rattle.ta_automaton.specs.declared.automaton.Automaton.{Automaton}
 use Rattle.ta_automaton.specs.Laws.{leads_out_of}
-use Rattle.ta_base.specs.Masks.{In, numbers_from}
-use Rattle.ta_automaton.specs.Places.{rule_change}
-use Rattle.ta_automaton.specs.Sums.{total, times_in}
-use Rattle.ta_automaton.proofs.Sums.{total-append, total-same, total-zero, total-swap}
-use Rattle.ta_automaton.proofs.Thresholds.{from_within}
-use Rattle.ta_automaton.proofs.Onward.{change_of, NoneInto, Onward}
-use Rattle.ta_automaton.proofs.Rearranged.{none_from}
-use Rattle.ta_scope.specs.Cycles.{NoCycle}
-use Rattle.ta_scope.specs.Order.{Next, IsBuilt, IsLocationOrder}
-use Rattle.ta_scope.specs.Arranged.{count_at, Support, is_step_from, steps_along}
-use Rattle.ta_scope.specs.Legal.{arranged_steps}
-use Rattle.ta_scope.specs.Inside.Listed.{steps_from}
 use Rattle.ta_scope.proofs.Circulations.{weighted}
 
 -- the unit steps of the rules that pass a test

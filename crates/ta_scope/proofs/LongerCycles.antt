@@ -1,11 +1,5 @@
 -- rules on cycles of two or more locations
-use Rattle.std.proofs.Common.{◌≡◌, ◌≢◌, inl, inr, ℕ, List, slice_get, get_or, Some, IsBitSet, ◌↔◌}
-use Rattle.std.proofs.lemmas.Bool.Decides.{eqb_tells}
-use Rattle.ta_automaton.specs.declared.rule.Rule.{Rule}
-use Rattle.ta_automaton.specs.declared.automaton.Automaton.{Automaton}
-use Rattle.ta_automaton.proofs.Thresholds.{to_within}
-use Rattle.ta_scope.specs.Cycles.{every_rule, IsReachTable}
-use Rattle.ta_scope.specs.LongerCycles.{LoopsAlone, OnLongerCycle}
+use Rattle.ta_scope.proofs.Common.{◌≡◌, ◌≢◌, inl, inr, ℕ, List, slice_get, get_or, Some, IsBitSet, ◌↔◌, eqb_tells, Rule, Automaton, to_within, every_rule, IsReachTable, LoopsAlone, OnLongerCycle}
 use Rattle.ta_scope.proofs.Reaching.{every_walk}
 
 -- where no rule is on such a cycle, every cycle is a self-loop

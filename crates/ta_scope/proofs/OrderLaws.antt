@@ -1,12 +1,6 @@
 -- what an order of the locations says
-use Rattle.std.proofs.Common.{◌≡◌, inl, inr, ℕ, ◌<◌, ◌≤◌, List, [], ◌∷◌, ◌++◌, length, take, arith, sym, ap, ◌∙◌, subst, Contains}
-use Rattle.std.proofs.lemmas.List.{take-append-le}
-use Rattle.ta_base.proofs.Each.{distinct_from, distinct_length, each_from}
-use Rattle.ta_base.proofs.Lists.{push_cases, take_all}
-use Rattle.ta_automaton.specs.declared.automaton.Automaton.{Automaton}
-use Rattle.ta_base.specs.Lists.{Distinct}
-use Rattle.ta_scope.specs.Cycles.{NoCycle}
-use Rattle.ta_scope.specs.Order.{Next, IsBuilt, IsLocationOrder}
+use Rattle.ta_scope.proofs.Common.{◌≡◌, inl, inr, ℕ, ◌<◌, ◌≤◌, List, [], ◌∷◌, ◌++◌, length, take, arith, sym, ap, ◌∙◌, subst, Contains, take-append-le, distinct_from, distinct_length, each_from, push_cases, Automaton, Distinct, NoCycle, Next, IsBuilt, IsLocationOrder}
+use Rattle.ta_base.proofs.Lists.{take_all}
 use Rattle.ta_scope.proofs.Places.{times_once, times_contains}
 use Rattle.ta_scope.proofs.Cycles.{NoneReady, none_remains}
 

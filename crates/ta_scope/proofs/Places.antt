@@ -1,11 +1,6 @@
 -- lists of numbers: what they contain, and how long they can be
-use Rattle.std.proofs.Common.{◌≡◌, inl, inr, ℕ, ◌≤◌, List, [], ◌∷◌, arith, sym, subst, Contains}
-use Rattle.std.specs.List.{AllByRecursion}
-use Rattle.std.proofs.lemmas.Bool.Decides.{eqb_tells}
-use Rattle.ta_base.specs.Lists.{Distinct}
-use Rattle.ta_base.proofs.Members.{contains_cases, contains_here, contains_later}
+use Rattle.ta_scope.proofs.Common.{◌≡◌, inl, inr, ℕ, ◌≤◌, List, [], ◌∷◌, arith, sym, subst, Contains, AllByRecursion, eqb_tells, Distinct, contains_cases, contains_here, contains_later, times_in}
 use Rattle.ta_scope.proofs.Circulations.{none_times}
-use Rattle.ta_automaton.specs.Sums.{times_in}
 
 pub times_once : (x : ℕ) (xs : List ℕ) → Distinct xs → Contains xs x → times_in x xs ≡ 1
 unfolding times_in

@@ -1,21 +1,5 @@
 -- what growing masks of locations say of walks
-use Rattle.std.proofs.Common.{◌≡◌, inl, inr, ℕ, ◌<◌, ◌^◌, List, [], ◌∷◌, ◌++◌, arith, sym, ap, ◌∙◌, refl, subst, slice_get, Some, IsBitSet, ◌%◌, ◌*◌, ◌↔◌, bit_or, w32, length, length-append, get_or}
-use Rattle.std.specs.Int.{bit_at}
-use Rattle.std.proofs.lemmas.Nat.{le_or_l}
-use Rattle.std.proofs.lemmas.Nat.Bits.{bit_at_set_same, bit_at_set_other, bit_at-pow_same, bit_at-pow_other, bit_at_ones}
-use Rattle.std.proofs.lemmas.Option.{slice_get_within}
-use Rattle.std.proofs.lemmas.Bool.Decides.{eqb_tells}
-use Rattle.std.specs.List.{AllByRecursion}
-use Rattle.ta_base.proofs.Bits.{at_set, set_at, set_or}
-use Rattle.ta_base.proofs.Each.{each_push}
-use Rattle.ta_base.proofs.Lists.{get_or_push, get_pushed}
-use Rattle.ta_base.proofs.Naturals.{one_bit}
-use Rattle.ta_automaton.specs.declared.rule.Rule.{Rule}
-use Rattle.ta_automaton.specs.declared.automaton.Automaton.{Automaton}
-use Rattle.ta_automaton.specs.Runs.{Walk}
-use Rattle.ta_scope.specs.Cycles.{every_rule, Reaches}
-use Rattle.ta_automaton.proofs.Thresholds.{to_within}
-use Rattle.ta_scope.specs.Inside.Reached.{LeadsOut, AddsLocation, IsClosed}
+use Rattle.ta_scope.proofs.Common.{◌≡◌, inl, inr, ℕ, ◌<◌, ◌^◌, List, [], ◌∷◌, ◌++◌, arith, sym, ap, ◌∙◌, refl, subst, slice_get, Some, IsBitSet, ◌%◌, ◌*◌, ◌↔◌, bit_or, w32, length, length-append, get_or, bit_at, le_or_l, bit_at_set_same, bit_at_set_other, bit_at-pow_same, bit_at-pow_other, bit_at_ones, slice_get_within, eqb_tells, AllByRecursion, at_set, set_at, set_or, each_push, get_or_push, get_pushed, one_bit, Rule, Automaton, Walk, every_rule, Reaches, to_within, LeadsOut, AddsLocation, IsClosed}
 
 pub walk_push : (a : Automaton) (x : ℕ) (rs : List ℕ) (y r : ℕ) (rule : Rule) → Walk a x rs y → slice_get a.rules r ≡ Some rule → rule.from ≡ y → Walk a x (rs ++ r ∷ []) rule.to
 walk_push a x [] y r rule walk named from = (rule, named, from ∙ sym walk, refl)

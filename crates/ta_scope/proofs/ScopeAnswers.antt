@@ -1,12 +1,6 @@
 -- An automaton is in scope, or has a first rule at fault.
-use Rattle.std.proofs.Common.{◌≡◌, ℕ, zero, suc, ◌+◌, ◌<◌, ◌≤◌, length, slice_get, Some, ⊎_elim, subst, arith}
-use Rattle.std.proofs.lemmas.Bool.{cases_lt}
-use Rattle.std.proofs.lemmas.Option.{slice_get_within}
+use Rattle.ta_scope.proofs.Common.{◌≡◌, ℕ, zero, suc, ◌+◌, ◌<◌, ◌≤◌, length, slice_get, Some, ⊎_elim, subst, arith, cases_lt, slice_get_within, InScope, Rule, Automaton, AtFault, FirstRuleFault}
 use Rattle.ta_syntax.specs.AnswerLaws.{Either}
-use Rattle.ta_automaton.specs.Runs.{InScope}
-use Rattle.ta_automaton.specs.declared.rule.Rule.{Rule}
-use Rattle.ta_automaton.specs.declared.automaton.Automaton.{Automaton}
-use Rattle.ta_scope.specs.Faults.{AtFault, FirstRuleFault}
 
 module _ (a : Automaton) where
   -- no rule below k is at fault

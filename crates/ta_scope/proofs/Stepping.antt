@@ -1,22 +1,5 @@
 -- distances by masks of locations that grow step by step
-use Rattle.std.proofs.Common.{◌≡◌, ◌⊎◌, inl, inr, ℕ, suc, ◌+◌, ◌<◌, ◌≤◌, ◌^◌, List, [], ◌∷◌, ◌++◌, length, arith, sym, ap, ◌∙◌, refl, subst, slice_get, Some, IsBitSet, ◌↔◌, length-append, append_assoc, append-nil, ◌*◌, ◌%◌}
-use Rattle.std.proofs.lemmas.Bool.{cases_order}
-use Rattle.std.proofs.lemmas.Bool.Decides.{eqb_tells}
-use Rattle.std.proofs.lemmas.Nat.{pow_pos}
-use Rattle.std.proofs.lemmas.Nat.Bits.{bit_at-pow_other}
-use Rattle.std.proofs.lemmas.Option.{slice_get_within, same_Some}
-use Rattle.std.specs.Int.{bit_at}
-use Rattle.std.specs.List.{AllByRecursion}
-use Rattle.ta_base.proofs.Bits.{set_at}
-use Rattle.ta_base.proofs.Each.{each_push}
-use Rattle.ta_base.proofs.Naturals.{one_bit}
-use Rattle.ta_automaton.specs.declared.rule.Rule.{Rule}
-use Rattle.ta_automaton.specs.declared.automaton.Automaton.{Automaton}
-use Rattle.ta_automaton.specs.Runs.{Walk}
-use Rattle.ta_scope.specs.Cycles.{Reaches}
-use Rattle.ta_scope.specs.Inside.Reached.{IsClosed}
-use Rattle.ta_scope.specs.Arranged.{FirstPath, NotAbove, NoLater}
-use Rattle.ta_scope.specs.Inside.Distances.{Distance, LeadsTo, AddsNextLocations, IsStep, FirstStep}
+use Rattle.ta_scope.proofs.Common.{◌≡◌, ◌⊎◌, inl, inr, ℕ, suc, ◌+◌, ◌<◌, ◌≤◌, ◌^◌, List, [], ◌∷◌, ◌++◌, length, arith, sym, ap, ◌∙◌, refl, subst, slice_get, Some, IsBitSet, ◌↔◌, length-append, append_assoc, append-nil, ◌*◌, ◌%◌, cases_order, eqb_tells, pow_pos, bit_at-pow_other, slice_get_within, same_Some, bit_at, AllByRecursion, set_at, each_push, one_bit, Rule, Automaton, Walk, Reaches, IsClosed, FirstPath, NotAbove, NoLater, Distance, LeadsTo, AddsNextLocations, IsStep, FirstStep}
 use Rattle.ta_scope.proofs.Reaching.{walk_push, walk_stays, reached_first, bit_of}
 
 -- one of the first rules leads from a mask to a location

@@ -1,19 +1,5 @@
 -- counts from which an amount is subtracted
-use Rattle.std.proofs.Common.{◌≡◌, ◌≢◌, ◌⊎◌, inl, inr, ℕ, zero, suc, ◌+◌, ◌<◌, ◌≤◌, ℤ, pos, ◌+ℤ◌, ◌-ℤ◌, ◌≤ℤ◌, List, [], ◌∷◌, ◌++◌, length, take, get_or, set, arith, sym, ap, ◌∙◌, refl, subst, IsBitSet, ◌↔◌, length-set}
-use Rattle.std.specs.Prelude.{unsigned_abs}
-use Rattle.std.specs.Int.{int_min, bit_at}
-use Rattle.std.proofs.lemmas.Int.{ints}
-use Rattle.std.proofs.lemmas.Bool.{cases_lt}
-use Rattle.std.proofs.lemmas.Bool.Decides.{eqb_tells}
-use Rattle.std.proofs.lemmas.List.{get_or_past, take_more, take_all, get_or-set_same, get_or-set_other}
-use Rattle.ta_base.proofs.Bits.{set_at}
-use Rattle.ta_base.proofs.Each.{not_before}
-use Rattle.ta_base.proofs.Integers.{abs_less, abs_less_than, min_cases}
-use Rattle.ta_base.proofs.Members.{In-left, In-right, in_append, in_get_or}
-use Rattle.ta_automaton.specs.declared.automaton.Automaton.{Automaton}
-use Rattle.ta_base.specs.Lists.{Distinct}
-use Rattle.ta_base.specs.Masks.{In}
-use Rattle.ta_scope.specs.Arranged.{count_at, Support, LeastCount, SubtractsFrom, TakenOut, AllTakenOut}
+use Rattle.ta_scope.proofs.Common.{◌≡◌, ◌≢◌, ◌⊎◌, inl, inr, ℕ, zero, suc, ◌+◌, ◌<◌, ◌≤◌, ℤ, pos, ◌+ℤ◌, ◌-ℤ◌, ◌≤ℤ◌, List, [], ◌∷◌, ◌++◌, length, take, get_or, set, arith, sym, ap, ◌∙◌, refl, subst, IsBitSet, ◌↔◌, length-set, unsigned_abs, int_min, bit_at, ints, cases_lt, eqb_tells, get_or_past, take_more, take_all, get_or-set_same, get_or-set_other, set_at, not_before, abs_less, abs_less_than, min_cases, In-left, In-right, in_append, in_get_or, Automaton, Distinct, In, count_at, Support, LeastCount, SubtractsFrom, TakenOut, AllTakenOut}
 
 -- the support of the first counts
 abbrev pub SupportBefore : List ℤ → ℕ → ℕ → Type 0

@@ -1,13 +1,8 @@
 -- One hole more behind legal ones.
-use Rattle.std.proofs.Common.{ℕ, ◌*◌, ◌<◌, ◌≤◌, ◌≡◌, ◌++◌, inl, inr, false, nat_lt, List, [], ◌∷◌, length, refl, sym, ap, subst, ◌∙◌, length-append, arith}
-use Rattle.std.specs.Prelude.{IsTrue}
+use Rattle.ta_search.proofs.Common.{ℕ, ◌*◌, ◌<◌, ◌≤◌, ◌≡◌, ◌++◌, inl, inr, false, nat_lt, List, [], ◌∷◌, length, refl, sym, ap, subst, ◌∙◌, length-append, arith, IsTrue, at_most, Hole, AreTooMany, IsSpelledHole, hole_line, is_among, value_count, vector_count, AddsHole, Declares, LineRefused}
 use Rattle.std.proofs.lemmas.Bool.Decides.{Decides-ltb}
 use Rattle.std.proofs.Math.Nat.{mul_assoc}
-use Rattle.ta_base.proofs.Naturals.{at_most}
-use Rattle.ta_search.specs.declared.template.Hole.{Hole}
 use Rattle.ta_search.specs.declared.fault.TemplateFault.TheVariants as fault
-use Rattle.ta_search.specs.Holes.{AreTooMany, IsSpelledHole, hole_line, is_among, value_count, vector_count}
-use Rattle.ta_search.specs.Inside.Lines.{AddsHole, Declares, LineRefused}
 use Rattle.ta_search.proofs.HoleLines.{hole_of, same_hole}
 
 -- the choices with one hole more

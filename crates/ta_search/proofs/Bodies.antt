@@ -1,9 +1,5 @@
 -- Bodies of templates, byte by byte.
-use Rattle.std.proofs.Common.{ℕ, ◌+◌, ◌<◌, ◌≡◌, ◌&&◌, not, eqb, List, [], ◌∷◌, length, Some}
-use Rattle.std.specs.Prelude.{option_map}
-use Rattle.ta_base.proofs.Options.{below_if}
-use Rattle.ta_search.specs.declared.template.Hole.{Hole}
-use Rattle.ta_search.specs.Holes.{is_among, unknown_place, word_at}
+use Rattle.ta_search.proofs.Common.{ℕ, ◌+◌, ◌<◌, ◌≡◌, ◌&&◌, not, eqb, List, [], ◌∷◌, length, Some, option_map, below_if, Hole, is_among, unknown_place, word_at}
 
 -- behind so many bytes of a body, each `$` of which has a name of a hole behind it
 pub record Behind (hs : List Hole) (body : List ℕ) (place : ℕ) (rest : List ℕ) : Type 0 where

@@ -1,25 +1,8 @@
 -- what is found is safe
-use Rattle.std.proofs.Common.{◌≡◌, ◌∙◌, inl, inr, ℕ, ◌+◌, true, List, [], ◌∷◌, ◌++◌, length, map, refl, sym, ap, subst, append_assoc}
-use Rattle.std.proofs.lemmas.Bool.{false≢true}
-use Rattle.std.specs.List.{AllByRecursion}
-use Rattle.ta_automaton.specs.declared.file.File.{File}
-use Rattle.ta_automaton.specs.declared.pattern.Pattern.{Pattern}
-use Rattle.ta_base.specs.Masks.{numbers_from}
+use Rattle.ta_search.proofs.Common.{◌≡◌, ◌∙◌, inl, inr, ℕ, ◌+◌, true, List, [], ◌∷◌, ◌++◌, length, map, refl, sym, ap, subst, append_assoc, false≢true, AllByRecursion, File, Pattern, numbers_from, Certificate, Verdict, Safe, Unsafe, Spent, Overflow, SafeOne, safe_ones, VerdictsHold, Outcome, Tried, Template, filled_text, IsSafe, OutcomeHolds, is_safe, AreTried, IsFound, IsSearchEnd, IsTried, LastIsFound, is_found, vectors}
 use Rattle.ta_automaton.specs.Runs as runs
-use Rattle.ta_check.specs.Certificate.{Certificate}
-use Rattle.ta_report.specs.declared.verdict.Verdict.{Verdict}
-use Rattle.ta_report.specs.declared.verdict.Verdict.TheVariants.{Safe, Unsafe, Spent, Overflow}
-use Rattle.ta_verdict.specs.Certificates.{SafeOne, safe_ones}
-use Rattle.ta_verdict.specs.Verdicts.{VerdictsHold}
-use Rattle.ta_search.specs.declared.outcome.Outcome.{Outcome}
 use Rattle.ta_search.specs.declared.outcome.Outcome.TheVariants as outcome
 use Rattle.ta_search.specs.declared.outcome.SearchEnd.{SearchEnd}
-use Rattle.ta_search.specs.declared.outcome.Tried.{Tried}
-use Rattle.ta_search.specs.declared.template.Template.{Template}
-use Rattle.ta_search.specs.Filling.{filled_text}
-use Rattle.ta_search.specs.Outcomes.{IsSafe, OutcomeHolds, is_safe}
-use Rattle.ta_search.specs.Searching.{AreTried, IsFound, IsSearchEnd, IsTried, LastIsFound, is_found}
-use Rattle.ta_search.specs.Vectors.{vectors}
 
 -- patterns whose verdicts are Safe are safe, and their numbers are all numbers
 all_safe : (file : File) (budget number : ℕ) (ps : List Pattern) (vs : List Verdict) → VerdictsHold file budget number ps vs → AllByRecursion (λ v. is_safe v ≡ true) vs → AllByRecursion (runs.Safe file.automaton) ps

@@ -1,13 +1,6 @@
 -- A text is that of a template, or has a first fault.
-use Rattle.std.proofs.Common.{ℕ, ◌+◌, ◌<◌, ◌≤◌, ◌≡◌, ◌⊎◌, ◌++◌, inl, inr, List, [], ◌∷◌, length, codes, Option, None, Some, refl, sym, ap, subst, ◌∙◌, append_assoc, arith}
-use Rattle.std.specs.Str.{bytes_eq}
-use Rattle.std.proofs.lemmas.Bool.{cases_Bool, cases_eq, cases_lt, false≢true}
-use Rattle.std.proofs.lemmas.Slice.Eq.{bytes_eq-Decides}
-use Rattle.ta_base.specs.Bytes.{SplitAt, Avoids}
-use Rattle.ta_base.proofs.Lists.{avoids-append}
-use Rattle.ta_search.specs.declared.template.Hole.{Hole}
+use Rattle.ta_search.proofs.Common.{ℕ, ◌+◌, ◌<◌, ◌≤◌, ◌≡◌, ◌⊎◌, ◌++◌, inl, inr, List, [], ◌∷◌, length, codes, Option, None, Some, refl, sym, ap, subst, ◌∙◌, append_assoc, arith, bytes_eq, cases_Bool, cases_eq, cases_lt, false≢true, bytes_eq-Decides, SplitAt, Avoids, avoids-append, Hole, AreHoles, AreTooMany, HoleInRange, IsSpelledHole, head_text, hole_line, is_among, unknown_place, vector_count}
 use Rattle.ta_search.specs.declared.fault.TemplateFault.TheVariants as fault
-use Rattle.ta_search.specs.Holes.{AreHoles, AreTooMany, HoleInRange, IsSpelledHole, head_text, hole_line, is_among, unknown_place, vector_count}
 use Rattle.ta_search.specs.Laws.{HasTemplate, HasTemplateFault}
 use Rattle.ta_search.proofs.Heads.{Read, head_read, read_more, read_none, read_refused, read_unfinished}
 

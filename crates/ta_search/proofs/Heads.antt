@@ -1,18 +1,6 @@
 -- What the reader of a template has read, and what is left.
-use Rattle.std.proofs.Common.{ℕ, ◌+◌, ◌≡◌, ◌++◌, inl, inr, false, List, [], ◌∷◌, length, codes, refl, sym, ap, subst, ◌∙◌, append_assoc, arith}
-use Rattle.std.specs.Str.{bytes_eq}
-use Rattle.std.proofs.lemmas.Bool.{or_parts}
-use Rattle.std.proofs.lemmas.List.{map-append}
-use Rattle.ta_base.specs.Lists.{Distinct}
-use Rattle.ta_base.specs.Bytes.{SplitAt, Avoids}
-use Rattle.ta_base.proofs.ByteLists.{differs}
-use Rattle.ta_base.proofs.Each.{each_push}
-use Rattle.ta_search.specs.declared.template.Hole.{Hole}
-use Rattle.ta_search.specs.declared.fault.TemplateFault.{TemplateFault}
+use Rattle.ta_search.proofs.Common.{ℕ, ◌+◌, ◌≡◌, ◌++◌, inl, inr, false, List, [], ◌∷◌, length, codes, refl, sym, ap, subst, ◌∙◌, append_assoc, arith, bytes_eq, or_parts, map-append, Distinct, SplitAt, Avoids, differs, each_push, Hole, TemplateFault, AreHoles, HoleInRange, IsSpelledHole, head_text, hole_line, hole_lines, hole_names, is_among, BeginsWithHoles, FaultOf, AddsHole, LineRefused}
 use Rattle.ta_search.specs.declared.fault.TemplateFault.TheVariants as fault
-use Rattle.ta_search.specs.Holes.{AreHoles, HoleInRange, IsSpelledHole, head_text, hole_line, hole_lines, hole_names, is_among}
-use Rattle.ta_search.specs.TemplateFaults.{BeginsWithHoles, FaultOf}
-use Rattle.ta_search.specs.Inside.Lines.{AddsHole, LineRefused}
 
 -- the lines of these holes, which are legal, are read
 pub record Read (bytes : List ℕ) (hs : List Hole) (rest : List ℕ) : Type 0 where

@@ -1,21 +1,10 @@
 -- The lines of holes: their parts, and that a line is that of one hole.
-use Rattle.std.proofs.Common.{ℕ, ◌<◌, ◌^◌, ◌≡◌, ◌&&◌, ◌++◌, true, not, List, [], ◌∷◌, drop, codes, decimal, refl, sym, ap, subst, ◌∙◌, arith, lit<}
-use Rattle.std.specs.List.{list_all, list_any}
-use Rattle.std.specs.Str.{IsUtf8, bytes_eq}
-use Rattle.std.proofs.lemmas.Bool.{false≢true, and_parts}
+use Rattle.ta_search.proofs.Common.{ℕ, ◌<◌, ◌^◌, ◌≡◌, ◌&&◌, ◌++◌, true, not, List, [], ◌∷◌, drop, codes, decimal, refl, sym, ap, subst, ◌∙◌, arith, lit<, list_all, list_any, IsUtf8, bytes_eq, false≢true, and_parts, append_cancel_left, is_letter, is_word, SplitAt, Avoids, IsWord, words_ascii, word_avoids, word_tells, avoids-append, first_byte, heads, not_parted, Hole, IsSpelledHole, hole_line, Declares, IsHoleName}
 use Rattle.std.proofs.lemmas.Fmt.{decimal_injective}
-use Rattle.std.proofs.lemmas.List.{append_cancel_left}
 use Rattle.std.proofs.lemmas.Str.{IsUtf8-from_ascii}
-use Rattle.ta_base.specs.Bytes.{is_letter, is_word, SplitAt, Avoids, IsWord}
 use Rattle.ta_base.specs.Decimals.{IsDecimal, NoDecimal}
-use Rattle.ta_base.proofs.ByteLists.{words_ascii}
 use Rattle.ta_base.proofs.DecimalDigits.{short_avoids}
-use Rattle.ta_base.proofs.Each.{word_avoids, word_tells}
-use Rattle.ta_base.proofs.Lists.{avoids-append, first_byte, heads, not_parted}
 use Rattle.ta_smt.specs.WordText.{is_name, keywords}
-use Rattle.ta_search.specs.declared.template.Hole.{Hole}
-use Rattle.ta_search.specs.Holes.{IsSpelledHole, hole_line}
-use Rattle.ta_search.specs.Inside.Lines.{Declares, IsHoleName}
 
 -- a name is a word
 pub name_word : (bytes : List ℕ) → is_name bytes ≡ true → IsWord bytes

@@ -7,9 +7,9 @@ mod HasAnswers
 pub mod OneFault
 mod VectorsNumbered
 mod Trying
-mod Places
 mod FoundLast
 mod OneEnd
 mod Outcoming
 mod SearchTexts
 mod VectorsOrdered
+mod Common

@@ -1,28 +1,9 @@
 -- a template has one end of its search
-use Rattle.std.proofs.Common.{◌≡◌, ◌∙◌, ◌⊎◌, inl, inr, ℕ, ◌<◌, Bool, true, List, [], ◌∷◌, length, Some, slice_get, refl, sym, ap, subst}
-use Rattle.std.proofs.lemmas.Bool.{false≢true}
-use Rattle.std.specs.List.{AllByRecursion}
-use Rattle.ta_base.proofs.Each.{each_at}
-use Rattle.ta_base.proofs.Lists.{not_long}
-use Rattle.ta_automaton.specs.declared.file.File.{File}
-use Rattle.ta_automaton.specs.declared.pattern.Pattern.{Pattern}
+use Rattle.ta_search.proofs.Common.{◌≡◌, ◌∙◌, ◌⊎◌, inl, inr, ℕ, ◌<◌, Bool, true, List, [], ◌∷◌, length, Some, slice_get, refl, sym, ap, subst, false≢true, AllByRecursion, each_at, not_long, File, Pattern, Verdict, Safe, Unsafe, Spent, Overflow, FileFault, CertificateOf, CertificatesAreDetermined, AreVerdicts, SamplesAreDetermined, VerdictsAreDetermined, is_unknown, Outcome, Tried, Template, filled_text, IsOfPattern, IsRefusedFilling, IsSampled, IsUnknown, IsUnsafe, OutcomeHolds, is_safe, is_unsampled, safe_before, AreTried, IsTried, SearchesAreDetermined, is_found, vectors}
 use Rattle.ta_meaning.specs.Laws.{FilesAreUnique, FirstFaultsAreUnique}
 use Rattle.ta_report.specs.declared.verdict.ReportSample.{ReportSample}
 use Rattle.ta_report.specs.declared.verdict.ReportSample.TheVariants as sample
-use Rattle.ta_report.specs.declared.verdict.Verdict.{Verdict}
-use Rattle.ta_report.specs.declared.verdict.Verdict.TheVariants.{Safe, Unsafe, Spent, Overflow}
-use Rattle.ta_syntax.specs.declared.fault.FileFault.{FileFault}
-use Rattle.ta_verdict.specs.Certificates.{CertificateOf, CertificatesAreDetermined}
-use Rattle.ta_verdict.specs.Verdicts.{AreVerdicts, SamplesAreDetermined, VerdictsAreDetermined, is_unknown}
-use Rattle.ta_search.specs.declared.outcome.Outcome.{Outcome}
 use Rattle.ta_search.specs.declared.outcome.Outcome.TheVariants as outcome
-use Rattle.ta_search.specs.declared.outcome.Tried.{Tried}
-use Rattle.ta_search.specs.declared.template.Template.{Template}
-use Rattle.ta_search.specs.Filling.{filled_text}
-use Rattle.ta_search.specs.Inside.Trying.{IsOfPattern}
-use Rattle.ta_search.specs.Outcomes.{IsRefusedFilling, IsSampled, IsUnknown, IsUnsafe, OutcomeHolds, is_safe, is_unsampled, safe_before}
-use Rattle.ta_search.specs.Searching.{AreTried, IsTried, SearchesAreDetermined, is_found}
-use Rattle.ta_search.specs.Vectors.{vectors}
 
 -- the laws of the crates below on which it rests
 pub record Laws : Type 0 where

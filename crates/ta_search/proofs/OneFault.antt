@@ -1,23 +1,7 @@
 -- A text is that of one template at most, or has one first fault.
-use Rattle.std.proofs.Common.{ℕ, ◌+◌, ◌≤◌, ◌≡◌, ◌⊎◌, ◌||◌, ◌++◌, inl, inr, Bool, true, false, List, [], ◌∷◌, length, codes, None, Some, refl, sym, ap, subst, ◌∙◌, length-append, append_assoc, arith}
-use Rattle.std.specs.Str.{bytes_eq}
-use Rattle.std.proofs.lemmas.Bool.{false≢true}
-use Rattle.std.proofs.lemmas.Nat.{mul-le}
-use Rattle.std.proofs.lemmas.Option.{same_Some}
-use Rattle.std.proofs.lemmas.Slice.Eq.{bytes_eq-Decides}
-use Rattle.std.specs.List.{AllByRecursion}
-use Rattle.ta_base.specs.Lists.{Distinct}
-use Rattle.ta_base.specs.Bytes.{Avoids}
-use Rattle.ta_base.proofs.Each.{each_back}
-use Rattle.ta_base.proofs.Lists.{first_byte, not_parted}
-use Rattle.ta_search.specs.declared.template.Hole.{Hole}
-use Rattle.ta_search.specs.declared.template.Template.{Template}
-use Rattle.ta_search.specs.declared.fault.TemplateFault.{TemplateFault}
+use Rattle.ta_search.proofs.Common.{ℕ, ◌+◌, ◌≤◌, ◌≡◌, ◌⊎◌, ◌||◌, ◌++◌, inl, inr, Bool, true, false, List, [], ◌∷◌, length, codes, None, Some, refl, sym, ap, subst, ◌∙◌, length-append, append_assoc, arith, bytes_eq, false≢true, mul-le, same_Some, bytes_eq-Decides, AllByRecursion, Distinct, Avoids, each_back, first_byte, not_parted, Hole, Template, TemplateFault, AreHoles, HoleInRange, IsSpelledHole, head_text, hole_line, hole_lines, hole_names, is_among, unknown_place, value_count, vector_count, FirstTemplateFault, HasHole, IsOtherLine, AddsHole, HoleRefused}
 use Rattle.ta_search.specs.declared.fault.TemplateFault.TheVariants as fault
-use Rattle.ta_search.specs.Holes.{AreHoles, HoleInRange, IsSpelledHole, head_text, hole_line, hole_lines, hole_names, is_among, unknown_place, value_count, vector_count}
 use Rattle.ta_search.specs.Templates.{template_text}
-use Rattle.ta_search.specs.TemplateFaults.{FirstTemplateFault, HasHole, IsOtherLine}
-use Rattle.ta_search.specs.Inside.Lines.{AddsHole, HoleRefused}
 use Rattle.ta_search.proofs.HoleLines.{line_avoids, no_begin, one_hole}
 
 -- ---- the next hole of legal ones

@@ -1,26 +1,12 @@
 -- what comes of a file by its verdicts
-use Rattle.std.proofs.Common.{◌≡◌, ◌≢◌, ◌∙◌, ◌⊎◌, inl, inr, ℕ, suc, ◌+◌, ◌<◌, ◌≤◌, ℤ, false, true, List, [], ◌∷◌, length, Some, None, slice_get, IfOk, Result, refl, sym, ap, subst, arith}
+use Rattle.ta_search.proofs.Common.{◌≡◌, ◌≢◌, ◌∙◌, ◌⊎◌, inl, inr, ℕ, suc, ◌+◌, ◌<◌, ◌≤◌, ℤ, false, true, List, [], ◌∷◌, length, Some, None, slice_get, IfOk, Result, refl, sym, ap, subst, arith, get_or_from_slice_get, slice_get_within, AllByRecursion, some_at, File, Pattern, Certificate, Verdict, Safe, Unsafe, Spent, Overflow, FileFault, CertificateOf, safe_numbers, AreVerdicts, Outcome, IsOfPattern, IsFirstNotSafe, HasVerdicts, IsRefusedFilling, IsSafe, IsSampled, OutcomeHolds, is_safe, safe_before}
 use Rattle.std.proofs.lemmas.List.Sums.{prefix_len_stops}
-use Rattle.std.proofs.lemmas.Option.{get_or_from_slice_get, slice_get_within}
-use Rattle.std.specs.List.{AllByRecursion}
 use Rattle.std.proofs.lemmas.Result.{IfOk-weaker}
-use Rattle.ta_base.proofs.Lists.{some_at}
-use Rattle.ta_automaton.specs.declared.file.File.{File}
-use Rattle.ta_automaton.specs.declared.pattern.Pattern.{Pattern}
-use Rattle.ta_check.specs.Certificate.{Certificate}
 use Rattle.ta_meaning.specs.FirstFault.{FirstFault}
 use Rattle.ta_report.specs.declared.verdict.ReportSample.TheVariants as sample
-use Rattle.ta_report.specs.declared.verdict.Verdict.{Verdict}
-use Rattle.ta_report.specs.declared.verdict.Verdict.TheVariants.{Safe, Unsafe, Spent, Overflow}
-use Rattle.ta_syntax.specs.declared.fault.FileFault.{FileFault}
 use Rattle.ta_syntax.specs.declared.fault.FileFault.TheVariants as fault
-use Rattle.ta_verdict.specs.Certificates.{CertificateOf, safe_numbers}
-use Rattle.ta_verdict.specs.Verdicts.{AreVerdicts}
 use Rattle.ta_verdict.proofs.VerdictsMade.{as_many}
 use Rattle.ta_words.specs.Calls.{OfPattern}
-use Rattle.ta_search.specs.declared.outcome.Outcome.{Outcome}
-use Rattle.ta_search.specs.Inside.Trying.{IsOfPattern}
-use Rattle.ta_search.specs.Outcomes.{IsFirstNotSafe, HasVerdicts, IsRefusedFilling, IsSafe, IsSampled, OutcomeHolds, is_safe, safe_before}
 
 -- a fault that isn't want of memory refuses a text
 pub refused_by : (bytes : List ℕ) (e : FileFault) → length bytes ≤ 1048576 → (e ≡ fault.Memory) ⊎ FirstFault bytes e → e ≢ fault.Memory → IsRefusedFilling bytes e

@@ -1,10 +1,6 @@
 -- the text of a search as it is written
-use Rattle.std.proofs.Common.{◌≡◌, ◌∙◌, ℕ, List, [], ◌∷◌, ◌++◌, Result, Ok, Err, OnOk, if◌then◌else◌, sym, ap, append_assoc, append-nil}
+use Rattle.ta_search.proofs.Common.{◌≡◌, ◌∙◌, ℕ, List, [], ◌∷◌, ◌++◌, Result, Ok, Err, OnOk, if◌then◌else◌, sym, ap, append_assoc, append-nil, three_behind, Tried, Hole, tried_text, tried_texts}
 use Rattle.std.specs.Result.{is_ok}
-use Rattle.ta_base.proofs.Lists.{three_behind}
-use Rattle.ta_search.specs.declared.outcome.Tried.{Tried}
-use Rattle.ta_search.specs.declared.template.Hole.{Hole}
-use Rattle.ta_search.specs.SearchText.{tried_text, tried_texts}
 
 -- the last part, if it was written
 pub ended : {E : Type 0} (r : Result (Unit {0}) E) (old new w a b c : List ℕ) → w ≡ (old ++ a) ++ b → new ≡ (if is_ok r then w ++ c else w) → OnOk r (new ≡ old ++ (a ++ (b ++ c)))

@@ -1,11 +1,5 @@
 -- what is known of a search while vectors are tried, and at its end
-use Rattle.std.proofs.Common.{◌≡◌, ◌∙◌, inl, inr, ℕ, ◌+◌, ◌<◌, Bool, true, false, List, [], ◌∷◌, ◌++◌, drop, refl, sym, ap, subst, append_assoc, append-nil}
-use Rattle.ta_search.specs.declared.outcome.Tried.{Tried}
-use Rattle.ta_search.specs.declared.template.Template.{Template}
-use Rattle.ta_search.specs.Holes.{vector_count}
-use Rattle.ta_search.specs.Inside.Trying.{vector_at}
-use Rattle.ta_search.specs.Searching.{AreTried, IsTried, is_found}
-use Rattle.ta_search.specs.Vectors.{vectors}
+use Rattle.ta_search.proofs.Common.{◌≡◌, ◌∙◌, inl, inr, ℕ, ◌+◌, ◌<◌, Bool, true, false, List, [], ◌∷◌, ◌++◌, drop, refl, sym, ap, subst, append_assoc, append-nil, Tried, Template, vector_count, vector_at, AreTried, IsTried, is_found, vectors}
 use Rattle.ta_search.proofs.VectorsNumbered.{none_left, vectors_left}
 
 -- the vectors before a number were tried, and none was found: whatever comes of the others, comes behind them

@@ -1,13 +1,5 @@
 -- the vectors of a template by their numbers
-use Rattle.std.proofs.Common.{◌≡◌, ◌∙◌, ℕ, zero, suc, ◌+◌, ◌*◌, ◌/◌, ◌%◌, ◌<◌, List, [], ◌∷◌, ◌++◌, length, map, drop, get_or, refl, sym, ap, subst, arith, length-append}
-use Rattle.std.proofs.lemmas.List.{drop_all, drop_more, get_or-append-add, get_or-map, get_or_append_left, length-map}
-use Rattle.std.proofs.lemmas.Nat.{div-add-mod'}
-use Rattle.ta_base.proofs.Naturals.{quotient_below, rest_below}
-use Rattle.ta_base.proofs.Ranges.{length_numbers, numbers_get_or}
-use Rattle.ta_search.specs.declared.template.Hole.{Hole}
-use Rattle.ta_search.specs.Holes.{value_count, vector_count}
-use Rattle.ta_search.specs.Inside.Trying.{vector_at}
-use Rattle.ta_search.specs.Vectors.{each_before, hole_values, vectors}
+use Rattle.ta_search.proofs.Common.{◌≡◌, ◌∙◌, ℕ, zero, suc, ◌+◌, ◌*◌, ◌/◌, ◌%◌, ◌<◌, List, [], ◌∷◌, ◌++◌, length, map, drop, get_or, refl, sym, ap, subst, arith, length-append, drop_all, drop_more, get_or-append-add, get_or-map, get_or_append_left, length-map, div-add-mod', quotient_below, rest_below, length_numbers, numbers_get_or, Hole, value_count, vector_count, vector_at, each_before, hole_values, vectors}
 
 -- vectors that begin with a value
 abbrev begun : ℕ → List (List ℕ) → List (List ℕ)

@@ -1,13 +1,6 @@
 -- the vectors of a template are the choices, in lexicographic order
-use Rattle.std.proofs.Common.{inl, inr, ℕ, zero, suc, ◌+◌, ◌<◌, ◌≤◌, List, [], ◌∷◌, ◌++◌, map, refl, subst, arith}
-use Rattle.std.specs.List.{AllByRecursion}
-use Rattle.ta_base.specs.Masks.{In, numbers_from}
-use Rattle.ta_base.proofs.Each.{each_all, each_append, each_made, each_weaker}
+use Rattle.ta_search.proofs.Common.{inl, inr, ℕ, zero, suc, ◌+◌, ◌<◌, ◌≤◌, List, [], ◌∷◌, ◌++◌, map, refl, subst, arith, AllByRecursion, In, numbers_from, each_all, each_append, each_made, each_weaker, In-numbers, each_number, Hole, HoleInRange, value_count, Ascend, IsBefore, IsChoice, VectorsAreChoices, each_before, hole_values, vectors}
 use Rattle.ta_base.proofs.Members.{In-left, In-map, In-right}
-use Rattle.ta_base.proofs.Ranges.{In-numbers, each_number}
-use Rattle.ta_search.specs.declared.template.Hole.{Hole}
-use Rattle.ta_search.specs.Holes.{HoleInRange, value_count}
-use Rattle.ta_search.specs.Vectors.{Ascend, IsBefore, IsChoice, VectorsAreChoices, each_before, hole_values, vectors}
 
 -- a value in front of a vector
 abbrev put : ℕ → List ℕ → List ℕ

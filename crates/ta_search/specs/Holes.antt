@@ -3,6 +3,7 @@ use Rattle.std.specs.Prelude.{ℕ, suc, ◌-◌, ◌*◌, ◌^◌, ◌<◌, ◌�
 use Rattle.std.specs.List.{list_any, prefix_len, AllByRecursion, AllByRecursion-prop}
 use Rattle.std.specs.Str.{bytes_eq}
 use Rattle.std.proofs.Props.{props}
+use Rattle.ta_base.specs.declared.limits.TheConstants.{LARGEST_VALUE, MOST_HOLES, MOST_VECTORS}
 use Rattle.ta_base.specs.Bytes.{is_word}
 use Rattle.ta_base.specs.Lists.{Distinct, Distinct-prop}
 use Rattle.ta_replay.specs.RunText.{lines_text}
@@ -23,7 +24,7 @@ pub record IsSpelledHole (h : Hole) : Type 0 where
 -- some value, and none above 1,000,000,000
 pub record HoleInRange (h : Hole) : Type 0 where
   pub some : h.low ≤ h.high
-  pub small : h.high ≤ 1000000000
+  pub small : h.high ≤ LARGEST_VALUE
 
 -- how many values a hole has
 abbrev pub value_count : Hole → ℕ
@@ -39,12 +40,12 @@ pub record AreHoles (hs : List Hole) : Type 0 where
   pub spelled : AllByRecursion IsSpelledHole hs
   pub ranges : AllByRecursion HoleInRange hs
   pub distinct : Distinct (hole_names hs)
-  pub few : length hs ≤ 4
-  pub vectors : vector_count hs ≤ 10000
+  pub few : length hs ≤ MOST_HOLES
+  pub vectors : vector_count hs ≤ MOST_VECTORS
 
 -- there is a fifth hole, or there are more than 10,000 choices
 abbrev pub AreTooMany : List Hole → Type 0
-AreTooMany hs = (4 < length hs) ⊎ (10000 < vector_count hs)
+AreTooMany hs = (MOST_HOLES < length hs) ⊎ (MOST_VECTORS < vector_count hs)
 
 -- the letters, digits and `_` that stand first
 abbrev pub word_at : List ℕ → List ℕ

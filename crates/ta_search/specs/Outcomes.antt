@@ -1,6 +1,7 @@
 -- What comes of a template with values in its holes, within a budget of nodes (this project's profile)
 use Rattle.std.specs.Prelude.{ℕ, ℤ, ◌<◌, ◌≤◌, ◌≡◌, ◌≢◌, Bool, true, false, List, length, slice_get, Some}
 use Rattle.std.specs.List.{prefix_len, AllByRecursion}
+use Rattle.ta_base.specs.declared.limits.TheConstants.{FILE_BYTES}
 use Rattle.ta_automaton.specs.declared.file.File.{File}
 use Rattle.ta_automaton.specs.declared.pattern.Pattern.{Pattern}
 use Rattle.ta_check.specs.Certificate.{Certificate}
@@ -35,13 +36,13 @@ is_unsampled (sample.Overflow node kind) = true
 
 -- the filled text is refused for this fault
 pub record IsRefusedFilling (bytes : List ℕ) (e : FileFault) : Type 0 where
-  pub within : length bytes ≤ 1048576
+  pub within : length bytes ≤ FILE_BYTES
   pub first : FirstFault bytes e
   pub told : e ≢ fault.Memory
 
 -- the filled text means this file, and this is the sample of its parameters
 pub record IsSampled (bytes : List ℕ) (budget : ℕ) (file : File) (s : ReportSample) : Type 0 where
-  pub within : length bytes ≤ 1048576
+  pub within : length bytes ≤ FILE_BYTES
   pub legal : Legal bytes file
   pub sample : IsSample file budget s
 
@@ -98,7 +99,7 @@ pub record IsSafe (bytes : List ℕ) (budget : ℕ) (text : List ℕ) : Type 0 w
 
 -- the outcome of a filled text holds, for a budget of nodes
 abbrev pub OutcomeHolds : List ℕ → ℕ → Outcome → Type 0
-OutcomeHolds bytes budget outcome.Long = 1048576 < length bytes
+OutcomeHolds bytes budget outcome.Long = FILE_BYTES < length bytes
 OutcomeHolds bytes budget (outcome.Refused e) = IsRefusedFilling bytes e
 OutcomeHolds bytes budget outcome.Empty = HasSample bytes budget sample.Empty
 OutcomeHolds bytes budget (outcome.SampleUnknown s) = HasSample bytes budget s × (is_unsampled s ≡ true)

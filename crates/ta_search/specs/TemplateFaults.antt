@@ -1,5 +1,6 @@
 -- The first fault of a text that is no template (this project's profile)
 use Rattle.std.specs.Prelude.{ℕ, ◌+◌, ◌<◌, ◌≡◌, ◌≢◌, ◌⊎◌, ◌++◌, List, [], ◌∷◌, length, codes, false, true, Some}
+use Rattle.ta_base.specs.declared.limits.TheConstants.{LARGEST_VALUE}
 use Rattle.ta_base.specs.Bytes.{Avoids}
 use Rattle.ta_search.specs.declared.template.Hole.{Hole}
 use Rattle.ta_search.specs.declared.fault.TemplateFault.{TemplateFault}
@@ -47,7 +48,7 @@ pub record IsOutOfRange (bytes : List ℕ) (number : ℕ) : Type 0 where
   pub h : Hole
   pub has : HasHole bytes number hs h
   pub fresh : is_among hs h.name ≡ false
-  pub range : (h.high < h.low) ⊎ (1000000000 < h.high)
+  pub range : (h.high < h.low) ⊎ (LARGEST_VALUE < h.high)
 
 -- S4: it is a fifth hole, or more than 10,000 choices come about
 pub record IsOneTooMany (bytes : List ℕ) (number : ℕ) : Type 0 where

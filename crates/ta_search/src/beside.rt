@@ -15,11 +15,9 @@ use crate::template::Template;
 use crate::vector::{is_found, try_vector};
 use std::alloc::{AllocError, Global};
 use std::sync::atomic::{AtomicU64, Ordering};
-use std::thread::{Threads, available_parallelism, join};
-
-/// How many parts of a search run beside each other at most. The walks of their vectors are divided
-/// as ever, into as many parts each.
-const MOST_PARTS: u64 = 4;
+use std::thread::{Threads, join};
+use ta_base::limits::MOST_NODES;
+use ta_walk::most_beside;
 
 /// A vector that was tried, behind its number.
 #[derive(Drop)]
@@ -69,8 +67,8 @@ impl Board {
     }
 }
 
-/// Tries vectors of a template beside each other, where there are several and processors for them.
-/// What comes of each stands at its number.
+/// Tries vectors of a template beside each other, where there are several and processors for them, in
+/// as many parts as a walk has at most. What comes of each stands at its number.
 pub(crate) fn try_beside<R: Threads + Sync>(
     rt: &R,
     alloc: Global,
@@ -80,24 +78,16 @@ pub(crate) fn try_beside<R: Threads + Sync>(
 ) -> Result<Vec<Option<Tried>>, AllocError>
     requires count { count ≡ vector_count template.now.holes }
     requires some { 0 < nodes }
-    requires limit { nodes ≤ 1000000000 }
+    requires limit { nodes ≤ MOST_NODES }
     ensures { IfOk result (λ places. AtHand template.now nodes places.items) }
 {
-    let parts = most_parts(rt).min(count);
+    let parts = (1 + most_beside(rt)).min(count);
     if parts < 2 {
         return Ok(Vec::new(alloc));
     }
     let board = Board::new(count);
     let placed = try_parts(rt, alloc, template, &board, nodes, parts)?;
     in_places(alloc, count, placed)
-}
-
-/// How many parts there may be: no more than there are processors for.
-fn most_parts<R: Threads>(rt: &R) -> u64 {
-    match available_parallelism(rt) {
-        Ok(count) => (count.get() as u64).min(MOST_PARTS),
-        Err(_) => MOST_PARTS,
-    }
 }
 
 /// Tries vectors in so many parts beside each other.
@@ -111,7 +101,7 @@ fn try_parts<R: Threads + Sync>(
 ) -> Result<Vec<Placed>, AllocError>
     requires count { board.now.count ≡ vector_count template.now.holes }
     requires some { 0 < nodes }
-    requires limit { nodes ≤ 1000000000 }
+    requires limit { nodes ≤ MOST_NODES }
     ensures { IfOk result (λ placed. AllByRecursion (IsPlaced template.now nodes) placed.items) }
 {
     if parts < 2 {
@@ -119,11 +109,11 @@ fn try_parts<R: Threads + Sync>(
     }
     let others = parts - 1;
     let back = move || -> Result<Vec<Placed>, AllocError>
-        requires { IsSync R.row × (board.now.count ≡ vector_count template.now.holes) × (0 < nodes) × (nodes ≤ 1000000000) }
+        requires { IsSync R.row × (board.now.count ≡ vector_count template.now.holes) × (0 < nodes) × (nodes ≤ MOST_NODES) }
         ensures { IfOk result (λ placed. AllByRecursion (IsPlaced template.entry.now nodes) placed.items) }
     { try_parts(rt, alloc, template, board, nodes, others) };
     let front = move || -> Vec<Placed>
-        requires { IsSync R.row × (board.now.count ≡ vector_count template.now.holes) × (0 < nodes) × (nodes ≤ 1000000000) }
+        requires { IsSync R.row × (board.now.count ≡ vector_count template.now.holes) × (0 < nodes) × (nodes ≤ MOST_NODES) }
         ensures { AllByRecursion (IsPlaced template.entry.now nodes) result.items }
     { try_part(rt, alloc, template, board, nodes) };
     let (rest, mut placed) = join(rt, back, front);
@@ -142,7 +132,7 @@ fn try_part<R: Threads + Sync>(
 ) -> Vec<Placed>
     requires count { board.now.count ≡ vector_count template.now.holes }
     requires some { 0 < nodes }
-    requires limit { nodes ≤ 1000000000 }
+    requires limit { nodes ≤ MOST_NODES }
     ensures { AllByRecursion (IsPlaced template.now nodes) result.items }
 {
     let mut placed = Vec::new(alloc);
@@ -169,7 +159,7 @@ fn add_tried<R: Threads + Sync>(
 ) -> Result<bool, AllocError>
     requires place { place < vector_count template.now.holes }
     requires some { 0 < nodes }
-    requires limit { nodes ≤ 1000000000 }
+    requires limit { nodes ≤ MOST_NODES }
     requires placed { AllByRecursion (IsPlaced template.now nodes) placed.old.items }
     ensures { AllByRecursion (IsPlaced template.now nodes) placed.new.items }
 {

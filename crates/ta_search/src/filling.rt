@@ -23,7 +23,7 @@ pub fn fill(alloc: Global, template: &Template, values: &[u32]) -> Result<List<u
     let mut rest = body;
     'bytes: while let Some((byte, behind)) = rest.split_first() {
         if *byte == b'$' {
-            push_decimal(alloc, &mut text, value_of(holes, values, word_at(behind)))?;
+            push_decimal(alloc, &mut text, hole_value(holes, values, word_at(behind)))?;
             named = true;
         } else if !(named && is_word_byte(*byte)) {
             text.push(*byte)?;
@@ -35,7 +35,7 @@ pub fn fill(alloc: Global, template: &Template, values: &[u32]) -> Result<List<u
 }
 
 /// The value of the hole of this name.
-fn value_of(holes: &[Hole], values: &[u32], word: &[u8]) -> u32
+fn hole_value(holes: &[Hole], values: &[u32], word: &[u8]) -> u32
     ensures { result ≡ hole_value holes.now values.now word.now }
 {
     match (holes.split_first(), values.split_first()) {
@@ -43,7 +43,7 @@ fn value_of(holes: &[Hole], values: &[u32], word: &[u8]) -> u32
             if word == hole.name.as_str().as_bytes() {
                 *value
             } else {
-                value_of(holes, values, word)
+                hole_value(holes, values, word)
             }
         }
         _ => 0,

@@ -15,19 +15,11 @@ use std::str;
 use ta_base::Text;
 use ta_base::bytes::{after, split_at_byte};
 use ta_base::decimals::whole_decimal;
+use ta_base::limits::{LARGEST_VALUE, MOST_HOLES, MOST_VECTORS};
 use ta_smt::is_name;
-
-/// The greatest value that is tried for a hole.
-const GREATEST: u64 = 1_000_000_000;
 
 /// Numbers of at most 10 digits are below this.
 const TEN_DIGITS: u128 = 10_000_000_000;
-
-/// How many holes a template may have.
-const MOST_HOLES: usize = 4;
-
-/// How many choices of values it may have.
-const MOST_VECTORS: u64 = 10_000;
 
 /// The number of at most 10 digits that the bytes are.
 fn short_number(digits: &[u8]) -> Option<u64>
@@ -71,7 +63,7 @@ pub(crate) fn is_among(holes: &[Hole], word: &[u8]) -> bool
 
 /// How many values a hole has.
 fn value_count(low: u32, high: u32) -> u64
-    requires { (low ≤ high) × (high ≤ 1000000000) }
+    requires { (low ≤ high) × (high ≤ LARGEST_VALUE) }
     ensures count { (h : Hole) → h.low ≡ low → h.high ≡ high → result ≡ value_count h }
     ensures small { result ≤ 1000000001 }
 {
@@ -80,7 +72,7 @@ fn value_count(low: u32, high: u32) -> u64
 
 /// How many choices of values there are.
 pub(crate) fn vector_count(holes: &[Hole]) -> u64
-    requires { AllByRecursion HoleInRange holes.now × (vector_count holes.now ≤ 10000) }
+    requires { AllByRecursion HoleInRange holes.now × (vector_count holes.now ≤ MOST_VECTORS) }
     ensures { result ≡ vector_count holes.now }
 {
     match holes.split_first() {
@@ -91,7 +83,7 @@ pub(crate) fn vector_count(holes: &[Hole]) -> u64
 
 /// Whether a hole with these numbers is a fifth one, or makes too many choices.
 fn are_too_many(holes: &[Hole], low: u32, high: u32) -> bool
-    requires { AreHoles holes.now × (low ≤ high) × (high ≤ 1000000000) }
+    requires { AreHoles holes.now × (low ≤ high) × (high ≤ LARGEST_VALUE) }
     ensures { (h : Hole) → h.low ≡ low → h.high ≡ high → IsTrue result ↔ AreTooMany (holes.now ++ (h ∷ [])) }
 {
     if holes.len() >= MOST_HOLES {
@@ -117,7 +109,7 @@ pub(crate) fn next_hole(
     if is_among(holes, name.as_bytes()) {
         return Err(TemplateFault::Repeated(number));
     }
-    if low > high || high > GREATEST {
+    if low > high || high > LARGEST_VALUE {
         return Err(TemplateFault::Range(number));
     }
     let (low, high) = (low as u32, high as u32);

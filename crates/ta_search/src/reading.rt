@@ -13,11 +13,12 @@ use crate::template::{Hole, Template};
 use std::alloc::Global;
 use ta_base::List;
 use ta_base::bytes::{split_at_byte, word_len};
+use ta_base::limits::FILE_BYTES;
 
 /// The template that a text is. The first line at fault is refused, and then the first `$` of the
 /// body without a hole's name behind it.
 pub fn read_template(alloc: Global, bytes: &[u8]) -> Result<Template, TemplateFault>
-    requires { length bytes.now ≤ 1048576 }
+    requires { length bytes.now ≤ FILE_BYTES }
     ensures text { IfOk result (λ template. template_text template ≡ bytes.now) }
     ensures fault { IfErr result (λ e. FaultOf bytes.now e) }
 {
@@ -48,7 +49,7 @@ fn with_body(
     offset: usize,
     body: &[u8],
 ) -> Result<Template, TemplateFault>
-    requires { AreHoles holes.items × (offset + length body.now ≤ 1048576) }
+    requires { AreHoles holes.items × (offset + length body.now ≤ FILE_BYTES) }
     ensures body { IfOk result (λ template. (template.holes ≡ holes.items) × (template.body ≡ body.now)) }
     ensures refused { IfErr result (λ e. BodyRefused holes.items offset body.now e) }
 {

@@ -15,6 +15,7 @@ use crate::vector::{is_found, try_vector};
 use std::alloc::{AllocError, Global};
 use std::thread::Threads;
 use ta_base::List;
+use ta_base::limits::MOST_NODES;
 
 /// Tries the vectors of a template in lexicographic order, up to the first with which every pattern
 /// is safe, each within a budget of nodes. Where there are threads, vectors are tried beside each other;
@@ -26,7 +27,7 @@ pub fn search<R: Threads + Sync>(
     nodes: u64,
 ) -> Result<SearchEnd, AllocError>
     requires some { 0 < nodes }
-    requires limit { nodes ≤ 1000000000 }
+    requires limit { nodes ≤ MOST_NODES }
     ensures end { IfOk result (λ end. IsSearchEnd template.now nodes end) }
     ensures found { IfOk result (λ end. end.found ≡ true → LastIsFound template.now end) }
 {
@@ -61,7 +62,7 @@ fn next_tried<R: Threads + Sync>(
 ) -> Result<Tried, AllocError>
     requires place { place < vector_count template.now.holes }
     requires some { 0 < nodes }
-    requires limit { nodes ≤ 1000000000 }
+    requires limit { nodes ≤ MOST_NODES }
     requires at_hand { AtHand template.now nodes at_hand.old.items }
     ensures tried { IfOk result (λ tried. IsTried template.now nodes (vector_at template.now.holes place) tried) }
     ensures at_hand { AtHand template.now nodes at_hand.new.items }

@@ -6,7 +6,6 @@ ghost use Rattle.std.specs.List.{AllByRecursion};
 ghost use Rattle.ta_meaning.specs.Reading.{Legal};
 ghost use Rattle.ta_report.specs.Report.{VerdictFits};
 ghost use Rattle.ta_report.specs.declared.verdict.ReportSample.TheVariants.{Sample};
-ghost use Rattle.ta_search.specs.Filling.{filled_text};
 ghost use Rattle.ta_search.specs.Holes.{HoleInRange, vector_count};
 ghost use Rattle.ta_search.specs.Inside.Trying.{IsOfPattern, vector_at};
 ghost use Rattle.ta_search.specs.Outcomes.{IsSampled, OutcomeHolds, is_safe, safe_before};
@@ -21,6 +20,7 @@ use crate::template::{Hole, Template};
 use std::alloc::{AllocError, Global};
 use std::thread::Threads;
 use ta_automaton::File;
+use ta_base::limits::{FILE_BYTES, MOST_NODES, MOST_VECTORS};
 use ta_base::{List, Text};
 use ta_meaning::read_file;
 use ta_replay::print_run;
@@ -28,9 +28,6 @@ use ta_report::{ReportSample, Verdict};
 use ta_scope::ScopedFile;
 use ta_syntax::FileFault;
 use ta_verdict::{judge_file, sample_of};
-
-/// How many bytes an automaton file may have.
-const LONGEST: usize = 1_048_576;
 
 /// Whether an outcome says that every pattern is safe.
 pub(crate) fn is_found(outcome: &Outcome) -> bool
@@ -49,7 +46,7 @@ pub(crate) fn try_vector<R: Threads + Sync>(
 ) -> Result<Tried, AllocError>
     requires place { place < vector_count template.now.holes }
     requires some { 0 < nodes }
-    requires limit { nodes ≤ 1000000000 }
+    requires limit { nodes ≤ MOST_NODES }
     ensures { IfOk result (λ tried. IsTried template.now nodes (vector_at template.now.holes place) tried) }
 {
     let mut values = Vec::new(alloc);
@@ -65,7 +62,7 @@ pub(crate) fn try_vector<R: Threads + Sync>(
 /// Adds the values of the vector of a number.
 fn push_vector(values: &mut Vec<u32>, holes: &[Hole], place: u64) -> Result<(), AllocError>
     requires ranges { AllByRecursion HoleInRange holes.now }
-    requires few { vector_count holes.now ≤ 10000 }
+    requires few { vector_count holes.now ≤ MOST_VECTORS }
     requires place { place < vector_count holes.now }
     ensures { OnOk result (values.new.items ≡ values.old.items ++ vector_at holes.now place) }
 {
@@ -85,10 +82,10 @@ fn text_outcome<R: Threads + Sync>(
     nodes: u64,
 ) -> Result<Outcome, AllocError>
     requires some { 0 < nodes }
-    requires limit { nodes ≤ 1000000000 }
+    requires limit { nodes ≤ MOST_NODES }
     ensures { IfOk result (OutcomeHolds bytes.now nodes) }
 {
-    if bytes.len() > LONGEST {
+    if bytes.len() > FILE_BYTES {
         return Ok(Outcome::Long);
     }
     match read_file(alloc, bytes) {
@@ -106,8 +103,8 @@ fn file_outcome<R: Threads + Sync>(
     nodes: u64,
 ) -> Result<Outcome, AllocError>
     requires some { 0 < nodes }
-    requires limit { nodes ≤ 1000000000 }
-    ensures { (bytes : List ℕ) → length bytes ≤ 1048576 → Legal bytes scoped.now.file → IfOk result (OutcomeHolds bytes nodes) }
+    requires limit { nodes ≤ MOST_NODES }
+    ensures { (bytes : List ℕ) → length bytes ≤ FILE_BYTES → Legal bytes scoped.now.file → IfOk result (OutcomeHolds bytes nodes) }
 {
     match sample_of(alloc, &scoped.file, nodes)? {
         ReportSample::Sample(_) => patterns_outcome(rt, alloc, scoped, nodes),
@@ -129,7 +126,7 @@ fn patterns_outcome<R: Threads + Sync>(
     nodes: u64,
 ) -> Result<Outcome, AllocError>
     requires some { 0 < nodes }
-    requires limit { nodes ≤ 1000000000 }
+    requires limit { nodes ≤ MOST_NODES }
     ensures { (bytes : List ℕ) (values : List ℤ) → IsSampled bytes nodes scoped.now.file (Sample values) → IfOk result (OutcomeHolds bytes nodes) }
 {
     let judged = judge_file(rt, alloc, scoped, nodes, true)?;

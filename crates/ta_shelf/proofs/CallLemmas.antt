@@ -1,6 +1,5 @@
 -- the calls of a reading, one more at a time
-use Rattle.std.proofs.Common.{◌≡◌, ℕ, ◌+◌, ◌<◌, List, [], ◌∷◌, ◌++◌, length, length-append, append_assoc, append-nil, Ok, refl, sym, subst, ◌∙◌, ap, arith}
-use Rattle.ta_shelf.specs.Calls.{Call, bytes_of, bytes_given, ReadsOn}
+use Rattle.ta_shelf.proofs.Common.{◌≡◌, ℕ, ◌+◌, ◌<◌, List, [], ◌∷◌, ◌++◌, length, length-append, append_assoc, append-nil, Ok, refl, sym, subst, ◌∙◌, ap, arith, Call, bytes_of, bytes_given, ReadsOn}
 
 pub bytes_given-append : (first later : List Call) → bytes_given (first ++ later) ≡ bytes_given first ++ bytes_given later
 bytes_given-append [] later = refl

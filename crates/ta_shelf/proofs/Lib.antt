@@ -5,3 +5,4 @@ mod Distinct
 mod ReadSoFar
 mod WithFile
 mod Walks
+mod Common

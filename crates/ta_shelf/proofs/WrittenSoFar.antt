@@ -1,7 +1,5 @@
 -- what a write of a whole text keeps from turn to turn
-use Rattle.std.proofs.Common.{◌∙◌, ap, append_assoc, ◌≡◌, ◌≢◌, ℕ, zero, suc, ◌+◌, ◌-◌, ◌≤◌, List, ◌++◌, length, take, drop, Option, Some, None, Ok, refl}
-use Rattle.std.proofs.Math.Seq.{take-add}
-use Rattle.ta_base.proofs.Lists.{rest_of}
+use Rattle.ta_shelf.proofs.Common.{◌∙◌, ap, append_assoc, ◌≡◌, ◌≢◌, ℕ, zero, suc, ◌+◌, ◌-◌, ◌≤◌, List, ◌++◌, length, take, drop, Option, Some, None, Ok, refl, take-add, rest_of}
 use Rattle.ta_shelf.specs.Sink.{with_text, StallsOnlyStalled}
 
 -- so much of a text was added, and no call failed or took nothing

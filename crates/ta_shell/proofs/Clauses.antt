@@ -1,15 +1,6 @@
 -- from how a command ends to what is said of each
-use Rattle.std.proofs.Common.{◌≡◌, ◌≢◌, ◌∙◌, ◌≤◌, ◌⊎◌, ◌++◌, ℕ, List, [], ◌∷◌, Option, Some, None, refl, sym, subst, inl, inr, rules, arith}
-use Rattle.std.specs.Prelude.{Contains}
-use Rattle.ta_shelf.specs.Calls.{Call}
+use Rattle.ta_shell.proofs.Common.{◌≡◌, ◌≢◌, ◌∙◌, ◌≤◌, ◌⊎◌, ◌++◌, ℕ, List, [], ◌∷◌, Option, Some, None, refl, sym, subst, inl, inr, rules, arith, Contains, Call, OthersStay, Told, WhereTold, Put, Decides, Exact, Meaning, IsAnswered, End, Ends, SinkFaltered, FailureTold, IsHindered, Performs, Quiet, State, Telling, Done, NoMemory, Stopped, Unput, Unread, Unwritten, HoldsPut, KeptBut, Stand, StopAt, PutsWithin, View, seen}
 use Rattle.ta_shelf.specs.Counts.{Faulted}
-use Rattle.ta_shelf.specs.Put.{OthersStay, Told, WhereTold}
-use Rattle.ta_shell.specs.declared.answer.Put.{Put}
-use Rattle.ta_shell.specs.Commands.{Decides, Exact, Meaning}
-use Rattle.ta_shell.specs.Ends.{IsAnswered, End, Ends, SinkFaltered, FailureTold, IsHindered, Performs, Quiet, State, Telling}
-use Rattle.ta_shell.specs.Ends.End.{Done, NoMemory, Stopped, Unput, Unread, Unwritten}
-use Rattle.ta_shell.specs.Puts.{HoldsPut, KeptBut, Stand, StopAt, PutsWithin}
-use Rattle.ta_shell.specs.Sights.{View, seen}
 
 -- the ends by their numbers
 by_number : {P : Type 0} (m : Meaning) (view : View) (number : ℕ) (before after : State) → End m view number before after → (number ≤ 2 → IsAnswered m view number before after → P) → (3 ≤ number → number ≤ 4 → IsHindered m view number before after → P) → (6 ≤ number → P) → P

@@ -1,16 +1,6 @@
 -- how a command ends, by what its judgement, its puts and its text answered
-use Rattle.std.proofs.Common.{◌≡◌, ℕ, Err, inl, inr, arith}
-use Rattle.ta_shell.specs.declared.answer.Answer.{Answer}
-use Rattle.ta_shell.specs.declared.answer.Refusal.{Refusal}
-use Rattle.ta_shell.specs.declared.answer.Refusal.TheVariants.{Refused, ReadFailed, PutFailed, Memory}
-use Rattle.ta_shell.specs.Commands.{AnswerHolds, JudgementHolds, Meaning}
-use Rattle.ta_shell.specs.Ends.{End, Finishes, State, Tells}
-use Rattle.ta_shell.specs.Ends.End.{Done, NoMemory, Stopped, Unput, Unread, Unwritten}
-use Rattle.ta_shell.specs.Lines.{refusal_line, refusal_number}
-use Rattle.ta_shell.specs.Puts.{Stand}
-use Rattle.ta_shell.specs.Reading.{ReadCause}
+use Rattle.ta_shell.proofs.Common.{◌≡◌, ℕ, Err, inl, inr, arith, Answer, Refusal, Refused, ReadFailed, PutFailed, Memory, AnswerHolds, JudgementHolds, Meaning, End, Finishes, State, Tells, Done, NoMemory, Stopped, Unput, Unread, Unwritten, refusal_line, refusal_number, Stand, ReadCause, View}
 use Rattle.ta_shell.specs.Putting.{PutCause, PutsAll}
-use Rattle.ta_shell.specs.Sights.{View}
 
 -- what else is the same where a refusal is told
 pub record Only (refusal : Refusal) (number : ℕ) (before after : State) : Type 0 where

@@ -9,3 +9,4 @@ mod PutOrder
 mod PutPieces
 mod Ended
 mod ReadCalls
+mod Common

@@ -1,20 +1,8 @@
 -- what is seen of a file that is read in pieces
-use Rattle.std.proofs.Common.{◌≡◌, ◌∙◌, ◌+◌, ◌<◌, ◌≤◌, ◌⊎◌, ℕ, List, [], ◌∷◌, ◌++◌, length, take, drop, Option, None, Some, Ok, Err, refl, sym, ap, subst, inl, inr, arith, append_assoc, length-append}
-use Rattle.std.proofs.lemmas.List.{append-nil, drop_at, length-take-le, take-append-drop}
-use Rattle.std.specs.Option.{IfSome}
-use Rattle.ta_shelf.specs.Calls.{Call, PieceBy, ReadsFirst, ReadsOn, Spells, Stops, bytes_given}
-use Rattle.ta_shelf.specs.Put.{Told}
-use Rattle.ta_shelf.specs.ReadPiece.{BeginsWith, FillsFrom, ReadsPiece}
-use Rattle.ta_shelf.specs.ReadWhole.{IsLonger}
+use Rattle.ta_shell.proofs.Common.{◌≡◌, ◌∙◌, ◌+◌, ◌<◌, ◌≤◌, ◌⊎◌, ℕ, List, [], ◌∷◌, ◌++◌, length, take, drop, Option, None, Some, Ok, Err, refl, sym, ap, subst, inl, inr, arith, append_assoc, length-append, append-nil, drop_at, length-take-le, take-append-drop, IfSome, Call, PieceBy, ReadsFirst, ReadsOn, Spells, Stops, bytes_given, Told, BeginsWith, FillsFrom, ReadsPiece, IsLonger, Refusal, Refused, ReadFailed, PutFailed, Memory, file_line, longer_than, phrase_text, IsReading, SaysOfFile, UnreadBy, Absent, Begins, HasMore, Whole, in_calls, seen, where_told, ReadingGoesOn, FileIsAtFault, IsBroken, Kind, Stage}
 use Rattle.ta_shelf.specs.declared.fault.ShelfFault.{ShelfFault}
 use Rattle.ta_shelf.specs.declared.fault.ShelfFault.TheVariants as shelf
 use Rattle.ta_shelf.proofs.CallLemmas.{ReadsOn-append, bytes_given-append}
-use Rattle.ta_shell.specs.declared.answer.Refusal.{Refusal}
-use Rattle.ta_shell.specs.declared.answer.Refusal.TheVariants.{Refused, ReadFailed, PutFailed, Memory}
-use Rattle.ta_shell.specs.Lines.{file_line, longer_than, phrase_text}
-use Rattle.ta_shell.specs.Reading.{IsReading, SaysOfFile, UnreadBy}
-use Rattle.ta_shell.specs.Sights.{Absent, Begins, HasMore, Whole, in_calls, seen, where_told}
-use Rattle.ta_shell.specs.Stages.{ReadingGoesOn, FileIsAtFault, IsBroken, Kind, Stage}
 
 -- calls that read the first bytes and then a piece: the piece is full, or it ended the file
 pub piece_read : (name text buffer : List ℕ) (at count : ℕ) (calls more : List Call) → ReadsFirst name calls text → at ≡ length text → count ≤ length buffer → PieceBy name at buffer (Ok count) more → ((count ≡ length buffer) × ReadsFirst name (calls ++ more) (text ++ take count buffer)) ⊎ ((count < length buffer) × Spells name (calls ++ more) (text ++ take count buffer))

@@ -1,9 +1,5 @@
 -- files that are put one after the other
-use Rattle.std.proofs.Common.{◌≡◌, ◌∙◌, ◌<◌, ◌+◌, ℕ, suc, List, [], ◌∷◌, ◌++◌, length, take, drop, get_or, Option, refl, sym, ap, subst, inl, inr, drop-cons}
-use Rattle.std.proofs.lemmas.List.{take_more, take-append-drop}
-use Rattle.ta_shelf.specs.Put.{OthersStay, Told, WhereTold}
-use Rattle.ta_shell.specs.declared.answer.Put.{Put}
-use Rattle.ta_shell.specs.Puts.{HoldsPut, Stand, StopAt}
+use Rattle.ta_shell.proofs.Common.{◌≡◌, ◌∙◌, ◌<◌, ◌+◌, ℕ, suc, List, [], ◌∷◌, ◌++◌, length, take, drop, get_or, Option, refl, sym, ap, subst, inl, inr, drop-cons, take_more, take-append-drop, OthersStay, Told, WhereTold, Put, HoldsPut, Stand, StopAt}
 
 -- one more stands
 stand_one : (puts : List Put) (put : Put) (before now after : Option Told) → Stand puts before now → WhereTold (HoldsPut put) now after → Stand (puts ++ put ∷ []) before after

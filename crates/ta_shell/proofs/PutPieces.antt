@@ -1,8 +1,5 @@
 -- a file that is filled piece by piece
-use Rattle.std.proofs.Common.{◌≡◌, ◌∙◌, ◌<◌, ◌+◌, ℕ, List, [], ◌∷◌, ◌++◌, length, take, get_or, Option, Some, None, Ok, sym, ap, subst}
-use Rattle.std.proofs.lemmas.List.{take_more}
-use Rattle.ta_shelf.specs.Put.{Appends, OthersStay, Told, WhereTold, bytes_held}
-use Rattle.ta_shell.specs.Puts.{HoldsText, texts_joined}
+use Rattle.ta_shell.proofs.Common.{◌≡◌, ◌∙◌, ◌<◌, ◌+◌, ℕ, List, [], ◌∷◌, ◌++◌, length, take, get_or, Option, Some, None, Ok, sym, ap, subst, take_more, Appends, OthersStay, Told, WhereTold, bytes_held, HoldsText, texts_joined}
 use Rattle.ta_shell.proofs.Joined.{joined_more}
 
 -- the file of a name holds the first of these pieces

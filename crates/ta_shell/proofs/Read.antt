@@ -1,18 +1,6 @@
 -- commands that read one file after the other
-use Rattle.std.proofs.Common.{◌≡◌, ◌∙◌, ◌≤◌, ◌⊎◌, Bor, List, [], ◌++◌, ℕ, Option, Some, Result, Ok, Err, refl, sym, ap, subst, inl, inr, append_assoc, take}
-use Rattle.std.proofs.lemmas.List.{append-nil}
-use Rattle.ta_shelf.specs.Calls.{Call, Grew}
-use Rattle.ta_shelf.specs.Put.{Told}
-use Rattle.ta_shell.specs.declared.answer.Answer.{Answer}
-use Rattle.ta_shell.specs.declared.answer.Refusal.{Refusal}
-use Rattle.ta_shell.specs.declared.answer.Refusal.TheVariants.{Refused, ReadFailed, PutFailed, Memory}
-use Rattle.ta_shell.specs.Commands.{Decides, IsSo, JudgementHolds, Meaning, Says}
-use Rattle.ta_shell.specs.Puts.{PutsWithin}
+use Rattle.ta_shell.proofs.Common.{◌≡◌, ◌∙◌, ◌≤◌, ◌⊎◌, Bor, List, [], ◌++◌, ℕ, Option, Some, Result, Ok, Err, refl, sym, ap, subst, inl, inr, append_assoc, take, append-nil, Call, Grew, Told, Answer, Refusal, Refused, ReadFailed, PutFailed, Memory, Decides, IsSo, JudgementHolds, Meaning, Says, PutsWithin, file_line, phrase_text, IsUnreadable, ReadsFile, Absent, Begins, View, in_files, seen, ReadingGoesOn, Hinders, FileIsAtFault, IsBroken, FileMeans, Kind, Stage, after, finds, replies, settles}
 use Rattle.ta_shell.specs.declared.phrase.Phrase.{Phrase}
-use Rattle.ta_shell.specs.Lines.{file_line, phrase_text}
-use Rattle.ta_shell.specs.Reading.{IsUnreadable, ReadsFile}
-use Rattle.ta_shell.specs.Sights.{Absent, Begins, View, in_files, seen}
-use Rattle.ta_shell.specs.Stages.{ReadingGoesOn, Hinders, FileIsAtFault, IsBroken, FileMeans, Kind, Stage, after, finds, replies, settles}
 use Rattle.ta_shell.proofs.Views.{Monotone, Sub, begins_some, has_more, not_absent, not_longer, sub_told, sub_within, whole_one}
 
 unreadable_more : (v w : View) → Sub v w → (name : List ℕ) (limit : ℕ) (Such : List ℕ → Type 0) (words : List ℕ) → IsUnreadable v name limit Such words → IsUnreadable w name limit Such words

@@ -1,18 +1,10 @@
 -- what the calls of a reading give is seen in them and in the files
-use Rattle.std.proofs.Common.{List, [], ℕ, Option, None, Some, Result, Ok, Err, sym, subst, inl, inr}
-use Rattle.std.proofs.lemmas.List.{append-nil}
+use Rattle.ta_shell.proofs.Common.{List, [], ℕ, Option, None, Some, Result, Ok, Err, sym, subst, inl, inr, append-nil, Call, ReadsBy, Spells, bytes_given, Told, BeginsWith, GivesFirst, ReadsWhole, Missing, TooLong, Refusal, Refused, ReadFailed, PutFailed, Gives, IsReading, IsUnreadable, SaysOfFile, Absent, Begins, HasMore, Part, View, Whole, seen, where_told}
 use Rattle.std.specs.Prelude.{IfSome}
-use Rattle.ta_shelf.specs.Calls.{Call, ReadsBy, Spells, bytes_given}
-use Rattle.ta_shelf.specs.Put.{Told}
-use Rattle.ta_shelf.specs.ReadPiece.{BeginsWith, GivesFirst}
-use Rattle.ta_shelf.specs.ReadWhole.{ReadsWhole}
 use Rattle.ta_shelf.specs.declared.fault.WholeFault.{WholeFault}
-use Rattle.ta_shelf.specs.declared.fault.WholeFault.TheVariants.{Missing, Failed, TooLong, Memory}
-use Rattle.ta_shell.specs.declared.answer.Refusal.{Refusal}
-use Rattle.ta_shell.specs.declared.answer.Refusal.TheVariants.{Refused, ReadFailed, PutFailed, Memory as NoMemory}
+use Rattle.ta_shelf.specs.declared.fault.WholeFault.TheVariants.{Failed, Memory}
+use Rattle.ta_shell.specs.declared.answer.Refusal.TheVariants.{Memory as NoMemory}
 use Rattle.ta_shell.specs.declared.reading.Limit.{Limit}
-use Rattle.ta_shell.specs.Reading.{Gives, IsReading, IsUnreadable, SaysOfFile}
-use Rattle.ta_shell.specs.Sights.{Absent, Begins, HasMore, Part, View, Whole, seen, where_told}
 
 -- all calls are part of them
 all_of : (Such : List Call → Type 0) (calls : List Call) → Such calls → Part Such calls

@@ -1,10 +1,5 @@
 -- what is seen in some calls is seen in more, and told files show one thing
-use Rattle.std.proofs.Common.{◌≡◌, ◌+◌, ◌∙◌, List, ◌++◌, ℕ, length, length-append, Option, Some, None, sym, ap, arith, append_assoc}
-use Rattle.ta_shelf.specs.Calls.{Call}
-use Rattle.ta_shelf.specs.Put.{Told}
-use Rattle.ta_shell.specs.Commands.{Meaning}
-use Rattle.ta_shell.specs.Sights.{Absent, Begins, HasBytes, HasMore, Part, Sight, View, Whole, in_calls, in_files, seen}
-use Rattle.ta_shell.specs.declared.answer.Answer.{Answer}
+use Rattle.ta_shell.proofs.Common.{◌≡◌, ◌+◌, ◌∙◌, List, ◌++◌, ℕ, length, length-append, Option, Some, None, sym, ap, arith, append_assoc, Call, Told, Meaning, Absent, Begins, HasBytes, HasMore, Part, Sight, View, Whole, in_calls, in_files, seen, Answer}
 
 -- what is seen in one view is seen in another
 abbrev pub Sub : View → View → Type 0

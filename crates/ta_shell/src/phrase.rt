@@ -22,6 +22,22 @@ pub enum Phrase {
     },
 }
 
+impl Phrase {
+    ghost use Rattle.std.specs.Prelude.{◌≡◌, ◌++◌, decimal};
+    ghost use Rattle.ta_shell.specs.Lines.{phrase_text};
+
+    /// A number between words.
+    pub fn between(head: &'static str, number: u64, tail: &'static str) -> Phrase
+        ensures { phrase_text result ≡ head.now ++ (decimal number ++ tail.now) }
+    {
+        Phrase::One {
+            head,
+            number: u128::from(number),
+            tail,
+        }
+    }
+}
+
 /// A piece of a line.
 #[derive(Clone, Copy, Drop)]
 pub enum Piece<'a> {

@@ -10,6 +10,7 @@ use crate::answer::Refusal;
 use crate::phrase::Phrase;
 use std::alloc::Global;
 use ta_base::List;
+use ta_base::limits::CERTIFICATE_BYTES;
 use ta_shelf::{Shelf, ShelfFault, WholeFault, read_whole};
 
 /// How many bytes a file may have, and the number that the process ends with where it is no use.
@@ -26,7 +27,7 @@ pub fn read_text<'a, S: Shelf>(
     name: &'a str,
     limit: Limit,
 ) -> Result<List<u8>, Refusal<'a>>
-    requires { limit.bytes ≤ 1073741824 }
+    requires { limit.bytes ≤ CERTIFICATE_BYTES }
     ensures reads { Grew (ReadsFile (S.files shelf.old) name.now limit result) (S.calls shelf.old) (S.calls shelf.new) }
     ensures cause { ReadCause result (S.faults shelf.old) (S.faults shelf.new) }
     ensures kept { S.files shelf.new ≡ S.files shelf.old }

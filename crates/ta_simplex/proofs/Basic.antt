@@ -1,6 +1,5 @@
 -- which variables are basic, as a test
-use Rattle.std.proofs.Common.{ℕ, List, [], ◌∷◌, Bool, false, ◌||◌, eqb}
-use Rattle.ta_dense.specs.Tableau.{TableauRow, Tableau}
+use Rattle.ta_simplex.proofs.Common.{ℕ, List, [], ◌∷◌, Bool, false, ◌||◌, eqb, TableauRow, Tableau}
 
 abbrev pub is_basic_in : List TableauRow → ℕ → Bool
 is_basic_in [] v = false

@@ -1,13 +1,19 @@
-use Rattle.std.proofs.Common.{◌≡◌, ◌≢◌, ◌⊎◌, inl, inr, ℕ, suc, ◌+◌, ◌*◌, ◌<◌, ◌≤◌, List, [], ◌∷◌, length, get_or, Bool, true, false, arith, refl, sym, ap, ◌∙◌, subst, ℤ, pos, ◌*ℤ◌, ◌<ℤ◌, ◌≤ℤ◌}
-use Rattle.std.proofs.lemmas.Bool.{cases_eq, cases_order, cases_Bool}
-use Rattle.std.proofs.lemmas.Int.{ints}
-use Rattle.ta_base.proofs.Integers.{ge-zero_of_mul, lt-zero_of_mul, mul-ge-zero, mul-le-zero, mul-le-zero_turned, mul-lt-zero}
-use Rattle.ta_base.proofs.Naturals.{switches}
-use Rattle.ta_dense.specs.Tableau.{Tableau, row_of, basic_of, non_basic_of}
-use Rattle.ta_dense.specs.Valid.{dot, IsDictionary}
+-- Why the least-index rule returns: no basis comes back.
+--
+-- Two facts are set against each other. At each moment there are values that solve all rows and are 0 outside the basis;
+-- a basic variable has the sign of its constant there. And a step leaves the solutions as they are, so the values of one
+-- moment solve the rows of every other.
+-- Were a basis to come back, some variables would leave and enter in between. Let x be the greatest of them, k a moment
+-- where it leaves and j one where it enters, and take the values of moment k. In them x is negative, since its row was
+-- chosen for a negative constant; every smaller variable is natural, since its row was chosen as that of the least; and
+-- what is outside the basis is 0.
+-- Put them into the row that is chosen at moment j. Its basic variable is smaller than x, so the left side is natural. On
+-- the right stand a negative constant; x, which is negative, times its cell, which is positive, for x enters; smaller
+-- variables, which are natural, times cells that are at most 0, or the least of them had entered; and greater ones, which
+-- don't change, so that they are outside the basis at k too, and are 0. So it is negative, and the two sides differ.
+-- There are at most 2 ^ n bases, so the rule ends before as many steps (`Pigeon`, `Ends`).
+use Rattle.ta_simplex.proofs.Common.{◌≡◌, ◌≢◌, ◌⊎◌, inl, inr, ℕ, suc, ◌+◌, ◌*◌, ◌<◌, ◌≤◌, List, [], ◌∷◌, length, get_or, Bool, true, false, arith, refl, sym, ap, ◌∙◌, subst, ℤ, pos, ◌*ℤ◌, ◌<ℤ◌, ◌≤ℤ◌, cases_eq, cases_order, cases_Bool, ints, ge-zero_of_mul, lt-zero_of_mul, mul-ge-zero, mul-le-zero, mul-le-zero_turned, mul-lt-zero, switches, Tableau, row_of, basic_of, non_basic_of, dot, IsDictionary, Leaves, Enters}
 use Rattle.ta_simplex.proofs.Basic.{is_basic}
-use Rattle.ta_simplex.specs.LeastIndex.{Leaves}
-use Rattle.ta_dense.specs.Entering.{Enters}
 use Rattle.ta_simplex.proofs.Search.{Moves, Stays, moves_or_stays, greatest_or_none}
 
 -- a sum of numbers that are at most 0

@@ -1,16 +1,5 @@
 -- the systems of a branch: one more, fewer, and the pivots cut or longer
-use Rattle.std.proofs.Common.{◌≡◌, ℕ, zero, suc, ◌-◌, ◌≤◌, List, [], ◌∷◌, ◌++◌, length, map, take, drop, get_or, reverse, arith, refl, sym, ap, ◌∙◌, subst, Option, Some, None, ℤ, pos, ◌<ℤ◌}
-use Rattle.std.specs.Prelude.{option_to_list, remove, replicate}
-use Rattle.std.proofs.lemmas.List.{append-nil, reverse-append, length-append, length-map, length-take-le, get_or_append_left, take-map, take-append-drop}
-use Rattle.ta_linear.specs.declared.row.Row.{Row}
-use Rattle.ta_linear.specs.declared.row.System.{System}
-use Rattle.ta_dense.specs.Tableau.{Tableau}
-use Rattle.ta_dense.specs.Slack.{slack_tableau}
-use Rattle.ta_dense.specs.Kept.{KeptPivot, kept_at, AreKept, StayInRange}
-use Rattle.ta_dense.specs.Extending.{MayBegin, FirstLeaving, extended, new_rows}
-use Rattle.ta_simplex.specs.LeastIndex.{IsCount, OverflowsAt}
-use Rattle.ta_simplex.specs.Follows.{tableau_after, Follows, BeginsSystem, AddsPivots}
-use Rattle.ta_simplex.specs.Branch.{AreStanding, LastFits, StandsOn}
+use Rattle.ta_simplex.proofs.Common.{◌≡◌, ℕ, zero, suc, ◌-◌, ◌≤◌, List, [], ◌∷◌, ◌++◌, length, map, take, drop, get_or, reverse, arith, refl, sym, ap, ◌∙◌, subst, Option, Some, None, ℤ, pos, ◌<ℤ◌, option_to_list, remove, replicate, append-nil, reverse-append, length-append, length-map, length-take-le, get_or_append_left, take-map, take-append-drop, Row, System, Tableau, slack_tableau, KeptPivot, kept_at, AreKept, StayInRange, MayBegin, FirstLeaving, extended, new_rows, IsCount, OverflowsAt, tableau_after, Follows, BeginsSystem, AddsPivots, AreStanding, LastFits, StandsOn}
 use Rattle.ta_simplex.specs.declared.branch.Standing.{Standing}
 use Rattle.ta_simplex.proofs.Prefixes.{reached_after, size_reached, follows_extended, overflow_extended}
 use Rattle.ta_simplex.proofs.FollowLemmas.{follows_take, follows_append, follows_reached}

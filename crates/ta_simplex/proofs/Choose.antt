@@ -1,11 +1,4 @@
-use Rattle.std.proofs.Common.{◌≡◌, ◌⊎◌, inl, inr, ℕ, zero, suc, ◌<◌, length, arith, sym, ap, subst, ℤ, pos, ◌<ℤ◌, ◌≤ℤ◌}
-use Rattle.std.proofs.lemmas.Bool.{cases_lt, cases_eq, cases_order}
-use Rattle.std.proofs.lemmas.Int.{ints}
-use Rattle.ta_base.proofs.Integers.{negative_or_not, positive_or_not}
-use Rattle.ta_dense.specs.Tableau.{Tableau, row_of, cell_of, basic_of, non_basic_of}
-use Rattle.ta_dense.specs.Valid.{IsDictionary}
-use Rattle.ta_simplex.specs.LeastIndex.{Leaves, RuleEnds}
-use Rattle.ta_dense.specs.Entering.{Enters}
+use Rattle.ta_simplex.proofs.Common.{◌≡◌, ◌⊎◌, inl, inr, ℕ, zero, suc, ◌<◌, length, arith, sym, ap, subst, ℤ, pos, ◌<ℤ◌, ◌≤ℤ◌, cases_lt, cases_eq, cases_order, ints, negative_or_not, positive_or_not, Tableau, row_of, cell_of, basic_of, non_basic_of, IsDictionary, Leaves, RuleEnds, Enters}
 
 -- among the first k places, the one of least name at which P holds, or it holds at none
 abbrev pub LeastAmong : (ℕ → ℕ) → (ℕ → Type 0) → (ℕ → Type 0) → ℕ → Type 0

@@ -1,16 +1,8 @@
 -- a system has one end, or one pivot that leaves the range first
-use Rattle.std.proofs.Common.{◌≡◌, inl, inr, ℕ, List, length, refl, sym, ap, subst, ℤ}
-use Rattle.ta_linear.specs.declared.row.System.{System}
-use Rattle.ta_dense.specs.Tableau.{Tableau}
-use Rattle.ta_dense.specs.Slack.{slack_tableau, variables, IsAssignment}
+use Rattle.ta_simplex.proofs.Common.{◌≡◌, inl, inr, ℕ, List, length, refl, sym, ap, subst, ℤ, System, Tableau, slack_tableau, variables, IsAssignment, SameNumbers, EndsAreDetermined, NoneLeaves, Reached, Stuck, OverflowsAt, IsRefuted, IsVertex, GivesValues, Fraction}
 use Rattle.ta_simplex.specs.declared.End.{End}
 use Rattle.ta_simplex.specs.declared.End.TheVariants as end
 use Rattle.ta_simplex.specs.Ends.{IsEnd}
-use Rattle.ta_simplex.specs.Laws.{SameNumbers, EndsAreDetermined}
-use Rattle.ta_simplex.specs.LeastIndex.{NoneLeaves, Reached, Stuck, OverflowsAt}
-use Rattle.ta_simplex.specs.Refuted.{IsRefuted}
-use Rattle.ta_simplex.specs.Vertex.{IsVertex, GivesValues}
-use Rattle.ta_simplex.specs.declared.fraction.Fraction.{Fraction}
 use Rattle.ta_simplex.proofs.Choose.{same_row}
 use Rattle.ta_simplex.proofs.RunLemmas.{reached_dictionary}
 use Rattle.ta_simplex.proofs.DeterminedTableau.{SameStart, same_start}

@@ -1,13 +1,5 @@
 -- the multipliers of a row for which nothing can enter, and the values of a vertex, are one list
-use Rattle.std.proofs.lemmas.Bool.{cases_lt, cases_eq, cases_order}
-use Rattle.std.proofs.Common.{◌≡◌, inl, inr, ℕ, ◌+◌, ◌<◌, List, [], ◌∷◌, length, arith, refl, sym, ap, ◌∙◌, subst, ℤ, pos, ◌≤ℤ◌}
-use Rattle.std.proofs.lemmas.Int.{ints}
-use Rattle.ta_linear.specs.Terms.{coefficient}
-use Rattle.ta_linear.specs.Leaf.{AreMultipliers}
-use Rattle.ta_linear.specs.declared.row.System.{System}
-use Rattle.ta_dense.specs.Tableau.{Tableau, basic_of}
-use Rattle.ta_dense.specs.Laws.{DictionaryOf}
-use Rattle.ta_simplex.specs.Refuted.{GivesMultipliers}
+use Rattle.ta_simplex.proofs.Common.{cases_lt, cases_eq, cases_order, ◌≡◌, inl, inr, ℕ, ◌+◌, ◌<◌, List, [], ◌∷◌, length, arith, refl, sym, ap, ◌∙◌, subst, ℤ, pos, ◌≤ℤ◌, ints, coefficient, AreMultipliers, System, Tableau, basic_of, DictionaryOf, GivesMultipliers}
 use Rattle.ta_simplex.proofs.MultiplierCoefficients.{coefficient_before, coefficient_first, coefficient_after}
 
 -- a first row's multiplier is positive, so it stands in every list with the same coefficients

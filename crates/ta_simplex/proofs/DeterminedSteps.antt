@@ -1,14 +1,5 @@
 -- a run of the least-index rule has one end: nothing leaves, nothing can enter, or a pivot leaves the range
-use Rattle.std.proofs.lemmas.Bool.{cases_order}
-use Rattle.std.proofs.Common.{◌≡◌, inl, inr, ℕ, suc, ◌-◌, ◌^◌, ◌<◌, min, arith, sym, ap, ◌∙◌, subst}
-use Rattle.std.proofs.lemmas.Int.{ints}
-use Rattle.ta_linear.specs.declared.row.System.{System}
-use Rattle.ta_dense.specs.Tableau.{Tableau}
-use Rattle.ta_dense.specs.Entering.{Enters}
-use Rattle.ta_dense.specs.Merge.{FirstOverflow}
-use Rattle.ta_dense.specs.Slack.{slack_tableau, variables, IsAssignment}
-use Rattle.ta_dense.specs.Laws.{DictionaryOf}
-use Rattle.ta_simplex.specs.LeastIndex.{Leaves, NoneLeaves, LeastStep, Reached, Stuck, OverflowsAt, RuleEnds}
+use Rattle.ta_simplex.proofs.Common.{cases_order, ◌≡◌, inl, inr, ℕ, suc, ◌-◌, ◌^◌, ◌<◌, min, arith, sym, ap, ◌∙◌, subst, ints, System, Tableau, Enters, FirstOverflow, slack_tableau, variables, IsAssignment, DictionaryOf, Leaves, NoneLeaves, LeastStep, Reached, Stuck, OverflowsAt, RuleEnds}
 use Rattle.ta_simplex.proofs.Choose.{same_row, same_column, not_ended}
 use Rattle.ta_simplex.proofs.RunLemmas.{reached_dictionary, reached_same, ends_once, step_at, no_step_after}
 

@@ -1,13 +1,5 @@
 -- two systems of the same numbers begin with one tableau
-use Rattle.std.proofs.Common.{◌≡◌, ℕ, suc, List, [], ◌∷◌, length, refl, ap, ◌∙◌}
-use Rattle.std.specs.List.{range_with_len}
-use Rattle.ta_base.proofs.Lists.{map_alike}
-use Rattle.ta_linear.specs.Terms.{coefficient}
-use Rattle.ta_linear.specs.declared.row.Row.{Row}
-use Rattle.ta_linear.specs.declared.row.System.{System}
-use Rattle.ta_dense.specs.Slack.{coefficients, slack_row_of, slack_rows, slack_tableau}
-use Rattle.ta_dense.proofs.SlackRows.{tableau_same}
-use Rattle.ta_simplex.specs.Laws.{SameRow, RowsAlike, SameNumbers}
+use Rattle.ta_simplex.proofs.Common.{◌≡◌, ℕ, suc, List, [], ◌∷◌, length, refl, ap, ◌∙◌, range_with_len, map_alike, coefficient, Row, System, coefficients, slack_row_of, slack_rows, slack_tableau, tableau_same, SameRow, RowsAlike, SameNumbers}
 
 slack_row_same : (n v : ℕ) (r q : Row) → SameRow r q → slack_row_of n v r ≡ slack_row_of n v q
 slack_row_same n v r q same =

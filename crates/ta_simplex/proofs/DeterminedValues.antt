@@ -1,13 +1,6 @@
 -- the values of a vertex are one list
+use Rattle.ta_simplex.proofs.Common.{◌≡◌, inl, inr, ℕ, suc, ◌<◌, List, [], ◌∷◌, length, arith, refl, sym, ap, ◌∙◌, subst, ℤ, pos, ◌<ℤ◌, Option, Some, None, slice_get, IsSomeAnd, positive_prop, System, Tableau, row_of, basic_of, non_basic_of, DictionaryOf, GivesValues, Fraction}
 use mathlib.Core.HLevel.{is_prop→PathP}
-use Rattle.std.proofs.Common.{◌≡◌, inl, inr, ℕ, suc, ◌<◌, List, [], ◌∷◌, length, arith, refl, sym, ap, ◌∙◌, subst, ℤ, pos, ◌<ℤ◌, Option, Some, None, slice_get}
-use Rattle.std.specs.Prelude.{IsSomeAnd}
-use Rattle.ta_base.proofs.Integers.{positive_prop}
-use Rattle.ta_linear.specs.declared.row.System.{System}
-use Rattle.ta_dense.specs.Tableau.{Tableau, row_of, basic_of, non_basic_of}
-use Rattle.ta_dense.specs.Laws.{DictionaryOf}
-use Rattle.ta_simplex.specs.Vertex.{GivesValues}
-use Rattle.ta_simplex.specs.declared.fraction.Fraction.{Fraction}
 
 -- a fraction is its top and its bottom
 fraction_same : (f g : Fraction) → f.top ≡ g.top → f.bottom ≡ g.bottom → f ≡ g

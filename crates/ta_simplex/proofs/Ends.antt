@@ -1,12 +1,5 @@
-use Rattle.std.proofs.Common.{◌≡◌, ◌⊎◌, inl, inr, ℕ, zero, suc, ◌+◌, ◌^◌, ◌<◌, ◌≤◌, arith, refl, sym, ap, ◌∙◌, subst, ℤ}
-use Rattle.std.proofs.lemmas.Bool.{cases_lt}
-use Rattle.ta_base.proofs.Naturals.{pigeon}
-use Rattle.ta_dense.specs.Tableau.{Tableau, pivoted}
-use Rattle.ta_dense.specs.Valid.{IsDictionary}
+use Rattle.ta_simplex.proofs.Common.{◌≡◌, ◌⊎◌, inl, inr, ℕ, zero, suc, ◌+◌, ◌^◌, ◌<◌, ◌≤◌, arith, refl, sym, ap, ◌∙◌, subst, ℤ, cases_lt, pigeon, Tableau, pivoted, IsDictionary, IsDictionary-pivoted, Leaves, RuleEnds, Enters}
 use Rattle.ta_simplex.proofs.Basic.{is_basic}
-use Rattle.ta_dense.proofs.Keeps.{IsDictionary-pivoted}
-use Rattle.ta_simplex.specs.LeastIndex.{Leaves, RuleEnds}
-use Rattle.ta_dense.specs.Entering.{Enters}
 use Rattle.ta_simplex.proofs.Bland.{Moment, no_basis_repeats}
 use Rattle.ta_simplex.proofs.Moments.{moment}
 use Rattle.ta_simplex.proofs.Choose.{Chosen, choose, same_row, same_column, not_ended}

@@ -1,21 +1,7 @@
 -- a pivot of a tableau that is extended by columns and rows
-use Rattle.std.proofs.Common.{◌≡◌, ◌⊎◌, inl, inr, ℕ, suc, ◌+◌, ◌-◌, ◌<◌, ◌≤◌, List, [], ◌∷◌, ◌++◌, length, map, set, get_or, arith, refl, sym, ap, ◌∙◌, subst, ℤ, pos}
-use Rattle.std.specs.Prelude.{replicate, ◌*ℤ◌, ◌-ℤ◌, ◌<ℤ◌, ◌≤ℤ◌}
-use Rattle.std.specs.List.{range_with_len}
-use Rattle.std.proofs.lemmas.Int.{ints}
-use Rattle.std.proofs.lemmas.Bool.{cases_lt, lt-ltb, le-ltb}
-use Rattle.std.proofs.lemmas.List.{append_assoc, map-append, map-set, length-map, length-append, length-replicate, set-append_left, get_or_append_left, get_or-append_right, get_or-map, replicate-append-replicate}
-use Rattle.std.proofs.lemmas.List.FromFn.{length-range_with_len}
-use Rattle.ta_linear.specs.Numbers.{InRange}
-use Rattle.ta_dense.specs.Tableau.{TableauRow, Tableau, cell_of, no_row, row_of, basic_of, non_basic_of, merged, turned, pivoted}
-use Rattle.ta_dense.specs.Merge.{MergesInRange, MergesByInRange, CombinesInRange, RowsMergeBelow, FirstRefused, FirstOverflow}
-use Rattle.ta_dense.specs.Entering.{Enters}
+use Rattle.ta_simplex.proofs.Common.{◌≡◌, ◌⊎◌, inl, inr, ℕ, suc, ◌+◌, ◌-◌, ◌<◌, ◌≤◌, List, [], ◌∷◌, ◌++◌, length, map, set, get_or, arith, refl, sym, ap, ◌∙◌, subst, ℤ, pos, replicate, range_with_len, ints, cases_lt, lt-ltb, le-ltb, append_assoc, map-append, map-set, length-map, length-append, length-replicate, set-append_left, get_or_append_left, get_or-append_right, get_or-map, replicate-append-replicate, length-range_with_len, InRange, TableauRow, Tableau, cell_of, no_row, row_of, basic_of, non_basic_of, merged, turned, pivoted, MergesInRange, MergesByInRange, CombinesInRange, RowsMergeBelow, FirstRefused, FirstOverflow, Enters, KeptPivot, chosen_row, after_pivot, widened, raised, record_same, tableau_same, MakesPivot}
+use Rattle.std.specs.Prelude.{◌*ℤ◌, ◌-ℤ◌, ◌<ℤ◌, ◌≤ℤ◌}
 use Rattle.ta_dense.specs.Leaving.{Leaves}
-use Rattle.ta_dense.specs.Kept.{KeptPivot, chosen_row, after_pivot}
-use Rattle.ta_dense.specs.Extending.{widened, raised}
-use Rattle.ta_dense.proofs.RowFacts.{record_same}
-use Rattle.ta_dense.proofs.SlackRows.{tableau_same}
-use Rattle.ta_simplex.specs.Follows.{MakesPivot}
 use Rattle.ta_simplex.proofs.Widening.{zeros, cell_inside, cell_beyond, merged_widened, merged_chosen, turned_widened}
 
 -- a tableau of n columns with e more, and with more rows

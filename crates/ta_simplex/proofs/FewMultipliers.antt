@@ -1,20 +1,5 @@
 -- a refutation has multipliers for the stuck row's own slack and for non-basic slacks alone: at most one more than there are columns
-use Rattle.std.proofs.Common.{◌≡◌, ◌⊎◌, inl, inr, ℕ, zero, suc, ◌+◌, ◌<◌, ◌≤◌, List, [], ◌∷◌, length, get_or, cond, eqb, arith, refl, sym, ap, ◌∙◌, ℤ, pos, ◌≤ℤ◌}
-use Rattle.std.proofs.lemmas.Bool.{cases_lt, cases_eq}
-use Rattle.std.proofs.lemmas.Bool.Decides.{eqb_tells}
-use Rattle.std.proofs.lemmas.Int.{ints}
-use Rattle.std.proofs.lemmas.List.{length-set}
-use Rattle.std.proofs.lemmas.List.FromFn.{length-range_with_len}
-use Rattle.ta_base.proofs.Naturals.{pigeon}
-use Rattle.ta_linear.specs.Terms.{coefficient}
-use Rattle.ta_linear.specs.Leaf.{AreMultipliers}
-use Rattle.ta_linear.specs.declared.row.System.{System}
-use Rattle.ta_dense.specs.Tableau.{Tableau, basic_of, non_basic_of}
-use Rattle.ta_dense.specs.Slack.{slack_tableau}
-use Rattle.ta_dense.specs.Laws.{DictionaryOf}
-use Rattle.ta_simplex.specs.LeastIndex.{Reached}
-use Rattle.ta_simplex.specs.Refuted.{GivesMultipliers}
-use Rattle.ta_simplex.specs.Laws.{MultipliersAreFew}
+use Rattle.ta_simplex.proofs.Common.{◌≡◌, ◌⊎◌, inl, inr, ℕ, zero, suc, ◌+◌, ◌<◌, ◌≤◌, List, [], ◌∷◌, length, get_or, cond, eqb, arith, refl, sym, ap, ◌∙◌, ℤ, pos, ◌≤ℤ◌, cases_lt, cases_eq, eqb_tells, ints, length-set, length-range_with_len, pigeon, coefficient, AreMultipliers, System, Tableau, basic_of, non_basic_of, slack_tableau, DictionaryOf, Reached, GivesMultipliers, MultipliersAreFew}
 use Rattle.ta_simplex.proofs.RunLemmas.{reached_dictionary}
 
 -- the first place of a number in a list, and the length where it is in none

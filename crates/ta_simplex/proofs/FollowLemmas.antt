@@ -1,18 +1,7 @@
 -- lists of pivots that a run makes: cut, and longer by one
-use Rattle.std.proofs.Common.{◌≡◌, inl, inr, ℕ, zero, suc, ◌-◌, ◌<◌, ◌≤◌, List, [], ◌∷◌, ◌++◌, length, take, arith, refl, sym, ap, ◌∙◌, subst, pos}
-use Rattle.std.specs.Prelude.{replicate}
-use Rattle.std.proofs.lemmas.Bool.{cases_lt}
-use Rattle.std.proofs.lemmas.List.{append-nil, length-append, length-take-le, get_or_append_left, get_or_push}
-use Rattle.ta_dense.specs.Tableau.{Tableau, row_of, pivoted}
-use Rattle.ta_dense.specs.Entering.{Enters}
+use Rattle.ta_simplex.proofs.Common.{◌≡◌, inl, inr, ℕ, zero, suc, ◌-◌, ◌<◌, ◌≤◌, List, [], ◌∷◌, ◌++◌, length, take, arith, refl, sym, ap, ◌∙◌, subst, pos, replicate, cases_lt, append-nil, length-append, length-take-le, get_or_append_left, get_or_push, Tableau, row_of, pivoted, Enters, AllMergeInRange, KeptPivot, no_pivot, kept_at, pivot_in, System, slack_tableau, Reached, tableau_after, MakesPivot, Follows}
 use Rattle.ta_dense.specs.Leaving.{Leaves}
-use Rattle.ta_dense.specs.Merge.{AllMergeInRange}
-use Rattle.ta_dense.specs.Kept.{KeptPivot, no_pivot, kept_at, pivot_in}
-use Rattle.ta_linear.specs.declared.row.System.{System}
-use Rattle.ta_dense.specs.Slack.{slack_tableau}
-use Rattle.ta_simplex.specs.LeastIndex.{Reached}
 use Rattle.ta_simplex.proofs.RunLemmas.{reached_dictionary}
-use Rattle.ta_simplex.specs.Follows.{tableau_after, MakesPivot, Follows}
 use Rattle.ta_simplex.proofs.Prefixes.{reached_after}
 
 pub after_same : (start : Tableau) (ks ks' : List KeptPivot) (count : ℕ) → ((j : ℕ) → j < count → kept_at ks j ≡ kept_at ks' j) → (j : ℕ) → j ≤ count → tableau_after start ks j ≡ tableau_after start ks' j

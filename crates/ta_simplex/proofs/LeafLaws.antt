@@ -1,18 +1,5 @@
-use Rattle.std.proofs.Common.{◌≡◌, inl, inr, ℕ, suc, ◌+◌, ◌<◌, List, [], ◌∷◌, length, get_or, cond, eqb, arith, refl, sym, ap, ◌∙◌, ℤ, pos, ◌+ℤ◌, ◌*ℤ◌, ◌-ℤ◌, neg_ℤ, ◌<ℤ◌, ◌≤ℤ◌}
-use Rattle.std.proofs.lemmas.Bool.{cases_eq}
-use Rattle.std.proofs.lemmas.Bool.Decides.{eqb_tells}
-use Rattle.std.proofs.lemmas.Int.{ints}
-use Rattle.std.proofs.Math.IntN.{*ℤ_comm}
-use Rattle.ta_base.proofs.Integers.{expand, single, single-at, single-elsewhere, single-le, sum_between}
-use Rattle.ta_base.proofs.Sums.{sum-add, sum-same, sum-single, sum-split, sum-sub, sum-upto, sum-zero}
-use Rattle.ta_dense.specs.Tableau.{TableauRow}
-use Rattle.ta_dense.specs.Valid.{dot, EquationHolds}
-use Rattle.ta_linear.specs.Values.{terms_value}
-use Rattle.ta_linear.specs.Terms.{coefficient}
-use Rattle.ta_dense.specs.Slack.{slack_at, SlacksFollow}
-use Rattle.ta_linear.specs.declared.row.Row.{Row}
-use Rattle.ta_linear.specs.Rows.{AllBelow}
-use Rattle.ta_dense.proofs.SlackDictionary.{terms_value-same, slacks_follow, extended, extended-unknown, extended-slack}
+use Rattle.ta_simplex.proofs.Common.{◌≡◌, inl, inr, ℕ, suc, ◌+◌, ◌<◌, List, [], ◌∷◌, length, get_or, cond, eqb, arith, refl, sym, ap, ◌∙◌, ℤ, pos, ◌+ℤ◌, ◌*ℤ◌, ◌-ℤ◌, neg_ℤ, ◌<ℤ◌, ◌≤ℤ◌, cases_eq, eqb_tells, ints, *ℤ_comm, expand, single, single-at, single-elsewhere, single-le, sum_between, sum-add, sum-same, sum-single, sum-split, sum-sub, sum-upto, sum-zero, TableauRow, dot, EquationHolds, terms_value, coefficient, slack_at, SlacksFollow, Row, AllBelow, terms_value-same, slacks_follow, extended-unknown, extended-slack}
+use Rattle.ta_dense.proofs.SlackDictionary.{extended}
 
 -- the cells of a variable, added up: at most one, where the variables differ
 unfoldable pub cells_at : List ℤ → List ℕ → ℕ → ℤ

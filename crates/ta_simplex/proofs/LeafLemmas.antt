@@ -1,23 +1,6 @@
 -- the multipliers of a refuted row are a leaf
-use Rattle.std.proofs.Common.{◌≡◌, ◌≢◌, inl, inr, ℕ, zero, suc, ◌+◌, ◌<◌, ◌≤◌, List, [], ◌∷◌, length, get_or, arith, refl, sym, ap, ◌∙◌, subst, ℤ, pos, ◌+ℤ◌, ◌*ℤ◌, Option, Some, slice_get}
-use Rattle.std.proofs.lemmas.Bool.{cases_lt, cases_eq}
-use Rattle.std.proofs.lemmas.Int.{ints}
-use Rattle.std.proofs.Math.IntN.{*ℤ-zero}
-use Rattle.ta_base.proofs.Integers.{range_sum, single-at, single-elsewhere}
-use Rattle.ta_base.proofs.Sums.{range_sum-front, range_sum-same}
-use Rattle.ta_linear.specs.Terms.{coefficient, IsNormal}
-use Rattle.ta_linear.specs.Values.{terms_value}
-use Rattle.ta_linear.specs.Rows.{AllBelow}
-use Rattle.ta_linear.specs.Leaf.{weighted, coefficient_in, constant_in, AreMultipliers, LeafOf}
-use Rattle.ta_linear.specs.declared.row.Row.{Row}
-use Rattle.ta_linear.specs.declared.row.System.{System}
-use Rattle.ta_linear.proofs.TermLemmas.{coefficient-above}
+use Rattle.ta_simplex.proofs.Common.{◌≡◌, ◌≢◌, inl, inr, ℕ, zero, suc, ◌+◌, ◌<◌, ◌≤◌, List, [], ◌∷◌, length, get_or, arith, refl, sym, ap, ◌∙◌, subst, ℤ, pos, ◌+ℤ◌, ◌*ℤ◌, Option, Some, slice_get, cases_lt, cases_eq, ints, *ℤ-zero, range_sum, single-at, single-elsewhere, range_sum-front, range_sum-same, coefficient, IsNormal, terms_value, AllBelow, weighted, coefficient_in, constant_in, AreMultipliers, LeafOf, Row, System, coefficient-above, Tableau, row_of, basic_of, DictionaryOf, Stuck, GivesMultipliers, AreLeafMultipliers, FillSlots, ListsSlots}
 use Rattle.ta_linear.proofs.RangeSum.{terms_value-sum}
-use Rattle.ta_dense.specs.Tableau.{Tableau, row_of, basic_of}
-use Rattle.ta_dense.specs.Laws.{DictionaryOf}
-use Rattle.ta_simplex.specs.LeastIndex.{Stuck}
-use Rattle.ta_simplex.specs.Refuted.{GivesMultipliers, AreLeafMultipliers}
-use Rattle.ta_simplex.specs.Inside.Slots.{FillSlots, ListsSlots}
 use Rattle.ta_simplex.proofs.LeafLaws.{cells_at, weight, slack_weighted, refuted_is_leaf}
 
 cells_at-none : (cs : List ℤ) (us : List ℕ) (w : ℕ) → ((j : ℕ) → j < length us → get_or us j 0 ≢ w) → cells_at cs us w ≡ pos 0

@@ -28,3 +28,4 @@ mod DeterminedSteps
 mod DeterminedMultipliers
 mod DeterminedValues
 mod DeterminedTableau
+mod Common

@@ -1,13 +1,5 @@
-use Rattle.std.proofs.Common.{◌≡◌, ◌≢◌, ◌⊎◌, inl, inr, ℕ, zero, suc, ◌<◌, List, [], ◌∷◌, length, get_or, Bool, true, false, ◌||◌, eqb, arith, refl, sym, ap, ◌∙◌, ℤ, eq-eqb}
-use Rattle.std.proofs.lemmas.Bool.{cases_eq}
-use Rattle.std.proofs.lemmas.Bool.Decides.{eqb_tells}
-use Rattle.ta_base.proofs.Booleans.{both_ways}
-use Rattle.ta_dense.specs.Tableau.{TableauRow, Tableau, no_row, pivoted, basic_of, non_basic_of}
-use Rattle.ta_dense.specs.Valid.{IsDictionary}
+use Rattle.ta_simplex.proofs.Common.{◌≡◌, ◌≢◌, ◌⊎◌, inl, inr, ℕ, zero, suc, ◌<◌, List, [], ◌∷◌, length, get_or, Bool, true, false, ◌||◌, eqb, arith, refl, sym, ap, ◌∙◌, ℤ, eq-eqb, cases_eq, eqb_tells, both_ways, TableauRow, Tableau, no_row, pivoted, basic_of, non_basic_of, IsDictionary, IsDictionary-pivoted, basic_at, basic_elsewhere, non_basic_at, row_count, column_count, Leaves, Enters}
 use Rattle.ta_simplex.proofs.Basic.{is_basic, is_basic_in}
-use Rattle.ta_dense.proofs.Keeps.{IsDictionary-pivoted, basic_at, basic_elsewhere, non_basic_at, row_count, column_count}
-use Rattle.ta_simplex.specs.LeastIndex.{Leaves}
-use Rattle.ta_dense.specs.Entering.{Enters}
 use Rattle.ta_simplex.proofs.Bland.{Moment}
 
 -- the test says whether a row has the variable

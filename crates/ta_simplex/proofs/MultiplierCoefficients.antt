@@ -1,9 +1,5 @@
 -- what stands before a row in rising rows with multipliers
-use Rattle.std.proofs.lemmas.Bool.Decides.{nat_tests}
-use Rattle.std.proofs.Common.{◌≡◌, ℕ, ◌+◌, ◌<◌, ◌≤◌, List, [], ◌∷◌, arith, refl, ℤ, pos}
-use Rattle.std.proofs.lemmas.Int.{ints}
-use Rattle.ta_linear.specs.Terms.{coefficient}
-use Rattle.ta_linear.specs.Leaf.{AreMultipliers}
+use Rattle.ta_simplex.proofs.Common.{nat_tests, ◌≡◌, ℕ, ◌+◌, ◌<◌, ◌≤◌, List, [], ◌∷◌, arith, refl, ℤ, pos, ints, coefficient, AreMultipliers}
 
 -- nothing stands before a row below the first
 pub coefficient_before : (low count : ℕ) (ts : List (ℕ × ℤ)) (k : ℕ) → AreMultipliers low count ts → k < low → coefficient ts k ≡ pos 0

@@ -1,25 +1,5 @@
 -- the pivots of a system are the first pivots of a longer one
-use Rattle.std.proofs.Common.{◌≡◌, inl, inr, ℕ, zero, suc, ◌+◌, ◌-◌, ◌<◌, ◌≤◌, List, [], ◌∷◌, ◌++◌, length, map, get_or, drop, arith, refl, sym, ap, ◌∙◌, subst, ℤ}
-use Rattle.std.specs.List.{range_with_len}
-use Rattle.std.proofs.lemmas.List.{map-append, length-map}
-use Rattle.std.proofs.lemmas.List.FromFn.{length-range_with_len}
-use Rattle.ta_base.proofs.Lists.{range_split}
-use Rattle.ta_dense.proofs.SlackDictionary.{length-slack_rows}
-use Rattle.ta_linear.specs.Terms.{coefficient, IsNormal}
-use Rattle.ta_linear.specs.Rows.{AllBelow}
-use Rattle.ta_linear.specs.declared.row.Row.{Row}
-use Rattle.ta_linear.specs.declared.row.System.{System}
-use Rattle.ta_linear.proofs.TermLemmas.{coefficient-above}
-use Rattle.ta_dense.specs.Tableau.{TableauRow, Tableau, no_row, merged, pivoted}
-use Rattle.ta_dense.specs.Slack.{coefficients, slack_row_of, slack_rows, slack_tableau}
-use Rattle.ta_dense.specs.Merge.{MergesInRange, FirstRefused}
-use Rattle.ta_dense.specs.Kept.{KeptPivot, kept_at, chosen_row, after_pivot, carried, StayInRange}
-use Rattle.ta_dense.specs.Extending.{widened, raised, extended, new_rows, FirstLeaving}
-use Rattle.ta_dense.proofs.RowFacts.{record_same}
-use Rattle.ta_dense.proofs.SlackRows.{slack_tableau-is}
-use Rattle.ta_dense.proofs.Keeps.{row_count, column_count, merged_basic}
-use Rattle.ta_simplex.specs.LeastIndex.{Reached, OverflowsAt, IsCount}
-use Rattle.ta_simplex.specs.Follows.{tableau_after, MakesPivot, Follows, BeginsSystem}
+use Rattle.ta_simplex.proofs.Common.{◌≡◌, inl, inr, ℕ, zero, suc, ◌+◌, ◌-◌, ◌<◌, ◌≤◌, List, [], ◌∷◌, ◌++◌, length, map, get_or, drop, arith, refl, sym, ap, ◌∙◌, subst, ℤ, range_with_len, map-append, length-map, length-range_with_len, range_split, length-slack_rows, coefficient, IsNormal, AllBelow, Row, System, coefficient-above, TableauRow, Tableau, no_row, merged, pivoted, coefficients, slack_row_of, slack_rows, slack_tableau, MergesInRange, FirstRefused, KeptPivot, kept_at, chosen_row, after_pivot, carried, StayInRange, widened, raised, extended, new_rows, FirstLeaving, record_same, slack_tableau-is, row_count, column_count, merged_basic, Reached, OverflowsAt, IsCount, tableau_after, MakesPivot, Follows, BeginsSystem}
 use Rattle.ta_simplex.proofs.RunLemmas.{reached_dictionary}
 use Rattle.ta_simplex.proofs.Widening.{zeros}
 use Rattle.ta_simplex.proofs.Extended.{with_more, OfSize, AreNewRows, raised_at, pivoted_more, leaves_more, enters_more, makes_more, overflows_more}

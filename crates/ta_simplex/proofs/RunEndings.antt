@@ -1,12 +1,5 @@
 -- The run of a system ends, or some pivot leaves the range.
-use Rattle.std.proofs.Common.{◌≡◌, ◌≢◌, ℕ, zero, suc, ◌+◌, ◌-◌, ◌^◌, ◌<◌, ◌≤◌, min, length, get_or, ⊎_elim, refl, subst, arith}
-use Rattle.std.proofs.lemmas.Bool.{cases_lt, cases_eq}
-use Rattle.ta_linear.specs.declared.row.System.{System}
-use Rattle.ta_dense.specs.Tableau.{Tableau, row_of, no_row, pivoted}
-use Rattle.ta_dense.specs.Merge.{MergesInRange, OthersMergeBelow, AllMergeInRange, FirstOverflow}
-use Rattle.ta_dense.specs.Slack.{slack_tableau, variables}
-use Rattle.ta_simplex.specs.LeastIndex.{Reached, RuleEnds}
-use Rattle.ta_simplex.specs.Answers.{RunEnds, RunOverflows}
+use Rattle.ta_simplex.proofs.Common.{◌≡◌, ◌≢◌, ℕ, zero, suc, ◌+◌, ◌-◌, ◌^◌, ◌<◌, ◌≤◌, min, length, get_or, ⊎_elim, refl, subst, arith, cases_lt, cases_eq, System, Tableau, row_of, no_row, pivoted, MergesInRange, OthersMergeBelow, AllMergeInRange, FirstOverflow, slack_tableau, variables, Reached, RuleEnds, RunEnds, RunOverflows}
 use Rattle.ta_simplex.proofs.Choose.{Chosen, choose}
 use Rattle.ta_simplex.proofs.Ends.{measure, measure_falls}
 use Rattle.ta_simplex.proofs.RunLemmas.{reached_dictionary}

@@ -1,14 +1,5 @@
 -- what is known of each tableau that the rule reaches
-use Rattle.std.proofs.lemmas.Bool.{cases_eq, cases_order}
-use Rattle.std.proofs.Common.{◌≡◌, inl, inr, ℕ, zero, suc, ◌<◌, arith, sym, ap, ◌∙◌, subst}
-use Rattle.ta_linear.specs.declared.row.System.{System}
-use Rattle.ta_dense.specs.Tableau.{Tableau, pivoted}
-use Rattle.ta_dense.specs.Entering.{Enters}
-use Rattle.ta_dense.specs.Slack.{slack_tableau, variables, IsAssignment}
-use Rattle.ta_dense.specs.Laws.{DictionaryOf}
-use Rattle.ta_dense.proofs.SlackDictionary.{IsDictionary-slack}
-use Rattle.ta_dense.proofs.Keeps.{IsDictionary-pivoted}
-use Rattle.ta_simplex.specs.LeastIndex.{LeastStep, Reached, RuleEnds}
+use Rattle.ta_simplex.proofs.Common.{cases_eq, cases_order, ◌≡◌, inl, inr, ℕ, zero, suc, ◌<◌, arith, sym, ap, ◌∙◌, subst, System, Tableau, pivoted, Enters, slack_tableau, variables, IsAssignment, DictionaryOf, IsDictionary-slack, IsDictionary-pivoted, LeastStep, Reached, RuleEnds}
 use Rattle.ta_simplex.proofs.Choose.{same_row, same_column, not_ended}
 
 -- it is a dictionary of the system

@@ -1,16 +1,6 @@
 -- a run that keeps its pivots, step by step
-use Rattle.std.proofs.Common.{◌≡◌, ℕ, ◌^◌, ◌<◌, List, [], ◌∷◌, ◌++◌, length, map, arith, refl, sym, ap, ◌∙◌, subst}
-use Rattle.std.proofs.lemmas.List.{append_assoc, map-append, length-map, length-append}
-use Rattle.ta_linear.specs.declared.row.System.{System}
-use Rattle.ta_dense.specs.Tableau.{Tableau, pivoted}
-use Rattle.ta_dense.specs.Entering.{Enters}
+use Rattle.ta_simplex.proofs.Common.{◌≡◌, ℕ, ◌^◌, ◌<◌, List, [], ◌∷◌, ◌++◌, length, map, arith, refl, sym, ap, ◌∙◌, subst, append_assoc, map-append, length-map, length-append, System, Tableau, pivoted, Enters, AllMergeInRange, FirstOverflow, slack_tableau, variables, IsAssignment, DictionaryOf, KeptPivot, pivot_in, OverflowsAt, Follows, AddsPivots}
 use Rattle.ta_dense.specs.Leaving.{Leaves}
-use Rattle.ta_dense.specs.Merge.{AllMergeInRange, FirstOverflow}
-use Rattle.ta_dense.specs.Slack.{slack_tableau, variables, IsAssignment}
-use Rattle.ta_dense.specs.Laws.{DictionaryOf}
-use Rattle.ta_dense.specs.Kept.{KeptPivot, pivot_in}
-use Rattle.ta_simplex.specs.LeastIndex.{OverflowsAt}
-use Rattle.ta_simplex.specs.Follows.{Follows, AddsPivots}
 use Rattle.ta_simplex.proofs.RunLemmas.{reached_dictionary}
 use Rattle.ta_simplex.proofs.Ends.{measure, measure_falls}
 use Rattle.ta_simplex.proofs.FollowLemmas.{follows_reached, follows_push}

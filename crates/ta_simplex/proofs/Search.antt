@@ -1,6 +1,4 @@
-use Rattle.std.proofs.Common.{◌≡◌, ◌⊎◌, inl, inr, ℕ, zero, suc, ◌<◌, ◌≤◌, Bool, arith, sym, ap, ◌∙◌, subst}
-use Rattle.std.proofs.lemmas.Bool.{cases_lt, cases_eq}
-use Rattle.ta_base.proofs.Booleans.{same_or_not}
+use Rattle.ta_simplex.proofs.Common.{◌≡◌, ◌⊎◌, inl, inr, ℕ, zero, suc, ◌<◌, ◌≤◌, Bool, arith, sym, ap, ◌∙◌, subst, cases_lt, cases_eq, same_or_not}
 
 -- between two moments the test moves away from its first value, or it stays
 abbrev pub Moves : (ℕ → Bool) → ℕ → ℕ → Type 0

@@ -1,18 +1,6 @@
 -- filling the places of the rows, and listing those that are not 0
-use Rattle.std.proofs.Common.{◌≡◌, ◌≢◌, ◌⊎◌, inl, inr, ℕ, zero, suc, ◌+◌, ◌-◌, ◌<◌, ◌≤◌, List, [], ◌∷◌, ◌++◌, length, set, replicate, Bool, true, false, cond, nat_lt, arith, refl, sym, ap, ◌∙◌, ℤ, pos, ◌≤ℤ◌, neg_ℤ, get_or-set_same, get_or-set_other}
-use Rattle.std.proofs.lemmas.Bool.{cases_lt, cases_eq}
-use Rattle.std.proofs.lemmas.Bool.Decides.{nat_tests, eqb_tells}
-use Rattle.std.proofs.lemmas.Int.{ints}
-use Rattle.std.proofs.lemmas.List.{length-set}
-use Rattle.ta_base.proofs.Integers.{at_least_one, length-zeros, unsigned_abs-neg}
-use Rattle.ta_linear.specs.Numbers.{InRange}
-use Rattle.ta_linear.specs.Terms.{coefficient}
-use Rattle.ta_linear.specs.Leaf.{AreMultipliers}
-use Rattle.ta_linear.proofs.TermLemmas.{IsNormal-push, IsNormal-higher, coefficient-append, coefficient-above}
-use Rattle.ta_dense.specs.Tableau.{Tableau, row_of, cell_of, basic_of, non_basic_of}
-use Rattle.ta_dense.specs.Entering.{NoneEnters}
-use Rattle.ta_dense.specs.Valid.{IsBasis}
-use Rattle.ta_simplex.specs.Inside.Slots.{slot, put, AreNatural, FillSlots, ListsSlots}
+use Rattle.ta_simplex.proofs.Common.{◌≡◌, ◌≢◌, ◌⊎◌, inl, inr, ℕ, zero, suc, ◌+◌, ◌-◌, ◌<◌, ◌≤◌, List, [], ◌∷◌, ◌++◌, length, set, Bool, true, false, cond, nat_lt, arith, refl, sym, ap, ◌∙◌, ℤ, pos, ◌≤ℤ◌, neg_ℤ, get_or-set_same, get_or-set_other, cases_lt, cases_eq, nat_tests, eqb_tells, ints, length-set, at_least_one, length-zeros, unsigned_abs-neg, InRange, coefficient, AreMultipliers, IsNormal-push, IsNormal-higher, coefficient-append, coefficient-above, Tableau, row_of, cell_of, basic_of, non_basic_of, NoneEnters, IsBasis, slot, put, AreNatural, FillSlots, ListsSlots}
+use Rattle.std.proofs.Common.{replicate}
 
 -- what a place holds after a number is put
 after_set : (ms : List ℤ) (p k : ℕ) (m : ℤ) → p < length ms → ((k ≡ p) × (slot (set ms p m) k ≡ m)) ⊎ ((k ≢ p) × (slot (set ms p m) k ≡ slot ms k))

@@ -1,26 +1,9 @@
 -- The end of a system whose run ends: multipliers of a row for which nothing can enter, or the values of a vertex.
-use Rattle.std.proofs.Common.{◌≡◌, ◌≢◌, ℕ, zero, suc, ◌+◌, ◌<◌, ℤ, pos, ◌<ℤ◌, List, [], ◌∷◌, ◌++◌, length, get_or, set, map, replicate, inl, inr, ⊎_elim, refl, sym, subst, ◌∙◌, arith}
-use Rattle.std.proofs.lemmas.Int.{ints}
-use Rattle.std.proofs.lemmas.List.{length-map, length-set}
-use Rattle.std.proofs.lemmas.List.FromFn.{length-range_with_len}
-use Rattle.ta_base.proofs.Integers.{zero_or_not}
-use Rattle.ta_linear.specs.Numbers.{InRange}
-use Rattle.ta_linear.specs.Rows.{AllBelow}
-use Rattle.ta_linear.specs.declared.row.Row.{Row}
-use Rattle.ta_linear.specs.declared.row.System.{System}
-use Rattle.ta_dense.specs.Tableau.{Tableau, row_of, cell_of, basic_of, non_basic_of, no_row, merged, pivoted}
-use Rattle.ta_dense.specs.Merge.{IsProper}
-use Rattle.ta_dense.specs.Slack.{slack_rows, slack_tableau, variables}
-use Rattle.ta_dense.specs.Laws.{DictionaryOf}
+use Rattle.ta_simplex.proofs.Common.{◌≡◌, ◌≢◌, ℕ, zero, suc, ◌+◌, ◌<◌, ℤ, pos, ◌<ℤ◌, List, [], ◌∷◌, ◌++◌, length, get_or, set, map, inl, inr, ⊎_elim, refl, sym, subst, ◌∙◌, arith, ints, length-map, length-set, length-range_with_len, zero_or_not, InRange, AllBelow, Row, System, Tableau, row_of, cell_of, basic_of, non_basic_of, no_row, merged, pivoted, IsProper, slack_rows, slack_tableau, variables, DictionaryOf, Reached, LeastStep, Stuck, RuleEnds, AreLeafMultipliers, AreZeros, GivesValues, slot, AreNatural, FillSlots, ListsSlots, HasEnd, Fraction}
+use Rattle.std.proofs.Common.{replicate}
 use Rattle.ta_dense.proofs.DenseFacts.{IsProper-slack}
 use Rattle.ta_dense.proofs.ProperFacts.{proper_pivoted}
-use Rattle.ta_simplex.specs.LeastIndex.{Reached, LeastStep, Stuck, RuleEnds}
-use Rattle.ta_simplex.specs.Refuted.{AreLeafMultipliers}
-use Rattle.ta_simplex.specs.Vertex.{AreZeros, GivesValues}
-use Rattle.ta_simplex.specs.Inside.Slots.{slot, AreNatural, FillSlots, ListsSlots}
-use Rattle.ta_simplex.specs.Answers.{HasEnd}
 use Rattle.ta_simplex.specs.declared.End.TheVariants.{Refuted, Vertex}
-use Rattle.ta_simplex.specs.declared.fraction.Fraction.{Fraction}
 use Rattle.ta_simplex.proofs.RunLemmas.{reached_dictionary}
 use Rattle.ta_simplex.proofs.LeafLemmas.{multipliers_are_leaf}
 use Rattle.ta_simplex.proofs.SlotLemmas.{Filled, fill-first, fill-next, fill-last, list-first, list-more, list-skip}

@@ -1,13 +1,5 @@
 -- the values of a vertex, row by row
-use Rattle.std.proofs.Common.{◌≡◌, ◌≢◌, inl, inr, ℕ, zero, ◌+◌, ◌<◌, ◌≤◌, List, [], ◌∷◌, ◌++◌, length, set, arith, sym, ap, ◌∙◌, subst, ℤ, pos, Option}
-use Rattle.std.specs.Prelude.{IsSomeAnd}
-use Rattle.std.proofs.lemmas.Bool.{cases_eq, cases_lt}
-use Rattle.std.proofs.lemmas.List.{length-set, length-append}
-use Rattle.ta_base.proofs.Lists.{get-push_before, get-push_last, get-set_other, get-set_same}
-use Rattle.ta_dense.specs.Tableau.{Tableau, row_of, basic_of, non_basic_of}
-use Rattle.ta_dense.specs.Valid.{IsBasis}
-use Rattle.ta_simplex.specs.Vertex.{ValueIs, AreZeros, GivesValues}
-use Rattle.ta_simplex.specs.declared.fraction.Fraction.{Fraction}
+use Rattle.ta_simplex.proofs.Common.{◌≡◌, ◌≢◌, inl, inr, ℕ, zero, ◌+◌, ◌<◌, ◌≤◌, List, [], ◌∷◌, ◌++◌, length, set, arith, sym, ap, ◌∙◌, subst, ℤ, pos, Option, IsSomeAnd, cases_eq, cases_lt, length-set, length-append, get-push_before, get-push_last, get-set_other, get-set_same, Tableau, row_of, basic_of, non_basic_of, IsBasis, ValueIs, AreZeros, GivesValues, Fraction}
 
 -- the basic unknowns of the rows before one have their values, and every other unknown is 0
 pub record ValuesSoFar (t : Tableau) (unknowns row : ℕ) (values : List Fraction) : Type 0 where

@@ -1,18 +1,6 @@
 -- the values of a vertex meet every row
-use Rattle.std.proofs.Common.{◌≡◌, inl, inr, ℕ, zero, suc, ◌+◌, ◌*◌, ◌<◌, ◌≤◌, List, [], ◌∷◌, length, arith, sym, ap, ◌∙◌, subst, ℤ, pos, ◌*ℤ◌, ◌≤ℤ◌, slice_get}
-use Rattle.std.specs.Prelude.{All, IsSomeAnd}
-use Rattle.std.proofs.lemmas.Int.{ints}
-use Rattle.std.proofs.Math.IntN.{*ℤ_comm}
-use Rattle.ta_base.proofs.Integers.{ge-zero_of_mul, mul-ge-zero}
+use Rattle.ta_simplex.proofs.Common.{◌≡◌, inl, inr, ℕ, zero, suc, ◌+◌, ◌*◌, ◌<◌, ◌≤◌, List, [], ◌∷◌, length, arith, sym, ap, ◌∙◌, subst, ℤ, pos, ◌*ℤ◌, ◌≤ℤ◌, slice_get, All, IsSomeAnd, ints, *ℤ_comm, ge-zero_of_mul, mul-ge-zero, Row, System, Tableau, row_of, basic_of, non_basic_of, IsAssignment, SlacksFollow, slack_at, variables, DictionaryOf, NoneLeaves, GivesValues, MeetRows, Fraction}
 use Rattle.ta_base.proofs.Options.{is_some-map}
-use Rattle.ta_linear.specs.declared.row.Row.{Row}
-use Rattle.ta_linear.specs.declared.row.System.{System}
-use Rattle.ta_dense.specs.Tableau.{Tableau, row_of, basic_of, non_basic_of}
-use Rattle.ta_dense.specs.Slack.{IsAssignment, SlacksFollow, slack_at, variables}
-use Rattle.ta_dense.specs.Laws.{DictionaryOf}
-use Rattle.ta_simplex.specs.LeastIndex.{NoneLeaves}
-use Rattle.ta_simplex.specs.Vertex.{GivesValues, MeetRows}
-use Rattle.ta_simplex.specs.declared.fraction.Fraction.{Fraction}
 use Rattle.ta_simplex.proofs.Bland.{row_alone}
 
 -- numbers at which every non-basic variable is 0

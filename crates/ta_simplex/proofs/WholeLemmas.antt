@@ -1,17 +1,5 @@
 -- where all values of a vertex are whole, they solve the system
-use Rattle.std.proofs.Common.{◌≡◌, ℕ, zero, suc, ◌+◌, ◌<◌, List, [], ◌∷◌, length, arith, ap, subst, ℤ, pos, ◌*ℤ◌, ◌≤ℤ◌, Option, Some, None, slice_get}
-use Rattle.std.specs.Prelude.{All, IsSomeAnd, slice_index}
-use Rattle.std.proofs.lemmas.Int.{ints}
-use Rattle.ta_base.proofs.Integers.{expand, ge-zero_of_mul, quotient_whole}
-use Rattle.ta_linear.specs.Terms.{IsNormal}
-use Rattle.ta_linear.specs.Rows.{AllBelow}
-use Rattle.ta_linear.specs.Values.{terms_value, value_of, RowHolds, Solves}
-use Rattle.ta_linear.specs.declared.row.Row.{Row}
-use Rattle.ta_linear.specs.declared.row.System.{System}
-use Rattle.ta_linear.proofs.TermLemmas.{IsNormal-le}
-use Rattle.ta_dense.specs.Slack.{slack_at}
-use Rattle.ta_simplex.specs.Vertex.{MeetRows}
-use Rattle.ta_simplex.specs.declared.fraction.Fraction.{Fraction}
+use Rattle.ta_simplex.proofs.Common.{◌≡◌, ℕ, zero, suc, ◌+◌, ◌<◌, List, [], ◌∷◌, length, arith, ap, subst, ℤ, pos, ◌*ℤ◌, ◌≤ℤ◌, Option, Some, None, slice_get, All, IsSomeAnd, slice_index, ints, expand, ge-zero_of_mul, quotient_whole, IsNormal, AllBelow, terms_value, value_of, RowHolds, Solves, Row, System, IsNormal-le, slack_at, MeetRows, Fraction}
 
 pub some_both : (o : Option Fraction) (P Q : Fraction → Type 0) (C : Type 0) → IsSomeAnd o P → IsSomeAnd o Q → ((f : Fraction) → P f → Q f → C) → C
 some_both None P Q C p q g = absurd p

@@ -1,14 +1,9 @@
 -- rows with cells of 0 behind their own: what a pivot makes of them
-use Rattle.std.proofs.Common.{◌≡◌, ℕ, zero, suc, ◌+◌, ◌-◌, ◌<◌, ◌≤◌, List, [], ◌∷◌, ◌++◌, length, map, set, get_or, arith, refl, ap, ◌∙◌, ℤ, pos, negsuc, ◌*ℤ◌, ◌-ℤ◌}
-use Rattle.std.specs.Prelude.{unsigned_abs, int_div, neg_ℤ, replicate}
+use Rattle.ta_simplex.proofs.Common.{◌≡◌, ℕ, zero, suc, ◌+◌, ◌-◌, ◌<◌, ◌≤◌, List, [], ◌∷◌, ◌++◌, length, map, set, get_or, arith, refl, ap, ◌∙◌, ℤ, pos, negsuc, ◌*ℤ◌, ◌-ℤ◌, unsigned_abs, int_div, replicate, map-append, length-map, set-append_left, get_or_append_left, get_or-append_right, times_zero, TableauRow, combine, cell_of, gcd_with, merged, merged_at, merged_by, reduced, divided, divisor_of, factor_divisor, turned, widened, raised, record_same}
+use Rattle.std.specs.Prelude.{neg_ℤ}
 use Rattle.std.proofs.Math.Nat.{zero-div}
-use Rattle.std.proofs.lemmas.List.{map-append, length-map, set-append_left, get_or_append_left, get_or-append_right}
-use Rattle.ta_base.proofs.Integers.{times_zero}
 use Rattle.ta_linear.specs.Gcd.{gcd_of}
 use Rattle.ta_linear.proofs.GcdLemmas.{gcd_of-zero}
-use Rattle.ta_dense.specs.Tableau.{TableauRow, combine, cell_of, gcd_with, merged, merged_at, merged_by, reduced, divided, divisor_of, factor_divisor, turned}
-use Rattle.ta_dense.specs.Extending.{widened, raised}
-use Rattle.ta_dense.proofs.RowFacts.{record_same}
 use Rattle.ta_dense.proofs.PivotLaws.{length-combine}
 
 abbrev pub zeros : ℕ → List ℤ

@@ -1,40 +1,14 @@
 -- Values that are admitted, and why values aren't.
-use Rattle.std.proofs.Common.{◌≡◌, ◌≢◌, ℕ, zero, suc, ◌<◌, ◌≤◌, ◌^◌, ℤ, pos, Bool, true, false, List, [], ◌∷◌, length, map, reverse, slice_get, get_or, unsigned_abs, Some, arith, refl, sym, ap, subst, ◌∙◌, length-append}
-use Rattle.std.specs.List.{All, AllByRecursion}
-use Rattle.std.specs.Prelude.{slice_index}
-use Rattle.std.proofs.lemmas.Bool.{false≢true}
-use Rattle.std.proofs.lemmas.List.{length-map}
-use Rattle.ta_base.proofs.Each.{all_at}
-use Rattle.ta_base.proofs.Lists.{PassedTo, some_at}
-use Rattle.ta_words.proofs.Lists.{same_pattern}
-use Rattle.ta_linear.specs.Rows.{AllBelow}
-use Rattle.ta_linear.specs.Sums.{StaysInRange}
-use Rattle.ta_linear.specs.Values.{RowHolds, Solves, point_of}
-use Rattle.ta_linear.specs.declared.row.Row.{Row}
-use Rattle.ta_linear.specs.declared.row.System.{System}
-use Rattle.ta_automaton.specs.declared.file.File.{File}
-use Rattle.ta_automaton.specs.declared.pattern.Pattern.{Pattern}
-use Rattle.ta_counter.specs.Checks.{RowFails, RowOutOfRange, RowPasses, RowsOver}
-use Rattle.ta_counter.specs.Values.{Value}
-use Rattle.ta_words.specs.declared.element.Element.{Element}
-use Rattle.ta_words.specs.Calls.{OfPattern}
-use Rattle.ta_words.specs.Words.{LegalWord, is_complete}
-use Rattle.ta_encode.specs.Code.{AreRowsOf, SystemOf}
-use Rattle.ta_encode.specs.PatternSearch.{pattern_search}
+use Rattle.ta_smt.proofs.Common.{◌≡◌, ◌≢◌, ℕ, zero, suc, ◌<◌, ◌≤◌, ◌^◌, ℤ, pos, Bool, true, false, List, [], ◌∷◌, length, map, reverse, slice_get, get_or, unsigned_abs, Some, arith, refl, sym, ap, subst, ◌∙◌, length-append, All, AllByRecursion, slice_index, false≢true, length-map, all_at, PassedTo, some_at, same_pattern, AllBelow, StaysInRange, RowHolds, Solves, point_of, Row, System, File, Pattern, RowFails, RowOutOfRange, RowPasses, RowsOver, Value, Element, OfPattern, LegalWord, is_complete, AreRowsOf, SystemOf, pattern_search, LinearRow, bound_row, system_rows, word_rows, rows_count, solution_back, unbounded, AdmitFault, AdmitFaultOf, Admits, AdmitsAreExact, AskedWord, IsCompleteWord, IsIncomplete, SystemStays, SystemAsked, asked, IsValuesText, BadRow, CheckFault, IsChecked, PassesCheck, RowFault, RowStops, RunFault, IsRunOfValues, WordFault, LineFault}
 use Rattle.ta_encode.specs.Search.{Pending}
-use Rattle.ta_encode.specs.System.{LinearRow, bound_row, system_rows, word_rows}
-use Rattle.ta_encode.proofs.CodeRows.{rows_count, solution_back, solution_of as solves_of, unbounded}
+use Rattle.ta_encode.proofs.CodeRows.{solution_of as solves_of}
 use Rattle.ta_cursor.proofs.RowCounts.{few_rows}
 use Rattle.ta_replay.specs.declared.run.Run.{Run}
 use Rattle.ta_replay.specs.Replays.{ReplayStays}
 use Rattle.ta_witness.specs.Witness.{IsSolution, WitnessOf}
 use Rattle.ta_witness.proofs.WitnessOnce.{one_witness}
-use Rattle.ta_smt.specs.declared.fault.AdmitFault.{AdmitFault}
 use Rattle.ta_smt.specs.declared.fault.AdmitFault.TheVariants as fault
-use Rattle.ta_smt.specs.Admit.{AdmitFaultOf, Admits, AdmitsAreExact, AskedWord, IsCompleteWord, IsIncomplete, SystemStays, SystemAsked, asked, solution_of}
-use Rattle.ta_smt.specs.Values.{IsValuesText}
-use Rattle.ta_smt.specs.Inside.Checking.{BadRow, CheckFault, IsChecked, PassesCheck, RowFault, RowStops, RunFault, IsRunOfValues, WordFault}
-use Rattle.ta_smt.specs.Inside.Reading.{LineFault}
+use Rattle.ta_smt.specs.Admit.{solution_of}
 use Rattle.ta_smt.proofs.Forms.{rows_stay}
 use Rattle.ta_smt.proofs.Solutions.{holds_same, naturals_from, points}
 use Rattle.ta_smt.proofs.ValueTexts.{not_both, values_once}

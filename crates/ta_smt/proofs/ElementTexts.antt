@@ -1,20 +1,8 @@
 -- Numbers and elements of words, from their texts.
-use Rattle.std.proofs.Common.{◌≡◌, ◌≢◌, ◌≤◌, ◌<◌, ◌^◌, ◌&&◌, ◌||◌, ◌∙◌, ◌≤ℤ◌, ℕ, zero, suc, ℤ, pos, List, [], ◌∷◌, ◌++◌, Bool, true, false, nat_eq, cond, Bor, map, append-nil, Option, None, Some, is_some, refl, sym, ap, subst, arith, rules, decimal, codes}
-use Rattle.std.specs.Prelude.{option_map, option_and_then, MatchOption}
-use Rattle.std.specs.List.{list_all, slice_split}
+use Rattle.ta_smt.proofs.Common.{◌≡◌, ◌≢◌, ◌≤◌, ◌<◌, ◌^◌, ◌&&◌, ◌||◌, ◌∙◌, ◌≤ℤ◌, ℕ, zero, suc, ℤ, pos, List, [], ◌∷◌, ◌++◌, Bool, true, false, nat_eq, cond, Bor, map, append-nil, Option, None, Some, is_some, refl, sym, ap, subst, arith, rules, decimal, codes, option_map, option_and_then, MatchOption, list_all, slice_split, bytes_eq, signed_decimal, ints, found_here, none_here, InRange, Value, number_same, Element, those_elements, with_element, each_element, element_of, elements_in, elements_of, number_up_to}
 use Rattle.std.specs.Option.{unwrap_or}
-use Rattle.std.specs.Str.{bytes_eq}
-use Rattle.std.specs.Fmt.{signed_decimal}
-use Rattle.std.proofs.lemmas.Int.{ints}
 use Rattle.ta_base.proofs.Booleans.{elements_or}
-use Rattle.ta_base.proofs.DecimalDigits.{found_here, none_here}
-use Rattle.ta_linear.specs.Numbers.{InRange}
-use Rattle.ta_counter.specs.Values.{Value}
 use Rattle.ta_replay.specs.Reading.{IsNumber}
-use Rattle.ta_replay.proofs.Decimals.{number_same}
-use Rattle.ta_words.specs.declared.element.Element.{Element}
-use Rattle.ta_smt.specs.Inside.Elements.{those_elements, with_element}
-use Rattle.ta_smt.specs.WordText.{each_element, element_of, elements_in, elements_of, number_up_to}
 
 -- a text that is written as a number
 abbrev pub same_bytes : List ℕ → List ℕ → Type 0

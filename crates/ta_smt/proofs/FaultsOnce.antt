@@ -1,24 +1,11 @@
 -- A word and its values have one fault.
-use Rattle.std.proofs.Common.{◌≡◌, ℕ, ℤ, true, List, length, reverse, arith, refl, sym, ap, subst, ◌∙◌}
+use Rattle.ta_smt.proofs.Common.{◌≡◌, ℕ, ℤ, true, List, length, reverse, arith, refl, sym, ap, subst, ◌∙◌, false≢true, same_pattern, point_of, Row, File, Pattern, RowFails, RowOutOfRange, RowPasses, RowsPass, is_complete, AdmitFault, AdmitFaultOf, AskedWord, FirstBadRow, IsCompleteWord, IsIncomplete, AdmittedRunOutOfRange, WrongCount, RowStops, NoChild, NoWhole, Spelling, WholeFaultOf, WordFaultOf, FirstStranger}
 use Rattle.std.specs.Prelude.{◌≢◌}
-use Rattle.std.proofs.lemmas.Bool.{false≢true}
-use Rattle.ta_words.proofs.Lists.{same_pattern}
-use Rattle.ta_linear.specs.Values.{point_of}
-use Rattle.ta_linear.specs.declared.row.Row.{Row}
-use Rattle.ta_automaton.specs.declared.file.File.{File}
-use Rattle.ta_automaton.specs.declared.pattern.Pattern.{Pattern}
-use Rattle.ta_counter.specs.Checks.{RowFails, RowOutOfRange, RowPasses, RowsPass}
 use Rattle.ta_replay.proofs.FirstBad.{BothBad, RowClash, fails_clash, leaves_clash, meets, no_stop_at, not_both_bad}
-use Rattle.ta_words.specs.Words.{is_complete}
-use Rattle.ta_smt.specs.declared.fault.AdmitFault.{AdmitFault}
 use Rattle.ta_smt.specs.declared.fault.AdmitFault.TheVariants as fault
 use Rattle.ta_smt.specs.declared.fault.WordFault.{WordFault}
 use Rattle.ta_smt.specs.declared.fault.WordFault.TheVariants as word_fault
-use Rattle.ta_smt.specs.Admit.{AdmitFaultOf, AskedWord, FirstBadRow, IsCompleteWord, IsIncomplete, AdmittedRunOutOfRange, WrongCount}
 use Rattle.ta_smt.specs.Determined.{AdmitFaultsAreDetermined, WholeFaultsAreDetermined, WordFaultsAreDetermined}
-use Rattle.ta_smt.specs.Inside.Checking.{RowStops}
-use Rattle.ta_smt.specs.Named.{NoChild, NoWhole, Spelling, WholeFaultOf, WordFaultOf}
-use Rattle.ta_smt.specs.Spelling.{FirstStranger}
 use Rattle.ta_smt.proofs.Admitted.{solution_counts, twins}
 use Rattle.ta_smt.proofs.Forms.{Alike, fails_alike, leaves_alike, rows_pass, rows_stop}
 use Rattle.ta_smt.proofs.Spelled.{stranger_once}

@@ -8,3 +8,4 @@ pub mod Admitted
 pub mod WordsNamed
 pub mod FaultsOnce
 mod ElementTexts
+mod Common

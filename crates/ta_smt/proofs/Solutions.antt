@@ -1,27 +1,9 @@
 -- The text of a system denotes its natural solutions.
-use Rattle.std.proofs.Common.{ℕ, ℤ, zero, suc, pos, negsuc, ◌+◌, ◌<◌, ◌≤◌, ◌^◌, ◌≡◌, ◌+ℤ◌, ◌*ℤ◌, ◌≤ℤ◌, Bool, true, false, cond, eqb, List, [], ◌∷◌, ◌++◌, length, map, unsigned_abs, inl, inr, refl, sym, ap, subst, ◌∙◌, arith, lit<, eqb-true}
-use Rattle.std.specs.List.{All, flat_map, AllByRecursion}
-use Rattle.std.specs.Prelude.{slice_index}
-use Rattle.std.proofs.lemmas.Bool.{cases_lt}
-use Rattle.std.proofs.lemmas.Int.{ints}
-use Rattle.std.proofs.lemmas.List.{length-map}
-use Rattle.ta_base.proofs.Each.{each_append, each_back, each_front}
+use Rattle.ta_smt.proofs.Common.{ℕ, ℤ, zero, suc, pos, negsuc, ◌+◌, ◌<◌, ◌≤◌, ◌^◌, ◌≡◌, ◌+ℤ◌, ◌*ℤ◌, ◌≤ℤ◌, Bool, true, false, cond, eqb, List, [], ◌∷◌, ◌++◌, length, map, unsigned_abs, inl, inr, refl, sym, ap, subst, ◌∙◌, arith, lit<, eqb-true, All, flat_map, AllByRecursion, slice_index, cases_lt, ints, length-map, each_append, each_back, each_front, InRange, AllBelow, RowHolds, point_of, terms_value, value_of, Form, Row, System, numbers_from, Value, Side, Left, Right, AtLeast, Script, ScriptFits, Summand, SummandFits, Numeral, Unknown, Product, TermFits, DenotesSolutions, IsNaturalSolution, constant, multiple, natural_claim, on_side, part, row_claim, script_of, summed_term, summands, system_text}
 use Rattle.ta_base.proofs.Integers.{distributes_right, no_times, one_times, order_back, order_is, zero_right}
-use Rattle.ta_linear.specs.Numbers.{InRange}
-use Rattle.ta_linear.specs.Rows.{AllBelow}
 use Rattle.ta_linear.specs.Terms.{IsNormal}
-use Rattle.ta_linear.specs.Values.{RowHolds, point_of, terms_value, value_of}
-use Rattle.ta_linear.specs.declared.form.Form.{Form}
-use Rattle.ta_linear.specs.declared.row.Row.{Row}
-use Rattle.ta_linear.specs.declared.row.System.{System}
 use Rattle.ta_linear.proofs.TermLemmas.{IsNormal-le}
-use Rattle.ta_base.specs.Masks.{numbers_from}
-use Rattle.ta_counter.specs.Values.{Value}
-use Rattle.ta_smt.specs.declared.side.Side.{Side}
-use Rattle.ta_smt.specs.declared.side.Side.TheVariants.{Left, Right}
-use Rattle.ta_smt.specs.Script.{AtLeast, Script, ScriptFits, Summand, SummandFits, Numeral, Unknown, Product, TermFits}
 use Rattle.ta_smt.specs.Denotes.{Denotes, AtLeastHolds, summand_value, summands_value, term_value}
-use Rattle.ta_smt.specs.Export.{DenotesSolutions, IsNaturalSolution, constant, multiple, natural_claim, on_side, part, row_claim, script_of, summed_term, summands, system_text}
 use Rattle.ta_smt.proofs.Texts.{script_same}
 
 -- a term's parts on both sides differ by it

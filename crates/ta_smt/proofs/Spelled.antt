@@ -1,21 +1,8 @@
 -- Elements that make a word, one by one.
-use Rattle.std.proofs.Common.{◌≡◌, ◌<◌, ◌≤◌, ℕ, zero, suc, ◌+◌, Bool, false, List, [], ◌∷◌, length, reverse, take, slice_get, get_or, Some, arith, inl, inr, refl, sym, ap, subst, ◌∙◌}
-use Rattle.std.specs.Prelude.{◌↔◌, IsTrue}
-use Rattle.std.proofs.lemmas.Bool.{cases_order, false≢true}
-use Rattle.std.proofs.lemmas.List.{length-reverse, take-take}
-use Rattle.std.proofs.lemmas.Option.{slice_get-get_or}
-use Rattle.ta_base.proofs.Lists.{front_get, some_at, take_next}
+use Rattle.ta_smt.proofs.Common.{◌≡◌, ◌<◌, ◌≤◌, ℕ, zero, suc, ◌+◌, Bool, false, List, [], ◌∷◌, length, reverse, take, slice_get, get_or, Some, arith, inl, inr, refl, sym, ap, subst, ◌∙◌, ◌↔◌, IsTrue, cases_order, false≢true, length-reverse, take-take, slice_get-get_or, front_get, some_at, take_next, File, Pattern, In, Element, OfPattern, LegalWord, children, events_named, FirstStranger}
 use Rattle.ta_automaton.specs.declared.automaton.Automaton.{Automaton}
-use Rattle.ta_automaton.specs.declared.file.File.{File}
-use Rattle.ta_automaton.specs.declared.pattern.Pattern.{Pattern}
-use Rattle.ta_base.specs.Masks.{In}
-use Rattle.ta_words.specs.declared.element.Element.{Element}
-use Rattle.ta_words.specs.Calls.{OfPattern}
-use Rattle.ta_words.specs.Words.{LegalWord, children}
 use Rattle.ta_words.proofs.Counts.{legal_length}
-use Rattle.ta_words.proofs.Lists.{events_named}
 use Rattle.ta_encode.proofs.InOrder.{past_push, prefix_is_legal}
-use Rattle.ta_smt.specs.Spelling.{FirstStranger}
 
 -- a legal word so far
 pub record Spells (file : File) (number start : ℕ) (elements : List Element) (i : ℕ) (word : List Element) : Type 0 where

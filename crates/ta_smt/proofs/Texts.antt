@@ -1,16 +1,7 @@
 -- The text of a script determines it.
-use Rattle.std.proofs.Common.{ℕ, zero, suc, ◌+◌, ◌<◌, ◌^◌, ◌≡◌, List, [], ◌∷◌, ◌++◌, map, codes, decimal, refl, sym, ap, ◌∙◌, append_assoc, arith}
-use Rattle.std.proofs.lemmas.Bool.{false≢true}
-use Rattle.std.proofs.lemmas.List.{append_cancel_left}
-use Rattle.std.specs.List.{AllByRecursion}
+use Rattle.ta_smt.proofs.Common.{ℕ, zero, suc, ◌+◌, ◌<◌, ◌^◌, ◌≡◌, List, [], ◌∷◌, ◌++◌, map, codes, decimal, refl, sym, ap, ◌∙◌, append_assoc, arith, false≢true, append_cancel_left, AllByRecursion, numbers_from, decimal_digits, digits_unique, numeral_same, heads, small_is_wide, lines_text, AtLeast, Script, ScriptFits, Summand, SummandFits, Numeral, Unknown, Product, Term, TermFits, Lone, Sum, assert_line, declare_line, script_text, summand_text, summands_text, term_text, unknown_text}
 use Rattle.ta_base.specs.Decimals.{BeginsNoDigit, is_padded}
-use Rattle.ta_base.specs.Masks.{numbers_from}
 use Rattle.ta_base.proofs.Digits.{decimal_plain}
-use Rattle.ta_base.proofs.DecimalDigits.{decimal_digits, digits_unique, numeral_same}
-use Rattle.ta_base.proofs.Lists.{heads}
-use Rattle.ta_base.proofs.Naturals.{small_is_wide}
-use Rattle.ta_replay.specs.RunText.{lines_text}
-use Rattle.ta_smt.specs.Script.{AtLeast, Script, ScriptFits, Summand, SummandFits, Numeral, Unknown, Product, Term, TermFits, Lone, Sum, assert_line, declare_line, script_text, summand_text, summands_text, term_text, unknown_text}
 
 -- a numeral begins by a digit
 no_numeral : (m : ℕ) (x y : List ℕ) → m < 2 ^ 127 → BeginsNoDigit x → BeginsNoDigit y → decimal m ++ x ≡ y → ⊥

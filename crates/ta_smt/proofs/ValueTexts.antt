@@ -1,16 +1,5 @@
 -- The text of values determines them, and has then no bad line.
-use Rattle.std.proofs.Common.{ℕ, suc, ℤ, ◌+◌, ◌≡◌, ◌⊎◌, inl, inr, List, [], ◌∷◌, ◌++◌, length, map, refl, sym, ap, ◌∙◌, append_assoc, arith}
-use Rattle.std.specs.Fmt.{signed_decimal}
-use Rattle.std.proofs.lemmas.List.{map-append}
-use Rattle.std.specs.List.{AllByRecursion}
-use Rattle.ta_base.proofs.Each.{each_push}
-use Rattle.ta_base.proofs.Lists.{first_byte, not_empty, not_parted}
-use Rattle.ta_counter.specs.Values.{Value}
-use Rattle.ta_replay.specs.RunText.{lines_text}
-use Rattle.ta_replay.proofs.Decimals.{number_avoids, number_same}
-use Rattle.ta_replay.proofs.ListSteps.{lines_text-append}
-use Rattle.ta_smt.specs.Values.{FirstBadLine, IsNoNumber, IsUnfinished, IsValuesText, values_text}
-use Rattle.ta_smt.specs.Inside.Reading.{NextValue}
+use Rattle.ta_smt.proofs.Common.{ℕ, suc, ℤ, ◌+◌, ◌≡◌, ◌⊎◌, inl, inr, List, [], ◌∷◌, ◌++◌, length, map, refl, sym, ap, ◌∙◌, append_assoc, arith, signed_decimal, map-append, AllByRecursion, each_push, first_byte, not_empty, not_parted, Value, lines_text, number_avoids, number_same, lines_text-append, FirstBadLine, IsNoNumber, IsUnfinished, IsValuesText, values_text, NextValue}
 
 -- the first value and the text behind it
 firsts_same : (v w : ℤ) (x y : List ℕ) → Value v → Value w → signed_decimal v ++ (10 ∷ x) ≡ signed_decimal w ++ (10 ∷ y) → (v ≡ w) × (x ≡ y)

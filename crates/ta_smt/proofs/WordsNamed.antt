@@ -1,44 +1,13 @@
 -- Words of a file by the name of their pattern, and the text of their systems.
-use Rattle.std.proofs.Common.{◌≡◌, ◌≢◌, ◌+◌, ◌<◌, ◌≤◌, ◌^◌, ℕ, zero, suc, ℤ, Bool, true, false, List, [], ◌∷◌, length, map, reverse, slice_get, Some, arith, below_more, refl, sym, ap, subst, ◌∙◌}
-use Rattle.std.proofs.lemmas.Bool.{false≢true}
-use Rattle.std.proofs.lemmas.Option.{same_Some}
-use Rattle.std.specs.List.{AllByRecursion}
-use Rattle.ta_linear.specs.declared.row.System.{System}
-use Rattle.ta_automaton.specs.declared.file.File.{File}
-use Rattle.ta_automaton.specs.declared.pattern.Pattern.{Pattern}
-use Rattle.ta_base.specs.Lists.{Distinct}
+use Rattle.ta_smt.proofs.Common.{◌≡◌, ◌≢◌, ◌+◌, ◌<◌, ◌≤◌, ◌^◌, ℕ, zero, suc, ℤ, Bool, true, false, List, [], ◌∷◌, length, reverse, slice_get, Some, arith, below_more, refl, sym, ap, subst, ◌∙◌, false≢true, same_Some, System, File, Pattern, distinct_map_at, Element, OfPattern, LegalWord, is_complete, pattern_search, SolvesWord, solution_back, solution_of, unbounded, AskedWord, SystemAsked, asked, DenotesSolutions, IsNaturalSolution, system_text, IsLegalWord, IsNamed, IsWholeWordOf, IsWordOf, IsWordText, NoWhole, SolvesAsked, Spelling, WholeWordsAreExact, WordFaultOf, WordsAreExact, FirstStranger}
 use Rattle.ta_automaton.specs.Patterns.{pattern_name}
-use Rattle.ta_words.specs.declared.element.Element.{Element}
-use Rattle.ta_words.specs.Calls.{OfPattern}
-use Rattle.ta_words.specs.Words.{LegalWord, is_complete}
-use Rattle.ta_encode.specs.PatternSearch.{pattern_search}
-use Rattle.ta_encode.specs.System.{SolvesWord}
-use Rattle.ta_encode.proofs.CodeRows.{solution_back, solution_of, unbounded}
 use Rattle.ta_smt.specs.declared.fault.WordFault.{WordFault}
 use Rattle.ta_smt.specs.declared.fault.WordFault.TheVariants as fault
-use Rattle.ta_smt.specs.Admit.{AskedWord, SystemAsked, asked}
-use Rattle.ta_smt.specs.Export.{DenotesSolutions, IsNaturalSolution, system_text}
-use Rattle.ta_smt.specs.Named.{IsLegalWord, IsNamed, IsWholeWordOf, IsWordOf, IsWordText, NoWhole, SolvesAsked, Spelling, WholeWordsAreExact, WordFaultOf, WordsAreExact}
-use Rattle.ta_smt.specs.Spelling.{FirstStranger}
 use Rattle.ta_smt.proofs.Admitted.{pending}
 use Rattle.ta_smt.proofs.Spelled.{no_stranger}
 
--- no pattern of a list has the name of another
-apart : (ps : List Pattern) (i : ℕ) (p : Pattern) (name : List ℕ) → AllByRecursion (λ other. name ≡ other → ⊥) (map pattern_name ps) → slice_get ps i ≡ Some p → name ≡ p.name → ⊥
-apart [] i p name each at same = absurd (cc)
-apart (q ∷ ps) zero p name each at same = each.0 (same ∙ sym (ap pattern_name (same_Some q p at)))
-apart (q ∷ ps) (suc i) p name each at same = apart ps i p name each.1 at same
-
--- of patterns with distinct names, one has each name
-one_place : (ps : List Pattern) (i j : ℕ) (p q : Pattern) → Distinct (map pattern_name ps) → slice_get ps i ≡ Some p → slice_get ps j ≡ Some q → p.name ≡ q.name → i ≡ j
-one_place [] i j p q distinct at there same = absurd (cc)
-one_place (x ∷ xs) zero zero p q distinct at there same = refl
-one_place (x ∷ xs) zero (suc j) p q distinct at there same = absurd (apart xs j q x.name distinct.0 there (ap pattern_name (same_Some x p at) ∙ same))
-one_place (x ∷ xs) (suc i) zero p q distinct at there same = absurd (apart xs i p x.name distinct.0 at (ap pattern_name (same_Some x q there) ∙ sym same))
-one_place (x ∷ xs) (suc i) (suc j) p q distinct at there same = ap suc (one_place xs i j p q distinct.1 at there same)
-
 one_number : (file : File) (name : List ℕ) (i j : ℕ) (p q : Pattern) → IsNamed file.patterns name i p → IsNamed file.patterns name j q → i ≡ j
-one_number file name i j p q is are = one_place file.patterns i j p q file.shape.distinct is.at are.at (is.named ∙ sym are.named)
+one_number file name i j p q is are = distinct_map_at pattern_name file.patterns i j p q file.shape.distinct is.at are.at (is.named ∙ sym are.named)
 
 pub one_named : (file : File) (name : List ℕ) (i j : ℕ) (p q : Pattern) → IsNamed file.patterns name i p → IsNamed file.patterns name j q → p ≡ q
 one_named file name i j p q is are = same_Some p q (sym is.at ∙ ap (slice_get file.patterns) (one_number file name i j p q is are) ∙ are.at)

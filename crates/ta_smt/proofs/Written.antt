@@ -1,19 +1,5 @@
 -- The text of a system, as it is written.
-use Rattle.std.proofs.Common.{ℕ, ℤ, zero, suc, pos, ◌+◌, ◌-◌, ◌<◌, ◌≤◌, ◌≡◌, Bool, true, false, cond, eqb, List, [], ◌∷◌, ◌++◌, length, map, drop, get_or, codes, decimal, refl, sym, ap, ◌∙◌, append_assoc, append-nil, arith, length-append}
-use Rattle.std.specs.List.{flat_map}
-use Rattle.std.proofs.lemmas.Fmt.{decimal_digit}
-use Rattle.std.proofs.lemmas.List.{at_drop_all, at_drop_more, map-append}
-use Rattle.ta_base.proofs.Lists.{append_nothing, piece_written}
-use Rattle.ta_linear.specs.declared.form.Form.{Form}
-use Rattle.ta_linear.specs.declared.row.Row.{Row}
-use Rattle.ta_linear.specs.declared.row.System.{System}
-use Rattle.ta_base.specs.Masks.{numbers_from}
-use Rattle.ta_replay.specs.RunText.{lines_text}
-use Rattle.ta_replay.proofs.ListSteps.{lines_text-append}
-use Rattle.ta_smt.specs.declared.side.Side.{Side}
-use Rattle.ta_smt.specs.Script.{Summand, Numeral, Unknown, Product, assert_line, declare_line, summand_text, summands_text, term_text}
-use Rattle.ta_smt.specs.Export.{constant, multiple, natural_claim, on_side, part, row_claim, summed_term, summands, system_text}
-use Rattle.ta_smt.specs.Inside.Leads.{led_text}
+use Rattle.ta_smt.proofs.Common.{ℕ, ℤ, zero, suc, pos, ◌+◌, ◌-◌, ◌<◌, ◌≤◌, ◌≡◌, Bool, true, false, cond, eqb, List, [], ◌∷◌, ◌++◌, length, map, drop, get_or, codes, decimal, refl, sym, ap, ◌∙◌, append_assoc, append-nil, arith, length-append, flat_map, at_drop_all, at_drop_more, map-append, append_nothing, piece_written, Form, Row, System, numbers_from, zero_text, lines_text, lines_text-append, Side, Summand, Numeral, Unknown, Product, assert_line, declare_line, summand_text, summands_text, term_text, constant, multiple, natural_claim, on_side, part, row_claim, summed_term, summands, system_text, led_text}
 
 -- the lines of the numbers that are left
 pub next_line : (f : ℕ → List ℕ) (k n : ℕ) → k < n → lines_text (map f (numbers_from k (n - k))) ≡ f k ++ (10 ∷ lines_text (map f (numbers_from (k + 1) (n - (k + 1)))))
@@ -36,9 +22,6 @@ declared k = ap (λ xs. codes "(declare-fun u" ++ xs) (sym (append_assoc (decima
 
 abbrev pub natural_line : ℕ → List ℕ
 natural_line k = assert_line (natural_claim k)
-
-zero_text : codes "0" ≡ decimal 0
-zero_text = sym (decimal_digit 0 (omega arith))
 
 pub claimed : (k : ℕ) → codes "(assert (>= u" ++ (decimal k ++ codes " 0))\n") ≡ natural_line k ++ (10 ∷ [])
 claimed k =

@@ -1,21 +1,7 @@
 -- Reading rules, patterns and events, each behind its keyword.
-use Rattle.std.proofs.Common.{◌≡◌, ℕ, suc, ◌<◌, ◌≤◌, List, [], ◌∷◌, ◌++◌, length, inr, ⊎_elim, refl, sym, ap, subst, ◌∙◌, append_assoc, length-append, arith}
-use Rattle.std.proofs.lemmas.List.{append-nil}
-use Rattle.ta_syntax.specs.Grammar.{each}
-use Rattle.ta_syntax.specs.Stated.{Offsets}
-use Rattle.ta_syntax.specs.Limits.{Counts, after_mark, IsDeep, IsBlockPast}
-use Rattle.ta_syntax.specs.Parts.{GrammarPart, both, many}
-use Rattle.ta_syntax.specs.Faults.{offset_of}
-use Rattle.ta_syntax.specs.Reading.{ReadsPart, HasRoom, BeginsWithKind, IsOther}
-use Rattle.ta_syntax.specs.ListReading.{IsReady}
-use Rattle.ta_syntax.specs.BlockReading.{IsEntered, KeptBlock, TookBlock, BlockStops}
-use Rattle.ta_syntax.specs.Inside.BlockReading.{AvoidsMark, block_count, IsBlock, KeptOthers, with_mark, TookBlocks, BlocksStop}
-use Rattle.ta_syntax.specs.declared.tokens.Kind.{Kind}
+use Rattle.ta_syntax.proofs.Common.{◌≡◌, ℕ, suc, ◌<◌, ◌≤◌, List, [], ◌∷◌, ◌++◌, length, inr, ⊎_elim, refl, sym, ap, subst, ◌∙◌, append_assoc, length-append, arith, append-nil, each, Offsets, Counts, after_mark, IsDeep, IsBlockPast, GrammarPart, both, many, offset_of, ReadsPart, HasRoom, BeginsWithKind, IsOther, IsReady, IsEntered, KeptBlock, TookBlock, BlockStops, AvoidsMark, block_count, IsBlock, KeptOthers, with_mark, TookBlocks, BlocksStop, Kind, Mark, Token, FileFault}
 use Rattle.ta_syntax.specs.declared.tokens.Kind.TheVariants as kind
-use Rattle.ta_syntax.specs.declared.tokens.Mark.{Mark}
 use Rattle.ta_syntax.specs.declared.tokens.Mark.TheVariants as mark
-use Rattle.ta_syntax.specs.declared.placed.Token.{Token}
-use Rattle.ta_syntax.specs.declared.fault.FileFault.{FileFault}
 use Rattle.ta_syntax.specs.declared.fault.FileFault.TheVariants as fault
 use Rattle.ta_syntax.proofs.Steps.{then, stay, respell, stops, take_mark_fits, some_text, many_taken, many_ended, Fits}
 

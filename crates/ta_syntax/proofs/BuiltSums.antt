@@ -1,24 +1,10 @@
 -- A sum whose tokens are given is that of a value of the program.
-use Rattle.std.proofs.Common.{◌≡◌, suc, ◌+◌, ◌<◌, ◌≤◌, ◌^◌, List, [], ◌∷◌, ◌++◌, length, Some, None, refl, sym, ap, ap₂, subst, ◌∙◌, arith}
+use Rattle.ta_syntax.proofs.Common.{◌≡◌, suc, ◌+◌, ◌<◌, ◌≤◌, ◌^◌, List, [], ◌∷◌, ◌++◌, length, Some, None, refl, sym, ap, ap₂, subst, ◌∙◌, arith, Terms, Term, Factor, done, term, number, times, alone, blank, named, nested, sign_kind, sum_kinds, more_kinds, term_kinds, factor_kinds, IsSum, AreTerms, IsTerm, IsFactor, plain_sum, plain_term, plain_factor, plain_terms, Offsets, IsPlaced, at_first, more_of, signed_sum, unplaced_sign, sum_stated, sum_term_stated, sum_factor_stated, kinds, offset_of, Kind, Token, Sign, Digits, Spelled, TreeSum, TreeTerm, TreeFactor, Named, Nested, TreeSum-F, roll-TreeSum, roll-TreeTerm}
 use Rattle.std.specs.Global.{Vec}
 use denote.RawPtr.{null_ptr}
-use Rattle.ta_syntax.specs.Grammar.{Terms, Term, Factor, done, term, number, times, alone, blank, named, nested, sign_kind, sum_kinds, more_kinds, term_kinds, factor_kinds, IsSum, AreTerms, IsTerm, IsFactor}
-use Rattle.ta_syntax.specs.PlainSums.{plain_sum, plain_term, plain_factor, plain_terms}
-use Rattle.ta_syntax.specs.Stated.{Offsets, IsPlaced, at_first, more_of, signed_sum, unplaced_sign, sum_stated, sum_term_stated, sum_factor_stated}
-use Rattle.ta_syntax.specs.Faults.{kinds, offset_of}
-use Rattle.ta_syntax.specs.declared.tokens.Kind.{Kind}
 use Rattle.ta_syntax.specs.declared.tokens.Kind.TheVariants as kind
 use Rattle.ta_syntax.specs.declared.tokens.Mark.TheVariants as mark
-use Rattle.ta_syntax.specs.declared.placed.Token.{Token}
-use Rattle.ta_syntax.specs.declared.sums.Sign.{Sign}
 use Rattle.ta_syntax.specs.declared.sums.Sign.TheVariants as sign
-use Rattle.ta_syntax.specs.declared.names.Digits.{Digits}
-use Rattle.ta_syntax.specs.declared.names.Spelled.{Spelled}
-use Rattle.ta_syntax.specs.declared.sums.TreeSum.{TreeSum}
-use Rattle.ta_syntax.specs.declared.sums.TreeTerm.{TreeTerm}
-use Rattle.ta_syntax.specs.declared.sums.TreeFactor.{TreeFactor, Named, Nested}
-use Rattle.ta_syntax.specs.declared.sums.TreeFactor.TheOpen.{TreeSum-F}
-use Rattle.ta_syntax.specs.declared.sums.TreeFactor.TheViews.{roll-TreeSum, roll-TreeTerm}
 use Rattle.ta_syntax.proofs.SumSteps.{plain_sum_roll, plain_number, plain_times, plain_alone, plain_named, plain_nested, stated_number, stated_times, stated_alone, stated_named, stated_nested, stated_sum_roll, pairs}
 
 -- a list of the program with these items; where it lies in memory doesn't matter

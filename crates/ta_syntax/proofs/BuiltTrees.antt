@@ -1,31 +1,7 @@
 -- A text of the grammar within the limits has a tree of the program.
-use Rattle.std.proofs.Common.{◌≡◌, ℕ, ◌+◌, ◌≤◌, Bool, true, false, List, [], ◌∷◌, ◌++◌, length, map, refl, sym, ap, ap₂, subst, ◌∙◌, arith, length-append}
-use Rattle.std.specs.List.{AllByRecursion}
-use Rattle.ta_base.proofs.Lists.{length_of_map}
-use Rattle.ta_syntax.specs.Kinds.{IsNameText, kind_bytes}
-use Rattle.ta_syntax.specs.Grammar.{PlainComparison, PlainRule, PlainEvent, PlainPattern, PlainTree, sum_kinds, relation_kind, listed, further, led, ended, each, name_kinds, initial_kinds, location_kinds, comparison_kinds, update_kinds, rule_kinds, event_kinds, pattern_kinds, file_kinds, IsSum, IsSome, IsComparison, IsUpdate, IsRule, IsEvent, IsPattern, IsTree}
-use Rattle.ta_syntax.specs.PlainSums.{plain_sum, sum_depth}
-use Rattle.ta_syntax.specs.PlainTrees.{plain_name, plain_comparison, plain_location, plain_update, plain_rule, plain_event, plain_pattern, plain_tree}
-use Rattle.ta_syntax.specs.Stated.{Offsets, IsPlaced, at_first, unplaced, sum_stated, name_stated, initial_stated, location_stated, comparison_stated, update_stated, rule_stated, event_stated, pattern_stated, tree_stated}
-use Rattle.ta_syntax.specs.Limits.{IsShallow, IsRuleWithin, IsEventWithin, IsPatternWithin, IsTreeWithin}
-use Rattle.ta_syntax.specs.Faults.{kinds, offset_of}
-use Rattle.ta_syntax.specs.Tokens.{ScansTo, IsLastGap}
-use Rattle.ta_syntax.specs.TreeOf.{IsTextOf, IsTreeOf}
-use Rattle.ta_syntax.specs.declared.tokens.Kind.{Kind}
+use Rattle.ta_syntax.proofs.Common.{◌≡◌, ℕ, ◌+◌, ◌≤◌, Bool, true, false, List, [], ◌∷◌, ◌++◌, length, map, refl, sym, ap, ap₂, subst, ◌∙◌, arith, length-append, AllByRecursion, length_of_map, IsNameText, kind_bytes, PlainComparison, PlainRule, PlainEvent, PlainPattern, PlainTree, sum_kinds, relation_kind, listed, further, led, ended, each, name_kinds, initial_kinds, location_kinds, comparison_kinds, update_kinds, rule_kinds, event_kinds, pattern_kinds, file_kinds, IsSum, IsSome, IsComparison, IsUpdate, IsRule, IsEvent, IsPattern, IsTree, plain_sum, sum_depth, plain_name, plain_comparison, plain_location, plain_update, plain_rule, plain_event, plain_pattern, plain_tree, Offsets, IsPlaced, at_first, unplaced, sum_stated, name_stated, initial_stated, location_stated, comparison_stated, update_stated, rule_stated, event_stated, pattern_stated, tree_stated, IsShallow, IsRuleWithin, IsEventWithin, IsPatternWithin, IsTreeWithin, kinds, offset_of, ScansTo, IsLastGap, IsTextOf, IsTreeOf, Kind, Mark, Token, Spelled, Digits, TreeSum, TreeComparison, TreeLocation, TreeUpdate, TreeRule, TreeEvent, TreePattern, Tree}
 use Rattle.ta_syntax.specs.declared.tokens.Kind.TheVariants as kind
-use Rattle.ta_syntax.specs.declared.tokens.Mark.{Mark}
 use Rattle.ta_syntax.specs.declared.tokens.Mark.TheVariants as mark
-use Rattle.ta_syntax.specs.declared.placed.Token.{Token}
-use Rattle.ta_syntax.specs.declared.names.Spelled.{Spelled}
-use Rattle.ta_syntax.specs.declared.names.Digits.{Digits}
-use Rattle.ta_syntax.specs.declared.sums.TreeSum.{TreeSum}
-use Rattle.ta_syntax.specs.declared.tree.TreeComparison.{TreeComparison}
-use Rattle.ta_syntax.specs.declared.tree.TreeLocation.{TreeLocation}
-use Rattle.ta_syntax.specs.declared.tree.TreeUpdate.{TreeUpdate}
-use Rattle.ta_syntax.specs.declared.tree.TreeRule.{TreeRule}
-use Rattle.ta_syntax.specs.declared.tree.TreeEvent.{TreeEvent}
-use Rattle.ta_syntax.specs.declared.tree.TreePattern.{TreePattern}
-use Rattle.ta_syntax.specs.declared.tree.Tree.{Tree}
 use Rattle.ta_syntax.proofs.BuiltSums.{tail, before, behind, Small, small_tail, small_before, small_behind, kinds_tail, kinds_before, kinds_behind, placed_mark, placed_name, placed_last, placed_none, placed_first, placed_both, sum_built}
 use Rattle.ta_syntax.proofs.Scans.{kind_some}
 use Rattle.ta_syntax.proofs.TreeLimits.{behind_rules, behind_processes, behind_locations, behind_shared, behind_parameters}

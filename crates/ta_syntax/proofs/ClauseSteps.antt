@@ -1,23 +1,7 @@
 -- Reading lists behind keywords, and lists that a semicolon ends.
-use Rattle.std.proofs.Common.{◌≡◌, ℕ, ◌-◌, ◌<◌, ◌≤◌, List, [], ◌∷◌, ◌++◌, length, refl, sym, ap, ◌∙◌, arith}
-use Rattle.ta_syntax.specs.Grammar.{listed, led, ended}
-use Rattle.ta_syntax.specs.Stated.{Offsets, unplaced}
-use Rattle.ta_syntax.specs.Limits.{Counts, after_mark, begin_list}
-use Rattle.ta_syntax.specs.Parts.{GrammarPart, a_mark, a_name, both, maybe, upto}
-use Rattle.ta_syntax.specs.Inside.Parts.{list_part}
-use Rattle.ta_syntax.specs.Faults.{offset_of}
-use Rattle.ta_syntax.specs.Reading.{ReadsPart, NeverBegins, HasRoom, BeginsWithKind, IsOther, IsUnexpected}
-use Rattle.ta_syntax.specs.Inside.Reading.{IsUnnamed}
-use Rattle.ta_syntax.specs.ListReading.{IsReady}
-use Rattle.ta_syntax.specs.Inside.ListReading.{extends_list, IsFresh, with_commas, TookList, ListStops}
-use Rattle.ta_syntax.specs.Inside.BlockReading.{AvoidsMark, StartsOther, IsBetweenParts, ReadsKept, BeginsListOf, TookNameThen, NameThenStops, TookEnd, EndStops, TookLed, LedStops, TookEnded, EndedStops, TookDeclared, DeclaredStops}
-use Rattle.ta_syntax.specs.declared.tokens.Kind.{Kind}
+use Rattle.ta_syntax.proofs.Common.{◌≡◌, ℕ, ◌-◌, ◌<◌, ◌≤◌, List, [], ◌∷◌, ◌++◌, length, refl, sym, ap, ◌∙◌, arith, listed, led, ended, Offsets, unplaced, Counts, after_mark, begin_list, GrammarPart, a_mark, a_name, both, maybe, upto, list_part, offset_of, ReadsPart, NeverBegins, HasRoom, BeginsWithKind, IsOther, IsUnexpected, IsUnnamed, IsReady, extends_list, IsFresh, with_commas, TookList, ListStops, AvoidsMark, StartsOther, IsBetweenParts, ReadsKept, BeginsListOf, TookNameThen, NameThenStops, TookEnd, EndStops, TookLed, LedStops, TookEnded, EndedStops, TookDeclared, DeclaredStops, Kind, Mark, Spelled, Token, FileFault}
 use Rattle.ta_syntax.specs.declared.tokens.Kind.TheVariants as kind
-use Rattle.ta_syntax.specs.declared.tokens.Mark.{Mark}
 use Rattle.ta_syntax.specs.declared.tokens.Mark.TheVariants as mark
-use Rattle.ta_syntax.specs.declared.names.Spelled.{Spelled}
-use Rattle.ta_syntax.specs.declared.placed.Token.{Token}
-use Rattle.ta_syntax.specs.declared.fault.FileFault.{FileFault}
 use Rattle.ta_syntax.proofs.Steps.{then, respell, recount, stops, take_mark, take_name, mark_stops, name_stops, split_both, maybe_taken, maybe_skipped, upto_ended, upto_taken, IsPlainMark}
 use Rattle.ta_syntax.proofs.ListSteps.{mark_avoids}
 

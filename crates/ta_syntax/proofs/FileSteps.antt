@@ -1,36 +1,8 @@
 -- Reading the parts of a file.
-use Rattle.std.proofs.Common.{◌≡◌, ℕ, List, [], ◌∷◌, ◌++◌, lit<, map, refl, sym, ap, subst, ◌∙◌, arith}
-use Rattle.std.proofs.lemmas.List.{append-nil}
-use Rattle.ta_base.proofs.Lists.{left_nested, regroup}
-use Rattle.ta_syntax.specs.Grammar.{listed, further, led, ended, each, sum_kinds, file_kinds, rule_kinds, event_kinds, pattern_kinds, name_kinds, location_kinds, comparison_kinds, update_kinds}
-use Rattle.ta_syntax.specs.PlainSums.{plain_sum}
-use Rattle.ta_syntax.specs.PlainTrees.{plain_name, plain_location, plain_comparison, plain_update, plain_rule, plain_event, plain_pattern}
-use Rattle.ta_syntax.specs.Stated.{Offsets, unplaced, at_first, sum_stated, name_stated, location_stated, comparison_stated, rule_stated, pattern_stated, IsPlaced}
-use Rattle.ta_syntax.specs.Limits.{Counts, at_start, begin_list}
-use Rattle.ta_syntax.specs.Parts.{GrammarPart, Text, nothing, a_mark, a_name, a_sum, both, many}
-use Rattle.ta_syntax.specs.Inside.Parts.{list_part, comparison_part, location_part, rule_part, pattern_part, file_part}
-use Rattle.ta_syntax.specs.Faults.{kinds, SameStart, IsStopped, IsWrong, offset_of}
-use Rattle.ta_syntax.specs.Reading.{ReadsPart, NeverBegins, BeginsWithKind, IsUnexpected}
-use Rattle.ta_syntax.specs.Inside.Reading.{MayOpen, is_operator, TookSum, SumStops}
-use Rattle.ta_syntax.specs.ListReading.{IsReady}
-use Rattle.ta_syntax.specs.Inside.ListReading.{IsFresh}
-use Rattle.ta_syntax.specs.Inside.BlockReading.{AvoidsMark, IsBetweenParts, ReadsKept, TookNameThen, NameThenStops, TookEnd, EndStops, declared_part, TookDeclared, DeclaredStops, KeptOthers, with_mark, TookBlocks, BlocksStop}
-use Rattle.ta_syntax.specs.Inside.RuleBodies.{spell_name, spell_comparison, spell_update, spell_location, rule_body, rule_body_stated, event_body, pattern_body, pattern_body_stated}
-use Rattle.ta_syntax.specs.Inside.FileReading.{locations_part, TookLocations, LocationsStop, processes_part, TookProcesses, ProcessesStop}
-use Rattle.ta_syntax.specs.declared.tokens.Kind.{Kind}
+use Rattle.ta_syntax.proofs.Common.{◌≡◌, ℕ, List, [], ◌∷◌, ◌++◌, lit<, map, refl, sym, ap, subst, ◌∙◌, arith, append-nil, left_nested, regroup, listed, further, led, ended, each, sum_kinds, file_kinds, rule_kinds, event_kinds, pattern_kinds, name_kinds, location_kinds, comparison_kinds, update_kinds, plain_sum, plain_name, plain_location, plain_comparison, plain_update, plain_rule, plain_event, plain_pattern, Offsets, unplaced, at_first, sum_stated, name_stated, location_stated, comparison_stated, rule_stated, pattern_stated, IsPlaced, Counts, at_start, begin_list, GrammarPart, Text, nothing, a_mark, a_name, a_sum, both, many, list_part, comparison_part, location_part, rule_part, pattern_part, file_part, kinds, SameStart, IsStopped, IsWrong, offset_of, ReadsPart, NeverBegins, BeginsWithKind, IsUnexpected, MayOpen, is_operator, TookSum, SumStops, IsReady, IsFresh, AvoidsMark, IsBetweenParts, ReadsKept, TookNameThen, NameThenStops, TookEnd, EndStops, declared_part, TookDeclared, DeclaredStops, KeptOthers, with_mark, TookBlocks, BlocksStop, spell_name, spell_comparison, spell_update, spell_location, rule_body, rule_body_stated, event_body, pattern_body, pattern_body_stated, locations_part, TookLocations, LocationsStop, processes_part, TookProcesses, ProcessesStop, Kind, Mark, Spelled, Token, FileFault, TreeSum, TreeLocation, TreeComparison, TreeRule, TreeEvent, TreePattern}
 use Rattle.ta_syntax.specs.declared.tokens.Kind.TheVariants as kind
-use Rattle.ta_syntax.specs.declared.tokens.Mark.{Mark}
 use Rattle.ta_syntax.specs.declared.tokens.Mark.TheVariants as mark
-use Rattle.ta_syntax.specs.declared.names.Spelled.{Spelled}
-use Rattle.ta_syntax.specs.declared.placed.Token.{Token}
-use Rattle.ta_syntax.specs.declared.fault.FileFault.{FileFault}
 use Rattle.ta_syntax.specs.declared.fault.FileFault.TheVariants as fault
-use Rattle.ta_syntax.specs.declared.sums.TreeSum.{TreeSum}
-use Rattle.ta_syntax.specs.declared.tree.TreeLocation.{TreeLocation}
-use Rattle.ta_syntax.specs.declared.tree.TreeComparison.{TreeComparison}
-use Rattle.ta_syntax.specs.declared.tree.TreeRule.{TreeRule}
-use Rattle.ta_syntax.specs.declared.tree.TreeEvent.{TreeEvent}
-use Rattle.ta_syntax.specs.declared.tree.TreePattern.{TreePattern}
 use Rattle.ta_syntax.proofs.Steps.{then, also_at, stops, take_mark, take_mark_at, mark_stops, opened, wrong_here}
 use Rattle.ta_syntax.proofs.ListSteps.{mark_avoids, many_avoids_mark}
 use Rattle.ta_syntax.proofs.ClauseSteps.{kept_ready, same_counts, then_kept, name_then}

@@ -1,14 +1,6 @@
 -- The part of a file has the texts of the grammar's trees.
-use Rattle.std.proofs.Common.{◌≡◌, Bool, true, false, List, [], ◌∷◌, ◌++◌, inl, inr, refl, sym, ap, subst, ◌∙◌, append_assoc}
-use Rattle.std.specs.List.{AllByRecursion}
-use Rattle.ta_syntax.specs.Kinds.{IsNameText}
-use Rattle.ta_syntax.specs.Grammar.{sum_kinds, relation_kind, PlainComparison, PlainLocation, PlainUpdate, PlainRule, PlainEvent, PlainPattern, PlainTree, listed, further, led, ended, each, name_kinds, initial_kinds, location_kinds, comparison_kinds, update_kinds, rule_kinds, event_kinds, pattern_kinds, file_kinds, IsSome, IsComparison, IsUpdate, IsRule, IsEvent, IsPattern, IsTree, FileText}
-use Rattle.ta_syntax.specs.Parts.{GrammarPart, Text, nothing, a_mark, a_name, a_sum, both, maybe, many, upto, blocks}
-use Rattle.ta_syntax.specs.Inside.Parts.{list_part, location_part, update_part, comparison_part, rule_part, event_part, pattern_part, blocks_part, file_part}
-use Rattle.ta_syntax.specs.Inside.BlockReading.{with_mark}
-use Rattle.ta_syntax.specs.declared.tokens.Kind.{Kind}
+use Rattle.ta_syntax.proofs.Common.{◌≡◌, Bool, true, false, List, [], ◌∷◌, ◌++◌, inl, inr, refl, sym, ap, subst, ◌∙◌, append_assoc, AllByRecursion, IsNameText, sum_kinds, relation_kind, PlainComparison, PlainLocation, PlainUpdate, PlainRule, PlainEvent, PlainPattern, PlainTree, listed, further, led, ended, each, name_kinds, initial_kinds, location_kinds, comparison_kinds, update_kinds, rule_kinds, event_kinds, pattern_kinds, file_kinds, IsSome, IsComparison, IsUpdate, IsRule, IsEvent, IsPattern, IsTree, FileText, GrammarPart, Text, nothing, a_mark, a_name, a_sum, both, maybe, many, upto, blocks, list_part, location_part, update_part, comparison_part, rule_part, event_part, pattern_part, blocks_part, file_part, with_mark, Kind, Mark}
 use Rattle.ta_syntax.specs.declared.tokens.Kind.TheVariants as kind
-use Rattle.ta_syntax.specs.declared.tokens.Mark.{Mark}
 use Rattle.ta_syntax.specs.declared.tokens.Mark.TheVariants as mark
 
 -- a token and what follows it

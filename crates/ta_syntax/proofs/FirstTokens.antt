@@ -1,19 +1,9 @@
 -- Tokens are a text of a grammar and go past no limit, or they leave the grammar or its limits at a first token.
-use Rattle.std.proofs.Common.{◌≡◌, ℕ, false, List, [], ◌∷◌, ◌++◌, length, refl, sym, ap, subst, ◌∙◌, append_assoc, ⊎_elim, arith}
-use Rattle.std.proofs.lemmas.List.{append-nil}
-use Rattle.ta_syntax.specs.Kinds.{IsNameText, mark_bytes}
-use Rattle.ta_base.specs.Bytes.{is_letter}
-use Rattle.ta_syntax.specs.Grammar.{PlainTree, IsTree, FileText, file_kinds, done, term, number}
-use Rattle.ta_syntax.specs.Limits.{Counts, at_start, run, StaysWithin, IsDeep, IsMany}
-use Rattle.ta_syntax.specs.Faults.{kinds, Begins, IsPast}
-use Rattle.ta_syntax.specs.AnswerLaws.{Either, StopsReading}
-use Rattle.ta_syntax.specs.declared.tokens.Kind.{Kind}
-use Rattle.ta_syntax.specs.declared.tokens.Mark.TheVariants as mark
+use Rattle.ta_syntax.proofs.Common.{◌≡◌, ℕ, false, List, [], ◌∷◌, ◌++◌, refl, sym, ap, subst, ◌∙◌, append_assoc, append-nil, IsNameText, PlainTree, IsTree, FileText, file_kinds, done, term, number, Counts, at_start, run, StaysWithin, IsDeep, IsMany, kinds, Begins, IsPast, Either, StopsReading, Kind, Token}
 use Rattle.ta_syntax.specs.declared.sums.Sign.TheVariants as sign
-use Rattle.ta_syntax.specs.declared.placed.Token.{Token}
 use Rattle.ta_syntax.specs.declared.fault.FileFault.TheVariants as fault
 use Rattle.ta_syntax.proofs.Steps.{kinds-append, within-append}
-use Rattle.ta_syntax.proofs.UniqueTokens.{keyword_of, StartsSign, IsWordMark, IsSignMark, mark_is}
+use Rattle.ta_syntax.proofs.UniqueTokens.{keyword_is}
 
 module _ (L : List Kind → Type 0) (c : Counts) (end : ℕ) where
   abbrev IsWhole : List Token → Type 0
@@ -68,19 +58,12 @@ module _ (L : List Kind → Type 0) (c : Counts) (end : ℕ) where
       (λ text. no_text (subst IsWhole same text)) (λ stop. no_stop (subst (StopsReading L c end) same stop))))
 
 -- ---- there is an automaton file
-signs_begin_none : (n : List ℕ) → n ≡ 97 ∷ [] → StartsSign n → ⊥
-signs_begin_none n e s = let h = subst StartsSign e s in let f : is_letter 97 ≡ false = h.0 in cc
-
 -- the name a
 letter : IsNameText (97 ∷ [])
 letter = record {
   first = refl;
   each = (refl, tt);
-  free = λ m e.
-      ⊎_elim
-      (λ (w : IsWordMark m). let known : mark.After ≡ m = ap keyword_of (sym e) ∙ w.known in let same : mark_bytes mark.After ≡ 97 ∷ [] = ap mark_bytes known ∙ e in absurd (omega (arith, ap length same)))
-      (λ (s : IsSignMark m). signs_begin_none (mark_bytes m) e s.first)
-      (mark_is m);
+  free = keyword_is (97 ∷ []) refl;
 }
 
 -- automaton a; parameters; shared; locations a; processes 1; resilience;

@@ -1,10 +1,5 @@
 -- White space and comments.
-use Rattle.std.proofs.Common.{◌≡◌, ℕ, Bool, true, false, List, [], ◌∷◌, ◌++◌, length, inl, inr, ⊎_elim, refl, sym, ap, ◌∙◌, append_assoc, arith, ◌<◌, length-append}
-use Rattle.std.specs.List.{AllByRecursion}
-use Rattle.std.proofs.lemmas.List.{append-nil}
-use Rattle.ta_base.specs.Bytes.{Avoids}
-use Rattle.ta_syntax.specs.Tokens.{IsSpace, IsGap, IsLastGap}
-use Rattle.ta_syntax.specs.Inside.Tokens.{SkipsComment, SkipsPiece, SkipsGap}
+use Rattle.ta_syntax.proofs.Common.{◌≡◌, ℕ, Bool, true, false, List, [], ◌∷◌, ◌++◌, length, inl, inr, ⊎_elim, refl, sym, ap, ◌∙◌, append_assoc, arith, ◌<◌, length-append, AllByRecursion, append-nil, Avoids, IsSpace, IsGap, IsLastGap, SkipsComment, SkipsPiece, SkipsGap}
 
 pub comment_is_last : (bytes rest : List ℕ) → Avoids 10 bytes → rest ≡ [] → SkipsComment bytes rest
 comment_is_last bytes rest free e = (bytes, free, inr (refl, e))

@@ -1,34 +1,10 @@
 -- Reading the items of lists.
-use Rattle.std.proofs.Common.{◌≡◌, ℕ, Bool, true, false, List, [], ◌∷◌, ◌++◌, length, refl, sym, ap, subst, ◌∙◌, arith}
-use Rattle.std.specs.Prelude.{codes}
-use Rattle.ta_syntax.specs.Kinds.{IsKind}
-use Rattle.ta_syntax.specs.Grammar.{Terms, done, term, number, alone, named, nested, sum_kinds, more_kinds, term_kinds, IsSum, relation_kind, name_kinds, location_kinds, update_kinds}
-use Rattle.ta_syntax.specs.PlainSums.{plain_sum}
-use Rattle.ta_syntax.specs.PlainTrees.{plain_location, plain_update}
-use Rattle.ta_syntax.specs.Stated.{at_first, sum_stated, name_stated, location_stated, update_stated}
-use Rattle.ta_syntax.specs.Limits.{Counts}
-use Rattle.ta_syntax.specs.Parts.{GrammarPart, Text, nothing, a_mark, a_name, a_number, a_relation, a_sum, both, maybe, many}
-use Rattle.ta_syntax.specs.Inside.Parts.{list_part, location_part, update_part, comparison_part}
-use Rattle.ta_syntax.specs.Faults.{kinds, SameStart, IsWrong, offset_of}
-use Rattle.ta_syntax.specs.Reading.{ReadsPart, begins_by, NeverBegins, BeginsWithKind, IsOther, IsUnexpected, NoNumber}
-use Rattle.ta_syntax.specs.Inside.Reading.{MayOpen, IsUnnamed, NoRelation, is_name, is_sum_start, is_operator, TookSum, SumStops}
-use Rattle.ta_syntax.specs.ListReading.{extends_item, IsReady, TookItem, ItemStops, IsStart}
-use Rattle.ta_syntax.specs.Inside.BlockReading.{AvoidsMark}
-use Rattle.ta_syntax.specs.declared.tokens.Kind.{Kind}
+use Rattle.ta_syntax.proofs.Common.{◌≡◌, ℕ, Bool, true, false, List, [], ◌∷◌, ◌++◌, length, refl, sym, ap, subst, ◌∙◌, arith, codes, IsKind, Terms, done, term, number, alone, named, nested, sum_kinds, more_kinds, term_kinds, IsSum, relation_kind, name_kinds, location_kinds, update_kinds, plain_sum, plain_location, plain_update, at_first, sum_stated, name_stated, location_stated, update_stated, Counts, GrammarPart, Text, nothing, a_mark, a_name, a_number, a_relation, a_sum, both, maybe, many, list_part, location_part, update_part, comparison_part, kinds, SameStart, IsWrong, offset_of, ReadsPart, begins_by, NeverBegins, BeginsWithKind, IsOther, IsUnexpected, NoNumber, MayOpen, IsUnnamed, NoRelation, is_name, is_sum_start, is_operator, TookSum, SumStops, extends_item, IsReady, TookItem, ItemStops, IsStart, AvoidsMark, Kind, Mark, Relation, Token, FileFault, Spelled, Digits, TreeSum, TreeLocation, TreeUpdate}
 use Rattle.ta_syntax.specs.declared.tokens.Kind.TheVariants as kind
-use Rattle.ta_syntax.specs.declared.tokens.Mark.{Mark}
 use Rattle.ta_syntax.specs.declared.tokens.Mark.TheVariants as mark
-use Rattle.ta_syntax.specs.declared.tokens.Relation.{Relation}
 use Rattle.ta_syntax.specs.declared.tokens.Relation.TheVariants as relation
 use Rattle.ta_syntax.specs.declared.sums.Sign.TheVariants as sign
-use Rattle.ta_syntax.specs.declared.placed.Token.{Token}
-use Rattle.ta_syntax.specs.declared.fault.FileFault.{FileFault}
 use Rattle.ta_syntax.specs.declared.fault.FileFault.TheVariants as fault
-use Rattle.ta_syntax.specs.declared.names.Spelled.{Spelled}
-use Rattle.ta_syntax.specs.declared.names.Digits.{Digits}
-use Rattle.ta_syntax.specs.declared.sums.TreeSum.{TreeSum}
-use Rattle.ta_syntax.specs.declared.tree.TreeLocation.{TreeLocation}
-use Rattle.ta_syntax.specs.declared.tree.TreeUpdate.{TreeUpdate}
 use Rattle.ta_syntax.proofs.Steps.{then, also_at, stops, take_mark, take_name, take_number, take_relation, mark_stops, name_stops, number_stops, wrong_here, some_text, opened, maybe_taken, maybe_skipped, legal_x}
 use Rattle.ta_syntax.proofs.SumSteps.{begins_same, term_first, StartsTerm}
 use Rattle.ta_syntax.proofs.ListSteps.{item_avoids_operator}

@@ -1,26 +1,5 @@
 -- What the type of a tree keeps, in the words of the grammar and of the limits.
-use Rattle.std.proofs.Common.{ℕ, ◌≤◌, List, [], ◌∷◌, length, map, arith}
-use Rattle.ta_base.proofs.Each.{all_map}
-use Rattle.ta_base.proofs.Lists.{short_map}
-use Rattle.ta_syntax.specs.Kinds.{IsNameText}
-use Rattle.ta_syntax.specs.Grammar.{IsSome, IsComparison, IsUpdate, IsRule, IsEvent, IsPattern, IsTree}
-use Rattle.ta_syntax.specs.PlainTrees.{plain_name, plain_comparison, plain_location, plain_update, plain_rule, plain_event, plain_pattern, plain_tree}
-use Rattle.ta_syntax.specs.Limits.{at_start, IsShallow, IsRuleWithin, IsEventWithin, IsPatternWithin, IsTreeWithin}
-use Rattle.ta_syntax.specs.Tokens.{AreTokens}
-use Rattle.ta_syntax.specs.Inside.Tokens.{ScanStops}
-use Rattle.ta_syntax.specs.Grammar.{FileText}
-use Rattle.ta_syntax.specs.Faults.{IsStopped, FirstGrammarFault}
-use Rattle.ta_syntax.specs.Inside.FileReading.{IsSpelled}
-use Rattle.ta_syntax.specs.TreeOf.{IsTreeOf}
-use Rattle.ta_syntax.specs.declared.names.Spelled.{Spelled}
-use Rattle.ta_syntax.specs.declared.tree.TreeComparison.{TreeComparison}
-use Rattle.ta_syntax.specs.declared.tree.TreeUpdate.{TreeUpdate}
-use Rattle.ta_syntax.specs.declared.tree.TreeRule.{TreeRule}
-use Rattle.ta_syntax.specs.declared.tree.TreeEvent.{TreeEvent}
-use Rattle.ta_syntax.specs.declared.tree.TreePattern.{TreePattern}
-use Rattle.ta_syntax.specs.declared.tree.Tree.{Tree}
-use Rattle.ta_syntax.specs.declared.placed.Token.{Token}
-use Rattle.ta_syntax.specs.declared.fault.FileFault.{FileFault}
+use Rattle.ta_syntax.proofs.Common.{ℕ, ◌≤◌, List, [], ◌∷◌, length, map, arith, all_map, short_map, IsNameText, IsSome, IsComparison, IsUpdate, IsRule, IsEvent, IsPattern, IsTree, plain_name, plain_comparison, plain_location, plain_update, plain_rule, plain_event, plain_pattern, plain_tree, at_start, IsShallow, IsRuleWithin, IsEventWithin, IsPatternWithin, IsTreeWithin, AreTokens, ScanStops, FileText, IsStopped, FirstGrammarFault, IsSpelled, IsTreeOf, Spelled, TreeComparison, TreeUpdate, TreeRule, TreeEvent, TreePattern, Tree, Token, FileFault}
 use Rattle.ta_syntax.specs.declared.fault.FileFault.TheVariants as fault
 
 some_map : {A B : Type 0} (g : A → B) (xs : List A) → 1 ≤ length xs → IsSome (map g xs)

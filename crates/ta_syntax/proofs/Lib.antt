@@ -27,3 +27,4 @@ mod TreeLimits
 mod BuiltSums
 mod BuiltTrees
 pub mod TextTrees
+mod Common

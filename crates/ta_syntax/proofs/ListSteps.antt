@@ -1,23 +1,7 @@
 -- Reading lists with commas.
-use Rattle.std.proofs.Common.{◌≡◌, ℕ, suc, ◌-◌, ◌<◌, ◌≤◌, Bool, true, false, List, [], ◌∷◌, ◌++◌, length, inl, inr, refl, sym, ap, subst, ◌∙◌, append_assoc, length-append, arith}
-use Rattle.std.proofs.lemmas.List.{append-nil}
-use Rattle.ta_syntax.specs.Grammar.{listed, further}
-use Rattle.ta_syntax.specs.Stated.{Offsets, unplaced}
-use Rattle.ta_syntax.specs.Limits.{Counts}
-use Rattle.ta_syntax.specs.Parts.{GrammarPart, Text, a_mark, both, maybe, many, blocks}
-use Rattle.ta_syntax.specs.Inside.Parts.{list_part}
-use Rattle.ta_syntax.specs.Faults.{IsWrong, offset_of}
-use Rattle.ta_syntax.specs.Reading.{ReadsPart, begins_by, NeverBegins, BeginsWithKind, IsOther}
-use Rattle.ta_syntax.specs.Inside.Reading.{is_operator}
-use Rattle.ta_syntax.specs.ListReading.{extends_item, IsReady, TookItem, ItemStops, IsStart}
-use Rattle.ta_syntax.specs.Inside.ListReading.{extends_list, PastStops, IsFresh, with_commas, TookList, ListStops}
-use Rattle.ta_syntax.specs.Inside.BlockReading.{AvoidsMark}
-use Rattle.ta_syntax.specs.declared.tokens.Kind.{Kind}
+use Rattle.ta_syntax.proofs.Common.{◌≡◌, ℕ, suc, ◌-◌, ◌<◌, ◌≤◌, Bool, true, false, List, [], ◌∷◌, ◌++◌, length, inl, inr, refl, sym, ap, subst, ◌∙◌, append_assoc, length-append, arith, append-nil, listed, further, Offsets, unplaced, Counts, GrammarPart, Text, a_mark, both, maybe, many, blocks, list_part, IsWrong, offset_of, ReadsPart, begins_by, NeverBegins, BeginsWithKind, IsOther, is_operator, extends_item, IsReady, TookItem, ItemStops, IsStart, extends_list, PastStops, IsFresh, with_commas, TookList, ListStops, AvoidsMark, Kind, Mark, Token, FileFault}
 use Rattle.ta_syntax.specs.declared.tokens.Kind.TheVariants as kind
-use Rattle.ta_syntax.specs.declared.tokens.Mark.{Mark}
 use Rattle.ta_syntax.specs.declared.tokens.Mark.TheVariants as mark
-use Rattle.ta_syntax.specs.declared.placed.Token.{Token}
-use Rattle.ta_syntax.specs.declared.fault.FileFault.{FileFault}
 use Rattle.ta_syntax.specs.declared.fault.FileFault.TheVariants as fault
 use Rattle.ta_syntax.proofs.Steps.{then, expand, respell, recount, stops, take_mark, some_text, wrong_here, many_taken, many_ended}
 

@@ -1,15 +1,5 @@
 -- A text of the grammar within the limits has no fault.
-use Rattle.std.proofs.Common.{◌≡◌, ℕ, List, [], ◌∷◌, ◌++◌, length, refl, sym, ap, subst, ◌∙◌}
-use Rattle.ta_syntax.specs.Grammar.{PlainTree, FileText, file_kinds}
-use Rattle.ta_syntax.specs.Limits.{Counts, at_start, run, counted_after, StaysWithin, IsDeep, IsMany, IsTreeWithin}
-use Rattle.ta_syntax.specs.Tokens.{AreTokens}
-use Rattle.ta_syntax.specs.Faults.{kinds, SameStart, IsWrong, IsPast, FirstGrammarFault}
-use Rattle.ta_syntax.specs.PlainTrees.{plain_tree}
-use Rattle.ta_syntax.specs.TreeOf.{IsTextOf, IsTreeOf}
-use Rattle.ta_syntax.specs.declared.tokens.Kind.{Kind}
-use Rattle.ta_syntax.specs.declared.tree.Tree.{Tree}
-use Rattle.ta_syntax.specs.declared.placed.Token.{Token}
-use Rattle.ta_syntax.specs.declared.fault.FileFault.{FileFault}
+use Rattle.ta_syntax.proofs.Common.{◌≡◌, ℕ, List, [], ◌∷◌, ◌++◌, length, refl, sym, ap, subst, ◌∙◌, PlainTree, FileText, file_kinds, Counts, at_start, run, counted_after, StaysWithin, IsDeep, IsMany, IsTreeWithin, AreTokens, kinds, SameStart, IsWrong, IsPast, FirstGrammarFault, plain_tree, IsTextOf, IsTreeOf, Kind, Tree, Token, FileFault}
 use Rattle.ta_syntax.specs.declared.fault.FileFault.TheVariants as fault
 use Rattle.ta_syntax.proofs.Steps.{kinds-append}
 use Rattle.ta_syntax.proofs.UniqueTokens.{tokens_unique, refused_no_tokens}

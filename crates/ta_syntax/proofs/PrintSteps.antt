@@ -1,21 +1,8 @@
 -- What is printed piece by piece.
-use Rattle.std.proofs.Common.{◌≡◌, ℕ, zero, suc, List, [], ◌∷◌, ◌++◌, length, map, refl, sym, ap, subst, ◌∙◌, append_assoc, arith, ◌<◌}
-use Rattle.std.proofs.lemmas.List.{append-nil}
-use Rattle.ta_syntax.specs.Kinds.{kind_bytes}
-use Rattle.ta_syntax.specs.Grammar.{PlainTree, name_kinds, location_kinds, Terms, Term, Factor, further, listed, led, ended, each, term_kinds, sum_kinds, more_kinds}
-use Rattle.ta_syntax.specs.PlainSums.{plain_sum, plain_term, plain_terms, factor_layer, sum_layer, term_layer}
-use Rattle.ta_syntax.specs.Printed.{separator, printed}
-use Rattle.ta_syntax.specs.Inside.Printed.{Prints, sign_before, head_kinds}
-use Rattle.ta_syntax.specs.declared.tokens.Kind.{Kind}
+use Rattle.ta_syntax.proofs.Common.{◌≡◌, ℕ, zero, suc, List, [], ◌∷◌, ◌++◌, length, map, refl, sym, ap, subst, ◌∙◌, append_assoc, arith, ◌<◌, append-nil, kind_bytes, PlainTree, name_kinds, location_kinds, Terms, Term, Factor, further, listed, led, ended, each, term_kinds, sum_kinds, more_kinds, plain_sum, plain_term, plain_terms, factor_layer, sum_layer, term_layer, separator, printed, Prints, sign_before, head_kinds, Kind, Mark, Sign, TreeSum, TreeTerm, out-TreeSum, fold_out-TreeSum}
 use Rattle.ta_syntax.specs.declared.tokens.Kind.TheVariants as kind
-use Rattle.ta_syntax.specs.declared.tokens.Mark.{Mark}
 use Rattle.ta_syntax.specs.declared.tokens.Mark.TheVariants as mark
-use Rattle.ta_syntax.specs.declared.sums.Sign.{Sign}
 use Rattle.ta_syntax.specs.declared.sums.Sign.TheVariants as sign
-use Rattle.ta_syntax.specs.declared.sums.TreeSum.{TreeSum}
-use Rattle.ta_syntax.specs.declared.sums.TreeTerm.{TreeTerm}
-use Rattle.ta_syntax.specs.declared.sums.TreeFactor.TheViews.{out-TreeSum}
-use Rattle.ta_syntax.specs.declared.sums.TreeFactor.TheFolds.{fold_out-TreeSum}
 use Rattle.ta_syntax.proofs.SumSteps.{plain_items}
 
 pub printed-append : (ks ls : List Kind) → printed (ks ++ ls) ≡ printed ks ++ printed ls

@@ -1,20 +1,9 @@
 -- The tokens of what is printed.
-use Rattle.std.proofs.Common.{◌≡◌, ℕ, Bool, true, false, List, [], ◌∷◌, ◌++◌, length, ◌+◌, inl, refl, ap}
-use Rattle.std.specs.List.{AllByRecursion}
-use Rattle.ta_syntax.specs.Kinds.{is_white, kind_bytes, IsKind, IsNameText}
-use Rattle.ta_syntax.specs.Tokens.{lengthens, IsSpace, IsLastGap, ScansTo, AreTokens}
-use Rattle.ta_syntax.specs.Faults.{kinds}
-use Rattle.ta_syntax.specs.Printed.{separator, printed}
-use Rattle.ta_syntax.specs.Grammar.{Terms, Term, Factor, done, term, number, times, alone, blank, named, nested, sign_kind, relation_kind, sum_kinds, more_kinds, term_kinds, factor_kinds, IsSum, AreTerms, IsTerm, IsFactor, further, listed, led, ended, each, PlainComparison, PlainLocation, PlainUpdate, PlainRule, PlainEvent, PlainPattern, PlainTree, name_kinds, initial_kinds, location_kinds, comparison_kinds, update_kinds, rule_kinds, event_kinds, pattern_kinds, file_kinds, IsComparison, IsUpdate, IsRule, IsEvent, IsPattern, IsTree}
-use Rattle.ta_syntax.specs.declared.tokens.Kind.{Kind}
+use Rattle.ta_syntax.proofs.Common.{◌≡◌, ℕ, Bool, true, false, List, [], ◌∷◌, ◌++◌, length, ◌+◌, inl, refl, ap, AllByRecursion, is_white, kind_bytes, IsKind, IsNameText, lengthens, IsSpace, IsLastGap, ScansTo, AreTokens, kinds, separator, printed, Terms, Term, Factor, done, term, number, times, alone, blank, named, nested, sign_kind, relation_kind, sum_kinds, more_kinds, term_kinds, factor_kinds, IsSum, AreTerms, IsTerm, IsFactor, further, listed, led, ended, each, PlainComparison, PlainLocation, PlainUpdate, PlainRule, PlainEvent, PlainPattern, PlainTree, name_kinds, initial_kinds, location_kinds, comparison_kinds, update_kinds, rule_kinds, event_kinds, pattern_kinds, file_kinds, IsComparison, IsUpdate, IsRule, IsEvent, IsPattern, IsTree, Kind, Mark, Relation, Sign, Token}
 use Rattle.ta_syntax.specs.declared.tokens.Kind.TheVariants as kind
-use Rattle.ta_syntax.specs.declared.tokens.Mark.{Mark}
 use Rattle.ta_syntax.specs.declared.tokens.Mark.TheVariants as mark
-use Rattle.ta_syntax.specs.declared.tokens.Relation.{Relation}
 use Rattle.ta_syntax.specs.declared.tokens.Relation.TheVariants as relation
-use Rattle.ta_syntax.specs.declared.sums.Sign.{Sign}
 use Rattle.ta_syntax.specs.declared.sums.Sign.TheVariants as sign
-use Rattle.ta_syntax.specs.declared.placed.Token.{Token}
 
 -- ---- what stands behind a token
 behind_mark : (m : Mark) → lengthens (kind.Fixed m) (separator (kind.Fixed m)) ≡ false

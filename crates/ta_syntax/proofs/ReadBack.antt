@@ -1,9 +1,5 @@
 -- The printed text of a tree is of the grammar, with that tree.
-use Rattle.ta_syntax.specs.Grammar.{file_kinds}
-use Rattle.ta_syntax.specs.PlainTrees.{plain_tree}
-use Rattle.ta_syntax.specs.Printed.{printed}
-use Rattle.ta_syntax.specs.TreeOf.{IsTextOf}
-use Rattle.ta_syntax.specs.declared.tree.Tree.{Tree}
+use Rattle.ta_syntax.proofs.Common.{file_kinds, plain_tree, printed, IsTextOf, Tree}
 use Rattle.ta_syntax.proofs.LegalTrees.{tree_legal}
 use Rattle.ta_syntax.proofs.PrintedTokens.{tokens_printed, file_legal}
 

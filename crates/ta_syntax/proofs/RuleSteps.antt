@@ -1,27 +1,7 @@
 -- Reading rules, events and patterns behind their keywords.
-use Rattle.std.proofs.Common.{◌≡◌, ℕ, ◌≤◌, List, [], ◌∷◌, ◌++◌, length, refl, ap, ◌∙◌, append_assoc, arith}
-use Rattle.ta_syntax.specs.Grammar.{listed, led, ended, each}
-use Rattle.ta_syntax.specs.Stated.{unplaced, name_stated, comparison_stated, update_stated}
-use Rattle.ta_syntax.specs.Limits.{Counts, begin_list}
-use Rattle.ta_syntax.specs.Parts.{GrammarPart, a_mark, a_name, both, maybe, many}
-use Rattle.ta_syntax.specs.Inside.Parts.{list_part, comparison_part, update_part, rule_part, event_part, pattern_part}
-use Rattle.ta_syntax.specs.Faults.{offset_of}
-use Rattle.ta_syntax.specs.Reading.{ReadsPart, NeverBegins, HasRoom, BeginsWithKind, IsUnexpected}
-use Rattle.ta_syntax.specs.Inside.Reading.{IsUnnamed}
-use Rattle.ta_syntax.specs.ListReading.{IsReady}
-use Rattle.ta_syntax.specs.Inside.ListReading.{extends_list, IsFresh}
-use Rattle.ta_syntax.specs.BlockReading.{IsEntered, KeptBlock, TookBlock, BlockStops}
-use Rattle.ta_syntax.specs.Inside.BlockReading.{AvoidsMark, IsBetweenParts, ReadsKept, TookNameThen, NameThenStops, TookEnd, EndStops, TookLed, LedStops, TookEnded, EndedStops, KeptOthers, with_mark, TookBlocks, BlocksStop}
-use Rattle.ta_syntax.specs.Inside.RuleBodies.{spell_name, spell_comparison, spell_update, event_body, event_body_stated}
+use Rattle.ta_syntax.proofs.Common.{◌≡◌, ℕ, ◌≤◌, List, [], ◌∷◌, ◌++◌, length, refl, ap, ◌∙◌, append_assoc, arith, listed, led, ended, each, unplaced, name_stated, comparison_stated, update_stated, Counts, begin_list, GrammarPart, a_mark, a_name, both, maybe, many, list_part, comparison_part, update_part, rule_part, event_part, pattern_part, offset_of, ReadsPart, NeverBegins, HasRoom, BeginsWithKind, IsUnexpected, IsUnnamed, IsReady, extends_list, IsFresh, IsEntered, KeptBlock, TookBlock, BlockStops, AvoidsMark, IsBetweenParts, ReadsKept, TookNameThen, NameThenStops, TookEnd, EndStops, TookLed, LedStops, TookEnded, EndedStops, KeptOthers, with_mark, TookBlocks, BlocksStop, spell_name, spell_comparison, spell_update, event_body, event_body_stated, Mark, Spelled, Token, FileFault, TreeComparison, TreeUpdate, TreeEvent}
 use Rattle.ta_syntax.specs.declared.tokens.Kind.TheVariants as kind
-use Rattle.ta_syntax.specs.declared.tokens.Mark.{Mark}
 use Rattle.ta_syntax.specs.declared.tokens.Mark.TheVariants as mark
-use Rattle.ta_syntax.specs.declared.names.Spelled.{Spelled}
-use Rattle.ta_syntax.specs.declared.placed.Token.{Token}
-use Rattle.ta_syntax.specs.declared.fault.FileFault.{FileFault}
-use Rattle.ta_syntax.specs.declared.tree.TreeComparison.{TreeComparison}
-use Rattle.ta_syntax.specs.declared.tree.TreeUpdate.{TreeUpdate}
-use Rattle.ta_syntax.specs.declared.tree.TreeEvent.{TreeEvent}
 use Rattle.ta_syntax.proofs.Steps.{then, respell, stops, take_mark, take_name, mark_stops, name_stops, opened}
 use Rattle.ta_syntax.proofs.ListSteps.{mark_avoids, maybe_avoids, mark_avoids_mark, maybe_avoids_mark, many_avoids_mark}
 use Rattle.ta_syntax.proofs.ClauseSteps.{kept_ready, then_kept, name_then}
@@ -33,7 +13,7 @@ name_then_shorter m end tokens rest n t = omega (arith, ap length t.named.split,
 abbrev colon : Counts → Counts
 colon c = begin_list 16 c
 
-colon_ready : (m : Mark) (c : Counts) → IsEntered m c → IsReady (colon c)
+pub colon_ready : (m : Mark) (c : Counts) → IsEntered m c → IsReady (colon c)
 colon_ready m c r = record { closed = r.closed; room = omega arith }
 
 colon_kept : (m : Mark) (c d : Counts) → IsBetweenParts (colon c) d → KeptBlock m c d

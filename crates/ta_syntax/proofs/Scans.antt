@@ -1,16 +1,7 @@
 -- The tokens read so far.
-use Rattle.std.proofs.Common.{◌≡◌, ℕ, Bool, true, false, List, [], ◌∷◌, ◌++◌, length, refl, sym, ap, subst, ◌∙◌, arith, ◌<◌, ◌≤◌, ◌+◌, ◌-◌, length-append, inl, inr, lit<}
-use Rattle.std.proofs.lemmas.List.{append-nil}
-use Rattle.std.specs.Prelude.{◌⊎◌}
-use Rattle.ta_syntax.specs.Tokens.{ScansTo, IsSpace, IsGap, IsLastGap, IsRefusedHere, AreTokens}
-use Rattle.ta_syntax.specs.Inside.Tokens.{TokenFrom, SkipsGap, BeginsNoGap, TokenStops, ScanStops}
-use Rattle.ta_syntax.specs.Kinds.{mark_bytes, kind_bytes, IsKind}
-use Rattle.ta_syntax.specs.declared.placed.Token.{Token}
-use Rattle.ta_syntax.specs.declared.tokens.Kind.{Kind}
+use Rattle.ta_syntax.proofs.Common.{◌≡◌, ℕ, Bool, true, false, List, [], ◌∷◌, ◌++◌, length, refl, sym, ap, subst, ◌∙◌, arith, ◌<◌, ◌≤◌, ◌+◌, ◌-◌, length-append, inl, inr, lit<, append-nil, ◌⊎◌, ScansTo, IsSpace, IsGap, IsLastGap, IsRefusedHere, AreTokens, TokenFrom, SkipsGap, BeginsNoGap, TokenStops, ScanStops, mark_bytes, kind_bytes, IsKind, Token, Kind, Mark, FileFault}
 use Rattle.ta_syntax.specs.declared.tokens.Kind.TheVariants as kind
-use Rattle.ta_syntax.specs.declared.tokens.Mark.{Mark}
 use Rattle.ta_syntax.specs.declared.tokens.Mark.TheVariants as mark
-use Rattle.ta_syntax.specs.declared.fault.FileFault.{FileFault}
 use Rattle.ta_syntax.specs.declared.fault.FileFault.TheVariants as fault
 
 -- the bytes that are left, with their offset

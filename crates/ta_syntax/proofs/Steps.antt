@@ -1,26 +1,11 @@
 -- Steps of reading, and how they go together.
-use Rattle.std.proofs.Common.{◌≡◌, ℕ, ◌≤◌, false, List, [], ◌∷◌, ◌++◌, inl, inr, ⊎_elim, refl, sym, ap, subst, ◌∙◌, append_assoc, arith}
-use Rattle.std.specs.Prelude.{codes}
-use Rattle.std.specs.List.{AllByRecursion}
-use Rattle.ta_syntax.specs.Kinds.{IsNameText, IsDigits, mark_bytes}
-use Rattle.ta_syntax.specs.Grammar.{done, term, number, named, relation_kind}
-use Rattle.ta_syntax.specs.Stated.{Offsets, IsPlaced, at_first}
-use Rattle.ta_syntax.specs.Limits.{Counts, run, counted_after, after_mark, StaysWithin, IsDeep, IsMany, IsBlockPast}
-use Rattle.ta_syntax.specs.Parts.{GrammarPart, Text, nothing, a_mark, a_name, a_number, a_relation, a_sum, more_terms, a_term, a_factor, both, maybe, many, upto, blocks}
-use Rattle.ta_syntax.specs.Faults.{kinds, SameStart, IsWrong, IsPast, IsStopped, offset_of}
-use Rattle.ta_syntax.specs.Reading.{ReadsPart, begins_by, HasRoom, BeginsWithKind, IsOther, NoNumber, IsUnexpected}
-use Rattle.ta_syntax.specs.Inside.Reading.{is_sign, NoName, IsUnnamed}
-use Rattle.ta_syntax.specs.Inside.BlockReading.{AvoidsMark, StartsOther}
-use Rattle.ta_syntax.specs.declared.tokens.Kind.{Kind}
+use Rattle.ta_syntax.proofs.Common.{◌≡◌, ℕ, ◌≤◌, false, List, [], ◌∷◌, ◌++◌, inl, inr, ⊎_elim, refl, sym, ap, subst, ◌∙◌, append_assoc, arith, codes, AllByRecursion, IsNameText, IsDigits, done, term, number, named, relation_kind, Offsets, IsPlaced, at_first, Counts, run, counted_after, after_mark, StaysWithin, IsDeep, IsMany, IsBlockPast, GrammarPart, Text, nothing, a_mark, a_name, a_number, a_relation, a_sum, more_terms, a_term, a_factor, both, maybe, many, upto, blocks, kinds, SameStart, IsWrong, IsPast, IsStopped, offset_of, ReadsPart, begins_by, HasRoom, BeginsWithKind, IsOther, NoNumber, IsUnexpected, is_sign, NoName, IsUnnamed, AvoidsMark, StartsOther, Kind, Mark, Relation, Token, FileFault}
 use Rattle.ta_syntax.specs.declared.tokens.Kind.TheVariants as kind
-use Rattle.ta_syntax.specs.declared.tokens.Mark.{Mark}
 use Rattle.ta_syntax.specs.declared.tokens.Mark.TheVariants as mark
-use Rattle.ta_syntax.specs.declared.tokens.Relation.{Relation}
 use Rattle.ta_syntax.specs.declared.tokens.Relation.TheVariants as relation
 use Rattle.ta_syntax.specs.declared.sums.Sign.TheVariants as sign
-use Rattle.ta_syntax.specs.declared.placed.Token.{Token}
-use Rattle.ta_syntax.specs.declared.fault.FileFault.{FileFault}
 use Rattle.ta_syntax.specs.declared.fault.FileFault.TheVariants as fault
+use Rattle.ta_syntax.proofs.UniqueTokens.{keyword_is}
 
 -- ---- lists
 
@@ -125,17 +110,8 @@ module _ {L M : GrammarPart} {c d : Counts} {tokens mid : List Token} {text : Li
   stops _ s = absurd s
 
 -- ---- each part has a text
-
-abbrev first_byte : List ℕ → ℕ
-first_byte [] = 0
-first_byte (b ∷ bs) = b
-
-not_x : (m : Mark) → mark_bytes m ≡ codes "x" → ⊥
-not_x mark.Semicolon e = let h = ap first_byte e in omega arith
-not_x _ e = let h = ap first_byte e in omega arith
-
 pub legal_x : IsNameText (codes "x")
-legal_x = record { first = refl; each = (refl, tt); free = not_x }
+legal_x = record { first = refl; each = (refl, tt); free = keyword_is (codes "x") refl }
 
 pub some_text : (p : GrammarPart) → (w : List Kind) × Text p w
 some_text nothing = ([], refl)

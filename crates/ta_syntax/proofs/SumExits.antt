@@ -1,31 +1,9 @@
 -- What is known where a reader of sums returns.
-use Rattle.std.proofs.Common.{◌≡◌, ℕ, suc, ◌+◌, ◌-◌, ◌<◌, ◌≤◌, true, false, List, [], ◌∷◌, ◌++◌, Some, None, length, ⊎_elim, refl, sym, ap, subst, ◌∙◌, arith}
-use Rattle.std.specs.Prelude.{codes}
-use Rattle.std.proofs.lemmas.List.{append-nil}
-use Rattle.ta_syntax.specs.Grammar.{Terms, Term, Factor, done, term, alone, named, nested, sign_kind, sum_kinds, term_kinds, factor_kinds, IsSum, AreTerms, IsTerm, IsFactor}
-use Rattle.ta_syntax.specs.PlainSums.{plain_sum, plain_terms, sum_depth, term_depth, factor_depth}
-use Rattle.ta_syntax.specs.Stated.{signed_sum, unplaced_sign, sum_term_stated}
-use Rattle.ta_syntax.specs.Limits.{Counts, after_mark, IsDeep}
-use Rattle.ta_syntax.specs.Parts.{GrammarPart, a_mark, a_sum, more_terms, a_term, a_factor, both}
-use Rattle.ta_syntax.specs.Faults.{kinds, offset_of}
-use Rattle.ta_syntax.specs.Reading.{ReadsPart, begins_by, NeverBegins, HasRoom, BeginsWithKind, IsOther, NoNumber, IsUnexpected}
-use Rattle.ta_syntax.specs.Inside.Reading.{is_star, is_sign, is_operator, MayOpen, LeadingSign, IsUnnamed, TookFactor, TookTerm, TookSum, FactorStops, TermStops, SumStops}
-use Rattle.ta_syntax.specs.Inside.BlockReading.{AvoidsMark}
-use Rattle.ta_syntax.specs.declared.tokens.Kind.{Kind}
+use Rattle.ta_syntax.proofs.Common.{◌≡◌, ℕ, suc, ◌+◌, ◌-◌, ◌<◌, ◌≤◌, true, false, List, [], ◌∷◌, ◌++◌, Some, None, length, ⊎_elim, refl, sym, ap, subst, ◌∙◌, arith, codes, append-nil, Terms, Term, Factor, done, term, alone, named, nested, sign_kind, sum_kinds, term_kinds, factor_kinds, IsSum, AreTerms, IsTerm, IsFactor, plain_sum, plain_terms, sum_depth, term_depth, factor_depth, signed_sum, unplaced_sign, sum_term_stated, Counts, after_mark, IsDeep, GrammarPart, a_mark, a_sum, more_terms, a_term, a_factor, both, kinds, offset_of, ReadsPart, begins_by, NeverBegins, HasRoom, BeginsWithKind, IsOther, NoNumber, IsUnexpected, is_star, is_sign, is_operator, MayOpen, LeadingSign, IsUnnamed, TookFactor, TookTerm, TookSum, FactorStops, TermStops, SumStops, AvoidsMark, Kind, Token, Sign, FileFault, Digits, Spelled, TreeSum, TreeTerm, TreeFactor, Named, Nested, TreeSum-F, roll-TreeSum, roll-TreeTerm}
 use Rattle.ta_syntax.specs.declared.tokens.Kind.TheVariants as kind
 use Rattle.ta_syntax.specs.declared.tokens.Mark.TheVariants as mark
-use Rattle.ta_syntax.specs.declared.placed.Token.{Token}
-use Rattle.ta_syntax.specs.declared.sums.Sign.{Sign}
 use Rattle.ta_syntax.specs.declared.sums.Sign.TheVariants as sign
-use Rattle.ta_syntax.specs.declared.fault.FileFault.{FileFault}
 use Rattle.ta_syntax.specs.declared.fault.FileFault.TheVariants as fault
-use Rattle.ta_syntax.specs.declared.names.Digits.{Digits}
-use Rattle.ta_syntax.specs.declared.names.Spelled.{Spelled}
-use Rattle.ta_syntax.specs.declared.sums.TreeSum.{TreeSum}
-use Rattle.ta_syntax.specs.declared.sums.TreeTerm.{TreeTerm}
-use Rattle.ta_syntax.specs.declared.sums.TreeFactor.{TreeFactor, Named, Nested}
-use Rattle.ta_syntax.specs.declared.sums.TreeFactor.TheOpen.{TreeSum-F}
-use Rattle.ta_syntax.specs.declared.sums.TreeFactor.TheViews.{roll-TreeSum, roll-TreeTerm}
 use Rattle.ta_syntax.proofs.Steps.{then, stay, respell, recount, also_at, stops, take_mark, take_mark_fits, Fits, take_name, take_number, mark_stops, name_stops, maybe_taken, maybe_skipped, some_text, legal_x}
 use Rattle.ta_syntax.proofs.SumSteps.{plain_sum_roll, plain_number, plain_times, plain_alone, plain_named, plain_nested, stated_number, stated_times, stated_alone, stated_named, stated_nested, stated_sum_roll, pairs, spell_term, sum_kinds_of, before_of, sum_of-push, before_of-push, pairs-push, are-push, is_sum-push, depth-push, sum_minus, sum_plus, terms_part, more_sign, more_end, term_number, term_factor, factor_name, factor_nested, close_avoids, terms_avoid}
 

@@ -1,31 +1,9 @@
 -- The steps of reading sums, terms and factors.
-use Rattle.std.proofs.Common.{◌≡◌, ℕ, ◌≤◌, Bool, true, false, List, [], ◌∷◌, ◌++◌, Some, None, map, inl, inr, refl, sym, ap, subst, ◌∙◌, append_assoc, arith}
-use Rattle.std.proofs.lemmas.List.{append-nil}
-use Rattle.ta_syntax.specs.Kinds.{IsDigits}
-use Rattle.ta_syntax.specs.Grammar.{Terms, Term, Factor, done, term, number, times, alone, blank, named, nested, sign_kind, sum_kinds, more_kinds, term_kinds, factor_kinds, IsSum, AreTerms, IsTerm, IsFactor}
-use Rattle.ta_syntax.specs.PlainSums.{plain_sum, plain_term, plain_factor, plain_terms, terms_of, factor_layer, sum_layer, term_layer, sum_depth, term_depth}
-use Rattle.ta_syntax.specs.Stated.{Offsets, at_first, more_of, leading, signed_sum, unplaced_sign, factor_stated, term_layer_stated, sum_layer_stated, sum_stated, sum_term_stated, sum_factor_stated}
-use Rattle.ta_syntax.specs.Limits.{Counts}
-use Rattle.ta_syntax.specs.Parts.{GrammarPart, Text, a_mark, a_name, a_number, a_sum, more_terms, a_term, a_factor, both, maybe}
-use Rattle.ta_syntax.specs.Faults.{kinds, SameStart}
-use Rattle.ta_syntax.specs.Reading.{ReadsPart, begins_by, NeverBegins, BeginsWithKind, IsOther, NoNumber}
-use Rattle.ta_syntax.specs.Inside.Reading.{is_star, is_sign, is_operator}
-use Rattle.ta_syntax.specs.declared.tokens.Kind.{Kind}
+use Rattle.ta_syntax.proofs.Common.{◌≡◌, ℕ, ◌≤◌, Bool, true, false, List, [], ◌∷◌, ◌++◌, Some, None, map, inl, inr, refl, sym, ap, subst, ◌∙◌, append_assoc, arith, append-nil, IsDigits, Terms, Term, Factor, done, term, number, times, alone, blank, named, nested, sign_kind, sum_kinds, more_kinds, term_kinds, factor_kinds, IsSum, AreTerms, IsTerm, IsFactor, plain_sum, plain_term, plain_factor, plain_terms, terms_of, factor_layer, sum_layer, term_layer, sum_depth, term_depth, Offsets, at_first, more_of, leading, signed_sum, unplaced_sign, factor_stated, term_layer_stated, sum_layer_stated, sum_stated, sum_term_stated, sum_factor_stated, Counts, GrammarPart, Text, a_mark, a_name, a_number, a_sum, more_terms, a_term, a_factor, both, maybe, kinds, SameStart, ReadsPart, begins_by, NeverBegins, BeginsWithKind, IsOther, NoNumber, is_star, is_sign, is_operator, Kind, Mark, Token, Sign, Digits, Spelled, TreeSum, TreeTerm, TreeFactor, Named, Nested, TreeSum-F, rolls-Named, rolls-Nested, roll-TreeSum, roll-TreeTerm, fold-roll-TreeSum, fold-roll-TreeTerm, fold-roll-TreeFactor}
 use Rattle.ta_syntax.specs.declared.tokens.Kind.TheVariants as kind
-use Rattle.ta_syntax.specs.declared.tokens.Mark.{Mark}
 use Rattle.ta_syntax.specs.declared.tokens.Mark.TheVariants as mark
-use Rattle.ta_syntax.specs.declared.placed.Token.{Token}
-use Rattle.ta_syntax.specs.declared.sums.Sign.{Sign}
 use Rattle.ta_syntax.specs.declared.sums.Sign.TheVariants as sign
-use Rattle.ta_syntax.specs.declared.names.Digits.{Digits}
-use Rattle.ta_syntax.specs.declared.names.Spelled.{Spelled}
-use Rattle.ta_syntax.specs.declared.sums.TreeSum.{TreeSum}
-use Rattle.ta_syntax.specs.declared.sums.TreeTerm.{TreeTerm}
-use Rattle.ta_syntax.specs.declared.sums.TreeFactor.{TreeFactor, Named, Nested}
-use Rattle.ta_syntax.specs.declared.sums.TreeFactor.TheOpen.{TreeSum-F}
 use Rattle.ta_syntax.specs.declared.sums.TreeFactor.TheOpen as open_factor
-use Rattle.ta_syntax.specs.declared.sums.TreeFactor.TheViews.{rolls-Named, rolls-Nested, roll-TreeSum, roll-TreeTerm}
-use Rattle.ta_syntax.specs.declared.sums.TreeFactor.TheFolds.{fold-roll-TreeSum, fold-roll-TreeTerm, fold-roll-TreeFactor}
 use Rattle.ta_syntax.proofs.Steps.{expand, other_mark, other_number}
 
 -- ---- trees and their plain form

@@ -1,38 +1,13 @@
 -- Each text has tokens, or a first refused byte.
-use Rattle.std.proofs.Common.{◌≡◌, ◌⊎◌, ℕ, zero, suc, ◌-◌, ◌<◌, Bool, true, false, List, [], ◌∷◌, ◌++◌, length, take, drop, inl, inr, ⊎_elim, refl, sym, ap, subst, ◌∙◌, arith, eqb-true, take-append-drop}
-use Rattle.std.specs.Prelude.{◌&&◌, ◌==◌}
-use Rattle.std.specs.Char.{is_ascii_digit}
-use Rattle.std.specs.List.{prefix_len}
+use Rattle.ta_syntax.proofs.Common.{Option, Some, None, MatchOption, ◌≡◌, ℕ, zero, suc, ◌-◌, ◌<◌, Bool, true, false, List, [], ◌∷◌, ◌++◌, length, take, drop, inl, inr, ⊎_elim, refl, sym, ap, ◌∙◌, arith, eqb-true, take-append-drop, ◌==◌, is_ascii_digit, prefix_len, nat_tests, begins_word, is_white, is_lone, mark_bytes, is_letter, is_word, BeginsByLetter, lengthens, IsLongest, IsSpace, AreTokens, begins_mark, IsRefused, MarkAt, BeginsNoGap, TokenFrom, NoToken, SkipsGap, Kind, Mark, Token}
+use Rattle.std.proofs.Common.{◌⊎◌}
 use Rattle.std.proofs.lemmas.Bool.{cases_Bool, cases_eq}
-use Rattle.std.proofs.lemmas.Bool.Decides.{nat_tests}
-use Rattle.ta_base.proofs.Lists.{begins_word}
-use Rattle.ta_syntax.specs.Kinds.{is_white, is_lone, mark_bytes}
-use Rattle.ta_base.specs.Bytes.{is_letter, is_word, BeginsByLetter}
-use Rattle.ta_syntax.specs.Tokens.{lengthens, IsLongest, IsSpace, AreTokens, begins_mark, IsRefused}
-use Rattle.ta_syntax.specs.Inside.Tokens.{MarkAt, BeginsNoGap, TokenFrom, NoToken, SkipsGap}
-use Rattle.ta_syntax.specs.declared.tokens.Kind.{Kind}
 use Rattle.ta_syntax.specs.declared.tokens.Kind.TheVariants as kind
-use Rattle.ta_syntax.specs.declared.tokens.Mark.{Mark}
 use Rattle.ta_syntax.specs.declared.tokens.Mark.TheVariants as mark
-use Rattle.ta_syntax.specs.declared.placed.Token.{Token}
 use Rattle.ta_syntax.specs.declared.fault.FileFault.TheVariants as fault
 use Rattle.ta_syntax.proofs.Words.{Fails, fails_after, name_from, number_from}
-use Rattle.ta_syntax.proofs.UniqueTokens.{same_bytes, keyword_of, StartsSign, IsWordMark, IsSignMark, mark_is}
+use Rattle.ta_syntax.proofs.UniqueTokens.{keyword_of, keyword_is, of_word, IsWordMark}
 use Rattle.ta_syntax.proofs.Scans.{ScanSoFar, scan_begins, scan_goes_on, scan_ends, scan_stops, after_shorter, kind_some}
-
-same_bytes-equal : (x y : List ℕ) → same_bytes x y ≡ true → x ≡ y
-same_bytes-equal [] [] e = refl
-same_bytes-equal [] (b ∷ y) e = cc
-same_bytes-equal (a ∷ x) [] e = cc
-same_bytes-equal (a ∷ x) (b ∷ y) e = step (a == b) refl (same_bytes-equal x y) e
-  where
-    step : (t : Bool) → (a == b) ≡ t → (same_bytes x y ≡ true → x ≡ y) → t && same_bytes x y ≡ true → a ∷ x ≡ b ∷ y
-    step true f rest g = ap (λ (z : ℕ). z ∷ x) (eqb-true a b f) ∙ ap (λ (z : List ℕ). b ∷ z) (rest g)
-    step false f rest g = absurd (let h : false ≡ true = g in cc)
-
-same_bytes-self : (x : List ℕ) → same_bytes x x ≡ true
-same_bytes-self [] = refl
-same_bytes-self (a ∷ x) = let e : (a == a) ≡ true = grind (arith, nat_tests) in rw e (same_bytes-self x)
 
 -- ---- gaps
 
@@ -144,18 +119,9 @@ sign_from b bs h =
 abbrev FromToken : List ℕ → Type 0
 FromToken bytes = (k : Kind) × (after : List ℕ) × TokenFrom bytes k after
 
--- a sign has no letter in front
-sign_no_letter : (n : List ℕ) → StartsSign n → BeginsByLetter n → ⊥
-sign_no_letter [] s l = l
-sign_no_letter (b ∷ n) s l = let e : is_letter b ≡ false = s.0 in let f : is_letter b ≡ true = l in cc
-
 word_ends : (m : Mark) (rest : List ℕ) → IsWordMark m → Fails is_word rest → IsLongest (kind.Fixed m) rest
 word_ends m [] w fails = tt
 word_ends m (c ∷ rest) w fails = w.longest c ∙ fails
-
--- a mark that is spelled as a word is a keyword
-of_word : (m : Mark) (word : List ℕ) → mark_bytes m ≡ word → BeginsByLetter word → IsWordMark m
-of_word m word e first = ⊎_elim (λ (w : IsWordMark m). w) (λ (s : IsSignMark m). absurd (sign_no_letter (mark_bytes m) s.first (subst BeginsByLetter (sym e) first))) (mark_is m)
 
 module _ (bytes : List ℕ) (first : BeginsByLetter bytes) where
   abbrev word : List ℕ
@@ -164,32 +130,21 @@ module _ (bytes : List ℕ) (first : BeginsByLetter bytes) where
   abbrev behind : List ℕ
   behind = drop (prefix_len is_word bytes) bytes
 
-  -- the word is no keyword
-  free : same_bytes (mark_bytes (keyword_of word)) word ≡ false → (m : Mark) → mark_bytes m ≡ word → ⊥
-  free other m e =
-      let w = of_word m word e (begins_word bytes first) in
-      let known : keyword_of word ≡ m = ap keyword_of (sym e) ∙ w.known in
-      let same : mark_bytes (keyword_of word) ≡ word = ap mark_bytes known ∙ e in
-      let both : same_bytes (mark_bytes (keyword_of word)) word ≡ true = subst (λ (x : List ℕ). same_bytes (mark_bytes (keyword_of word)) x ≡ true) same (same_bytes-self (mark_bytes (keyword_of word))) in
-      absurd cc
-
   -- the word that stands first is a keyword or a name
   word_token : FromToken bytes
-  word_token = choose (cases_Bool (same_bytes (mark_bytes (keyword_of word)) word))
+  word_token = choose (keyword_of word) (keyword_is word (begins_word bytes first))
     where
-      choose : (same_bytes (mark_bytes (keyword_of word)) word ≡ true) ⊎ (same_bytes (mark_bytes (keyword_of word)) word ≡ false) → FromToken bytes
-      choose (inl same) =
-          let m = keyword_of word in
-          let spelled = same_bytes-equal (mark_bytes m) word same in (
-            kind.Fixed m,
-            behind,
-            record {
-              split = sym (take-append-drop (prefix_len is_word bytes) bytes) ∙ ap (λ (x : List ℕ). x ++ behind) (sym spelled);
-              is = tt;
-              longest = word_ends m behind (of_word m word spelled (begins_word bytes first)) (fails_after is_word bytes);
-            },
-          )
-      choose (inr other) = (kind.Name word, behind, name_from bytes first (free other))
+      choose : (o : Option Mark) → MatchOption o ((m : Mark) → mark_bytes m ≡ word → ⊥) (λ m. mark_bytes m ≡ word) → FromToken bytes
+      choose None free = (kind.Name word, behind, name_from bytes first free)
+      choose (Some m) spelled = (
+        kind.Fixed m,
+        behind,
+        record {
+          split = sym (take-append-drop (prefix_len is_word bytes) bytes) ∙ ap (λ (x : List ℕ). x ++ behind) (sym spelled);
+          is = tt;
+          longest = word_ends m behind (of_word m word spelled (begins_word bytes first)) (fails_after is_word bytes);
+        },
+      )
 
 -- a token stands first, or none does
 token_or_none : (b : ℕ) (bs : List ℕ) → FromToken (b ∷ bs) ⊎ NoToken (b ∷ bs)

@@ -1,12 +1,5 @@
 -- A text has a tree, or a first fault of its tokens or its grammar.
-use Rattle.std.proofs.Common.{ℕ, ◌≤◌, List, length, ⊎_elim, sym, subst}
-use Rattle.ta_syntax.specs.Grammar.{FileText}
-use Rattle.ta_syntax.specs.Limits.{at_start, StaysWithin}
-use Rattle.ta_syntax.specs.Tokens.{AreTokens, IsRefused}
-use Rattle.ta_syntax.specs.Faults.{kinds}
-use Rattle.ta_syntax.specs.TreeOf.{IsTextOf}
-use Rattle.ta_syntax.specs.AnswerLaws.{Either, HasTree, HasGrammarFault}
-use Rattle.ta_syntax.specs.declared.placed.Token.{Token}
+use Rattle.ta_syntax.proofs.Common.{ℕ, ◌≤◌, List, length, ⊎_elim, sym, subst, FileText, at_start, StaysWithin, AreTokens, IsRefused, kinds, IsTextOf, Either, HasTree, HasGrammarFault, Token}
 use Rattle.ta_syntax.specs.declared.fault.FileFault.TheVariants as fault
 use Rattle.ta_syntax.proofs.LegalTrees.{file_fault}
 use Rattle.ta_syntax.proofs.TextTokens.{texts_have_tokens}

@@ -1,20 +1,9 @@
 -- A text has its tokens in one way, or one first refused byte.
-use Rattle.std.proofs.Common.{◌≡◌, ℕ, Bool, true, false, cond, List, [], ◌∷◌, ◌++◌, length, inl, inr, ⊎_elim, refl, sym, ap, subst, ◌∙◌, arith, ◌+◌}
-use Rattle.std.specs.Prelude.{IsTrue, ◌&&◌, ◌==◌, ◌⊎◌, codes}
-use Rattle.std.specs.Char.{is_ascii_digit}
-use Rattle.std.specs.List.{AllByRecursion}
-use Rattle.std.proofs.lemmas.Bool.Decides.{nat_tests}
-use Rattle.ta_base.proofs.DecimalDigits.{letter_no_digit}
-use Rattle.ta_base.proofs.Lists.{after_same, unlike}
-use Rattle.ta_syntax.specs.Kinds.{is_white, is_lone, mark_bytes, kind_bytes, IsDigits, IsNameText, IsKind, IsKind-prop}
-use Rattle.ta_base.specs.Bytes.{is_letter, is_word, BeginsByLetter}
-use Rattle.ta_syntax.specs.Tokens.{lengthens, IsLongest, IsSpace, IsGap, IsLastGap, ScansTo, AreTokens, begins_mark, IsRefusedHere, IsRefused}
-use Rattle.ta_syntax.specs.Inside.Tokens.{NoToken}
-use Rattle.ta_syntax.specs.declared.tokens.Kind.{Kind}
+use Rattle.ta_syntax.proofs.Common.{◌≡◌, ℕ, Option, Some, None, bytes_eq, Bool, true, false, cond, List, [], ◌∷◌, ◌++◌, length, inl, inr, ⊎_elim, refl, sym, ap, subst, ◌∙◌, arith, ◌+◌, IsTrue, ◌&&◌, ◌==◌, ◌⊎◌, IfSome, is_ascii_digit, AllByRecursion, find, nat_tests, letter_no_digit, after_same, unlike, is_white, is_lone, mark_bytes, kind_bytes, IsDigits, IsNameText, IsKind, IsKind-prop, is_letter, is_word, BeginsByLetter, lengthens, IsLongest, IsSpace, IsGap, IsLastGap, ScansTo, AreTokens, begins_mark, IsRefusedHere, IsRefused, NoToken, Kind, Mark, KEYWORDS, Token}
+use Rattle.std.specs.Prelude.{MatchOption}
+use Rattle.std.proofs.lemmas.Slice.Eq.{bytes_eq-Decides}
 use Rattle.ta_syntax.specs.declared.tokens.Kind.TheVariants as kind
-use Rattle.ta_syntax.specs.declared.tokens.Mark.{Mark}
 use Rattle.ta_syntax.specs.declared.tokens.Mark.TheVariants as mark
-use Rattle.ta_syntax.specs.declared.placed.Token.{Token}
 use Rattle.ta_syntax.proofs.Words.{Fails}
 
 -- ---- the longest run of bytes that pass a test
@@ -55,25 +44,16 @@ all_passed p (x ∷ xs) e = step (p x) refl (λ h. all_passed p xs h) e
     step true h f e = (h, f e)
     step false h f e = absurd cc
 
-abbrev pub same_bytes : List ℕ → List ℕ → Bool
-same_bytes [] [] = true
-same_bytes (a ∷ x) (b ∷ y) = (a == b) && same_bytes x y
-same_bytes _ _ = false
-
 -- the keyword that a word is
-abbrev pub keyword_of : List ℕ → Mark
-keyword_of w =
-    cond (same_bytes w (codes "automaton")) mark.Automaton (cond (same_bytes w (codes "parameters")) mark.Parameters (cond (same_bytes w (codes "shared")) mark.Shared (cond (same_bytes w (codes "locations")) mark.Locations
-    (cond (same_bytes w (codes "initial")) mark.Initial (cond (same_bytes w (codes "processes")) mark.Processes (cond (same_bytes w (codes "resilience")) mark.Resilience (cond (same_bytes w (codes "rule")) mark.Rule
-    (cond (same_bytes w (codes "when")) mark.When (cond (same_bytes w (codes "do")) mark.Do (cond (same_bytes w (codes "pattern")) mark.Pattern (cond (same_bytes w (codes "start")) mark.Start
-    (cond (same_bytes w (codes "empty")) mark.Empty (cond (same_bytes w (codes "event")) mark.Event mark.After)))))))))))))
+abbrev pub keyword_of : List ℕ → Option Mark
+keyword_of w = find (λ m. bytes_eq (mark_bytes m) w) KEYWORDS
 
 -- a keyword
 pub record IsWordMark (m : Mark) : Type 0 where
   pub each : AllByRecursion (λ b. IsTrue (is_word b)) (mark_bytes m)
   pub first : BeginsByLetter (mark_bytes m)
   pub longest : (b : ℕ) → lengthens (kind.Fixed m) b ≡ is_word b
-  pub known : keyword_of (mark_bytes m) ≡ m
+  pub known : keyword_of (mark_bytes m) ≡ Some m
 
 abbrev pub StartsSign : List ℕ → Type 0
 StartsSign [] = ⊥
@@ -112,6 +92,32 @@ mark_is mark.AtMost = inr (record { first = (refl, refl, refl, λ e. omega arith
 mark_is mark.Equal = inr (record { first = (refl, refl, refl, λ e. omega arith); known = λ bs h. refl; begins = λ bs. refl })
 mark_is mark.AtLeast = inr (record { first = (refl, refl, refl, λ e. omega arith); known = λ bs h. refl; begins = λ bs. lone_begins 62 (61 ∷ bs) refl })
 mark_is m = inl (record { each = all_passed is_word (mark_bytes m) refl; first = refl; longest = λ b. refl; known = refl })
+
+-- a sign has no letter in front
+sign_no_letter : (n : List ℕ) → StartsSign n → BeginsByLetter n → ⊥
+sign_no_letter [] s l = l
+sign_no_letter (b ∷ n) s l = let e : is_letter b ≡ false = s.0 in let f : is_letter b ≡ true = l in cc
+
+-- a mark that is spelled as a word is a keyword
+pub of_word : (m : Mark) (word : List ℕ) → mark_bytes m ≡ word → BeginsByLetter word → IsWordMark m
+of_word m word e first = ⊎_elim (λ (w : IsWordMark m). w) (λ (s : IsSignMark m). absurd (sign_no_letter (mark_bytes m) s.first (subst BeginsByLetter (sym e) first))) (mark_is m)
+
+-- what is found among marks is spelled as the word
+found : (word : List ℕ) (ms : List Mark) → IfSome (find (λ m. bytes_eq (mark_bytes m) word) ms) (λ m. mark_bytes m ≡ word)
+found word [] = tt
+found word (m ∷ ms) = step (bytes_eq (mark_bytes m) word) refl (found word ms)
+  where
+    step : (b : Bool) → bytes_eq (mark_bytes m) word ≡ b → IfSome (find (λ m. bytes_eq (mark_bytes m) word) ms) (λ m. mark_bytes m ≡ word) → IfSome (cond b (Some m) (find (λ m. bytes_eq (mark_bytes m) word) ms)) (λ m. mark_bytes m ≡ word)
+    step true e later = (bytes_eq-Decides (mark_bytes m) word).0 e
+    step false e later = later
+
+-- the table has the keyword that a word is, or the word is none
+pub keyword_is : (word : List ℕ) → BeginsByLetter word → MatchOption (keyword_of word) ((m : Mark) → mark_bytes m ≡ word → ⊥) (λ m. mark_bytes m ≡ word)
+keyword_is word first = step (keyword_of word) refl (found word KEYWORDS)
+  where
+    step : (o : Option Mark) → keyword_of word ≡ o → IfSome o (λ m. mark_bytes m ≡ word) → MatchOption o ((m : Mark) → mark_bytes m ≡ word → ⊥) (λ m. mark_bytes m ≡ word)
+    step None e h = λ m spelled. let known : None ≡ Some m = sym e ∙ ap keyword_of (sym spelled) ∙ (of_word m word spelled first).known in absurd cc
+    step (Some m) e h = h
 
 letter_no_gap : (b : ℕ) → IsTrue (is_letter b) → (is_white b ≡ false) × (b ≡ 35 → ⊥)
 letter_no_gap b h = (grind (arith, nat_tests), λ e. grind (arith, nat_tests))
@@ -174,7 +180,7 @@ word_fails : (m : Mark) (x : List ℕ) → IsWordMark m → IsLongest (kind.Fixe
 word_fails m [] w h = tt
 word_fails m (b ∷ x) w h = sym (w.longest b) ∙ h
 
-digits_all : (d : List ℕ) → IsDigits d → AllByRecursion (λ c. IsTrue (is_ascii_digit c)) d
+pub digits_all : (d : List ℕ) → IsDigits d → AllByRecursion (λ c. IsTrue (is_ascii_digit c)) d
 digits_all [] h = absurd h
 digits_all (b ∷ d) h = h
 
@@ -196,7 +202,7 @@ marks_same : (m : Mark) (x : List ℕ) (m' : Mark) (y : List ℕ) → IsLongest 
 marks_same m x m' y long long' e =
     ⊎_elim
     (λ (w : IsWordMark m). ⊎_elim
-    (λ (w' : IsWordMark m'). let u = longest_unique is_word (mark_bytes m) x (mark_bytes m') y w.each (word_fails m x w long) w'.each (word_fails m' y w' long') e in sym w.known ∙ ap keyword_of u.0 ∙ w'.known)
+    (λ (w' : IsWordMark m'). let u = longest_unique is_word (mark_bytes m) x (mark_bytes m') y w.each (word_fails m x w long) w'.each (word_fails m' y w' long') e in let known : Some m ≡ Some m' = sym w.known ∙ ap keyword_of u.0 ∙ w'.known in cc)
     (λ (s' : IsSignMark m'). let a = letter_first (mark_bytes m) x w.first in let b = sign_first (mark_bytes m') y s'.first in absurd (unlike FirstLetter (mark_bytes m ++ x) (mark_bytes m' ++ y) e a.0 b.0))
     (mark_is m'))
     (λ (s : IsSignMark m). ⊎_elim

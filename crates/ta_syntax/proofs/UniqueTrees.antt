@@ -1,19 +1,7 @@
 -- No two trees of the grammar have the same tokens: a token of lookahead decides.
-use Rattle.std.proofs.Common.{◌≡◌, ℕ, Bool, true, false, List, [], ◌∷◌, ◌++◌, refl, sym, ap, subst, ◌∙◌, append_assoc}
-use Rattle.std.specs.List.{AllByRecursion}
-use Rattle.std.proofs.lemmas.List.{append-nil}
-use Rattle.ta_base.proofs.Lists.{tails}
-use Rattle.ta_syntax.specs.Kinds.{IsNameText}
-use Rattle.ta_syntax.specs.Grammar.{Terms, Term, Factor, done, term, number, times, alone, blank, named, nested, sum_kinds, more_kinds, term_kinds, factor_kinds, relation_kind, IsSum, AreTerms, IsTerm, IsFactor, PlainComparison, PlainLocation, PlainUpdate, PlainRule, PlainEvent, PlainPattern, PlainTree, listed, further, led, ended, each, name_kinds, initial_kinds, location_kinds, comparison_kinds, update_kinds, rule_kinds, event_kinds, pattern_kinds, file_kinds, IsSome, IsComparison, IsUpdate, IsRule, IsEvent, IsPattern, IsTree}
-use Rattle.ta_syntax.specs.Reading.{begins_by}
-use Rattle.ta_syntax.specs.Inside.Reading.{is_star, is_operator}
-use Rattle.ta_syntax.specs.ListReading.{extends_item}
-use Rattle.ta_syntax.specs.Inside.ListReading.{extends_list}
-use Rattle.ta_syntax.specs.declared.tokens.Kind.{Kind}
+use Rattle.ta_syntax.proofs.Common.{◌≡◌, ℕ, Bool, true, false, List, [], ◌∷◌, ◌++◌, refl, sym, ap, subst, ◌∙◌, append_assoc, AllByRecursion, append-nil, tails, IsNameText, Terms, Term, Factor, done, term, number, times, alone, blank, named, nested, sum_kinds, more_kinds, term_kinds, factor_kinds, relation_kind, IsSum, AreTerms, IsTerm, IsFactor, PlainComparison, PlainLocation, PlainUpdate, PlainRule, PlainEvent, PlainPattern, PlainTree, listed, further, led, ended, each, name_kinds, initial_kinds, location_kinds, comparison_kinds, update_kinds, rule_kinds, event_kinds, pattern_kinds, file_kinds, IsSome, IsComparison, IsUpdate, IsRule, IsEvent, IsPattern, IsTree, begins_by, is_star, is_operator, extends_item, extends_list, Kind, Mark, Relation}
 use Rattle.ta_syntax.specs.declared.tokens.Kind.TheVariants as kind
-use Rattle.ta_syntax.specs.declared.tokens.Mark.{Mark}
 use Rattle.ta_syntax.specs.declared.tokens.Mark.TheVariants as mark
-use Rattle.ta_syntax.specs.declared.tokens.Relation.{Relation}
 use Rattle.ta_syntax.specs.declared.tokens.Relation.TheVariants as relation
 use Rattle.ta_syntax.specs.declared.sums.Sign.TheVariants as sign
 use Rattle.ta_syntax.proofs.SumSteps.{term_not}

@@ -1,14 +1,5 @@
 -- From the part of a file to the texts of the grammar's trees.
-use Rattle.std.proofs.Common.{ℕ, List, [], ◌∷◌, ◌++◌, refl, sym, ap, subst, ◌∙◌}
-use Rattle.std.proofs.lemmas.List.{append-nil}
-use Rattle.ta_syntax.specs.Grammar.{FileText}
-use Rattle.ta_syntax.specs.Limits.{Counts, at_start, IsDeep, IsMany}
-use Rattle.ta_syntax.specs.Parts.{Text, nothing, both}
-use Rattle.ta_syntax.specs.Inside.Parts.{file_part}
-use Rattle.ta_syntax.specs.Faults.{kinds, IsStopped, IsPast}
-use Rattle.ta_syntax.specs.declared.tokens.Kind.{Kind}
-use Rattle.ta_syntax.specs.declared.placed.Token.{Token}
-use Rattle.ta_syntax.specs.declared.fault.FileFault.{FileFault}
+use Rattle.ta_syntax.proofs.Common.{ℕ, List, [], ◌∷◌, ◌++◌, refl, sym, ap, subst, ◌∙◌, append-nil, FileText, Counts, at_start, IsDeep, IsMany, Text, nothing, both, file_part, kinds, IsStopped, IsPast, Kind, Token, FileFault}
 use Rattle.ta_syntax.specs.declared.fault.FileFault.TheVariants as fault
 use Rattle.ta_syntax.proofs.FileTexts.{file_to, file_from}
 

@@ -1,23 +1,9 @@
 -- A tree within the limits, in plain words, has tokens within the limits.
-use Rattle.std.proofs.Common.{◌≡◌, ℕ, suc, ◌+◌, ◌-◌, ◌<◌, ◌≤◌, Bool, true, false, List, [], ◌∷◌, ◌++◌, length, lit<, refl, sym, ap, subst, ◌∙◌, append_assoc, arith}
-use Rattle.std.specs.List.{AllByRecursion}
-use Rattle.ta_base.proofs.Each.{all_both}
-use Rattle.ta_base.proofs.Lists.{regroup}
+use Rattle.ta_syntax.proofs.Common.{◌≡◌, ℕ, suc, ◌+◌, ◌-◌, ◌<◌, ◌≤◌, Bool, true, false, List, [], ◌∷◌, ◌++◌, length, lit<, refl, sym, ap, subst, ◌∙◌, append_assoc, arith, AllByRecursion, all_both, regroup, Terms, Term, Factor, done, term, number, times, alone, blank, named, nested, sum_kinds, more_kinds, term_kinds, factor_kinds, relation_kind, PlainComparison, PlainRule, PlainEvent, PlainPattern, PlainTree, listed, further, led, ended, each, name_kinds, initial_kinds, location_kinds, comparison_kinds, update_kinds, rule_kinds, event_kinds, pattern_kinds, file_kinds, IsSome, IsEvent, IsPattern, IsTree, sum_depth, term_depth, factor_depth, Counts, at_start, begin_list, after_mark, counted_after, run, StaysWithin, IsShallow, IsRuleWithin, IsEventWithin, IsPatternWithin, IsTreeWithin, HasRoom, MayOpen, IsReady, IsFresh, with_commas, IsEntered, KeptBlock, IsBetweenParts, BeginsListOf, block_count, IsBlock, KeptOthers, with_mark, Kind, Mark}
 use Rattle.ta_base.proofs.Naturals.{left_less}
 use Rattle.ta_syntax.proofs.BuiltTrees.{some_length}
 use Rattle.ta_syntax.proofs.ItemSteps.{may_open}
-use Rattle.ta_syntax.specs.Grammar.{Terms, Term, Factor, done, term, number, times, alone, blank, named, nested, sum_kinds, more_kinds, term_kinds, factor_kinds, relation_kind, PlainComparison, PlainRule, PlainEvent, PlainPattern, PlainTree, listed, further, led, ended, each, name_kinds, initial_kinds, location_kinds, comparison_kinds, update_kinds, rule_kinds, event_kinds, pattern_kinds, file_kinds, IsSome, IsEvent, IsPattern, IsTree}
-use Rattle.ta_syntax.specs.PlainSums.{sum_depth, term_depth, factor_depth}
-use Rattle.ta_syntax.specs.Limits.{Counts, at_start, begin_list, after_mark, counted_after, run, StaysWithin, IsShallow, IsRuleWithin, IsEventWithin, IsPatternWithin, IsTreeWithin}
-use Rattle.ta_syntax.specs.Reading.{HasRoom}
-use Rattle.ta_syntax.specs.Inside.Reading.{MayOpen}
-use Rattle.ta_syntax.specs.ListReading.{IsReady}
-use Rattle.ta_syntax.specs.Inside.ListReading.{IsFresh, with_commas}
-use Rattle.ta_syntax.specs.BlockReading.{IsEntered, KeptBlock}
-use Rattle.ta_syntax.specs.Inside.BlockReading.{IsBetweenParts, BeginsListOf, block_count, IsBlock, KeptOthers, with_mark}
-use Rattle.ta_syntax.specs.declared.tokens.Kind.{Kind}
 use Rattle.ta_syntax.specs.declared.tokens.Kind.TheVariants as kind
-use Rattle.ta_syntax.specs.declared.tokens.Mark.{Mark}
 use Rattle.ta_syntax.specs.declared.tokens.Mark.TheVariants as mark
 use Rattle.ta_syntax.specs.declared.sums.Sign.TheVariants as sign
 use Rattle.ta_syntax.proofs.Steps.{run-append, within-append, Fits, room_fits, room_fits_name, room_fits_number, relation_fits, after_relation, IsPlainMark}
@@ -25,6 +11,7 @@ use Rattle.ta_syntax.proofs.SumExits.{inside, open_fits, may_inside, closed_agai
 use Rattle.ta_syntax.proofs.ClauseSteps.{kept_then, kept_ready, kept_same, leads_list, leads_plain, list_kept, fresh_list}
 use Rattle.ta_syntax.proofs.BlockSteps.{block_fits, entered, others_kept, one_more}
 use Rattle.ta_syntax.proofs.FileTexts.{behind_rule, behind_event, behind_pattern}
+use Rattle.ta_syntax.proofs.RuleSteps.{colon_ready}
 
 -- The tokens take the counts from c to d, and none goes past a limit.
 record Scan (c : Counts) (ks : List Kind) (d : Counts) : Type 0 where
@@ -175,9 +162,6 @@ record BlockScan (m : Mark) (c : Counts) (ks : List Kind) : Type 0 where
 
 abbrev colon : Counts → Counts
 colon c = begin_list 16 c
-
-colon_ready : (m : Mark) (c : Counts) → IsEntered m c → IsReady (colon c)
-colon_ready m c r = record { closed = r.closed; room = lit< tt }
 
 rule_scan : (r : PlainRule) (c : Counts) → IsRuleWithin r → IsEntered mark.Rule c → BlockScan mark.Rule c (behind_rule r)
 rule_scan r c fine e =

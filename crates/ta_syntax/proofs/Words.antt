@@ -1,16 +1,7 @@
 -- The longest run of bytes that pass a test.
-use Rattle.std.proofs.Common.{◌≡◌, ℕ, suc, Bool, true, false, cond, List, [], ◌∷◌, take, drop, refl, sym, arith, ◌+◌}
-use Rattle.std.specs.Char.{is_ascii_digit}
-use Rattle.std.specs.List.{prefix_len}
+use Rattle.ta_syntax.proofs.Common.{◌≡◌, ℕ, suc, Bool, true, false, cond, List, [], ◌∷◌, take, drop, refl, sym, arith, ◌+◌, is_ascii_digit, prefix_len, all_front, begins_word, front_is, IsLongest, BeginsByDigit, TokenFrom, IsDigits, mark_bytes, is_word, BeginsByLetter, Mark}
 use Rattle.std.proofs.lemmas.List.{take-append-drop}
-use Rattle.ta_base.proofs.Each.{all_front}
-use Rattle.ta_base.proofs.Lists.{begins_word, front_is}
-use Rattle.ta_syntax.specs.Tokens.{IsLongest}
-use Rattle.ta_syntax.specs.Inside.Tokens.{BeginsByDigit, TokenFrom}
-use Rattle.ta_syntax.specs.Kinds.{IsDigits, mark_bytes}
-use Rattle.ta_base.specs.Bytes.{is_word, BeginsByLetter}
 use Rattle.ta_syntax.specs.declared.tokens.Kind.TheVariants as kind
-use Rattle.ta_syntax.specs.declared.tokens.Mark.{Mark}
 
 abbrev pub Fails : (ℕ → Bool) → List ℕ → Type 0
 Fails p [] = Unit {0}

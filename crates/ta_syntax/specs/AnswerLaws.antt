@@ -1,5 +1,6 @@
 -- That each text has an answer (this project's profile)
 use Rattle.std.specs.Prelude.{ℕ, ◌≤◌, ◌≡◌, ◌≢◌, ◌⊎◌, List, length}
+use Rattle.ta_base.specs.declared.limits.TheConstants.{FILE_BYTES}
 use Rattle.ta_syntax.specs.Tokens.{AreTokens, IsRefused}
 use Rattle.ta_syntax.specs.Grammar.{PlainTree, IsTree, FileText, file_kinds}
 use Rattle.ta_syntax.specs.Limits.{Counts, at_start, StaysWithin, IsTreeWithin}
@@ -34,7 +35,7 @@ LimitsAgree = (t : PlainTree) → IsTree t → (StaysWithin at_start (file_kinds
 
 -- a text of the grammar within the limits has a tree
 abbrev pub TreesExist : Type 0
-TreesExist = (bytes : List ℕ) (t : PlainTree) → length bytes ≤ 1048576 → IsTextOf bytes t → IsTreeWithin t → (tree : Tree) × IsTreeOf bytes tree × (plain_tree tree ≡ t)
+TreesExist = (bytes : List ℕ) (t : PlainTree) → length bytes ≤ FILE_BYTES → IsTextOf bytes t → IsTreeWithin t → (tree : Tree) × IsTreeOf bytes tree × (plain_tree tree ≡ t)
 
 -- a text has a tree
 abbrev pub HasTree : List ℕ → Type 0
@@ -46,4 +47,4 @@ HasGrammarFault bytes = (e : FileFault) × (e ≢ fault.Memory) × FirstGrammarF
 
 -- a text of at most 1,048,576 bytes has a tree, or a first fault of its tokens or its grammar
 abbrev pub TextsHaveTrees : Type 0
-TextsHaveTrees = (bytes : List ℕ) → length bytes ≤ 1048576 → Either (HasTree bytes) (HasGrammarFault bytes)
+TextsHaveTrees = (bytes : List ℕ) → length bytes ≤ FILE_BYTES → Either (HasTree bytes) (HasGrammarFault bytes)

@@ -21,10 +21,11 @@ use crate::tokens::Mark;
 use crate::tree::{Tree, TreeComparison, TreeLocation, TreePattern, TreeRule};
 use std::alloc::Global;
 use ta_base::List;
+use ta_base::limits::FILE_BYTES;
 
 /// Reads an automaton file.
 pub fn read_tree(alloc: Global, bytes: &[u8]) -> Result<Tree, FileFault>
-    requires { length bytes.now ≤ 1048576 }
+    requires { length bytes.now ≤ FILE_BYTES }
     ensures exact { MatchResult result (λ t. IsTreeOf bytes.now t) (λ e. FirstGrammarFault bytes.now e) }
     ensures alone { IfOk result (λ t. (u : PlainTree) → IsTextOf bytes.now u → u ≡ plain_tree t) }
     ensures only { (t : PlainTree) → IsTextOf bytes.now t → IsTreeWithin t → IfErr result (λ e. e ≡ FileFault.Memory) }

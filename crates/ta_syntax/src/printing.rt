@@ -4,7 +4,6 @@
 ghost use Rattle.std.specs.Prelude.{◌≡◌, ◌∷◌, ◌++◌, [], List, IfOk};
 ghost use Rattle.std.specs.String.{string_bytes};
 ghost use Rattle.ta_syntax.specs.Grammar.{relation_kind, sum_kinds, term_kinds, factor_kinds, listed, led, ended, each, location_kinds, comparison_kinds, update_kinds, rule_kinds, event_kinds, pattern_kinds, file_kinds, name_kinds};
-ghost use Rattle.ta_syntax.specs.Kinds.{mark_bytes};
 ghost use Rattle.ta_syntax.specs.PlainSums.{plain_sum, plain_term, plain_factor};
 ghost use Rattle.ta_syntax.specs.PlainTrees.{plain_location, plain_comparison, plain_update, plain_rule, plain_event, plain_pattern, plain_tree};
 ghost use Rattle.ta_syntax.specs.Printed.{separator, printed};
@@ -12,6 +11,7 @@ ghost use Rattle.ta_syntax.specs.Inside.Printed.{Prints, sign_before, head_kinds
 ghost use Rattle.ta_syntax.specs.declared.tokens.Kind.{Kind};
 ghost use Rattle.ta_syntax.specs.declared.tokens.Mark.{Mark};
 
+use crate::marks::mark_text;
 use crate::names::{Digits, Spelled};
 use crate::sums::{Sign, TreeFactor, TreeSum, TreeTerm};
 use crate::tokens::{Mark, Relation};
@@ -28,46 +28,6 @@ trait Printed {
     /// Prints an item behind what is there.
     fn print(&self, text: &mut String) -> Result<(), AllocError>
         ensures { IfOk result (λ _. Prints (string_bytes text.old) (string_bytes text.new) (spelled self.now)) };
-}
-
-/// How a mark is written.
-fn mark_text(mark: Mark) -> &'static str
-    ensures { result.now ≡ mark_bytes mark }
-{
-    match mark {
-        Mark::Semicolon => ";",
-        Mark::Comma => ",",
-        Mark::Colon => ":",
-        Mark::OpenBrace => "{",
-        Mark::CloseBrace => "}",
-        Mark::Open => "(",
-        Mark::Close => ")",
-        Mark::Star => "*",
-        Mark::Plus => "+",
-        Mark::Minus => "-",
-        Mark::PlusEquals => "+=",
-        Mark::Arrow => "->",
-        Mark::Less => "<",
-        Mark::AtMost => "<=",
-        Mark::Equal => "==",
-        Mark::AtLeast => ">=",
-        Mark::More => ">",
-        Mark::Automaton => "automaton",
-        Mark::Parameters => "parameters",
-        Mark::Shared => "shared",
-        Mark::Locations => "locations",
-        Mark::Initial => "initial",
-        Mark::Processes => "processes",
-        Mark::Resilience => "resilience",
-        Mark::Rule => "rule",
-        Mark::When => "when",
-        Mark::Do => "do",
-        Mark::Pattern => "pattern",
-        Mark::Start => "start",
-        Mark::Empty => "empty",
-        Mark::Event => "event",
-        Mark::After => "after",
-    }
 }
 
 /// What stands behind a mark.

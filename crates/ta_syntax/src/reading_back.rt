@@ -12,10 +12,11 @@ use crate::file::read_tree;
 use crate::printing::print_tree;
 use crate::tree::Tree;
 use std::alloc::Global;
+use ta_base::limits::FILE_BYTES;
 
 /// Prints a tree and reads its text: the same tree, but for offsets.
 pub fn print_then_read(alloc: Global, tree: &Tree) -> Result<Tree, FileFault>
-    requires { length (printed (file_kinds (plain_tree tree.now))) ≤ 1048576 }
+    requires { length (printed (file_kinds (plain_tree tree.now))) ≤ FILE_BYTES }
     ensures { MatchResult result (λ t. plain_tree t ≡ plain_tree tree.now) (λ e. e ≡ FileFault.Memory) }
 {
     let text = print_tree(alloc, tree)?;

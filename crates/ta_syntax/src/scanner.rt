@@ -16,6 +16,7 @@ use std::alloc::{AllocError, Global};
 use ta_base::Text;
 use ta_base::bytes::{is_letter, word_len};
 use ta_base::decimals::digits_len;
+use ta_base::limits::FILE_BYTES;
 
 /// The text of ASCII bytes.
 fn ascii_text(alloc: Global, bytes: &[u8]) -> Result<Text, AllocError>
@@ -71,7 +72,7 @@ fn read_kind(alloc: Global, bytes: &[u8], at: u32) -> Result<(Kind, &[u8]), File
 
 /// The tokens of a text.
 pub fn scan(alloc: Global, bytes: &[u8]) -> Result<Vec<Token>, FileFault>
-    requires { length bytes.now ≤ 1048576 }
+    requires { length bytes.now ≤ FILE_BYTES }
     ensures { MatchResult result (λ v. AreTokens bytes.now v.items) (λ e. ScanStops bytes.now e) }
 {
     let mut tokens = Vec::new(alloc);

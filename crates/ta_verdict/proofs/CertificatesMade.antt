@@ -1,42 +1,22 @@
 -- the text of the trees of safe patterns is a certificate that a judge accepts
-use Rattle.std.proofs.Common.{◌≡◌, ◌∙◌, ℕ, ◌+◌, ◌<◌, ◌≤◌, ◌^◌, suc, List, [], ◌∷◌, ◌++◌, length, map, Option, Some, None, slice_get, refl, sym, ap, subst, append_assoc, arith, codes, decimal, lit≤, lit<}
-use Rattle.std.specs.List.{AllByRecursion}
-use Rattle.std.proofs.lemmas.Option.{slice_get_within}
+use Rattle.ta_verdict.proofs.Common.{◌≡◌, ◌∙◌, ℕ, ◌+◌, ◌<◌, ◌≤◌, ◌^◌, suc, List, [], ◌∷◌, ◌++◌, length, map, Option, Some, None, slice_get, refl, sym, ap, subst, append_assoc, arith, codes, decimal, lit≤, lit<, AllByRecursion, slice_get_within, File, Pattern, LoopsPure, AreWritable, cert_lines, cert_text, head_text, order_lines, pair_of, proof_lines, proof_of, proofs_of, proofs_text, version_of, IsNode, line_text, Node, Order, Proof, RefutedInOrder, Verdict, refuted_safe, orders_once, orders_sound, IsShort, TreeIs, FoundOrders, pattern_search, AreTrees, AreTreesOf, CertificateOf, SafeOne, safe_numbers, safe_ones, tree_size, tree_under, with_safe, ended_line}
 use Rattle.ta_base.proofs.DecimalDigits.{row_short}
 use Rattle.ta_base.proofs.Each.{above_apart, all_of, weaker}
-use Rattle.ta_automaton.specs.declared.file.File.{File}
-use Rattle.ta_automaton.specs.declared.pattern.Pattern.{Pattern}
 use Rattle.ta_base.specs.Lists.{Distinct}
-use Rattle.ta_automaton.specs.Runs.{LoopsPure}
 use Rattle.ta_cert.proofs.Writing.{cert_parts}
-use Rattle.ta_cert.specs.Certificates.{AreWritable, cert_lines, cert_text, head_text, order_lines, pair_of, proof_lines, proof_of, proofs_of, proofs_text, version_of}
 use Rattle.ta_cert.specs.Laws.{AreShort}
-use Rattle.ta_cert.specs.Lines.{IsNode, line_text}
 use Rattle.ta_cert.specs.Streams.{line_limit}
 use Rattle.ta_cert.specs.Tree.{Tree, all_preorder}
 use Rattle.ta_cert.specs.declared.line.Line.{Line}
 use Rattle.ta_cert.specs.declared.line.Line.TheVariants as line
-use Rattle.ta_cert.specs.declared.line.Node.{Node}
-use Rattle.ta_cert.specs.declared.line.Order.{Order}
-use Rattle.ta_cert.specs.declared.line.Proof.{Proof}
 use Rattle.ta_claim.specs.Claims.{search_for}
 use Rattle.ta_claim.specs.declared.claim.Claim.TheVariants.{Safe}
 use Rattle.ta_check.specs.Certificate.{Certificate, ProvesClaim, proof_number}
 use Rattle.ta_check.specs.Subjects.{Subject, claiming}
 use Rattle.ta_check.proofs.Searches.{search_named}
 use Rattle.ta_cursor.specs.Range.{IsJudged}
-use Rattle.ta_encode.specs.InPreorder.{RefutedInOrder}
 use Rattle.ta_encode.specs.Search.{Search}
 use Rattle.ta_encode.proofs.Preorders.{in_order}
-use Rattle.ta_report.specs.declared.verdict.Verdict.{Verdict}
-use Rattle.ta_walk.proofs.ProofsMade.{refuted_safe}
-use Rattle.ta_walk.proofs.OrdersOnce.{orders_once}
-use Rattle.ta_walk.proofs.OrdersSound.{orders_sound}
-use Rattle.ta_walk.specs.Ends.{IsShort, TreeIs}
-use Rattle.ta_walk.specs.FoundOrders.{FoundOrders}
-use Rattle.ta_encode.specs.PatternSearch.{pattern_search}
-use Rattle.ta_verdict.specs.Certificates.{AreTrees, AreTreesOf, CertificateOf, SafeOne, safe_numbers, safe_ones, tree_size, tree_under, with_safe}
-use Rattle.ta_verdict.specs.Drafts.{ended_line}
 
 -- the numbers of those that are safe
 abbrev numbers : List SafeOne → List ℕ

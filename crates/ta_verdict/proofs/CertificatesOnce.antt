@@ -1,17 +1,6 @@
 -- a file has one certificate for a budget
-use Rattle.std.proofs.Common.{◌≡◌, ◌∙◌, List, [], ◌∷◌, ℕ, map, refl, sym, ap, subst}
-use Rattle.ta_automaton.specs.declared.file.File.{File}
-use Rattle.ta_cert.specs.Certificates.{cert_text, pair_of}
-use Rattle.ta_cert.specs.declared.line.Node.{Node}
-use Rattle.ta_cert.specs.declared.line.Order.{Order}
-use Rattle.ta_cert.specs.declared.line.Proof.{Proof}
-use Rattle.ta_encode.specs.PatternSearch.{pattern_search}
-use Rattle.ta_walk.specs.declared.end.WalkEnd.{WalkEnd}
+use Rattle.ta_verdict.proofs.Common.{◌≡◌, ◌∙◌, List, [], ◌∷◌, ℕ, map, refl, sym, ap, subst, File, cert_text, pair_of, Node, Order, Proof, pattern_search, WalkEnd, TreeIs, ends_once, orders_once, AreTrees, CertificatesAreDetermined, IsProofTree, SafeOne, safe_ones}
 use Rattle.ta_walk.specs.declared.end.WalkEnd.TheVariants as walk
-use Rattle.ta_walk.specs.Ends.{TreeIs}
-use Rattle.ta_walk.proofs.DeterminedEnds.{ends_once}
-use Rattle.ta_walk.proofs.OrdersOnce.{orders_once}
-use Rattle.ta_verdict.specs.Certificates.{AreTrees, CertificatesAreDetermined, IsProofTree, SafeOne, safe_ones}
 use Rattle.ta_verdict.proofs.VerdictsOnce.{verdicts_once}
 
 -- a pattern has one tree

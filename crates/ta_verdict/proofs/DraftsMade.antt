@@ -1,24 +1,11 @@
 -- a certificate as it is written
-use Rattle.std.proofs.Common.{◌≡◌, ◌∙◌, ℕ, ◌+◌, ◌<◌, true, List, [], ◌∷◌, ◌++◌, length, take, Option, Some, None, get_or, refl, sym, ap, subst, arith, append_assoc, append-nil}
+use Rattle.ta_verdict.proofs.Common.{◌≡◌, ◌∙◌, ℕ, ◌+◌, ◌<◌, true, List, [], ◌∷◌, ◌++◌, length, take, Option, Some, None, get_or, refl, sym, ap, subst, arith, append_assoc, append-nil, length-take-le, take_more, get_or_from_slice_get, some_at, File, Pattern, nodes_text, proof_text, proofs_text, line_text, node_text, Node, Proof, Verdict, OfPattern, AreTreesOf, SafeOne, safe_ones, tree_size, with_safe, AddsTree, DraftBegins, DraftKeeps, DraftHasTree, HasProofs, HasText, HasTrees, ended_line, pieces_text}
 use Rattle.std.specs.Prelude.{is_some, OnOk, Result, Ok, Err}
 use Rattle.std.specs.declared.alloc.AllocError.{AllocError}
 use Rattle.std.proofs.lemmas.Bool.{false≢true}
-use Rattle.std.proofs.lemmas.List.{length-take-le, take_more}
-use Rattle.std.proofs.lemmas.Option.{get_or_from_slice_get}
-use Rattle.ta_base.proofs.Lists.{some_at}
-use Rattle.ta_automaton.specs.declared.file.File.{File}
-use Rattle.ta_automaton.specs.declared.pattern.Pattern.{Pattern}
-use Rattle.ta_cert.specs.Certificates.{nodes_text, proof_text, proofs_text}
-use Rattle.ta_cert.specs.Lines.{line_text, node_text}
 use Rattle.ta_cert.specs.declared.line.Line.TheVariants as line
-use Rattle.ta_cert.specs.declared.line.Node.{Node}
-use Rattle.ta_cert.specs.declared.line.Proof.{Proof}
-use Rattle.ta_report.specs.declared.verdict.Verdict.{Verdict}
-use Rattle.ta_words.specs.Calls.{OfPattern}
 use Rattle.ta_verdict.specs.declared.draft.Draft.{Draft}
 use Rattle.ta_verdict.specs.declared.pieces.Pieces.{Pieces}
-use Rattle.ta_verdict.specs.Certificates.{AreTreesOf, SafeOne, safe_ones, tree_size, with_safe}
-use Rattle.ta_verdict.specs.Drafts.{AddsTree, DraftBegins, DraftKeeps, DraftHasTree, HasProofs, HasText, HasTrees, ended_line, pieces_text}
 
 nodes_joined : (ns ms : List Node) → nodes_text (ns ++ ms) ≡ nodes_text ns ++ nodes_text ms
 nodes_joined [] ms = refl

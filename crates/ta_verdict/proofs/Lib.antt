@@ -6,3 +6,4 @@ pub mod DraftsMade
 pub mod CertificatesMade
 pub mod CertificatesOnce
 pub mod SamplesMade
+mod Common

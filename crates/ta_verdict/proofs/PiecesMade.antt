@@ -1,7 +1,6 @@
 -- pieces of a text
-use Rattle.std.proofs.Common.{◌≡◌, ◌∙◌, ℕ, List, [], ◌∷◌, ◌++◌, ap, append_assoc, append-nil}
+use Rattle.ta_verdict.proofs.Common.{◌≡◌, ◌∙◌, ℕ, List, [], ◌∷◌, ◌++◌, ap, append_assoc, append-nil, texts_joined}
 use Rattle.ta_shell.proofs.Joined.{joined_append, joined_more}
-use Rattle.ta_shell.specs.Puts.{texts_joined}
 
 -- the open piece was ended
 pub open_ended : (whole whole' : List (List ℕ)) (last : List ℕ) → whole' ≡ whole ++ last ∷ [] → texts_joined whole' ≡ texts_joined whole ++ last

@@ -1,35 +1,12 @@
 -- what is known of verdicts as they are made and counted
-use Rattle.std.proofs.Common.{◌≡◌, ℕ, suc, ◌+◌, ◌<◌, ◌≤◌, List, [], ◌∷◌, ◌++◌, length, map, reverse, take, arith, refl, sym, ap, subst, ◌∙◌, Some, slice_get, get_or}
-use Rattle.std.proofs.lemmas.List.{length-take-le, take_more}
-use Rattle.std.proofs.lemmas.Option.{get_or_from_slice_get}
-use Rattle.std.specs.List.{AllByRecursion}
-use Rattle.ta_base.proofs.Lists.{some_at}
-use Rattle.ta_automaton.specs.declared.file.File.{File}
-use Rattle.ta_automaton.specs.declared.pattern.Pattern.{Pattern}
-use Rattle.ta_automaton.specs.Runs.{LoopsPure}
-use Rattle.ta_cert.specs.Certificates.{pair_of}
-use Rattle.ta_cert.specs.declared.line.Node.{Node}
-use Rattle.ta_cert.specs.declared.line.Order.{Order}
+use Rattle.ta_verdict.proofs.Common.{◌≡◌, ℕ, suc, ◌+◌, ◌<◌, ◌≤◌, List, [], ◌∷◌, ◌++◌, length, map, reverse, take, arith, refl, sym, ap, subst, ◌∙◌, Some, slice_get, get_or, length-take-le, take_more, get_or_from_slice_get, AllByRecursion, some_at, File, Pattern, LoopsPure, pair_of, Node, Order, OfPattern, Pending, Solution, PlaceKind, IsSpent, NodeOf, SolutionAt, TreeIs, leaf_count, FoundOrders, orders_sound, refuted_safe, ReportKind, Verdict, IsSolution, pattern_search, IsOutOfRangeIn, SafeHolds, SpentHolds, UnderOrders, VerdictHolds, VerdictsHold, place_of}
 use Rattle.ta_implied.specs.Implied.{Good}
-use Rattle.ta_words.specs.Calls.{OfPattern}
 use Rattle.ta_words.proofs.Counts.{legal_under}
-use Rattle.ta_encode.specs.InPreorder.{Pending}
-use Rattle.ta_encode.specs.declared.encoded.Solution.{Solution}
-use Rattle.ta_walk.specs.declared.end.PlaceKind.{PlaceKind}
-use Rattle.ta_walk.specs.Ends.{IsSpent, NodeOf, SolutionAt, TreeIs, leaf_count}
-use Rattle.ta_walk.specs.FoundOrders.{FoundOrders}
 use Rattle.ta_walk.specs.Visit.{IsOutOfRangeAt}
-use Rattle.ta_walk.proofs.OrdersSound.{orders_sound}
-use Rattle.ta_walk.proofs.ProofsMade.{refuted_safe}
 use Rattle.ta_walk.proofs.SpentSplits.{spent_split}
 use Rattle.ta_walk.proofs.WordsSolved.{found_solved}
-use Rattle.ta_report.specs.declared.verdict.ReportKind.{ReportKind}
 use Rattle.ta_report.specs.declared.verdict.ReportKind.TheVariants as kind
-use Rattle.ta_report.specs.declared.verdict.Verdict.{Verdict}
 use Rattle.ta_report.specs.Report.{VerdictFits}
-use Rattle.ta_witness.specs.Witness.{IsSolution}
-use Rattle.ta_encode.specs.PatternSearch.{pattern_search}
-use Rattle.ta_verdict.specs.Verdicts.{IsOutOfRangeIn, SafeHolds, SpentHolds, UnderOrders, VerdictHolds, VerdictsHold, place_of}
 
 -- a fact under the pairs of the orders that are found
 pub under : (file : File) (fact : List (ℕ × ℕ) → Type 0) (orders : List Order) (pairs : List (ℕ × ℕ)) → FoundOrders file.automaton orders → pairs ≡ map pair_of orders → fact pairs → UnderOrders file fact

@@ -1,25 +1,12 @@
 -- a pattern of a file has one verdict for one budget
-use Rattle.std.proofs.Common.{◌≡◌, ◌⊎◌, inl, inr, ◌+◌, ℕ, suc, List, [], ◌∷◌, Some, slice_get, map, refl, sym, ap, subst, ◌∙◌, arith}
-use Rattle.ta_automaton.specs.declared.file.File.{File}
-use Rattle.ta_automaton.specs.declared.pattern.Pattern.{Pattern}
-use Rattle.ta_encode.specs.declared.encoded.Solution.{Solution}
+use Rattle.ta_verdict.proofs.Common.{◌≡◌, ◌⊎◌, inl, inr, ◌+◌, ℕ, suc, List, [], ◌∷◌, Some, slice_get, map, refl, sym, ap, subst, ◌∙◌, arith, File, Pattern, Solution, PlaceKind, WalkEnd, IsWalkEnd, leaf_count, ends_once, Verdict, IsSolution, WitnessOutOfRange, WitnessOf, pair_of, Order, orders_once, HoldsUnder, VerdictHolds, VerdictsAreDetermined, VerdictsHold}
 use Rattle.ta_replay.specs.declared.run.Run.{Run}
 use Rattle.ta_replay.specs.Replays.{ReplayStays}
-use Rattle.ta_walk.specs.declared.end.PlaceKind.{PlaceKind}
 use Rattle.ta_walk.specs.declared.end.PlaceKind.TheVariants as place
-use Rattle.ta_walk.specs.declared.end.WalkEnd.{WalkEnd}
 use Rattle.ta_walk.specs.declared.end.WalkEnd.TheVariants as walk
-use Rattle.ta_walk.specs.Ends.{IsWalkEnd, leaf_count}
-use Rattle.ta_walk.proofs.DeterminedEnds.{ends_once}
 use Rattle.ta_report.specs.declared.verdict.ReportKind.TheVariants as kind
-use Rattle.ta_report.specs.declared.verdict.Verdict.{Verdict}
 use Rattle.ta_report.specs.declared.verdict.Verdict.TheVariants.{Safe, Unsafe, Spent, Overflow}
-use Rattle.ta_witness.specs.Witness.{IsSolution, WitnessOutOfRange, WitnessOf}
 use Rattle.ta_witness.proofs.WitnessOnce.{one_witness}
-use Rattle.ta_cert.specs.Certificates.{pair_of}
-use Rattle.ta_cert.specs.declared.line.Order.{Order}
-use Rattle.ta_walk.proofs.OrdersOnce.{orders_once}
-use Rattle.ta_verdict.specs.Verdicts.{HoldsUnder, VerdictHolds, VerdictsAreDetermined, VerdictsHold}
 use Rattle.ta_verdict.proofs.VerdictsMade.{solution_is}
 
 -- the run of a solution is that of a verdict, in which a replay stays in range, or it leaves the range

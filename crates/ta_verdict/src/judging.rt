@@ -22,6 +22,7 @@ use crate::sampling::report_kind;
 use crate::saying::is_safe;
 use std::alloc::{AllocError, Global};
 use std::thread::Threads;
+use ta_base::limits::MOST_NODES;
 use ta_base::{List, Text};
 use ta_cert::Line;
 use ta_dense::NarrowDictionary;
@@ -51,7 +52,7 @@ pub fn judge_file<R: Threads + Sync>(
     wanted: bool,
 ) -> Result<Judged, AllocError>
     requires some { 0 < nodes }
-    requires limit { nodes ≤ 1000000000 }
+    requires limit { nodes ≤ MOST_NODES }
     ensures verdicts { IfOk result (λ judged. AreVerdicts scoped.now.file nodes judged.verdicts) }
     ensures certificate { wanted ≡ true → IfOk result (λ judged. CertificateOf scoped.now.file nodes judged.verdicts (texts_joined judged.certificate)) }
     ensures accepted { wanted ≡ true → IfOk result (λ judged. Certificate scoped.now.file (texts_joined judged.certificate) (safe_numbers scoped.now.file judged.verdicts)) }
@@ -78,7 +79,7 @@ fn verdicts_on<R: Threads + Sync>(
     draft: &mut Draft,
 ) -> Result<Vec<Verdict>, AllocError>
     requires some { 0 < nodes }
-    requires limit { nodes ≤ 1000000000 }
+    requires limit { nodes ≤ MOST_NODES }
     requires found { FoundOrders scoped.now.file.automaton found.now.list }
     requires same { found.now.orders ≡ map pair_of found.now.list }
     ensures verdicts { IfOk result (λ verdicts. AreVerdicts scoped.now.file nodes verdicts.items) }
@@ -104,7 +105,7 @@ fn next_verdict<R: Threads + Sync>(
     draft: &mut Draft,
 ) -> Result<Verdict, AllocError>
     requires some { 0 < nodes }
-    requires limit { nodes ≤ 1000000000 }
+    requires limit { nodes ≤ MOST_NODES }
     requires exists { pattern < length scoped.now.file.patterns }
     requires found { FoundOrders scoped.now.file.automaton found.now.list }
     requires same { found.now.orders ≡ map pair_of found.now.list }
@@ -134,7 +135,7 @@ fn verdict_on<R: Threads + Sync>(
     draft: &mut Draft,
 ) -> Result<Verdict, AllocError>
     requires some { 0 < nodes }
-    requires limit { nodes ≤ 1000000000 }
+    requires limit { nodes ≤ MOST_NODES }
     requires exists { pattern < length scoped.now.file.patterns }
     requires found { FoundOrders scoped.now.file.automaton found.now.list }
     requires same { found.now.orders ≡ map pair_of found.now.list }

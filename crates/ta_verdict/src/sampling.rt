@@ -6,6 +6,7 @@ ghost use Rattle.ta_verdict.specs.Verdicts.{IsSample, place_of};
 
 use std::alloc::{AllocError, Global};
 use ta_automaton::File;
+use ta_base::limits::MOST_NODES;
 use ta_dense::NarrowDictionary;
 use ta_report::{ReportKind, ReportSample};
 use ta_walk::{PlaceKind, SampleEnd, sample};
@@ -13,7 +14,7 @@ use ta_walk::{PlaceKind, SampleEnd, sample};
 /// A sample of the parameters of a file, within a budget of nodes.
 pub fn sample_of(alloc: Global, file: &File, nodes: u64) -> Result<ReportSample, AllocError>
     requires some { 0 < nodes }
-    requires limit { nodes ≤ 1000000000 }
+    requires limit { nodes ≤ MOST_NODES }
     ensures { IfOk result (IsSample file.now nodes) }
 {
     match sample::<NarrowDictionary>(alloc, file, nodes)? {

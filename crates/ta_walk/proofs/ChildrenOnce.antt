@@ -1,16 +1,6 @@
 -- the children of a word are distinct
-use Rattle.std.proofs.Common.{◌≡◌, inl, inr, ℕ, zero, suc, ◌+◌, ◌-◌, ◌^◌, ◌≤◌, Bool, true, false, cond, List, [], ◌∷◌, ◌++◌, length, map, arith, ◌∙◌}
-use Rattle.std.specs.Prelude.{filter}
-use Rattle.ta_base.proofs.Each.{distinct_append, each_from_in}
-use Rattle.ta_base.proofs.Members.{in_append, in_filter, in_map}
-use Rattle.ta_base.proofs.Ranges.{in_numbers}
-use Rattle.ta_automaton.specs.declared.automaton.Automaton.{Automaton}
-use Rattle.ta_automaton.specs.declared.pattern.Pattern.{Pattern}
-use Rattle.ta_base.specs.Lists.{Distinct}
-use Rattle.ta_base.specs.Masks.{In, numbers_from}
-use Rattle.ta_words.specs.declared.element.Element.{Element}
+use Rattle.ta_walk.proofs.Common.{◌≡◌, inl, inr, ℕ, zero, suc, ◌+◌, ◌-◌, ◌^◌, ◌≤◌, Bool, true, false, cond, List, [], ◌∷◌, ◌++◌, length, map, arith, ◌∙◌, filter, distinct_append, each_from_in, in_append, in_filter, in_map, in_numbers, Automaton, Pattern, Distinct, In, numbers_from, Element, children, is_complete, is_ready, is_standing, may_rise}
 use Rattle.ta_words.specs.declared.element.Element.TheVariants.{Event, Rise, Fall}
-use Rattle.ta_words.specs.Words.{children, is_complete, is_ready, is_standing, may_rise}
 
 -- those of some numbers that pass
 abbrev passed : (ℕ → Element) → (ℕ → Bool) → ℕ → ℕ → List Element

@@ -1,20 +1,8 @@
 -- a search has one end, and so has a walk
-use Rattle.std.proofs.lemmas.Bool.{cases_order}
-use Rattle.std.proofs.lemmas.List.{reverse-reverse}
-use Rattle.std.proofs.Common.{◌≡◌, inl, inr, ℕ, ◌<◌, List, ℤ, length, reverse, arith, refl, sym, ap, ◌∙◌, subst}
-use Rattle.ta_cert.specs.declared.line.Node.{Node}
-use Rattle.ta_words.specs.declared.element.Element.{Element}
-use Rattle.ta_walk.specs.declared.end.PlaceKind.{PlaceKind}
-use Rattle.ta_walk.specs.Visit.{NodeAt, WholeAt, IsOutOfRangeAt}
-use Rattle.ta_walk.specs.Ends.{TreeIs, NodeOf, SolutionAt, IsSpent, Ending, Whole, Solved, Stopped, Left, IsVisitEnding, EndingsAreDetermined, IsWalkEnd, WalksAreDetermined}
+use Rattle.ta_walk.proofs.Common.{cases_order, reverse-reverse, ◌≡◌, inl, inr, ℕ, ◌<◌, List, ℤ, length, reverse, arith, refl, sym, ap, ◌∙◌, subst, Node, Element, PlaceKind, NodeAt, WholeAt, IsOutOfRangeAt, TreeIs, NodeOf, SolutionAt, IsSpent, Ending, Whole, Solved, Stopped, Left, IsVisitEnding, EndingsAreDetermined, IsWalkEnd, WalksAreDetermined, Automaton, Pattern, Pending, Search, pattern_search, WalkEnd}
 use Rattle.ta_walk.proofs.DeterminedNodes.{whole_once, whole_is_no_node, leaving_is_no_node, leaving_is_not_whole, leaving_once}
 use Rattle.ta_walk.proofs.DeterminedVisits.{tree_once, word_of_tree, word_once, node_at_word}
-use Rattle.ta_automaton.specs.declared.automaton.Automaton.{Automaton}
-use Rattle.ta_automaton.specs.declared.pattern.Pattern.{Pattern}
 use Rattle.ta_encode.specs.declared.encoded.Solution.{Solution}
-use Rattle.ta_encode.specs.Search.{Pending, Search}
-use Rattle.ta_encode.specs.PatternSearch.{pattern_search}
-use Rattle.ta_walk.specs.declared.end.WalkEnd.{WalkEnd}
 use Rattle.ta_walk.specs.declared.end.WalkEnd.TheVariants.{Refuted, Found, Spent, Overflow}
 
 -- where a fact holds of a word, no node stands at it

@@ -1,16 +1,10 @@
 -- at a word stands one node, or it is whole, or a number leaves the range
-use Rattle.std.proofs.Common.{◌≡◌, ℕ, List, ap, ◌∙◌, refl, subst, ℤ}
+use Rattle.ta_walk.proofs.Common.{◌≡◌, ℕ, List, ap, ◌∙◌, refl, subst, ℤ, Node, LeafStays, Fraction, PlaceKind, SplitsAt, AreNumbers, NodeAt, WholeAt, IsOutOfRangeAt, SplitVertex, Pending, Search, bounded_rows}
 use Rattle.ta_base.proofs.Booleans.{not_open}
-use Rattle.ta_cert.specs.declared.line.Node.{Node}
 use Rattle.ta_cert.specs.declared.line.Node.TheVariants as node
-use Rattle.ta_cursor.specs.Range.{LeafStays}
-use Rattle.ta_simplex.specs.declared.fraction.Fraction.{Fraction}
-use Rattle.ta_walk.specs.declared.end.PlaceKind.{PlaceKind}
 use Rattle.ta_walk.specs.declared.end.PlaceKind.TheVariants as kind
-use Rattle.ta_walk.specs.Visit.{SplitsAt, AreNumbers, NodeAt, WholeAt, IsOutOfRangeAt, SplitVertex}
 use Rattle.ta_walk.proofs.DeterminedOutcomes.{multipliers_at, values_at, no_vertex, counts_at, no_overflow_refuted, no_overflow_vertex}
 use Rattle.ta_walk.proofs.DeterminedValues.{SameSplit, split_once, numbers_once, whole_has_no_split}
-use Rattle.ta_encode.specs.Search.{Pending, Search, bounded_rows}
 
 split_same : (s : Search) (w : Pending) (x y : ℕ) (k n : ℤ) → SplitVertex s w x k → SplitVertex s w y n → SameSplit x y k n
 split_same s w x y k n h g =

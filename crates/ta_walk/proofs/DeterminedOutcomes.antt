@@ -1,17 +1,6 @@
 -- a word's system has one outcome: multipliers, values, or the count of a pivot that leaves the range
-use Rattle.std.proofs.Common.{◌≡◌, ℕ, List, [], ◌∷◌, sym, ◌∙◌, ℤ}
-use Rattle.ta_linear.specs.declared.row.Row.{Row}
-use Rattle.ta_linear.specs.declared.row.System.{System}
-use Rattle.ta_encode.specs.Code.{IsRowOf, AreRowsOf, SystemAt}
-use Rattle.ta_encode.specs.System.{LinearRow}
-use Rattle.ta_encode.specs.Search.{Pending, Search, bounded_rows}
-use Rattle.ta_dense.specs.Slack.{slack_tableau}
+use Rattle.ta_walk.proofs.Common.{◌≡◌, ℕ, List, [], ◌∷◌, sym, ◌∙◌, ℤ, Row, System, IsRowOf, AreRowsOf, SystemAt, LinearRow, Pending, Search, bounded_rows, slack_tableau, SameRow, RowsAlike, SameNumbers, OverflowsAt, Fraction, end_once, none_beside, first_once, OfSystem, RefutedAt, VertexAt}
 use Rattle.ta_simplex.specs.declared.End.TheVariants as end
-use Rattle.ta_simplex.specs.Laws.{SameRow, RowsAlike, SameNumbers}
-use Rattle.ta_simplex.specs.LeastIndex.{OverflowsAt}
-use Rattle.ta_simplex.specs.declared.fraction.Fraction.{Fraction}
-use Rattle.ta_simplex.proofs.DeterminedEnds.{end_once, none_beside, first_once}
-use Rattle.ta_walk.specs.Visit.{OfSystem, RefutedAt, VertexAt}
 
 row_same : (l : LinearRow) (r q : Row) → IsRowOf l r → IsRowOf l q → SameRow r q
 row_same l r q is are = record { constant = is.constant ∙ sym are.constant; coefficients = λ u. is.coefficients u ∙ sym (are.coefficients u) }

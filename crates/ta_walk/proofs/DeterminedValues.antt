@@ -1,13 +1,5 @@
 -- the whole numbers that are values are one list, and so are their split and its floor
-use Rattle.std.proofs.lemmas.Bool.{cases_order}
-use Rattle.std.proofs.Common.{◌≡◌, inl, inr, ℕ, zero, suc, ◌<◌, List, [], ◌∷◌, arith, refl, sym, ◌∙◌, subst, ℤ, pos, ◌+ℤ◌, slice_get}
-use Rattle.std.specs.Prelude.{IsSomeAnd}
-use Rattle.std.proofs.lemmas.Int.{ints}
-use Rattle.std.proofs.Math.IntN.{*ℤ_comm}
-use Rattle.ta_base.proofs.Integers.{cancel_positive, factor_below}
-use Rattle.ta_simplex.proofs.WholeLemmas.{some_both}
-use Rattle.ta_simplex.specs.declared.fraction.Fraction.{Fraction}
-use Rattle.ta_walk.specs.Visit.{IsWholeNumber, IsWhole, IsAbove, SplitsAt, AreNumbers}
+use Rattle.ta_walk.proofs.Common.{cases_order, ◌≡◌, inl, inr, ℕ, zero, suc, ◌<◌, List, [], ◌∷◌, arith, refl, sym, ◌∙◌, subst, ℤ, pos, ◌+ℤ◌, slice_get, IsSomeAnd, ints, *ℤ_comm, cancel_positive, factor_below, some_both, Fraction, IsWholeNumber, IsWhole, IsAbove, SplitsAt, AreNumbers}
 
 number_once : (f : Fraction) (k n : ℤ) → IsWholeNumber k f → IsWholeNumber n f → k ≡ n
 number_once f k n is are = cancel_positive f.bottom k n f.positive (*ℤ_comm f.bottom k ∙ sym is ∙ are ∙ *ℤ_comm n f.bottom)

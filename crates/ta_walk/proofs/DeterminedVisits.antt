@@ -1,11 +1,6 @@
 -- visits from one list of words are one, as far as both go
-use Rattle.std.proofs.lemmas.Bool.{cases_order}
-use Rattle.std.proofs.Common.{◌≡◌, inl, inr, ℕ, ◌<◌, List, [], ◌∷◌, ◌++◌, length, arith, refl, sym, ◌∙◌, subst}
-use Rattle.ta_cert.specs.declared.line.Node.{Node}
-use Rattle.ta_walk.specs.Visit.{NodeAt, Visits}
-use Rattle.ta_walk.specs.Ends.{TreeIs, IsVisited}
+use Rattle.ta_walk.proofs.Common.{cases_order, ◌≡◌, inl, inr, ℕ, ◌<◌, List, [], ◌∷◌, ◌++◌, length, arith, refl, sym, ◌∙◌, subst, Node, NodeAt, Visits, TreeIs, IsVisited, Pending, Search, parts}
 use Rattle.ta_walk.proofs.DeterminedNodes.{node_once}
-use Rattle.ta_encode.specs.Search.{Pending, Search, parts}
 
 -- two visits that are one
 record SameVisit (ns ms : List Node) (left rest : List Pending) : Type 0 where

@@ -1,13 +1,6 @@
 -- the end of a visit behind nodes that lead to the words with which another begins
-use Rattle.std.proofs.lemmas.Bool.Decides.{nat_tests}
-use Rattle.std.proofs.Common.{◌≡◌, ℕ, ◌+◌, ◌-◌, ◌<◌, ◌≤◌, nat_lt, Bool, true, false, cond, List, [], ◌++◌, length, length-append, arith, refl, subst}
-use Rattle.ta_cert.specs.declared.line.Node.{Node}
-use Rattle.ta_encode.specs.Search.{Pending, Search}
-use Rattle.ta_walk.specs.Visit.{IsOutOfRangeAt, Visits}
-use Rattle.ta_walk.specs.Ends.{IsSpent, NodeOf, TreeKept, IsVisited, WholeWord, leaf_count}
-use Rattle.ta_walk.specs.declared.end.TreeEnd.{TreeEnd}
+use Rattle.ta_walk.proofs.Common.{nat_tests, ◌≡◌, ℕ, ◌+◌, ◌-◌, ◌<◌, ◌≤◌, nat_lt, Bool, true, false, cond, List, [], ◌++◌, length, length-append, arith, refl, subst, Node, Pending, Search, IsOutOfRangeAt, Visits, IsSpent, NodeOf, TreeKept, IsVisited, WholeWord, leaf_count, TreeEnd, PartEnds, beginning, behind}
 use Rattle.ta_walk.specs.declared.end.TreeEnd.TheVariants as tree
-use Rattle.ta_walk.specs.Inside.Parts.{PartEnds, beginning, behind}
 use Rattle.ta_walk.proofs.SearchesMoved.{moved_out_of_range, moved_visits, moved_whole}
 use Rattle.ta_walk.proofs.VisitsJoined.{LeftBefore, leaves_added, left_before, left_in_tree, visited_behind, visits_on}
 

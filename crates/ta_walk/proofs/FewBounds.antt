@@ -1,15 +1,6 @@
 -- each node adds at most one bound to the words that it leaves
-use Rattle.std.proofs.Common.{ℕ, ◌+◌, ◌≤◌, List, [], ◌∷◌, ◌++◌, map, suc, length, length-append, arith, sym, subst}
-use Rattle.std.specs.List.{AllByRecursion}
-use Rattle.ta_base.proofs.Each.{each_append}
-use Rattle.ta_cert.specs.declared.line.Node.{Node}
+use Rattle.ta_walk.proofs.Common.{ℕ, ◌+◌, ◌≤◌, List, [], ◌∷◌, ◌++◌, map, suc, length, length-append, arith, sym, subst, AllByRecursion, each_append, Node, Element, Bound, Low, High, Pending, Search, bound_at, bounded, longer, parts, Visits, HasFewBounds}
 use Rattle.ta_cert.specs.declared.line.Node.TheVariants as node
-use Rattle.ta_words.specs.declared.element.Element.{Element}
-use Rattle.ta_encode.specs.declared.meaning.Bound.{Bound}
-use Rattle.ta_encode.specs.declared.meaning.Side.TheVariants.{Low, High}
-use Rattle.ta_encode.specs.Search.{Pending, Search, bound_at, bounded, longer, parts}
-use Rattle.ta_walk.specs.Visit.{Visits}
-use Rattle.ta_walk.specs.Inside.Parts.{HasFewBounds}
 
 few_more : (few more : ℕ) (ws : List Pending) → few ≤ more → AllByRecursion (HasFewBounds few) ws → AllByRecursion (HasFewBounds more) ws
 few_more few more [] h all = tt

@@ -1,8 +1,6 @@
 -- the leaves among nodes
-use Rattle.std.proofs.Common.{◌≡◌, ◌+◌, ◌≤◌, List, [], ◌∷◌, ◌++◌, length, arith}
-use Rattle.ta_cert.specs.declared.line.Node.{Node}
+use Rattle.ta_walk.proofs.Common.{◌≡◌, ◌+◌, ◌≤◌, ◌<◌, ℕ, List, [], ◌∷◌, ◌++◌, length, arith, Node, leaf_count}
 use Rattle.ta_cert.specs.declared.line.Node.TheVariants as node
-use Rattle.ta_walk.specs.Ends.{leaf_count}
 
 pub leaves_more : (ns : List Node) (n : Node) → leaf_count (ns ++ n ∷ []) ≡ leaf_count ns + leaf_count (n ∷ [])
 leaves_more [] n = omega arith
@@ -15,3 +13,6 @@ leaves_few [] = omega arith
 leaves_few (node.Leaf ts ∷ ns) = let rest = leaves_few ns in omega arith
 leaves_few (node.Extend ∷ ns) = let rest = leaves_few ns in omega arith
 leaves_few (node.Split unknown floor ∷ ns) = let rest = leaves_few ns in omega arith
+
+pub leaves_below : (ns : List Node) (count leaves budget : ℕ) → leaves ≡ leaf_count ns → length ns ≡ count → count < budget → budget ≤ 1000000000 → leaves < 1000000000
+leaves_below ns count leaves budget counted done below limit = let few = leaves_few ns in omega arith

@@ -32,3 +32,4 @@ mod FewBounds
 mod WordSoFar
 mod ChildrenOnce
 mod SubtreesApart
+mod Common

@@ -1,16 +1,6 @@
 -- the node at a cursor: its leaf, and its system
-use Rattle.std.proofs.Common.{ℕ, ◌<◌, ◌≤◌, ◌^◌, ℤ, List, length, arith}
+use Rattle.ta_walk.proofs.Common.{ℕ, ◌<◌, ◌≤◌, ◌^◌, ℤ, List, length, arith, AreMultipliers, LeafOf, System, SystemAt, Pending, Search, CheckStays, IsSmall, leaf_stays, check_stays, variables, IsRefuted, LeafAt, LeafOutOfRange}
 use Rattle.ta_simplex.proofs.SlotLemmas.{multipliers-wider}
-use Rattle.ta_linear.specs.Leaf.{AreMultipliers, LeafOf}
-use Rattle.ta_linear.specs.declared.row.System.{System}
-use Rattle.ta_encode.specs.Code.{SystemAt}
-use Rattle.ta_encode.specs.Search.{Pending, Search}
-use Rattle.ta_farkas.specs.Columns.{CheckStays}
-use Rattle.ta_cursor.specs.TreeCalls.{IsSmall}
-use Rattle.ta_cursor.proofs.Ranges.{leaf_stays, check_stays}
-use Rattle.ta_dense.specs.Slack.{variables}
-use Rattle.ta_simplex.specs.Refuted.{IsRefuted}
-use Rattle.ta_walk.specs.Visit.{LeafAt, LeafOutOfRange}
 
 -- the multipliers of a refuted system are those of a list that can be judged
 pub judgeable : (s : System) (ts : List (ℕ × ℤ)) → variables s < 2 ^ 32 → IsRefuted s ts → AreMultipliers 0 (2 ^ 32) ts

@@ -1,24 +1,8 @@
 -- the nodes of a walk are short
-use Rattle.std.proofs.Common.{◌≡◌, ℕ, ◌+◌, ◌*◌, ◌<◌, ◌≤◌, ◌^◌, ℤ, List, [], ◌∷◌, ◌++◌, length, slice_get, Some, arith, length-append, codes, decimal, lit<}
+use Rattle.ta_walk.proofs.Common.{◌≡◌, ℕ, ◌+◌, ◌*◌, ◌<◌, ◌≤◌, ◌^◌, ℤ, List, [], ◌∷◌, ◌++◌, length, slice_get, Some, arith, length-append, codes, decimal, lit<, ints, AllByRecursion, row_short, number_short, Pattern, File, LegalWord, Node, pair_text, pairs_text, split_text, IsMultiplierPair, ArePairs, IsSplit, IsNode, few_multipliers, NodeAt, Visits, HasFewPairs, IsShort, Pending, parts, pattern_search, comes_legal, few_unknowns}
 use Rattle.std.specs.Fmt.{signed_decimal}
-use Rattle.std.proofs.lemmas.Int.{ints}
-use Rattle.std.specs.List.{AllByRecursion}
-use Rattle.ta_base.proofs.DecimalDigits.{row_short}
-use Rattle.ta_base.proofs.Integers.{number_short}
-use Rattle.ta_automaton.specs.declared.pattern.Pattern.{Pattern}
-use Rattle.ta_automaton.specs.declared.file.File.{File}
-use Rattle.ta_words.specs.Words.{LegalWord}
-use Rattle.ta_cert.specs.declared.line.Node.{Node}
 use Rattle.ta_cert.specs.declared.line.Node.TheVariants as node
-use Rattle.ta_cert.specs.Lines.{pair_text, pairs_text, split_text, IsMultiplierPair, ArePairs, IsSplit, IsNode}
-use Rattle.ta_simplex.proofs.FewMultipliers.{few_multipliers}
-use Rattle.ta_walk.specs.Visit.{NodeAt, Visits}
-use Rattle.ta_walk.specs.Ends.{HasFewPairs, IsShort}
 use Rattle.ta_walk.proofs.WordsVisited.{Waits, next_wait}
-use Rattle.ta_encode.specs.Search.{Pending, parts}
-use Rattle.ta_encode.specs.PatternSearch.{pattern_search}
-use Rattle.ta_cursor.proofs.PatternWords.{comes_legal}
-use Rattle.ta_cursor.proofs.RowCounts.{few_unknowns}
 
 -- a pair has at most 51 bytes
 pair_short : (t : ℕ × ℤ) → IsMultiplierPair t → length (pair_text t) ≤ 51

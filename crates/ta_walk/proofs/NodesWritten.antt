@@ -1,20 +1,9 @@
 -- the nodes of a walk can be written
-use Rattle.std.proofs.Common.{ℕ, ◌+◌, ◌<◌, ◌≤◌, ◌^◌, ℤ, List, [], ◌∷◌, length, arith, subst}
-use Rattle.ta_base.proofs.Integers.{below_limit}
-use Rattle.ta_linear.specs.Numbers.{InRange}
-use Rattle.ta_linear.specs.Terms.{coefficient}
-use Rattle.ta_linear.specs.Leaf.{AreMultipliers}
-use Rattle.ta_linear.specs.declared.row.System.{System}
-use Rattle.ta_cert.specs.declared.line.Node.{Node}
+use Rattle.ta_walk.proofs.Common.{ℕ, ◌+◌, ◌<◌, ◌≤◌, ◌^◌, ℤ, List, [], ◌∷◌, length, arith, subst, below_limit, InRange, coefficient, AreMultipliers, System, Node, ArePairs, IsNode, variables, NodeAt, SystemAt, Pending, Search}
 use Rattle.ta_cert.specs.declared.line.Node.TheVariants as node
-use Rattle.ta_cert.specs.Lines.{ArePairs, IsNode}
-use Rattle.ta_dense.specs.Slack.{variables}
-use Rattle.ta_walk.specs.Visit.{NodeAt}
 use Rattle.ta_walk.proofs.TableausInRange.{multipliers_fit}
 use Rattle.ta_walk.proofs.SplitsFit.{split_within, split_fits}
 use Rattle.ta_simplex.proofs.MultiplierCoefficients.{coefficient_first, coefficient_after}
-use Rattle.ta_encode.specs.Code.{SystemAt}
-use Rattle.ta_encode.specs.Search.{Pending, Search}
 
 -- multipliers in range are pairs
 pub are_pairs : (low count : ℕ) (ts : List (ℕ × ℤ)) → count ≤ 2 ^ 32 → AreMultipliers low count ts → ((k : ℕ) → low ≤ k → k < count → InRange (coefficient ts k)) → ArePairs low ts

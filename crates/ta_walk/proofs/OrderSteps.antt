@@ -1,16 +1,5 @@
 -- the steps of the search for orders
-use Rattle.std.proofs.Common.{◌≡◌, inl, inr, ℕ, suc, ◌+◌, ℤ, Bool, false, List, [], ◌∷◌, ◌++◌, length, map, refl, sym, ap, ◌∙◌, subst, arith}
-use Rattle.std.specs.Prelude.{if◌then◌else◌}
-use Rattle.std.proofs.lemmas.Bool.Decides.{nat_tests}
-use Rattle.std.proofs.lemmas.List.{map-append}
-use Rattle.std.specs.List.{AllByRecursion}
-use Rattle.ta_base.proofs.Each.{each_push}
-use Rattle.ta_cert.specs.Certificates.{pair_of}
-use Rattle.ta_cert.specs.declared.line.Order.{Order}
-use Rattle.ta_automaton.specs.declared.automaton.Automaton.{Automaton}
-use Rattle.ta_implied.specs.Orders.{MayJoin, is_earlier, with_pair}
-use Rattle.ta_walk.specs.FoundOrders.{FoundAfter, FoundBefore, IsTaken, RefutedPair}
-use Rattle.ta_walk.specs.Inside.Sought.{ComesFirst, GuardTried, MasksAgree, PairTried}
+use Rattle.ta_walk.proofs.Common.{◌≡◌, inl, inr, ℕ, suc, ◌+◌, ℤ, Bool, false, List, [], ◌∷◌, ◌++◌, length, map, refl, sym, ap, ◌∙◌, subst, arith, if◌then◌else◌, nat_tests, map-append, AllByRecursion, each_push, pair_of, Order, Automaton, MayJoin, is_earlier, with_pair, FoundAfter, FoundBefore, IsTaken, RefutedPair, ComesFirst, GuardTried, MasksAgree, PairTried}
 use Rattle.ta_walk.specs.declared.finding.Sought.{Sought}
 
 -- a pair that comes first stands in front

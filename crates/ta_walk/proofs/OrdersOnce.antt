@@ -1,21 +1,8 @@
 -- the orders that are found are one list
-use Rattle.std.proofs.Common.{◌≡◌, inl, inr, ℕ, zero, suc, ℤ, List, [], ◌∷◌, ◌++◌, length, sym, ap, ◌∙◌, subst}
+use Rattle.ta_walk.proofs.Common.{◌≡◌, inl, inr, ℕ, zero, suc, ℤ, List, [], ◌∷◌, ◌++◌, length, sym, ap, ◌∙◌, subst, System, Automaton, Order, slack_tableau, CheckStays, ImplySystem, LeafOf, OverflowsAt, IsRefuted, IsVertex, Fraction, end_once, none_beside, FoundAfter, FoundBefore, FoundOrdersAreDetermined, RefutedPair, TryAnswers}
 use Rattle.ta_walk.proofs.DeterminedOutcomes.{multipliers_of}
-use Rattle.ta_linear.specs.declared.row.System.{System}
-use Rattle.ta_automaton.specs.declared.automaton.Automaton.{Automaton}
-use Rattle.ta_cert.specs.declared.line.Order.{Order}
-use Rattle.ta_dense.specs.Slack.{slack_tableau}
-use Rattle.ta_farkas.specs.Columns.{CheckStays}
-use Rattle.ta_implied.specs.Implied.{ImplySystem}
-use Rattle.ta_linear.specs.Leaf.{LeafOf}
 use Rattle.ta_simplex.specs.declared.End.TheVariants as end
-use Rattle.ta_simplex.specs.LeastIndex.{OverflowsAt}
-use Rattle.ta_simplex.specs.Refuted.{IsRefuted}
-use Rattle.ta_simplex.specs.Vertex.{IsVertex}
-use Rattle.ta_simplex.specs.declared.fraction.Fraction.{Fraction}
-use Rattle.ta_simplex.proofs.DeterminedEnds.{end_once, none_beside}
 use Rattle.ta_walk.proofs.PairSystems.{check_alike, pair_numbers}
-use Rattle.ta_walk.specs.FoundOrders.{FoundAfter, FoundBefore, FoundOrdersAreDetermined, RefutedPair, TryAnswers}
 
 -- a pair is refuted with one list of multipliers
 pub refuted_once : (a : Automaton) (before after : ℕ) (ts us : List (ℕ × ℤ)) → RefutedPair a before after ts → RefutedPair a before after us → ts ≡ us

@@ -1,21 +1,10 @@
 -- the orders that are found are those that a judge accepts
-use Rattle.std.proofs.Common.{inl, inr, ℕ, zero, suc, ◌<◌, ◌≤◌, ◌^◌, List, [], ◌∷◌, ◌++◌, length, map, sym, subst, arith, codes, decimal, length-append}
-use Rattle.std.proofs.lemmas.List.{map-append}
-use Rattle.ta_base.proofs.DecimalDigits.{row_short}
-use Rattle.ta_base.proofs.Each.{each_push}
-use Rattle.ta_automaton.specs.declared.automaton.Automaton.{Automaton}
-use Rattle.ta_cert.specs.Certificates.{IsOrder, order_lines, pair_of}
+use Rattle.ta_walk.proofs.Common.{inl, inr, ℕ, zero, suc, ◌<◌, ◌≤◌, ◌^◌, List, [], ◌∷◌, ◌++◌, length, map, sym, subst, arith, codes, decimal, length-append, map-append, row_short, each_push, Automaton, IsOrder, order_lines, pair_of, line_text, ArePairs, Order, Good, IsImplied, IsPair, ChainLeads, IsShown, few_multipliers, AreSoundOrders, FoundAfter, FoundBefore, FoundOrdersAreSound, IsTaken, RefutedPair, TryAnswers}
 use Rattle.ta_cert.specs.Laws.{AreShort}
-use Rattle.ta_cert.specs.Lines.{line_text, ArePairs}
 use Rattle.ta_cert.specs.Streams.{line_limit}
 use Rattle.ta_cert.specs.declared.line.Line.TheVariants as line
 use Rattle.ta_cert.specs.declared.line.Node.TheVariants as node
-use Rattle.ta_cert.specs.declared.line.Order.{Order}
-use Rattle.ta_implied.specs.Implied.{Good, IsImplied, IsPair, ChainLeads}
-use Rattle.ta_implied.specs.Orders.{IsShown}
 use Rattle.ta_implied.proofs.Joining.{good_behind}
-use Rattle.ta_simplex.proofs.FewMultipliers.{few_multipliers}
-use Rattle.ta_walk.specs.FoundOrders.{AreSoundOrders, FoundAfter, FoundBefore, FoundOrdersAreSound, IsTaken, RefutedPair, TryAnswers}
 use Rattle.ta_walk.proofs.TableausInRange.{multipliers_fit}
 use Rattle.ta_walk.proofs.PairSystems.{few_of_pair}
 use Rattle.ta_walk.proofs.NodesShort.{pairs_short}

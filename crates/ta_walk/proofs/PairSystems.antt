@@ -1,17 +1,8 @@
 -- the system of a pair of guards: it is small, and its numbers are determined
-use Rattle.std.proofs.Common.{◌≡◌, ℕ, zero, suc, ◌*◌, ◌<◌, ◌≤◌, ◌^◌, ℤ, pos, List, [], ◌∷◌, ◌++◌, length, cond, nat_lt, slice_get, Some, refl, sym, ap, ◌∙◌, subst, arith, length-append}
+use Rattle.ta_walk.proofs.Common.{◌≡◌, ℕ, zero, suc, ◌*◌, ◌<◌, ◌≤◌, ◌^◌, ℤ, pos, List, [], ◌∷◌, ◌++◌, length, cond, nat_lt, slice_get, Some, refl, sym, ap, ◌∙◌, subst, arith, length-append, coefficient, Row, System, Automaton, variables, CheckStays, entry, part_in, RowsAlike, SameNumbers, SameRow, stays_same, AreCopies, ImplySystem, IsCopy, resilience_rows}
 use Rattle.ta_linear.specs.Forms.{IsNegation}
-use Rattle.ta_linear.specs.Terms.{coefficient}
 use Rattle.ta_linear.specs.declared.form.Form.{Form}
-use Rattle.ta_linear.specs.declared.row.Row.{Row}
-use Rattle.ta_linear.specs.declared.row.System.{System}
-use Rattle.ta_automaton.specs.declared.automaton.Automaton.{Automaton}
 use Rattle.ta_automaton.specs.declared.condition.Comparison.{Comparison}
-use Rattle.ta_dense.specs.Slack.{variables}
-use Rattle.ta_farkas.specs.Columns.{CheckStays, entry, part_in}
-use Rattle.ta_simplex.specs.Laws.{RowsAlike, SameNumbers, SameRow}
-use Rattle.ta_cursor.proofs.Ranges.{stays_same}
-use Rattle.ta_implied.specs.Implied.{AreCopies, ImplySystem, IsCopy, resilience_rows}
 use Rattle.ta_implied.specs.Copies.{resilience_of}
 
 copies_count : (rs qs : List Row) → AreCopies rs qs → length rs ≡ length qs

@@ -1,14 +1,6 @@
 -- two parts of a visit, one behind the other
-use Rattle.std.proofs.Common.{◌≡◌, ℕ, ◌≤◌, List, [], ◌∷◌, ◌++◌, refl, sym, subst, append_assoc}
-use Rattle.ta_cert.specs.declared.line.Node.{Node}
-use Rattle.ta_encode.specs.Search.{Pending, Search}
-use Rattle.ta_cursor.specs.Cursors.{left_at}
-use Rattle.ta_cursor.specs.declared.cursor.Cursor.{Cursor}
-use Rattle.ta_walk.specs.Visit.{IsOutOfRangeAt}
-use Rattle.ta_walk.specs.Ends.{IsSpent, IsTreeEnd, NodeOf, TreeKept, IsVisited, WholeWord}
-use Rattle.ta_walk.specs.declared.end.TreeEnd.{TreeEnd}
+use Rattle.ta_walk.proofs.Common.{◌≡◌, ℕ, ◌≤◌, List, [], ◌∷◌, ◌++◌, refl, sym, subst, append_assoc, Node, Pending, Search, left_at, Cursor, IsOutOfRangeAt, IsSpent, IsTreeEnd, NodeOf, TreeKept, IsVisited, WholeWord, TreeEnd, IsLaterKeeper, IsNotRefuted, IsWholeEnd, LeadsToBoth, PartEnds, PartVisited, beginning, behind}
 use Rattle.ta_walk.specs.declared.end.TreeEnd.TheVariants as tree
-use Rattle.ta_walk.specs.Inside.Parts.{IsLaterKeeper, IsNotRefuted, IsWholeEnd, LeadsToBoth, PartEnds, PartVisited, beginning, behind}
 use Rattle.ta_walk.proofs.SearchesMoved.{moved_out_of_range, moved_visits, moved_whole}
 use Rattle.ta_walk.proofs.VisitsJoined.{visits_before}
 use Rattle.ta_walk.proofs.EndsBehind.{LeadsTo, end_behind}

@@ -1,27 +1,24 @@
--- the nodes of a walk that refutes a pattern are a proof of it
-use Rattle.std.proofs.Common.{◌≡◌, ℕ, ◌+◌, ◌≤◌, List, [], ◌∷◌, ◌++◌, length, Some, slice_get, arith, sym}
-use Rattle.std.specs.List.{AllByRecursion}
-use Rattle.ta_automaton.specs.declared.file.File.{File}
-use Rattle.ta_cert.specs.declared.line.Node.{Node}
+-- Why a walk that ends without a solution is a proof: its nodes, in the order of visiting, refute the pattern.
+--
+-- A search is a list of words, each with bounds on its unknowns. At each node the walk takes the first of them and solves
+-- its system over the fractions. Where that has no solution, the solver's multipliers make a leaf, and the word is done.
+-- Where it has one and the word isn't complete, the words that are longer by one element take its place. Where the word is
+-- complete and an unknown of the solution isn't whole, the word stands twice from there on, once with that unknown at most
+-- the whole number below and once above it. Where all are whole the walk ends: the solution becomes a run (ta_witness).
+-- What is kept along the walk (`WordSoFar`) is that the nodes behind it and the words before it make up the search: nodes
+-- visited refute what has been left out. When no word is left, they refute all, in the order in which the judge reads.
+-- Words have at most as many bounds as nodes have been visited, so a budget below 2 ^ 32 keeps each number of a node in
+-- its range and each line short; and the walk ends, since each node takes one from the budget.
+use Rattle.ta_walk.proofs.Common.{◌≡◌, ℕ, ◌+◌, ◌≤◌, List, [], ◌∷◌, ◌++◌, length, Some, slice_get, arith, sym, AllByRecursion, File, Node, IsNode, leaf_of, NodeAt, Visits, IsProof, RefutedPatternsAreSafe, TreeIs, Pattern, Pending, Search, parts, all_starts, pattern_search, IsJudged, comes_legal, is_small}
 use Rattle.ta_cert.specs.declared.line.Node.TheVariants as node
-use Rattle.ta_cert.specs.Lines.{IsNode}
-use Rattle.ta_encode.proofs.CodeRows.{leaf_of}
 use Rattle.ta_encode.proofs.Preorders.{in_order, weaker_proof}
 use Rattle.ta_encode.proofs.Theorems.{safety}
-use Rattle.ta_walk.specs.Visit.{NodeAt, Visits}
-use Rattle.ta_walk.specs.Ends.{IsProof, RefutedPatternsAreSafe, TreeIs}
 use Rattle.ta_walk.proofs.WordsVisited.{Waits, starts_wait, next_wait}
 use Rattle.ta_walk.proofs.NodesWritten.{node_written}
 use Rattle.ta_walk.proofs.SplitsFit.{split_within}
 use Rattle.ta_walk.proofs.NodesShort.{nodes_few, nodes_short}
-use Rattle.ta_automaton.specs.declared.pattern.Pattern.{Pattern}
 use Rattle.ta_encode.specs.Refutes.{IsLeaf}
 use Rattle.ta_encode.specs.InPreorder.{MayStand, RefutedInOrder}
-use Rattle.ta_encode.specs.Search.{Pending, Search, parts}
-use Rattle.ta_encode.specs.PatternSearch.{all_starts, pattern_search}
-use Rattle.ta_cursor.specs.Range.{IsJudged}
-use Rattle.ta_cursor.proofs.PatternWords.{comes_legal}
-use Rattle.ta_cursor.proofs.RowCounts.{is_small}
 use Rattle.ta_walk.proofs.Nodes.{few_variables}
 
 may_stand : (s : Search) (w : Pending) (n : Node) → NodeAt s w n → MayStand s (IsJudged s) w n

@@ -1,17 +1,7 @@
 -- lists of words with which trees begin
-use Rattle.std.proofs.lemmas.List.{append_assoc, append-nil, map-append, take-append-drop}
-use Rattle.std.proofs.Common.{◌≡◌, ℕ, ◌<◌, ◌≤◌, ◌^◌, List, [], ◌∷◌, ◌++◌, length, length-append, map, drop, take, reverse, slice_get, Some, None, arith, refl, sym, ap, ◌∙◌, subst}
-use Rattle.std.specs.List.{AllByRecursion}
-use Rattle.ta_base.proofs.Each.{each_push}
-use Rattle.ta_base.proofs.Lists.{next_dropped, none_dropped}
-use Rattle.ta_base.proofs.Members.{in_at}
-use Rattle.ta_encode.specs.Search.{Pending, Search}
-use Rattle.ta_cursor.specs.TreeCalls.{RootIs}
-use Rattle.ta_cursor.specs.Cursors.{IsAtRoot, Within, left_at}
-use Rattle.ta_cursor.specs.declared.cursor.Cursor.{Cursor}
+use Rattle.ta_walk.proofs.Common.{map-append, take-append-drop, ◌≡◌, ℕ, ◌<◌, ◌≤◌, ◌^◌, List, [], ◌∷◌, ◌++◌, length, length-append, map, drop, take, reverse, slice_get, Some, None, arith, refl, sym, ap, ◌∙◌, subst, AllByRecursion, each_push, next_dropped, none_dropped, in_at, Pending, Search, RootIs, IsAtRoot, Within, left_at, Cursor, at_word, comes_first, ComesTo, HasFewBounds, HasFewLeft, root_word}
+use Rattle.std.proofs.lemmas.List.{append_assoc, append-nil}
 use Rattle.ta_cursor.specs.declared.root.Root.{Root}
-use Rattle.ta_cursor.proofs.Beginning.{at_word, comes_first}
-use Rattle.ta_walk.specs.Inside.Parts.{ComesTo, HasFewBounds, HasFewLeft, root_word}
 use Rattle.ta_walk.proofs.WordSoFar.{pending_is}
 
 -- the search comes to a word with which it begins

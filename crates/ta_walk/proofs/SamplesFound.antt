@@ -1,30 +1,8 @@
 -- what the ends of the search for a sample say
-use Rattle.std.proofs.Common.{◌≡◌, ℕ, zero, suc, ◌+◌, ◌*◌, ◌^◌, ◌<◌, ◌≤◌, ℤ, pos, negsuc, ◌*ℤ◌, ◌<ℤ◌, List, [], ◌∷◌, map, take, length, length-append, refl, sym, ap, ◌∙◌, subst, arith, slice_get}
-use Rattle.std.specs.Prelude.{IsSomeAnd, unsigned_abs}
-use Rattle.std.proofs.lemmas.Int.{ints}
-use Rattle.std.proofs.lemmas.List.{length-map}
-use Rattle.std.specs.List.{take-map, AllByRecursion}
-use Rattle.ta_base.proofs.Each.{first_ones}
-use Rattle.ta_linear.specs.Numbers.{InRange}
-use Rattle.ta_linear.specs.declared.row.System.{System}
-use Rattle.ta_automaton.specs.declared.automaton.Automaton.{Automaton}
-use Rattle.ta_encode.specs.Code.{SystemAt}
-use Rattle.ta_encode.specs.Sample.{HasStart, sample_meanings, sample_rows, sample_search, sampled}
-use Rattle.ta_encode.specs.Search.{Pending, SolvesAt, bounded_rows}
-use Rattle.ta_encode.specs.declared.meaning.Bound.{Bound}
-use Rattle.ta_encode.specs.System.{bound_row, condition_rows, opposite, processes_row}
-use Rattle.ta_encode.proofs.CodeRows.{rows_count}
+use Rattle.ta_walk.proofs.Common.{◌≡◌, ℕ, zero, suc, ◌+◌, ◌*◌, ◌^◌, ◌<◌, ◌≤◌, ℤ, pos, negsuc, ◌*ℤ◌, ◌<ℤ◌, List, [], ◌∷◌, map, take, length, length-append, refl, sym, ap, ◌∙◌, subst, arith, slice_get, IsSomeAnd, unsigned_abs, ints, length-map, take-map, AllByRecursion, first_ones, InRange, System, Automaton, SystemAt, HasStart, sample_meanings, sample_rows, sample_search, sampled, Pending, SolvesAt, bounded_rows, Bound, bound_row, condition_rows, opposite, processes_row, rows_count, none_starts, sample_few, samples_start, condition_few, IsJudged, Fraction, SampleEnd, Ending, IsVisitEnding, IsSampleEnd, SampleAt, SampleEndsAreDetermined, SampleFound, SampleRefuted, SamplesAreReal, AreNumbers, IsWholeNumber, WholeAt}
 use Rattle.ta_encode.proofs.Moments.{AllHold-append, AllHold-left}
-use Rattle.ta_encode.proofs.Samples.{none_starts, sample_few, samples_start}
-use Rattle.ta_cursor.proofs.RowCounts.{condition_few}
-use Rattle.ta_cursor.specs.Range.{IsJudged}
-use Rattle.ta_simplex.specs.declared.fraction.Fraction.{Fraction}
-use Rattle.ta_walk.specs.declared.end.SampleEnd.{SampleEnd}
 use Rattle.ta_walk.specs.declared.end.SampleEnd.TheVariants.{Sample, Empty, Spent, Overflow}
-use Rattle.ta_walk.specs.Ends.{Ending, IsVisitEnding}
 use Rattle.ta_walk.specs.Ends.Ending.{Whole, Solved, Stopped, Left}
-use Rattle.ta_walk.specs.Samples.{IsSampleEnd, SampleAt, SampleEndsAreDetermined, SampleFound, SampleRefuted, SamplesAreReal}
-use Rattle.ta_walk.specs.Visit.{AreNumbers, IsWholeNumber, WholeAt}
 use Rattle.ta_walk.proofs.DeterminedEnds.{endings_once, node_with}
 use Rattle.ta_walk.proofs.ProofsMade.{refuted_in_order}
 use Rattle.ta_walk.proofs.SplitsFit.{vertex_in_range}

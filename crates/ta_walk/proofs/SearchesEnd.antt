@@ -1,35 +1,14 @@
 -- A search whose words have systems ends.
-use Rattle.std.proofs.Common.{◌≡◌, ◌⊎◌, inl, inr, ℕ, zero, suc, ◌+◌, ◌<◌, ℤ, pos, negsuc, Bool, true, false, List, [], ◌∷◌, ◌++◌, length, length-append, map, slice_get, arith, refl, sym, subst, ◌∙◌}
-use Rattle.std.specs.Prelude.{IsSomeAnd}
-use Rattle.std.specs.Int.{int_div_euclid, int_rem_euclid}
-use Rattle.std.proofs.lemmas.Bool.{true≢false}
-use Rattle.std.proofs.lemmas.Int.{ints}
-use Rattle.std.specs.List.{AllByRecursion}
-use Rattle.ta_base.proofs.Each.{each_append}
-use Rattle.ta_base.proofs.Integers.{floor_high, floor_low}
-use Rattle.ta_linear.specs.declared.row.System.{System}
-use Rattle.ta_base.specs.Masks.{In}
-use Rattle.ta_cert.specs.declared.line.Node.{Node}
+use Rattle.ta_walk.proofs.Common.{◌≡◌, ◌⊎◌, inl, inr, ℕ, zero, suc, ◌+◌, ◌<◌, ℤ, pos, negsuc, Bool, true, false, List, [], ◌∷◌, ◌++◌, length, length-append, map, slice_get, arith, refl, sym, subst, ◌∙◌, IsSomeAnd, int_div_euclid, int_rem_euclid, true≢false, ints, AllByRecursion, each_append, floor_high, floor_low, System, In, Node, Element, Bound, Low, High, SystemAt, Pending, Search, Comes, bound_at, bounded, longer, parts, comes_first, Fraction, end_exists, HasSystems, HasEnding, SearchesHaveEnds, Whole, Solved, Stopped, Left, IsUnbounded, IsVisited, AreNumbers, IsAbove, IsWhole, NodeAt, SplitsAt, Visits}
 use Rattle.ta_cert.specs.declared.line.Node.TheVariants as node
-use Rattle.ta_words.specs.declared.element.Element.{Element}
-use Rattle.ta_encode.specs.declared.meaning.Bound.{Bound}
 use Rattle.ta_encode.specs.declared.meaning.Side.{Side}
-use Rattle.ta_encode.specs.declared.meaning.Side.TheVariants.{Low, High}
-use Rattle.ta_encode.specs.Code.{SystemAt}
 use Rattle.ta_encode.specs.Lines.{BoundWithin, BoundsWithin}
-use Rattle.ta_encode.specs.Search.{Pending, Search, Comes, bound_at, bounded, longer, parts}
-use Rattle.ta_cursor.proofs.Beginning.{comes_first}
 use Rattle.ta_simplex.specs.Answers.{HasEnd, RunOverflows}
 use Rattle.ta_simplex.specs.Ends.{IsEnd as IsSystemEnd}
 use Rattle.ta_simplex.specs.declared.End.{End}
 use Rattle.ta_simplex.specs.declared.End.TheVariants as end
-use Rattle.ta_simplex.specs.declared.fraction.Fraction.{Fraction}
 use Rattle.ta_simplex.proofs.RunEndings.{run_ends}
-use Rattle.ta_simplex.proofs.SystemEnds.{end_exists}
 use Rattle.ta_walk.specs.declared.end.PlaceKind.TheVariants as kind
-use Rattle.ta_walk.specs.Answers.{HasSystems, HasEnding, SearchesHaveEnds}
-use Rattle.ta_walk.specs.Ends.{Whole, Solved, Stopped, Left, IsUnbounded, IsVisited}
-use Rattle.ta_walk.specs.Visit.{AreNumbers, IsAbove, IsWhole, NodeAt, SplitsAt, Visits}
 use Rattle.ta_walk.proofs.SplitsFit.{split_within, split_floor}
 use Rattle.ta_walk.proofs.Vertices.{rest_above, rest_whole}
 use Rattle.ta_walk.proofs.WalkSoFar.{visits_more}

@@ -1,17 +1,7 @@
 -- searches that differ in the words with which they begin alone have the same nodes
-use Rattle.std.proofs.Common.{◌≡◌, ℤ, List, [], ◌∷◌, ◌++◌, refl, subst}
-use Rattle.ta_linear.specs.declared.row.System.{System}
-use Rattle.ta_cert.specs.declared.line.Node.{Node}
+use Rattle.ta_walk.proofs.Common.{◌≡◌, ℤ, List, [], ◌∷◌, ◌++◌, refl, subst, System, Node, Pending, Search, parts, OverflowsAt, IsRefuted, IsVertex, slack_tableau, PlaceKind, IsOutOfRangeAt, NodeAt, OfSystem, Visits, WholeAt, beginning}
 use Rattle.ta_cert.specs.declared.line.Node.TheVariants as node
-use Rattle.ta_encode.specs.Search.{Pending, Search, parts}
-use Rattle.ta_simplex.specs.LeastIndex.{OverflowsAt}
-use Rattle.ta_simplex.specs.Refuted.{IsRefuted}
-use Rattle.ta_simplex.specs.Vertex.{IsVertex}
-use Rattle.ta_dense.specs.Slack.{slack_tableau}
-use Rattle.ta_walk.specs.declared.end.PlaceKind.{PlaceKind}
 use Rattle.ta_walk.specs.declared.end.PlaceKind.TheVariants as kind
-use Rattle.ta_walk.specs.Visit.{IsOutOfRangeAt, NodeAt, OfSystem, Visits, WholeAt}
-use Rattle.ta_walk.specs.Inside.Parts.{beginning}
 
 moved_system : (s : Search) (us vs : List Pending) (w : Pending) (fact : System → Type 0) → OfSystem (beginning s us) w fact → OfSystem (beginning s vs) w fact
 moved_system s us vs w fact of = record {

@@ -1,27 +1,7 @@
 -- a budget that is large enough for the words is spent only where a node was split
-use Rattle.std.proofs.Common.{◌≡◌, inl, inr, ℕ, zero, suc, ◌+◌, ◌<◌, ◌≤◌, ◌^◌, Bool, List, [], ◌∷◌, ◌++◌, length, length-append, map, slice_get, Some, arith, refl, sym, ap, ◌∙◌, subst}
-use Rattle.std.proofs.lemmas.List.{length-map}
-use Rattle.std.specs.List.{AllByRecursion}
-use Rattle.ta_base.proofs.Each.{each_from_in, each_in}
-use Rattle.ta_base.proofs.Members.{In-left, In-map, In-right, in_append, in_map}
-use Rattle.ta_base.proofs.Ranges.{In-numbers, in_numbers}
-use Rattle.ta_automaton.specs.declared.automaton.Automaton.{Automaton}
-use Rattle.ta_automaton.specs.declared.file.File.{File}
-use Rattle.ta_automaton.specs.declared.pattern.Pattern.{Pattern}
-use Rattle.ta_base.specs.Lists.{Distinct}
-use Rattle.ta_base.specs.Masks.{In, numbers_from}
-use Rattle.ta_cert.specs.declared.line.Node.{Node}
-use Rattle.ta_words.specs.declared.element.Element.{Element}
-use Rattle.ta_words.specs.Words.{LegalUnder, children}
+use Rattle.ta_walk.proofs.Common.{◌≡◌, inl, inr, ℕ, zero, suc, ◌+◌, ◌<◌, ◌≤◌, ◌^◌, Bool, List, [], ◌∷◌, ◌++◌, length, map, slice_get, Some, arith, refl, sym, ap, ◌∙◌, subst, length-map, AllByRecursion, each_from_in, each_in, no_more, In-left, In-map, In-right, in_map, In-numbers, in_numbers, Automaton, File, Pattern, Distinct, In, numbers_from, Node, Element, LegalUnder, children, all_starts, empty_word, pattern_search, Comes, Pending, Search, parts, LinearRow, comes_legal, IsSpent, IsVisited, HasAtMost, HasSplit, SpentNeedsSplits, WasSplit, Visits}
 use Rattle.ta_words.proofs.Counts.{legal_length, legal_under}
 use Rattle.ta_words.proofs.Lists.{events_named}
-use Rattle.ta_encode.specs.PatternSearch.{all_starts, empty_word, pattern_search}
-use Rattle.ta_encode.specs.Search.{Comes, Pending, Search, parts}
-use Rattle.ta_encode.specs.System.{LinearRow}
-use Rattle.ta_cursor.proofs.PatternWords.{comes_legal}
-use Rattle.ta_walk.specs.Ends.{IsSpent, IsVisited}
-use Rattle.ta_walk.specs.Splits.{HasAtMost, HasSplit, SpentNeedsSplits, WasSplit}
-use Rattle.ta_walk.specs.Visit.{Visits}
 use Rattle.ta_walk.proofs.ChildrenOnce.{children_once}
 use Rattle.ta_walk.proofs.DeterminedVisits.{word_once}
 use Rattle.ta_walk.proofs.SubtreesApart.{AllApart, Branches, IsPlain, UnderSome, mark, marks, not_again, parts_apart, split_or_plain, under_before, under_here, under_start}
@@ -70,29 +50,6 @@ marks_come s most ws [] all t h =
 marks_come s most [] (n ∷ ns) all t h = absurd h
 marks_come s most (w ∷ ws) (n ∷ ns) all t (inl e) = subst (λ (m : ℕ × List Element). Comes s m.0 m.1) (sym e) all.0.comes
 marks_come s most (w ∷ ws) (n ∷ ns) all t (inr h) = marks_come s (most + 1) (parts s w n ++ ws) ns (next_wait s most w ws n all) t h
-
--- a list, cut at one of its items
-record CutAt {X : Type 0} (x : X) (ys : List X) : Type 0 where
-  pub front : List X
-  pub back : List X
-  pub is : ys ≡ front ++ x ∷ back
-
-cut_at : {X : Type 0} (x : X) (ys : List X) → In x ys → CutAt x ys
-cut_at x [] h = absurd h
-cut_at x (y ∷ ys) (inl e) = record { front = []; back = ys; is = ap (λ z. z ∷ ys) (sym e) }
-cut_at x (y ∷ ys) (inr h) = (let c = cut_at x ys h in record { front = y ∷ c.front; back = c.back; is = ap (λ zs. y ∷ zs) c.is })
-
--- distinct items of a list are no more than its items
-no_more : {X : Type 0} (xs ys : List X) → Distinct xs → ((x : X) → In x xs → In x ys) → length xs ≤ length ys
-no_more [] ys d inside = omega arith
-no_more (x ∷ xs) ys d inside =
-    let c = cut_at x ys (inside x (inl refl)) in
-    let rest = no_more xs (c.front ++ c.back) d.1 (λ z h. elim (in_append z c.front (x ∷ c.back) (subst (In z) c.is (inside z (inr h)))) [
-      | inl g ↦ In-left z c.front c.back g
-      | inr (inl e) ↦ absurd (each_in (λ y. x ≡ y → ⊥) xs z d.0 h (sym e))
-      | inr (inr g) ↦ In-right z c.front c.back g
-    ]) in
-    omega (arith, rest, ap length c.is, length-append c.front c.back, length-append c.front (x ∷ c.back))
 
 starts_from : (k n : ℕ) → AllApart (map empty_word (numbers_from k n))
 starts_from k zero = tt

@@ -1,20 +1,7 @@
 -- a split at a vertex is one that can be written, and its floor is one that a bound may have
-use Rattle.std.proofs.Common.{◌≡◌, inl, inr, ℕ, zero, suc, ◌^◌, ◌<◌, List, arith, subst, ℤ, pos, negsuc, ◌+ℤ◌, ◌*ℤ◌, ◌<ℤ◌, ◌≤ℤ◌, Option, Some, None, slice_get}
-use Rattle.std.specs.Prelude.{IsSomeAnd}
-use Rattle.std.proofs.lemmas.Int.{ints}
-use Rattle.ta_base.proofs.Integers.{floor_natural, twice_most}
-use Rattle.ta_base.proofs.Lists.{some_within}
+use Rattle.ta_walk.proofs.Common.{◌≡◌, inl, inr, ℕ, zero, suc, ◌^◌, ◌<◌, List, arith, subst, ℤ, pos, negsuc, ◌+ℤ◌, ◌*ℤ◌, ◌<ℤ◌, ◌≤ℤ◌, Option, Some, None, slice_get, IsSomeAnd, ints, floor_natural, twice_most, some_within, InRange, System, IsSplit, row_of, basic_of, non_basic_of, IsVertex, Fraction, reached_dictionary, IsAbove, SplitVertex, Pending, Search}
 use Rattle.ta_base.proofs.Options.{is_some-map}
-use Rattle.ta_linear.specs.Numbers.{InRange}
-use Rattle.ta_linear.specs.declared.row.System.{System}
-use Rattle.ta_cert.specs.Lines.{IsSplit}
-use Rattle.ta_dense.specs.Tableau.{row_of, basic_of, non_basic_of}
-use Rattle.ta_simplex.specs.Vertex.{IsVertex}
-use Rattle.ta_simplex.specs.declared.fraction.Fraction.{Fraction}
-use Rattle.ta_simplex.proofs.RunLemmas.{reached_dictionary}
-use Rattle.ta_walk.specs.Visit.{IsAbove, SplitVertex}
 use Rattle.ta_walk.proofs.TableausInRange.{reached_proper}
-use Rattle.ta_encode.specs.Search.{Pending, Search}
 
 -- the numerators of a vertex are in range
 pub vertex_in_range : (s : System) (values : List Fraction) → IsVertex s values → (x : ℕ) → x < s.unknowns → IsSomeAnd (slice_get values x) (λ f. InRange f.top)

@@ -1,15 +1,6 @@
 -- the words that a visit meets, where no node is a split: none of them twice
-use Rattle.std.proofs.Common.{◌≡◌, ◌⊎◌, inl, inr, ℕ, suc, ◌<◌, ◌≤◌, List, [], ◌∷◌, ◌++◌, length, map, arith, refl, sym, ap, ◌∙◌, subst}
-use Rattle.std.specs.List.{AllByRecursion}
-use Rattle.ta_base.specs.Lists.{Distinct}
-use Rattle.ta_base.specs.Masks.{In}
-use Rattle.ta_base.proofs.Each.{each_in}
-use Rattle.ta_base.proofs.Members.{in_append, in_map}
-use Rattle.ta_cert.specs.declared.line.Node.{Node}
+use Rattle.ta_walk.proofs.Common.{◌≡◌, ◌⊎◌, inl, inr, ℕ, suc, ◌<◌, ◌≤◌, List, [], ◌∷◌, ◌++◌, length, map, arith, refl, sym, ap, ◌∙◌, subst, AllByRecursion, Distinct, In, each_in, in_append, in_map, Node, Element, Pending, Search, longer, parts, HasSplit}
 use Rattle.ta_cert.specs.declared.line.Node.TheVariants as node
-use Rattle.ta_words.specs.declared.element.Element.{Element}
-use Rattle.ta_encode.specs.Search.{Pending, Search, longer, parts}
-use Rattle.ta_walk.specs.Splits.{HasSplit}
 
 -- a start set and a past that go on from a word, or are its own
 abbrev pub Under : Pending → ℕ → List Element → Type 0

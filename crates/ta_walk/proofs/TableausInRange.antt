@@ -1,22 +1,11 @@
 -- the numbers of each tableau that the rule reaches are in range
-use Rattle.std.proofs.Common.{◌≡◌, inl, inr, ℕ, zero, suc, ◌+◌, ◌<◌, ℤ, pos, List, length, arith, sym, ap, ◌∙◌, subst}
-use Rattle.std.proofs.lemmas.Bool.{cases_eq}
+use Rattle.ta_walk.proofs.Common.{◌≡◌, inl, inr, ℕ, zero, suc, ◌+◌, ◌<◌, ℤ, pos, List, length, arith, sym, ap, ◌∙◌, subst, cases_eq, unsigned_abs-neg, slack_proper, InRange, coefficient, System, Tableau, row_of, cell_of, basic_of, non_basic_of, slack_tableau, LeastStep, Reached, GivesMultipliers, IsRefuted, reached_dictionary}
 use Rattle.std.proofs.lemmas.List.Elements.{All-get_or}
 use Rattle.std.proofs.lemmas.List.FromFn.{length-range_with_len}
-use Rattle.ta_base.proofs.Integers.{unsigned_abs-neg}
-use Rattle.ta_simplex.proofs.SystemEnds.{slack_proper}
-use Rattle.ta_linear.specs.Numbers.{InRange}
-use Rattle.ta_linear.specs.Terms.{coefficient}
-use Rattle.ta_linear.specs.declared.row.System.{System}
-use Rattle.ta_dense.specs.Tableau.{Tableau, row_of, cell_of, basic_of, non_basic_of}
 use Rattle.ta_dense.specs.Merge.{IsProper}
-use Rattle.ta_dense.specs.Slack.{slack_tableau}
 use Rattle.ta_dense.specs.Laws.{DictionaryOf}
 use Rattle.ta_dense.proofs.Keeps.{row_count, column_count}
 use Rattle.ta_dense.proofs.ProperFacts.{proper_pivoted}
-use Rattle.ta_simplex.specs.LeastIndex.{LeastStep, Reached}
-use Rattle.ta_simplex.specs.Refuted.{GivesMultipliers, IsRefuted}
-use Rattle.ta_simplex.proofs.RunLemmas.{reached_dictionary}
 
 -- a column for each unknown, and numbers in range
 pub record ReachesProper (unknowns : ℕ) (t : Tableau) : Type 0 where

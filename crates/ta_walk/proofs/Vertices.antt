@@ -1,13 +1,8 @@
 -- whole fractions, and the whole numbers below the others
-use Rattle.std.proofs.Common.{◌≡◌, ℕ, ◌+◌, ◌<◌, List, [], ◌∷◌, ◌++◌, IsSomeAnd, length, get_or, slice_get, take, arith, ℤ, pos, ◌≤ℤ◌, ◌<ℤ◌, ◌*ℤ◌, ◌+ℤ◌, ap, refl, sym, subst, ◌∙◌}
-use Rattle.std.specs.Int.{int_div_euclid, int_rem_euclid}
-use Rattle.std.proofs.lemmas.Int.{ints, by_lt_z}
+use Rattle.ta_walk.proofs.Common.{◌≡◌, ℕ, ◌+◌, ◌<◌, List, [], ◌∷◌, ◌++◌, length, get_or, slice_get, take, arith, ℤ, pos, ◌≤ℤ◌, ◌<ℤ◌, ◌*ℤ◌, ◌+ℤ◌, ap, refl, sym, subst, ◌∙◌, int_div_euclid, int_rem_euclid, ints, by_lt_z, take_more, euclid, floor_high, floor_low, floor_once, Fraction, AreNumbers, IsWholeNumber, IsWhole, IsAbove, SplitsAt}
+use Rattle.std.proofs.Common.{IsSomeAnd}
 use Rattle.std.proofs.lemmas.Option.{slice_get_read}
-use Rattle.std.proofs.lemmas.List.{take_more}
 use borrow.Author.Count.{below_more}
-use Rattle.ta_base.proofs.Integers.{euclid, floor_high, floor_low, floor_once}
-use Rattle.ta_simplex.specs.declared.fraction.Fraction.{Fraction}
-use Rattle.ta_walk.specs.Visit.{AreNumbers, IsWholeNumber, IsWhole, IsAbove, SplitsAt}
 
 -- without a remainder a fraction is whole
 pub rest_whole : (f : Fraction) (rest : ℤ) → rest ≡ int_rem_euclid f.top f.bottom → rest ≡ pos 0 → IsWhole f

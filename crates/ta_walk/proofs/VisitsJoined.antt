@@ -1,12 +1,6 @@
 -- visits of lists of words that are put together or cut
-use Rattle.std.proofs.lemmas.Bool.{cases_order}
-use Rattle.std.proofs.Common.{◌≡◌, inl, inr, ℕ, zero, suc, ◌+◌, ◌<◌, ◌≤◌, List, [], ◌∷◌, ◌++◌, length, length-append, arith, refl, sym, ap, ◌∙◌, subst, append_assoc}
-use Rattle.ta_cert.specs.declared.line.Node.{Node}
+use Rattle.ta_walk.proofs.Common.{cases_order, ◌≡◌, inl, inr, ℕ, zero, suc, ◌+◌, ◌<◌, ◌≤◌, List, [], ◌∷◌, ◌++◌, length, length-append, arith, refl, sym, ap, ◌∙◌, subst, append_assoc, Node, Pending, Search, parts, Visits, IsVisited, leaf_count, beginning}
 use Rattle.ta_cert.specs.declared.line.Node.TheVariants as node
-use Rattle.ta_encode.specs.Search.{Pending, Search, parts}
-use Rattle.ta_walk.specs.Visit.{Visits}
-use Rattle.ta_walk.specs.Ends.{IsVisited, leaf_count}
-use Rattle.ta_walk.specs.Inside.Parts.{beginning}
 use Rattle.ta_walk.proofs.SearchesMoved.{moved_visits}
 
 -- a visit goes the same way with further words behind those with which it begins

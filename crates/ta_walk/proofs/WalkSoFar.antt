@@ -1,13 +1,7 @@
 -- what is known at each node of a visit
-use Rattle.std.proofs.Common.{◌≡◌, ℕ, ◌+◌, ◌≤◌, true, false, List, [], ◌∷◌, ◌++◌, length, arith, refl, subst, Ok, length-append}
-use Rattle.std.specs.List.{AllByRecursion}
-use Rattle.ta_cert.specs.declared.line.Node.{Node}
-use Rattle.ta_encode.specs.Search.{Pending, Search, parts}
-use Rattle.ta_cursor.specs.InTrees.{here_at, AllWithin, AllGoOn}
+use Rattle.ta_walk.proofs.Common.{◌≡◌, ℕ, ◌+◌, ◌≤◌, true, false, List, [], ◌∷◌, ◌++◌, length, arith, refl, subst, Ok, length-append, AllByRecursion, Node, Pending, Search, parts, here_at, AllWithin, AllGoOn, Visits, NodeAt, TreeIs, IsUnbounded}
 use Rattle.ta_cursor.specs.declared.place.Place.{Place}
 use Rattle.ta_cursor.proofs.TreesLeft.{here_first, here_is, later_words}
-use Rattle.ta_walk.specs.Visit.{Visits, NodeAt}
-use Rattle.ta_walk.specs.Ends.{TreeIs, IsUnbounded}
 use Rattle.ta_walk.proofs.WordsVisited.{roots_wait, left_wait}
 
 -- before a node, behind these

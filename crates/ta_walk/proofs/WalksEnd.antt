@@ -1,24 +1,9 @@
 -- The walks of patterns, and the searches for samples, end.
-use Rattle.std.proofs.Common.{◌≡◌, ℕ, ◌^◌, ◌≤◌, ℤ, List, length, reverse, slice_get, take, Some, arith, refl, sym, ap, ◌∙◌}
-use Rattle.std.proofs.lemmas.List.{reverse-reverse}
-use Rattle.ta_automaton.specs.declared.automaton.Automaton.{Automaton}
-use Rattle.ta_automaton.specs.declared.file.File.{File}
-use Rattle.ta_automaton.specs.declared.pattern.Pattern.{Pattern}
-use Rattle.ta_encode.specs.PatternSearch.{pattern_search}
-use Rattle.ta_encode.specs.Sample.{sample_search}
-use Rattle.ta_encode.specs.Search.{Pending, Search}
+use Rattle.ta_walk.proofs.Common.{◌≡◌, ℕ, ◌^◌, ◌≤◌, ℤ, List, length, reverse, slice_get, take, Some, arith, refl, sym, ap, ◌∙◌, reverse-reverse, Automaton, File, Pattern, pattern_search, sample_search, Pending, Search, comes_legal, few_unknowns, SampleEnd, WalkEnd, HasSystems, WalksHaveEnds, WordsHaveSystems, Ending, IsWalkEnd, IsVisitEnding, Left, NodeOf, SolutionAt, Solved, Stopped, Whole, IsSampleEnd, SampleAt, WholeAt}
 use Rattle.ta_encode.specs.Unknowns.{meanings}
 use Rattle.ta_encode.proofs.SystemsExist.{sample_system, word_system}
-use Rattle.ta_cursor.proofs.PatternWords.{comes_legal}
-use Rattle.ta_cursor.proofs.RowCounts.{few_unknowns}
-use Rattle.ta_walk.specs.declared.end.SampleEnd.{SampleEnd}
 use Rattle.ta_walk.specs.declared.end.SampleEnd.TheVariants as sampled
-use Rattle.ta_walk.specs.declared.end.WalkEnd.{WalkEnd}
 use Rattle.ta_walk.specs.declared.end.WalkEnd.TheVariants as walked
-use Rattle.ta_walk.specs.Answers.{HasSystems, WalksHaveEnds, WordsHaveSystems}
-use Rattle.ta_walk.specs.Ends.{Ending, IsWalkEnd, IsVisitEnding, Left, NodeOf, SolutionAt, Solved, Stopped, Whole}
-use Rattle.ta_walk.specs.Samples.{IsSampleEnd, SampleAt}
-use Rattle.ta_walk.specs.Visit.{WholeAt}
 use Rattle.ta_walk.proofs.SearchesEnd.{searches_end}
 use Rattle.ta_walk.proofs.WordsVisited.{starts_unbounded}
 

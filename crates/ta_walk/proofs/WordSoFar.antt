@@ -1,14 +1,5 @@
 -- what is known at each node of the visit of a word's tree
-use Rattle.std.proofs.Common.{◌≡◌, ℕ, ◌+◌, ◌-◌, ◌<◌, ◌≤◌, true, false, List, [], ◌∷◌, ◌++◌, ◌∙◌, length, arith, refl, sym, ap, subst, Ok, length-append}
-use Rattle.std.specs.List.{AllByRecursion}
-use Rattle.ta_base.proofs.Each.{each_back, each_front}
-use Rattle.ta_cert.specs.declared.line.Node.{Node}
-use Rattle.ta_encode.specs.Search.{Pending, Search, parts}
-use Rattle.ta_cursor.specs.Cursors.{GoesOn, Inside, IsShared, Within, here, left_at}
-use Rattle.ta_cursor.specs.declared.cursor.Cursor.{Cursor}
-use Rattle.ta_walk.specs.Visit.{NodeAt, Visits}
-use Rattle.ta_walk.specs.Ends.{IsSpent, NodeOf, TreeIs, IsVisited, leaf_count}
-use Rattle.ta_walk.specs.Inside.Parts.{HasFewBounds, LeadsToBoth, SharesBudget, beginning}
+use Rattle.ta_walk.proofs.Common.{◌≡◌, ℕ, ◌+◌, ◌-◌, ◌<◌, ◌≤◌, true, false, List, [], ◌∷◌, ◌++◌, ◌∙◌, length, arith, refl, sym, ap, subst, Ok, length-append, AllByRecursion, each_back, each_front, Node, Pending, Search, parts, GoesOn, Inside, IsShared, Within, here, left_at, Cursor, NodeAt, Visits, IsSpent, NodeOf, TreeIs, IsVisited, leaf_count, HasFewBounds, LeadsToBoth, SharesBudget, beginning}
 use Rattle.ta_walk.proofs.SearchesMoved.{moved_visits}
 use Rattle.ta_walk.proofs.WalkSoFar.{visits_more}
 use Rattle.ta_walk.proofs.FewBounds.{few_left}

@@ -1,20 +1,6 @@
 -- the values of a whole node solve its word
-use Rattle.std.proofs.Common.{◌≡◌, ℕ, zero, suc, ◌<◌, ◌^◌, ℤ, pos, negsuc, ◌*ℤ◌, ◌≤ℤ◌, List, [], ◌∷◌, map, length, reverse, slice_get, arith, refl, sym, ap, ◌∙◌, subst}
-use Rattle.std.specs.Prelude.{IsSomeAnd, slice_index}
-use Rattle.std.proofs.lemmas.Int.{ints}
-use Rattle.std.proofs.Math.IntN.{*ℤ_comm}
-use Rattle.ta_base.proofs.Integers.{ge-zero_of_mul}
-use Rattle.ta_words.specs.declared.element.Element.{Element}
-use Rattle.ta_words.specs.Words.{LegalUnder, is_complete}
-use Rattle.ta_encode.specs.System.{SolvesWord}
-use Rattle.ta_encode.proofs.CodeRows.{solution_of, unbounded}
-use Rattle.ta_simplex.specs.declared.fraction.Fraction.{Fraction}
-use Rattle.ta_simplex.proofs.WholeLemmas.{whole_vertex_solves}
+use Rattle.ta_walk.proofs.Common.{◌≡◌, ℕ, zero, suc, ◌<◌, ◌^◌, ℤ, pos, negsuc, ◌*ℤ◌, ◌≤ℤ◌, List, [], ◌∷◌, map, length, reverse, slice_get, arith, refl, sym, ap, ◌∙◌, subst, IsSomeAnd, slice_index, ints, *ℤ_comm, ge-zero_of_mul, Element, LegalUnder, is_complete, SolvesWord, solution_of, unbounded, Fraction, whole_vertex_solves, pattern_search, comes_legal, IsWholeNumber, AreNumbers, FoundWordsAreSolved, WholeNodesSolve}
 use Rattle.ta_walk.proofs.WordsVisited.{starts_wait, left_wait}
-use Rattle.ta_encode.specs.PatternSearch.{pattern_search}
-use Rattle.ta_cursor.proofs.PatternWords.{comes_legal}
-use Rattle.ta_walk.specs.Visit.{IsWholeNumber, AreNumbers}
-use Rattle.ta_walk.specs.Ends.{FoundWordsAreSolved, WholeNodesSolve}
 
 -- natural numbers that are the values
 record Naturals (values : List Fraction) (numbers : List ℤ) : Type 0 where

@@ -1,20 +1,6 @@
 -- what is known of each word that a visit leaves
-use Rattle.std.proofs.Common.{◌≡◌, inl, inr, ℕ, zero, suc, ◌+◌, ◌≤◌, ◌^◌, List, [], ◌∷◌, ◌++◌, map, length, length-append, arith, refl, sym, ap, subst}
-use Rattle.std.specs.List.{AllByRecursion}
-use Rattle.ta_base.proofs.Each.{each_append}
-use Rattle.ta_automaton.specs.declared.automaton.Automaton.{Automaton}
-use Rattle.ta_automaton.specs.declared.pattern.Pattern.{Pattern}
-use Rattle.ta_base.specs.Masks.{In, numbers_from}
-use Rattle.ta_cert.specs.declared.line.Node.{Node}
+use Rattle.ta_walk.proofs.Common.{◌≡◌, inl, inr, ℕ, zero, suc, ◌+◌, ◌≤◌, ◌^◌, List, [], ◌∷◌, ◌++◌, map, length, length-append, arith, refl, sym, ap, subst, AllByRecursion, each_append, Automaton, Pattern, In, numbers_from, Node, Element, Bound, Low, High, Visits, Pending, Search, Comes, bound_at, bounded, longer, parts, all_starts, empty_word, pattern_search, comes_first, IsUnbounded}
 use Rattle.ta_cert.specs.declared.line.Node.TheVariants as node
-use Rattle.ta_words.specs.declared.element.Element.{Element}
-use Rattle.ta_encode.specs.declared.meaning.Bound.{Bound}
-use Rattle.ta_encode.specs.declared.meaning.Side.TheVariants.{Low, High}
-use Rattle.ta_walk.specs.Visit.{Visits}
-use Rattle.ta_encode.specs.Search.{Pending, Search, Comes, bound_at, bounded, longer, parts}
-use Rattle.ta_encode.specs.PatternSearch.{all_starts, empty_word, pattern_search}
-use Rattle.ta_cursor.proofs.Beginning.{comes_first}
-use Rattle.ta_walk.specs.Ends.{IsUnbounded}
 
 -- a word to which the search comes, with so many bounds at most
 pub record Waits (s : Search) (most : ℕ) (w : Pending) : Type 0 where

@@ -1,6 +1,7 @@
 -- How a search, a visit and the walk of a pattern end
 use Rattle.std.specs.Prelude.{ℕ, ℤ, pos, ◌+◌, ◌≤◌, ◌<◌, ◌^◌, ◌≡◌, List, [], ◌∷◌, length, map, reverse, slice_get, Some}
 use Rattle.std.specs.List.{AllByRecursion}
+use Rattle.ta_base.specs.declared.limits.TheConstants.{MOST_NODES, MOST_UNKNOWNS}
 use Rattle.ta_automaton.specs.declared.automaton.Automaton.{Automaton}
 use Rattle.ta_automaton.specs.declared.pattern.Pattern.{Pattern}
 use Rattle.ta_automaton.specs.declared.file.File.{File}
@@ -142,7 +143,7 @@ WalksAreDetermined = (a : Automaton) (p : Pattern) (pairs : List (ℕ × ℕ)) (
 
 -- a leaf has at most 4,657 multipliers
 abbrev pub HasFewPairs : Node → Type 0
-HasFewPairs (Leaf ts) = length ts ≤ 4657
+HasFewPairs (Leaf ts) = length ts ≤ MOST_UNKNOWNS + 1
 HasFewPairs Extend = Unit {0}
 HasFewPairs (Split unknown floor) = Unit {0}
 
@@ -162,7 +163,7 @@ abbrev pub RefutedPatternsAreSafe : Type 0
 RefutedPatternsAreSafe =
     (file : File) (number : ℕ) (p : Pattern) → slice_get file.patterns number ≡ Some p → LoopsPure file.automaton
     → (pairs : List (ℕ × ℕ)) → Good file.automaton pairs
-    → (budget : ℕ) → budget ≤ 1000000000
+    → (budget : ℕ) → budget ≤ MOST_NODES
     → (nodes : List Node) (count : ℕ) → TreeIs (pattern_search file.automaton p pairs) budget nodes count
     → IsProof file.automaton p pairs nodes × Safe file.automaton p
 

@@ -15,6 +15,7 @@ use crate::roots::roots_of;
 use std::alloc::{AllocError, Global};
 use std::thread::{Threads, available_parallelism};
 use ta_base::List;
+use ta_base::limits::MOST_NODES;
 use ta_cursor::PatternTree;
 use ta_dense::Dictionary;
 use ta_encode::Solution;
@@ -39,7 +40,7 @@ pub fn walk<D: Dictionary, R: Threads + Sync>(
 ) -> Result<WalkEnd, AllocError>
     requires exists { pattern < length scoped.now.file.patterns }
     requires some { 0 < nodes }
-    requires limit { nodes ≤ 1000000000 }
+    requires limit { nodes ≤ MOST_NODES }
     ensures { IfOk result (λ end. OfPattern scoped.now.file pattern (λ p. IsWalkEnd scoped.now.file.automaton p orders.now pattern nodes end)) }
 {
     walk_gated::<D, R, Idle>(rt, alloc, scoped, pattern, orders, nodes, &Idle {})
@@ -58,14 +59,14 @@ pub fn walk_gated<D: Dictionary, R: Threads + Sync, G: Gate>(
 ) -> Result<WalkEnd, AllocError>
     requires exists { pattern < length scoped.now.file.patterns }
     requires some { 0 < nodes }
-    requires limit { nodes ≤ 1000000000 }
+    requires limit { nodes ≤ MOST_NODES }
     ensures { IfOk result (λ end. OfPattern scoped.now.file pattern (λ p. IsWalkEnd scoped.now.file.automaton p orders.now pattern nodes end)) }
 {
     let mut kept = Nodes {
         items: Vec::new(alloc),
     };
     match visit_gated::<D, Nodes, R, G>(
-        rt, alloc, scoped, pattern, orders, nodes, gate, &mut kept,
+        rt, alloc, scoped, pattern, orders, nodes, &mut kept, gate,
     )? {
         VisitEnd::Refuted { count, .. } => Ok(WalkEnd::Refuted {
             nodes: List::from_vec(kept.items),
@@ -90,11 +91,11 @@ pub fn visit<D: Dictionary, K: PartKeeper, R: Threads + Sync>(
 ) -> Result<VisitEnd, AllocError>
     requires exists { pattern < length scoped.now.file.patterns }
     requires some { 0 < nodes }
-    requires limit { nodes ≤ 1000000000 }
+    requires limit { nodes ≤ MOST_NODES }
     requires keeps { K.keeps keeper.old keeper.old [] }
     ensures { IfOk result (λ end. OfPattern scoped.now.file pattern (λ p. IsVisitEnd scoped.now.file.automaton p orders.now pattern nodes (K.keeps keeper.old keeper.new) end)) }
 {
-    visit_gated::<D, K, R, Idle>(rt, alloc, scoped, pattern, orders, nodes, &Idle {}, keeper)
+    visit_gated::<D, K, R, Idle>(rt, alloc, scoped, pattern, orders, nodes, keeper, &Idle {})
 }
 
 /// Visits the tree of a pattern as `visit` does, through a gate.
@@ -105,12 +106,12 @@ fn visit_gated<D: Dictionary, K: PartKeeper, R: Threads + Sync, G: Gate>(
     pattern: u32,
     orders: &Orders,
     nodes: u64,
-    gate: &G,
     keeper: &mut K,
+    gate: &G,
 ) -> Result<VisitEnd, AllocError>
     requires exists { pattern < length scoped.now.file.patterns }
     requires some { 0 < nodes }
-    requires limit { nodes ≤ 1000000000 }
+    requires limit { nodes ≤ MOST_NODES }
     requires keeps { K.keeps keeper.old keeper.old [] }
     ensures { IfOk result (λ end. OfPattern scoped.now.file pattern (λ p. IsVisitEnd scoped.now.file.automaton p orders.now pattern nodes (K.keeps keeper.old keeper.new) end)) }
 {
@@ -147,7 +148,7 @@ fn fork_tree<D: Dictionary, K: PartKeeper, R: Threads + Sync, G: Gate>(
     gate: &G,
     keeper: &mut K,
 ) -> Result<TreeEnd, AllocError>
-    requires limit { nodes ≤ 1000000000 }
+    requires limit { nodes ≤ MOST_NODES }
     requires keeps { K.keeps keeper.old keeper.old [] }
     ensures { IfOk result (IsTreeEnd (search_of_tree tree.now) nodes (K.keeps keeper.old keeper.new)) }
 {
@@ -173,7 +174,7 @@ fn visit_parts<D: Dictionary, K: PartKeeper, R: Threads + Sync, G: Gate>(
     patient: bool,
     keeper: &mut K,
 ) -> Result<Option<TreeEnd>, AllocError>
-    requires limit { nodes ≤ 1000000000 }
+    requires limit { nodes ≤ MOST_NODES }
     requires keeps { K.keeps keeper.old keeper.old [] }
     ensures ends { IfOk result (λ end. IfSome end (IsTreeEnd (search_of_tree tree.now) nodes (K.keeps keeper.old keeper.new))) }
     ensures patient { patient ≡ true → IfOk result (λ end. is_some end ≡ true) }
@@ -194,8 +195,10 @@ fn visit_parts<D: Dictionary, K: PartKeeper, R: Threads + Sync, G: Gate>(
     }
 }
 
-/// How many parts run beside the first one at most: no more than there are processors for.
-fn most_beside<R: Threads>(rt: &R) -> u64 {
+/// How many parts run beside a first one at most: no more than there are processors for.
+pub fn most_beside<R: Threads>(rt: &R) -> u64
+    ensures { result ≤ 3 }
+{
     match available_parallelism(rt) {
         Ok(count) => (count.get() as u64).saturating_sub(1).min(BESIDE),
         Err(_) => BESIDE,

@@ -18,6 +18,7 @@ use crate::visiting::{Stretch, visit_stretch};
 use std::alloc::{AllocError, Global};
 use std::sync::atomic::AtomicU64;
 use std::thread::{Threads, join};
+use ta_base::limits::MOST_NODES;
 use ta_cursor::{Cursor, PatternTree, Root, Tree};
 use ta_dense::Dictionary;
 use ta_encode::Encoding;
@@ -38,7 +39,7 @@ pub(crate) fn visit_list<D: Dictionary, K: PartKeeper, R: Threads + Sync, G: Gat
 ) -> Result<Part<K>, AllocError>
     requires come { AllByRecursion (ComesTo (search_of_tree tree.now)) words.items }
     requires few { vec_len words ≤ 2 ^ 31 }
-    requires limit { nodes ≤ 1000000000 }
+    requires limit { nodes ≤ MOST_NODES }
     ensures visited { IfOk result (λ part. PartVisited K.keeps (beginning (search_of_tree tree.now) (map root_word words.items)) nodes keeper part.keeper part.end) }
     ensures small { IfOk result (λ part. IsSmallEnd nodes part.end) }
     ensures patient { watch.entry.patient ≡ true → IfOk result (λ part. IsWholeEnd nodes part.end) }
@@ -62,7 +63,8 @@ pub(crate) fn visit_list<D: Dictionary, K: PartKeeper, R: Threads + Sync, G: Gat
     visit_halves::<D, K, R, G>(rt, alloc, tree, gate, watch, words, others, nodes, keeper)
 }
 
-/// Visits the words of the halves of a list, beside each other where that may be.
+/// Visits the words of the halves of a list, beside each other where that may be. Elsewhere the second
+/// half has the budget that the first one left.
 #[cycle(forks)]
 fn visit_halves<D: Dictionary, K: PartKeeper, R: Threads + Sync, G: Gate>(
     rt: &R,
@@ -79,7 +81,7 @@ fn visit_halves<D: Dictionary, K: PartKeeper, R: Threads + Sync, G: Gate>(
     requires second { AllByRecursion (ComesTo (search_of_tree tree.now)) others.items }
     requires some { (0 < vec_len words) × (0 < vec_len others) }
     requires few { vec_len words + vec_len others ≤ 2 ^ 31 }
-    requires limit { nodes ≤ 1000000000 }
+    requires limit { nodes ≤ MOST_NODES }
     ensures visited { IfOk result (λ part. PartVisited K.keeps (beginning (search_of_tree tree.now) (map root_word words.items ++ map root_word others.items)) nodes keeper part.keeper part.end) }
     ensures small { IfOk result (λ part. IsSmallEnd nodes part.end) }
     ensures patient { watch.entry.patient ≡ true → IfOk result (λ part. IsWholeEnd nodes part.end) }
@@ -87,12 +89,18 @@ fn visit_halves<D: Dictionary, K: PartKeeper, R: Threads + Sync, G: Gate>(
     let late = keeper.later(alloc)?;
     if watch.goes_beside() {
         return visit_beside::<D, K, R, G>(
-            rt, alloc, tree, gate, watch, words, others, nodes, keeper, late,
+            rt, alloc, tree, gate, watch, words, others, keeper, late, nodes,
         );
     }
-    visit_in_turn::<D, K, R, G>(
-        rt, alloc, tree, gate, watch, words, others, nodes, keeper, late,
-    )
+    let low = watch.first_half();
+    let high = watch.second_half();
+    let first = visit_list::<D, K, R, G>(rt, alloc, tree, gate, low, words, nodes, keeper)?;
+    let Some((count, leaves)) = refuted(&first.end) else {
+        return Ok(first);
+    };
+    let left = nodes - count;
+    let second = visit_list::<D, K, R, G>(rt, alloc, tree, gate, high, others, left, late)?;
+    add(alloc, nodes, count, leaves, first.keeper, second)
 }
 
 /// Visits the words of the halves of a list beside each other.
@@ -105,15 +113,15 @@ fn visit_beside<D: Dictionary, K: PartKeeper, R: Threads + Sync, G: Gate>(
     watch: Watch<'_>,
     words: Vec<Root>,
     others: Vec<Root>,
-    nodes: u64,
     keeper: K,
     late: K,
+    nodes: u64,
 ) -> Result<Part<K>, AllocError>
     requires first { AllByRecursion (ComesTo (search_of_tree tree.now)) words.items }
     requires second { AllByRecursion (ComesTo (search_of_tree tree.now)) others.items }
     requires some { (0 < vec_len words) × (0 < vec_len others) }
     requires few { vec_len words + vec_len others ≤ 2 ^ 31 }
-    requires limit { nodes ≤ 1000000000 }
+    requires limit { nodes ≤ MOST_NODES }
     requires fresh { IsLaterKeeper K.begins K.keeps keeper late }
     ensures visited { IfOk result (λ part. PartVisited K.keeps (beginning (search_of_tree tree.now) (map root_word words.items ++ map root_word others.items)) nodes keeper part.keeper part.end) }
     ensures small { IfOk result (λ part. IsSmallEnd nodes part.end) }
@@ -124,7 +132,7 @@ fn visit_beside<D: Dictionary, K: PartKeeper, R: Threads + Sync, G: Gate>(
     let ended = AtomicU64::new(0);
     let ended = &ended;
     let front = move || -> Result<Part<K>, AllocError>
-        requires { IsSync R.row × IsSync G.row × IsSend K.row × AllByRecursion (ComesTo (search_of_tree tree.now)) words.items × (vec_len words ≤ 2 ^ 31) × (nodes ≤ 1000000000) }
+        requires { IsSync R.row × IsSync G.row × IsSend K.row × AllByRecursion (ComesTo (search_of_tree tree.now)) words.items × (vec_len words ≤ 2 ^ 31) × (nodes ≤ MOST_NODES) }
         ensures visited { IfOk result (λ part. PartVisited K.keeps (beginning (search_of_tree tree.entry.now) (map root_word words.items)) nodes keeper part.keeper part.end) }
         ensures small { IfOk result (λ part. IsSmallEnd nodes part.end) }
         ensures patient { low.entry.patient ≡ true → IfOk result (λ part. IsWholeEnd nodes part.end) }
@@ -135,7 +143,7 @@ fn visit_beside<D: Dictionary, K: PartKeeper, R: Threads + Sync, G: Gate>(
         part
     };
     let back = move || -> Result<Part<K>, AllocError>
-        requires { IsSync R.row × IsSync G.row × IsSend K.row × AllByRecursion (ComesTo (search_of_tree tree.now)) others.items × (vec_len others ≤ 2 ^ 31) × (nodes ≤ 1000000000) }
+        requires { IsSync R.row × IsSync G.row × IsSend K.row × AllByRecursion (ComesTo (search_of_tree tree.now)) others.items × (vec_len others ≤ 2 ^ 31) × (nodes ≤ MOST_NODES) }
         ensures visited { IfOk result (λ part. PartVisited K.keeps (beginning (search_of_tree tree.entry.now) (map root_word others.items)) nodes late part.keeper part.end) }
         ensures small { IfOk result (λ part. IsSmallEnd nodes part.end) }
         ensures patient { high.entry.patient ≡ true → IfOk result (λ part. IsWholeEnd nodes part.end) }
@@ -150,42 +158,6 @@ fn visit_beside<D: Dictionary, K: PartKeeper, R: Threads + Sync, G: Gate>(
     merge(alloc, nodes, first?, second?)
 }
 
-/// Visits the words of the halves of a list one after the other: the second half has the budget that
-/// the first one left.
-#[cycle(forks)]
-fn visit_in_turn<D: Dictionary, K: PartKeeper, R: Threads + Sync, G: Gate>(
-    rt: &R,
-    alloc: Global,
-    tree: &PatternTree<'_>,
-    gate: &G,
-    watch: Watch<'_>,
-    words: Vec<Root>,
-    others: Vec<Root>,
-    nodes: u64,
-    keeper: K,
-    late: K,
-) -> Result<Part<K>, AllocError>
-    requires first { AllByRecursion (ComesTo (search_of_tree tree.now)) words.items }
-    requires second { AllByRecursion (ComesTo (search_of_tree tree.now)) others.items }
-    requires some { (0 < vec_len words) × (0 < vec_len others) }
-    requires few { vec_len words + vec_len others ≤ 2 ^ 31 }
-    requires limit { nodes ≤ 1000000000 }
-    requires fresh { IsLaterKeeper K.begins K.keeps keeper late }
-    ensures visited { IfOk result (λ part. PartVisited K.keeps (beginning (search_of_tree tree.now) (map root_word words.items ++ map root_word others.items)) nodes keeper part.keeper part.end) }
-    ensures small { IfOk result (λ part. IsSmallEnd nodes part.end) }
-    ensures patient { watch.entry.patient ≡ true → IfOk result (λ part. IsWholeEnd nodes part.end) }
-{
-    let low = watch.first_half();
-    let high = watch.second_half();
-    let first = visit_list::<D, K, R, G>(rt, alloc, tree, gate, low, words, nodes, keeper)?;
-    let Some((count, leaves)) = refuted(&first.end) else {
-        return Ok(first);
-    };
-    let left = nodes - count;
-    let second = visit_list::<D, K, R, G>(rt, alloc, tree, gate, high, others, left, late)?;
-    add(alloc, nodes, count, leaves, first.keeper, second)
-}
-
 /// Visits the tree of a word, at most so many nodes of it.
 fn visit_root<D: Dictionary, K: PartKeeper, R: Threads + Sync, G: Gate>(
     rt: &R,
@@ -198,7 +170,7 @@ fn visit_root<D: Dictionary, K: PartKeeper, R: Threads + Sync, G: Gate>(
     keeper: K,
 ) -> Result<Part<K>, AllocError>
     requires comes { ComesTo (search_of_tree tree.now) root }
-    requires limit { nodes ≤ 1000000000 }
+    requires limit { nodes ≤ MOST_NODES }
     ensures visited { IfOk result (λ part. PartVisited K.keeps (beginning (search_of_tree tree.now) (root_word root ∷ [])) nodes keeper part.keeper part.end) }
     ensures small { IfOk result (λ part. IsSmallEnd nodes part.end) }
     ensures patient { watch.entry.patient ≡ true → IfOk result (λ part. IsWholeEnd nodes part.end) }
@@ -220,7 +192,7 @@ fn visit_tree_at<D: Dictionary, K: PartKeeper, R: Threads + Sync, G: Gate>(
     keeper: K,
 ) -> Result<Part<K>, AllocError>
     requires stands { HasFewLeft (search_of_tree tree.now) nodes cursor }
-    requires limit { nodes ≤ 1000000000 }
+    requires limit { nodes ≤ MOST_NODES }
     ensures visited { IfOk result (λ part. PartVisited K.keeps (beginning (search_of_tree tree.now) (left_at (search_of_tree tree.now) cursor)) nodes keeper part.keeper part.end) }
     ensures small { IfOk result (λ part. IsSmallEnd nodes part.end) }
     ensures patient { watch.entry.patient ≡ true → IfOk result (λ part. IsWholeEnd nodes part.end) }
@@ -248,7 +220,7 @@ fn visit_on<D: Dictionary, K: PartKeeper, R: Threads + Sync, G: Gate>(
     keeper: K,
 ) -> Result<Part<K>, AllocError>
     requires stands { HasFewLeft (search_of_tree tree.now) nodes cursor }
-    requires limit { nodes ≤ 1000000000 }
+    requires limit { nodes ≤ MOST_NODES }
     requires kept { IsEncoding tree.now.file.now.automaton tree.now.pattern.now kept }
     requires branch { IsBranch D.tableau D.pivot_of kept.system.rows branch }
     ensures visited { IfOk result (λ part. PartVisited K.keeps (beginning (search_of_tree tree.now) (left_at (search_of_tree tree.now) cursor)) nodes keeper part.keeper part.end) }
@@ -280,7 +252,7 @@ fn visit_on<D: Dictionary, K: PartKeeper, R: Threads + Sync, G: Gate>(
         } => {
             let left = nodes - count;
             let part = visit_shared::<D, K, R, G>(
-                rt, alloc, tree, gate, watch, cursor, kept, branch, later, left, keeper,
+                rt, alloc, tree, gate, watch, cursor, later, kept, branch, left, keeper,
             )?;
             Ok(Part {
                 end: end_behind(nodes, count, leaves, part.end),
@@ -300,15 +272,15 @@ fn visit_shared<D: Dictionary, K: PartKeeper, R: Threads + Sync, G: Gate>(
     gate: &G,
     watch: Watch<'_>,
     cursor: Cursor,
+    later: Cursor,
     kept: Encoding,
     branch: Branch<D>,
-    later: Cursor,
     nodes: u64,
     keeper: K,
 ) -> Result<Part<K>, AllocError>
     requires stands { HasFewLeft (search_of_tree tree.now) nodes cursor }
     requires later { HasFewLeft (search_of_tree tree.now) nodes later }
-    requires limit { nodes ≤ 1000000000 }
+    requires limit { nodes ≤ MOST_NODES }
     requires kept { IsEncoding tree.now.file.now.automaton tree.now.pattern.now kept }
     requires branch { IsBranch D.tableau D.pivot_of kept.system.rows branch }
     ensures visited { IfOk result (λ part. PartVisited K.keeps (beginning (search_of_tree tree.now) (left_at (search_of_tree tree.now) cursor ++ left_at (search_of_tree tree.now) later)) nodes keeper part.keeper part.end) }
@@ -321,7 +293,7 @@ fn visit_shared<D: Dictionary, K: PartKeeper, R: Threads + Sync, G: Gate>(
     let ended = AtomicU64::new(0);
     let ended = &ended;
     let back = move || -> Result<Part<K>, AllocError>
-        requires { IsSync R.row × IsSync G.row × IsSend K.row × HasFewLeft (search_of_tree tree.now) nodes later × (nodes ≤ 1000000000) }
+        requires { IsSync R.row × IsSync G.row × IsSend K.row × HasFewLeft (search_of_tree tree.now) nodes later × (nodes ≤ MOST_NODES) }
         ensures visited { IfOk result (λ part. PartVisited K.keeps (beginning (search_of_tree tree.entry.now) (left_at (search_of_tree tree.entry.now) later)) nodes late part.keeper part.end) }
         ensures small { IfOk result (λ part. IsSmallEnd nodes part.end) }
         ensures patient { high.entry.patient ≡ true → IfOk result (λ part. IsWholeEnd nodes part.end) }
@@ -332,7 +304,7 @@ fn visit_shared<D: Dictionary, K: PartKeeper, R: Threads + Sync, G: Gate>(
         part
     };
     let front = move || -> Result<Part<K>, AllocError>
-        requires { IsSync R.row × IsSync G.row × IsSend K.row × HasFewLeft (search_of_tree tree.now) nodes cursor × (nodes ≤ 1000000000) × IsEncoding tree.now.file.now.automaton tree.now.pattern.now kept × IsBranch D.tableau D.pivot_of kept.system.rows branch }
+        requires { IsSync R.row × IsSync G.row × IsSend K.row × HasFewLeft (search_of_tree tree.now) nodes cursor × (nodes ≤ MOST_NODES) × IsEncoding tree.now.file.now.automaton tree.now.pattern.now kept × IsBranch D.tableau D.pivot_of kept.system.rows branch }
         ensures visited { IfOk result (λ part. PartVisited K.keeps (beginning (search_of_tree tree.entry.now) (left_at (search_of_tree tree.entry.now) cursor)) nodes keeper part.keeper part.end) }
         ensures small { IfOk result (λ part. IsSmallEnd nodes part.end) }
         ensures patient { low.entry.patient ≡ true → IfOk result (λ part. IsWholeEnd nodes part.end) }

@@ -22,7 +22,7 @@ mod walking;
 
 pub use end::{PlaceKind, SampleEnd, TreeEnd, VisitEnd, WalkEnd};
 pub use finding::{OrdersFound, find_orders};
-pub use forked::{visit, walk, walk_gated};
+pub use forked::{most_beside, visit, walk, walk_gated};
 pub use gate::{Gate, Idle};
 pub use keeper::{Keeper, Nothing, PartKeeper};
 pub use laws::{

@@ -10,6 +10,7 @@ use crate::end::TreeEnd;
 use crate::keeper::{Keeper, PartKeeper};
 use crate::part::Part;
 use std::alloc::{AllocError, Global};
+use ta_base::limits::MOST_NODES;
 
 /// Two parts that were visited beside each other as one: the ends in order, and the nodes one after
 /// the other.
@@ -19,7 +20,7 @@ pub(crate) fn merge<K: PartKeeper>(
     first: Part<K>,
     second: Part<K>,
 ) -> Result<Part<K>, AllocError>
-    requires limit { nodes ≤ 1000000000 }
+    requires limit { nodes ≤ MOST_NODES }
     requires first { IsSmallEnd nodes first.end }
     requires second { IsSmallEnd nodes second.end }
     ensures visited { (s : Search) (ws vs : List Pending) (begun late : K)
@@ -46,7 +47,7 @@ pub(crate) fn add<K: PartKeeper>(
     keeper: K,
     second: Part<K>,
 ) -> Result<Part<K>, AllocError>
-    requires limit { nodes ≤ 1000000000 }
+    requires limit { nodes ≤ MOST_NODES }
     requires within { count ≤ nodes }
     requires leaves { leaves ≤ count }
     requires small { (later : ℕ) × IsSmallEnd later second.end }
@@ -78,7 +79,7 @@ pub(crate) fn refuted(end: &TreeEnd) -> Option<(u64, u64)>
 /// The end of a part that came to some words behind so many nodes, of which so many are leaves, where
 /// the part of these words ended so: the budget is spent where these are too many.
 pub(crate) fn end_behind(nodes: u64, count: u64, leaves: u64, end: TreeEnd) -> TreeEnd
-    requires limit { nodes ≤ 1000000000 }
+    requires limit { nodes ≤ MOST_NODES }
     requires within { count ≤ nodes }
     requires leaves { leaves ≤ count }
     requires small { (later : ℕ) × IsSmallEnd later end }

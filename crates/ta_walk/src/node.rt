@@ -17,6 +17,7 @@ use crate::end::PlaceKind;
 use crate::vertex::{first_split, whole_values};
 use std::alloc::{AllocError, Global};
 use ta_base::List;
+use ta_base::limits::MOST_NODES;
 use ta_cert::Node;
 use ta_cursor::{Cursor, Tree, Written};
 use ta_dense::Dictionary;
@@ -63,7 +64,7 @@ pub(crate) fn solve_node<D: Dictionary, T: Tree>(
     same: usize,
     branch: &mut Branch<D>,
 ) -> Result<Solved, AllocError>
-    requires few { length cursor.now.bounds.items ≤ 1000000000 }
+    requires few { length cursor.now.bounds.items ≤ MOST_NODES }
     requires small { IsSmall cursor.now.bounds.items system.now }
     requires system { SystemAt (T.search tree.now) (here cursor.now) system.now }
     requires branch { SharesRows D.tableau D.pivot_of branch.old same system.now.rows }

@@ -11,6 +11,7 @@ use crate::walking::visit_tree;
 use std::alloc::{AllocError, Global};
 use ta_automaton::File;
 use ta_base::List;
+use ta_base::limits::MOST_NODES;
 use ta_dense::Dictionary;
 
 /// Searches for parameters that meet the resilience condition and have an initial configuration, in
@@ -22,7 +23,7 @@ pub fn sample<D: Dictionary>(
     nodes: u64,
 ) -> Result<SampleEnd, AllocError>
     requires some { 0 < nodes }
-    requires limit { nodes ≤ 1000000000 }
+    requires limit { nodes ≤ MOST_NODES }
     ensures { IfOk result (IsSampleEnd file.now.automaton nodes) }
 {
     let tree = SampleTree { file };

@@ -7,6 +7,7 @@ ghost use Rattle.ta_encode.specs.Search.{Pending, parts};
 ghost use Rattle.ta_cursor.specs.Cursors.{GoesOn, IsWithin, Shares, Within, here, left_at};
 ghost use Rattle.ta_simplex.specs.Branch.{IsBranch};
 ghost use Rattle.ta_walk.specs.Visit.{NodeAt};
+ghost use Rattle.ta_walk.specs.declared.end.TreeEnd.TheVariants.{Found};
 ghost use Rattle.ta_walk.specs.Inside.Parts.{IsSmallStretch, IsWholeStretch, OnShared, HasFewLeft, StretchEnds};
 
 use crate::end::TreeEnd;
@@ -16,6 +17,8 @@ use crate::part::Watch;
 use crate::walking::leaves_with;
 use std::alloc::{AllocError, Global};
 use std::mem;
+use ta_base::List;
+use ta_base::limits::MOST_NODES;
 use ta_cert::Node;
 use ta_cursor::{Cursor, Tree, Written};
 use ta_dense::Dictionary;
@@ -47,7 +50,7 @@ pub(crate) fn visit_stretch<D: Dictionary, T: Tree, K: Keeper>(
     keeper: &mut K,
 ) -> Result<Stretch, AllocError>
     requires stands { HasFewLeft (T.search tree.now) nodes cursor.old }
-    requires limit { nodes ≤ 1000000000 }
+    requires limit { nodes ≤ MOST_NODES }
     requires kept { T.is_kept tree.now kept.old }
     requires branch { IsBranch D.tableau D.pivot_of (T.system_of kept.old).rows branch.old }
     ensures ends { (first : K) (before : List Node) → K.keeps first keeper.old before → IfOk result (StretchEnds (T.search tree.now) (left_at (T.search tree.now) cursor.old) nodes cursor.new (λ more. K.keeps first keeper.new (before ++ more))) }
@@ -70,12 +73,7 @@ pub(crate) fn visit_stretch<D: Dictionary, T: Tree, K: Keeper>(
                 return Ok(Stretch::Ended(TreeEnd::Overflow { node: count, kind }));
             }
             Solved::Whole(values) => {
-                return Ok(Stretch::Ended(TreeEnd::Found {
-                    count,
-                    start_mask: cursor.start_mask(),
-                    word: cursor.word().again(),
-                    values,
-                }));
+                return Ok(Stretch::Ended(found_at(cursor, count, values)));
             }
             Solved::Inner(node) => {
                 let more = go_on(tree, cursor, &node)?;
@@ -95,6 +93,18 @@ pub(crate) fn visit_stretch<D: Dictionary, T: Tree, K: Keeper>(
         }
     }
     Ok(Stretch::Ended(TreeEnd::Spent { count: nodes }))
+}
+
+/// The end at the whole node of a number, which stands at a cursor.
+fn found_at(cursor: &Cursor, count: u64, values: List<i128>) -> TreeEnd
+    ensures { result ≡ Found count cursor.now.start_mask cursor.now.word values }
+{
+    TreeEnd::Found {
+        count,
+        start_mask: cursor.start_mask(),
+        word: cursor.word().again(),
+        values,
+    }
 }
 
 /// Gives the last words of a cursor to another one, where a processor is free and words are left

@@ -14,6 +14,7 @@ use crate::end::TreeEnd;
 use crate::keeper::Keeper;
 use crate::node::{Solved, grow, solve_node};
 use std::alloc::{AllocError, Global};
+use ta_base::limits::MOST_NODES;
 use ta_cert::Node;
 use ta_cursor::{Place, Tree, Written};
 use ta_dense::Dictionary;
@@ -28,7 +29,7 @@ pub fn visit_tree<D: Dictionary, T: Tree, K: Keeper>(
     keeper: &mut K,
 ) -> Result<TreeEnd, AllocError>
     requires roots { AllByRecursion IsUnbounded (T.search tree.now).roots }
-    requires limit { nodes ≤ 1000000000 }
+    requires limit { nodes ≤ MOST_NODES }
     requires keeps { K.keeps keeper.old keeper.old [] }
     ensures { IfOk result (IsTreeEnd (T.search tree.now) nodes (K.keeps keeper.old keeper.new)) }
 {
@@ -46,7 +47,7 @@ pub fn visit_tree_along<D: Dictionary, T: Tree, K: Keeper>(
     keeper: &mut K,
 ) -> Result<TreeEnd, AllocError>
     requires roots { AllByRecursion IsUnbounded (T.search tree.now).roots }
-    requires limit { nodes ≤ 1000000000 }
+    requires limit { nodes ≤ MOST_NODES }
     requires branch { (rows : List Row) → IsBranch D.tableau D.pivot_of rows branch.old }
     requires keeps { K.keeps keeper.old keeper.old [] }
     ensures { IfOk result (IsTreeEnd (T.search tree.now) nodes (K.keeps keeper.old keeper.new)) }
@@ -89,7 +90,7 @@ pub fn visit_tree_along<D: Dictionary, T: Tree, K: Keeper>(
 
 /// How many leaves there are with one more node.
 pub(crate) fn leaves_with(leaves: u64, node: &Node) -> u64
-    requires { leaves < 1000000000 }
+    requires { leaves < MOST_NODES }
     ensures { result ≡ leaves + leaf_count (node.now ∷ []) }
 {
     match node {

@@ -1,34 +1,9 @@
 -- the pieces of a word, the newest first, and their firings
-use Rattle.std.proofs.Common.{◌≡◌, inl, inr, ℕ, zero, suc, ◌+◌, ◌<◌, ◌≤◌, ℤ, pos, ◌*ℤ◌, ◌≤ℤ◌, List, [], ◌∷◌, ◌++◌, map, length, drop, reverse, true, Option, Some, None, slice_get, arith, refl, sym, ap, ◌∙◌, subst, append-nil}
-use Rattle.std.proofs.lemmas.Int.{ints}
-use Rattle.std.proofs.lemmas.Bool.{cases_lt, cases_Bool}
-use Rattle.std.proofs.lemmas.List.{length-map}
-use Rattle.std.proofs.lemmas.Option.{slice_get_within}
-use Rattle.ta_base.proofs.Each.{each_from_in}
-use Rattle.ta_base.proofs.Lists.{map-map, reverse_onto, same_items}
-use Rattle.ta_base.proofs.Members.{filter_passes}
-use Rattle.ta_base.proofs.Ranges.{item_at, length_numbers, no_item}
-use Rattle.ta_automaton.specs.declared.automaton.Automaton.{Automaton}
-use Rattle.ta_automaton.specs.declared.pattern.Pattern.{Pattern}
-use Rattle.ta_base.specs.Masks.{numbers_from, In}
+use Rattle.ta_witness.proofs.Common.{◌≡◌, inl, inr, ℕ, zero, suc, ◌+◌, ◌<◌, ◌≤◌, ℤ, pos, ◌*ℤ◌, ◌≤ℤ◌, List, [], ◌∷◌, ◌++◌, map, length, drop, reverse, true, Option, Some, None, slice_get, arith, refl, sym, ap, ◌∙◌, subst, append-nil, ints, cases_lt, cases_Bool, length-map, slice_get_within, each_from_in, map-map, reverse_onto, same_items, filter_passes, item_at, length_numbers, no_item, Automaton, Pattern, numbers_from, In, InScope, total, AreRuleCounts, ArrangedOf, count_at, Element, Event, Rise, Fall, allowed_rules, may_fire, Meaning, Count, Single, meanings, place_coefficient, sum_of_products, FiresBefore, WordFires, Piece, unknown_value, same_meaning, PieceOf, PiecesOf, EndsPiece, counts_before}
 use Rattle.ta_automaton.specs.Places.{rule_change}
-use Rattle.ta_automaton.specs.Runs.{InScope}
-use Rattle.ta_automaton.specs.Sums.{total}
-use Rattle.ta_scope.specs.Arranged.{AreRuleCounts, ArrangedOf, count_at}
 use Rattle.ta_scope.specs.Legal.{arranged_steps}
 use Rattle.ta_scope.proofs.ArrangedLaws.{FromCounts, from_counts}
-use Rattle.ta_words.specs.declared.element.Element.{Element}
-use Rattle.ta_words.specs.declared.element.Element.TheVariants.{Event, Rise, Fall}
-use Rattle.ta_words.specs.Words.{allowed_rules, may_fire}
-use Rattle.ta_encode.specs.declared.meaning.Meaning.{Meaning}
-use Rattle.ta_encode.specs.declared.meaning.Meaning.TheVariants.{Count, Single}
-use Rattle.ta_encode.specs.Unknowns.{meanings, place_coefficient}
-use Rattle.ta_encode.specs.System.{sum_of_products}
-use Rattle.ta_encode.specs.Laws.{FiresBefore, WordFires}
 use Rattle.ta_encode.proofs.Forward.{forward_of}
-use Rattle.ta_replay.specs.Pieces.{Piece}
-use Rattle.ta_witness.specs.Values.{unknown_value, same_meaning}
-use Rattle.ta_witness.specs.Witness.{PieceOf, PiecesOf, EndsPiece, counts_before}
 use Rattle.ta_witness.proofs.Lookups.{newer, count_value, value_for, value_in_list, value_sum, one_found}
 
 -- the last step of a piece

@@ -1,26 +1,7 @@
 -- the elements of a word with a solution may end: their events exist, and one rule is the single step of a Fall
-use Rattle.std.proofs.Common.{◌≡◌, ◌⊎◌, inl, inr, ℕ, zero, suc, ◌+◌, ◌<◌, ◌≤◌, pos, List, [], ◌∷◌, ◌++◌, map, length, drop, reverse, eqb, true, Some, slice_get, arith, refl, sym, ap, ◌∙◌, subst, append-nil}
-use Rattle.std.proofs.lemmas.Bool.Decides.{nat_tests, eqb_tells}
-use Rattle.std.proofs.lemmas.Option.{slice_get_within}
-use Rattle.ta_base.proofs.Lists.{only_item, reverse_onto}
-use Rattle.ta_encode.proofs.Moments.{AllHold-left}
-use Rattle.ta_automaton.specs.declared.automaton.Automaton.{Automaton}
-use Rattle.ta_automaton.specs.declared.pattern.Pattern.{Pattern}
-use Rattle.ta_base.specs.Masks.{In}
-use Rattle.ta_automaton.specs.Sums.{times_in}
+use Rattle.ta_witness.proofs.Common.{◌≡◌, ◌⊎◌, inl, inr, ℕ, zero, suc, ◌+◌, ◌<◌, ◌≤◌, pos, List, [], ◌∷◌, ◌++◌, map, length, drop, reverse, eqb, true, Some, slice_get, arith, refl, sym, ap, ◌∙◌, subst, append-nil, nat_tests, eqb_tells, slice_get_within, only_item, reverse_onto, AllHold-left, Automaton, Pattern, In, times_in, Element, Event, Rise, Fall, LegalWord, allowed_rules, children, may_fire, in_children, Meaning, Single, meanings, counts_after, AllHold, fall_rows, word_rows, one_single, singles_hold, AllHold-right, unfolded, repeat, unfolded-may, allowed_may, EachMayEnd, IsSingle, MayEnd}
 use Rattle.ta_automaton.proofs.Fired.{once}
-use Rattle.ta_words.specs.declared.element.Element.{Element}
-use Rattle.ta_words.specs.declared.element.Element.TheVariants.{Event, Rise, Fall}
-use Rattle.ta_words.specs.Words.{LegalWord, allowed_rules, children, may_fire}
-use Rattle.ta_words.proofs.Counts.{in_children}
-use Rattle.ta_encode.specs.declared.meaning.Meaning.{Meaning}
-use Rattle.ta_encode.specs.declared.meaning.Meaning.TheVariants.{Single}
-use Rattle.ta_encode.specs.Unknowns.{meanings, counts_after}
-use Rattle.ta_encode.specs.System.{AllHold, fall_rows, word_rows}
 use Rattle.ta_encode.proofs.Segment.{EachMay, may_exists}
-use Rattle.ta_encode.proofs.Singles.{one_single, singles_hold}
-use Rattle.ta_encode.proofs.Values.{AllHold-right, unfolded, repeat, unfolded-may, allowed_may}
-use Rattle.ta_witness.specs.Inside.Making.{EachMayEnd, IsSingle, MayEnd}
 use Rattle.ta_witness.proofs.Backward.{values_of}
 use Rattle.ta_witness.proofs.Lookups.{OtherElement, newer, single_value, value_for}
 

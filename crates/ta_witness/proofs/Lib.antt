@@ -7,3 +7,4 @@ pub mod Starts
 pub mod Witnesses
 pub mod Making
 mod Endings
+mod Common

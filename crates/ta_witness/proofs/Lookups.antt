@@ -1,28 +1,8 @@
 -- the value of an unknown, by what it stands for
-use Rattle.std.proofs.Common.{◌≡◌, ◌≢◌, inl, inr, ℕ, zero, suc, ◌+◌, ◌<◌, ◌≤◌, ℤ, pos, ◌*ℤ◌, List, [], ◌∷◌, ◌++◌, map, length, drop, eqb, cond, Bool, true, false, arith, refl, sym, ap, ◌∙◌, subst, slice_get, Some}
-use Rattle.std.specs.Prelude.{filter}
-use Rattle.std.proofs.lemmas.Int.{ints}
-use Rattle.std.proofs.lemmas.Bool.{cases_Bool, and_parts, eqb-true, true≢false}
-use Rattle.std.proofs.lemmas.Bool.Decides.{nat_tests, eqb_tells}
+use Rattle.ta_witness.proofs.Common.{◌≡◌, ◌≢◌, inl, inr, ℕ, zero, suc, ◌+◌, ◌<◌, ◌≤◌, ℤ, pos, ◌*ℤ◌, List, [], ◌∷◌, ◌++◌, map, length, drop, eqb, cond, Bool, true, false, arith, refl, sym, ap, ◌∙◌, subst, slice_get, Some, filter, ints, cases_Bool, and_parts, eqb-true, true≢false, nat_tests, eqb_tells, AllByRecursion, drop_map, filter_false, filter_true, other_number, same_number, Automaton, Pattern, numbers_from, In, total, Element, Event, Rise, Fall, allowed_rules, Meaning, Parameter, Start, Count, Single, meanings, counts_after, singles_after, sum_of_products, NumberBelow, numbers_below, same_meaning, unknown_value}
 use Rattle.std.proofs.Math.IntN.{*ℤ-zero}
-use Rattle.std.specs.List.{AllByRecursion}
 use Rattle.ta_base.proofs.Integers.{pos_cond}
-use Rattle.ta_base.proofs.Lists.{drop_map, filter_false, filter_true}
-use Rattle.ta_base.proofs.Naturals.{other_number, same_number}
-use Rattle.ta_automaton.specs.declared.automaton.Automaton.{Automaton}
-use Rattle.ta_automaton.specs.declared.pattern.Pattern.{Pattern}
-use Rattle.ta_base.specs.Masks.{numbers_from, In}
-use Rattle.ta_automaton.specs.Sums.{total}
 use Rattle.ta_automaton.proofs.Sums.{total-zero}
-use Rattle.ta_words.specs.declared.element.Element.{Element}
-use Rattle.ta_words.specs.declared.element.Element.TheVariants.{Event, Rise, Fall}
-use Rattle.ta_words.specs.Words.{allowed_rules}
-use Rattle.ta_encode.specs.declared.meaning.Meaning.{Meaning}
-use Rattle.ta_encode.specs.declared.meaning.Meaning.TheVariants.{Parameter, Start, Count, Single}
-use Rattle.ta_encode.specs.Unknowns.{meanings, counts_after, singles_after}
-use Rattle.ta_encode.specs.System.{sum_of_products}
-use Rattle.ta_encode.proofs.Singles.{NumberBelow, numbers_below}
-use Rattle.ta_witness.specs.Values.{same_meaning, unknown_value}
 
 -- no unknown of a list stands for this
 abbrev pub Lacks : Meaning → List Meaning → Type 0

@@ -1,40 +1,9 @@
 -- making the lists and lines of a run
-use Rattle.std.proofs.Common.{◌≡◌, inl, inr, ℕ, zero, suc, ◌+◌, ◌^◌, ◌<◌, ◌≤◌, ℤ, pos, ◌≤ℤ◌, ◌<ℤ◌, List, [], ◌∷◌, ◌++◌, map, length, take, drop, reverse, get_or, cond, true, false, Some, None, slice_get, arith, refl, sym, ap, ◌∙◌, subst, append_assoc, append-nil, length-append, drop-cons}
-use Rattle.std.proofs.lemmas.Int.{ints}
-use Rattle.std.specs.Prelude.{slice_index_or}
-use Rattle.std.proofs.lemmas.List.{drop_all, take_more, map-append, length-map, length-take, length-reverse}
-use Rattle.std.proofs.lemmas.Option.{slice_get_within}
-use Rattle.std.specs.List.{AllByRecursion}
-use Rattle.ta_base.proofs.Each.{each_append, each_push, known_naturals}
-use Rattle.ta_base.proofs.Lists.{get_parts, last_item}
-use Rattle.ta_base.proofs.Ranges.{length_numbers, numbers_suc}
-use Rattle.ta_encode.proofs.Moments.{AllHold-left}
+use Rattle.ta_witness.proofs.Common.{◌≡◌, inl, inr, ℕ, zero, suc, ◌+◌, ◌^◌, ◌<◌, ◌≤◌, ℤ, pos, ◌≤ℤ◌, ◌<ℤ◌, List, [], ◌∷◌, ◌++◌, map, length, take, drop, reverse, get_or, cond, true, false, Some, None, slice_get, arith, refl, sym, ap, ◌∙◌, subst, append_assoc, append-nil, length-append, drop-cons, ints, slice_index_or, drop_all, take_more, map-append, length-map, length-take, length-reverse, slice_get_within, AllByRecursion, each_append, each_push, known_naturals, get_parts, last_item, length_numbers, numbers_suc, AllHold-left, Automaton, Pattern, File, numbers_from, InScope, pattern_within, AreRuleCounts, ArrangedOf, count_at, arranged_within, Element, Event, Fall, Meaning, Parameter, Start, legal_length, Solution, meanings, word_rows, Run, Step, Mark, Piece, step_line, last_lines, piece_lines, pieces_lines, same_meaning, unknown_value, PieceOf, PiecesOf, WitnessOf, counts_before, AreNaturals, AreValues, IsSingle, EachMayEnd, AddsPieceEnd, AddsPiece, AddsPieces, IsMadeFrom, RunOf}
 use Rattle.ta_linear.specs.Numbers.{InRange}
-use Rattle.ta_automaton.specs.declared.automaton.Automaton.{Automaton}
-use Rattle.ta_automaton.specs.declared.pattern.Pattern.{Pattern}
-use Rattle.ta_automaton.specs.declared.file.File.{File}
-use Rattle.ta_base.specs.Masks.{numbers_from}
-use Rattle.ta_automaton.specs.Runs.{InScope}
-use Rattle.ta_automaton.proofs.Thresholds.{pattern_within}
-use Rattle.ta_scope.specs.Arranged.{AreRuleCounts, ArrangedOf, count_at}
-use Rattle.ta_scope.proofs.Arranging.{arranged_within}
 use Rattle.ta_counter.specs.Values.{Value}
-use Rattle.ta_words.specs.declared.element.Element.{Element}
-use Rattle.ta_words.specs.declared.element.Element.TheVariants.{Event, Fall}
-use Rattle.ta_encode.specs.declared.meaning.Meaning.{Meaning}
-use Rattle.ta_encode.specs.declared.meaning.Meaning.TheVariants.{Parameter, Start}
-use Rattle.ta_words.proofs.Counts.{legal_length}
-use Rattle.ta_encode.specs.declared.encoded.Solution.{Solution}
-use Rattle.ta_encode.specs.Unknowns.{meanings}
-use Rattle.ta_encode.specs.System.{word_rows}
-use Rattle.ta_replay.specs.declared.run.Run.{Run}
 use Rattle.ta_replay.specs.declared.run.RunLine.{RunLine}
-use Rattle.ta_replay.specs.declared.run.RunLine.TheVariants.{Step, Mark}
 use Rattle.ta_replay.specs.Fits.{LineFits, Fits}
-use Rattle.ta_replay.specs.Pieces.{Piece, step_line, last_lines, piece_lines, pieces_lines}
-use Rattle.ta_witness.specs.Values.{same_meaning, unknown_value}
-use Rattle.ta_witness.specs.Witness.{PieceOf, PiecesOf, WitnessOf, counts_before}
-use Rattle.ta_witness.specs.Inside.Making.{AreNaturals, AreValues, IsSingle, EachMayEnd, AddsPieceEnd, AddsPiece, AddsPieces, IsMadeFrom, RunOf}
 use Rattle.ta_witness.proofs.Endings.{each_ends}
 
 -- looking for an unknown

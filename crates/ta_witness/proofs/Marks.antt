@@ -1,30 +1,9 @@
 -- the marks of a word's pieces: where they stand, and in which order
-use Rattle.std.proofs.Common.{◌≡◌, inl, inr, ℕ, zero, suc, ◌+◌, ◌<◌, ℤ, List, [], ◌∷◌, ◌++◌, map, length, take, replicate, reverse, unsigned_abs, eqb, cond, true, false, not, Option, Some, None, slice_get, IsBitSet, arith, refl, sym, ap, ◌∙◌, subst, append_assoc, append-nil}
-use Rattle.std.proofs.lemmas.Bool.{false≢true, and_parts, not-true, or_parts, or_right}
-use Rattle.std.proofs.lemmas.Bool.Decides.{nat_tests, eqb_tells}
-use Rattle.std.proofs.lemmas.List.{map-append, length-reverse, length-map}
-use Rattle.std.proofs.lemmas.Option.{slice_get_within}
-use Rattle.ta_base.proofs.Bits.{all_below-at, bit_true}
+use Rattle.ta_witness.proofs.Common.{◌≡◌, inl, inr, ℕ, zero, suc, ◌+◌, ◌<◌, ℤ, List, [], ◌∷◌, ◌++◌, map, length, take, replicate, reverse, unsigned_abs, eqb, cond, true, false, not, Option, Some, None, slice_get, IsBitSet, arith, refl, sym, ap, ◌∙◌, subst, append_assoc, append-nil, false≢true, and_parts, not-true, or_parts, or_right, nat_tests, eqb_tells, map-append, length-reverse, length-map, slice_get_within, all_below-at, bit_true, get_parts, only_one, reverse_onto, slice_get_left, times-append, Automaton, Pattern, has_bit, all_below, implies, In, times_in, Element, Event, Rise, Fall, has_event, follows, children, LegalWord, Meaning, position_in, steps_of, event_ready, Mark, unit_steps, Piece, MarksInOrder, pieces_lines, pieces_marks, piece_lines, step_line, last_lines, steps_until, some_index, no_steps}
 use Rattle.ta_base.proofs.Booleans.{implies-at}
-use Rattle.ta_base.proofs.Lists.{get_parts, only_one, reverse_onto, slice_get_left}
-use Rattle.ta_scope.proofs.Arranging.{times-append}
-use Rattle.ta_automaton.specs.declared.automaton.Automaton.{Automaton}
 use Rattle.ta_automaton.specs.declared.pattern.Event.{Event as PatternEvent}
-use Rattle.ta_automaton.specs.declared.pattern.Pattern.{Pattern}
-use Rattle.ta_base.specs.Masks.{has_bit, all_below, implies, In}
-use Rattle.ta_automaton.specs.Sums.{times_in}
-use Rattle.ta_words.specs.declared.element.Element.{Element}
-use Rattle.ta_words.specs.declared.element.Element.TheVariants.{Event, Rise, Fall}
-use Rattle.ta_words.specs.Words.{has_event, follows, children, LegalWord}
-use Rattle.ta_encode.specs.declared.meaning.Meaning.{Meaning}
-use Rattle.ta_encode.specs.Laws.{position_in, steps_of}
-use Rattle.ta_encode.proofs.Values.{event_ready}
 use Rattle.ta_scope.specs.Legal as scope
-use Rattle.ta_replay.specs.declared.run.RunLine.TheVariants.{Mark}
-use Rattle.ta_replay.specs.Shows.{unit_steps}
-use Rattle.ta_replay.specs.Pieces.{Piece, MarksInOrder, pieces_lines, pieces_marks, piece_lines, step_line, last_lines, steps_until}
 use Rattle.ta_replay.proofs.Lines.{unit_steps-append}
-use Rattle.ta_replay.proofs.PieceLines.{some_index, no_steps}
 use Rattle.ta_witness.proofs.Backward.{PiecesBack, piece_rules, last_rules}
 
 -- newer elements without an event leave its position

@@ -1,22 +1,5 @@
 -- the parameters and start counts of a solution's run are those of the configuration that it begins with
-use Rattle.std.proofs.Common.{◌≡◌, inl, inr, ℕ, ◌+◌, ℤ, pos, List, [], ◌∷◌, ◌++◌, map, length, take, drop, eqb, cond, true, false, not, Some, slice_get, arith, refl, sym, ap, ◌∙◌, subst, unsigned_abs}
-use Rattle.std.specs.Prelude.{slice_index}
-use Rattle.std.proofs.lemmas.Bool.{cases_Bool, not_from_false}
-use Rattle.std.proofs.lemmas.Bool.Decides.{nat_tests, eqb_tells}
-use Rattle.std.proofs.lemmas.List.{length-map}
-use Rattle.ta_base.proofs.Lists.{drop_front, map_append, natural_at, naturals_back, same_items, take_map}
-use Rattle.ta_base.proofs.Members.{In-filter, in_at}
-use Rattle.ta_base.proofs.Ranges.{length_numbers, map_from}
-use Rattle.ta_automaton.specs.declared.automaton.Automaton.{Automaton}
-use Rattle.ta_automaton.specs.declared.pattern.Pattern.{Pattern}
-use Rattle.ta_base.specs.Masks.{has_bit, numbers_from, In}
-use Rattle.ta_automaton.specs.Runs.{Config}
-use Rattle.ta_words.specs.declared.element.Element.{Element}
-use Rattle.ta_encode.specs.declared.meaning.Meaning.{Meaning}
-use Rattle.ta_encode.specs.declared.meaning.Meaning.TheVariants.{Parameter, Start}
-use Rattle.ta_encode.specs.Unknowns.{meanings, start_locations, start_meanings}
-use Rattle.ta_encode.specs.Laws.{start_values}
-use Rattle.ta_witness.specs.Values.{same_meaning, unknown_value}
+use Rattle.ta_witness.proofs.Common.{◌≡◌, inl, inr, ℕ, ◌+◌, ℤ, pos, List, [], ◌∷◌, ◌++◌, map, length, take, drop, eqb, cond, true, false, not, Some, slice_get, arith, refl, sym, ap, ◌∙◌, subst, unsigned_abs, slice_index, cases_Bool, not_from_false, nat_tests, eqb_tells, length-map, drop_front, map_append, natural_at, naturals_back, same_items, take_map, In-filter, in_at, length_numbers, map_from, Automaton, Pattern, has_bit, numbers_from, In, Config, Element, Meaning, Parameter, Start, meanings, start_locations, start_meanings, start_values, same_meaning, unknown_value}
 use Rattle.ta_witness.proofs.Lookups.{OtherElement, newer, skip, lacks_map}
 
 -- unknowns that aren't of an element have their values at the start

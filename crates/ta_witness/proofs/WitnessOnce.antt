@@ -1,27 +1,8 @@
 -- A solution has one run.
-use Rattle.std.proofs.Common.{◌≡◌, ℕ, ℤ, pos, List, [], ◌∷◌, ◌++◌, map, length, reverse, Some, slice_get, sym, ap, ◌∙◌, refl, subst}
-use Rattle.std.proofs.lemmas.List.{reverse-reverse}
-use Rattle.ta_encode.proofs.Moments.{AllHold-left}
+use Rattle.ta_witness.proofs.Common.{◌≡◌, ℕ, ℤ, pos, List, [], ◌∷◌, ◌++◌, map, length, reverse, Some, slice_get, sym, ap, ◌∙◌, refl, subst, reverse-reverse, AllHold-left, Automaton, Pattern, File, numbers_from, Element, Event, Rise, Fall, allowed_rules, Solution, Parameter, Start, Single, AllHold, word_rows, counts_after, meanings, one_single, only_single, singles_hold, AllHold-right, Run, Piece, pieces_lines, unknown_value, EndsPiece, PieceOf, PiecesOf, WitnessOf, WitnessesAreDetermined, counts_before, solution_value}
 use Rattle.ta_encode.proofs.Safety.{first_rows}
 use Rattle.ta_replay.proofs.OneRun.{run_same}
-use Rattle.ta_automaton.specs.declared.automaton.Automaton.{Automaton}
-use Rattle.ta_automaton.specs.declared.pattern.Pattern.{Pattern}
-use Rattle.ta_automaton.specs.declared.file.File.{File}
-use Rattle.ta_base.specs.Masks.{numbers_from}
 use Rattle.ta_scope.proofs.ArrangedOnce.{arranged_once}
-use Rattle.ta_words.specs.declared.element.Element.{Element}
-use Rattle.ta_words.specs.declared.element.Element.TheVariants.{Event, Rise, Fall}
-use Rattle.ta_words.specs.Words.{allowed_rules}
-use Rattle.ta_encode.specs.declared.encoded.Solution.{Solution}
-use Rattle.ta_encode.specs.declared.meaning.Meaning.TheVariants.{Parameter, Start, Single}
-use Rattle.ta_encode.specs.System.{AllHold, word_rows}
-use Rattle.ta_encode.specs.Unknowns.{counts_after, meanings}
-use Rattle.ta_encode.proofs.Singles.{one_single, only_single, singles_hold}
-use Rattle.ta_encode.proofs.Values.{AllHold-right}
-use Rattle.ta_replay.specs.declared.run.Run.{Run}
-use Rattle.ta_replay.specs.Pieces.{Piece, pieces_lines}
-use Rattle.ta_witness.specs.Values.{unknown_value}
-use Rattle.ta_witness.specs.Witness.{EndsPiece, PieceOf, PiecesOf, WitnessOf, WitnessesAreDetermined, counts_before, solution_value}
 use Rattle.ta_witness.proofs.Backward.{PiecesBack, older, pieces_back, values_of}
 use Rattle.ta_witness.proofs.Lookups.{one_found}
 

@@ -1,37 +1,7 @@
 -- the run of a solution shows the pattern, and is short
-use Rattle.std.proofs.Common.{◌≡◌, inl, inr, ℕ, ◌+◌, ◌*◌, ◌≤◌, ℤ, List, ◌∷◌, map, length, reverse, true, Some, slice_get, unsigned_abs, arith, sym, ap, ◌∙◌, subst}
-use Rattle.std.specs.Prelude.{slice_index}
-use Rattle.std.proofs.lemmas.List.{length-reverse}
-use Rattle.std.proofs.lemmas.Option.{slice_get_within, get_or_from_slice_get}
-use Rattle.ta_base.proofs.Bits.{bit_set}
-use Rattle.ta_base.proofs.Each.{each_from}
-use Rattle.ta_base.proofs.Lists.{get_map, some_at}
-use Rattle.ta_base.proofs.Naturals.{count_most, times_le_right}
-use Rattle.ta_base.proofs.Ranges.{number_here}
-use Rattle.ta_automaton.specs.declared.automaton.Automaton.{Automaton}
-use Rattle.ta_automaton.specs.declared.pattern.Pattern.{Pattern}
-use Rattle.ta_automaton.specs.declared.file.File.{File}
-use Rattle.ta_base.specs.Masks.{has_bit, numbers_from, In}
-use Rattle.ta_automaton.specs.Runs.{Config, HappensAt, InScope}
+use Rattle.ta_witness.proofs.Common.{◌≡◌, inl, inr, ℕ, ◌+◌, ◌*◌, ◌≤◌, ℤ, List, ◌∷◌, map, length, reverse, true, Some, slice_get, unsigned_abs, arith, sym, ap, ◌∙◌, subst, slice_index, length-reverse, slice_get_within, get_or_from_slice_get, bit_set, each_from, get_map, some_at, count_most, times_le_right, number_here, Automaton, Pattern, File, has_bit, numbers_from, In, Config, HappensAt, InScope, pattern_within, after_earlier, arranged_within, Element, Event, Rise, Fall, has_event, has_rise, has_fallen, legal_weight, Solution, Meaning, Parameter, Start, meanings, SolvedWord, position_in, steps_of, Run, unit_steps, ShowsPattern, Piece, OncePerRule, HasFewSteps, PiecesHappen, pieces_lines, steps_count, are_short, show, unknown_value, IsSolution, PiecesOf, EndsPiece, WitnessOf, WitnessesShow, solution_value}
 use Rattle.ta_automaton.specs.Runs as runs
-use Rattle.ta_automaton.proofs.Thresholds.{pattern_within, after_earlier}
-use Rattle.ta_scope.proofs.Arranging.{arranged_within}
-use Rattle.ta_words.specs.declared.element.Element.{Element}
-use Rattle.ta_words.specs.declared.element.Element.TheVariants.{Event, Rise, Fall}
-use Rattle.ta_words.specs.Words.{has_event, has_rise, has_fallen}
-use Rattle.ta_words.proofs.Counts.{legal_weight}
-use Rattle.ta_encode.specs.declared.encoded.Solution.{Solution}
-use Rattle.ta_encode.specs.declared.meaning.Meaning.{Meaning}
-use Rattle.ta_encode.specs.declared.meaning.Meaning.TheVariants.{Parameter, Start}
-use Rattle.ta_encode.specs.Unknowns.{meanings}
-use Rattle.ta_encode.specs.Laws.{SolvedWord, position_in, steps_of}
 use Rattle.ta_encode.proofs.Theorems.{these_run}
-use Rattle.ta_replay.specs.declared.run.Run.{Run}
-use Rattle.ta_replay.specs.Shows.{unit_steps, ShowsPattern}
-use Rattle.ta_replay.specs.Pieces.{Piece, OncePerRule, HasFewSteps, PiecesHappen, pieces_lines, steps_count}
-use Rattle.ta_replay.proofs.PieceLines.{are_short, show}
-use Rattle.ta_witness.specs.Values.{unknown_value}
-use Rattle.ta_witness.specs.Witness.{IsSolution, PiecesOf, EndsPiece, WitnessOf, WitnessesShow, solution_value}
 use Rattle.ta_witness.proofs.Backward.{pieces_back, pieces_fire, piece_rules, values_of, are_counts}
 use Rattle.ta_witness.proofs.Marks.{all_steps, position_at, marks_in_order}
 use Rattle.ta_witness.proofs.Starts.{parameters_are, counts_are}

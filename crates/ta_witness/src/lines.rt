@@ -10,6 +10,7 @@ ghost use Rattle.ta_witness.specs.Inside.Making.{AddsPiece, EachMayEnd, AddsPiec
 use crate::known::{counts_of, single_of};
 use std::alloc::{AllocError, Global};
 use ta_automaton::{Automaton, Pattern};
+use ta_base::limits::LONGEST_WORD;
 use ta_encode::Meaning;
 use ta_replay::RunLine;
 use ta_scope::ScopedFile;
@@ -24,7 +25,7 @@ pub(crate) fn lines_of(
     values: &[i128],
     elements: &[Element],
 ) -> Result<Vec<RunLine>, AllocError>
-    requires few { length elements.now ≤ 30 }
+    requires few { length elements.now ≤ LONGEST_WORD }
     requires known { AreNaturals meanings.now values.now }
     requires ends { EachMayEnd scoped.now.file.automaton pattern.now (unknown_value meanings.now values.now) elements.now }
     ensures { IfOk result (λ lines. AddsPieces scoped.now.file.automaton pattern.now (unknown_value meanings.now values.now) elements.now lines.items) }
@@ -65,7 +66,7 @@ fn push_piece(
     let counts = counts_of(alloc, rules, meanings, values, number)?;
     let arranged = scoped.arrange(alloc, counts.as_slice())?;
     push_steps(arranged.steps.as_slice(), lines)?;
-    push_end(automaton, pattern, meanings, values, number, element, lines)?;
+    push_end(lines, automaton, pattern, meanings, values, number, element)?;
     Ok(())
 }
 
@@ -85,13 +86,13 @@ fn push_steps(steps: &[(u32, i128)], lines: &mut Vec<RunLine>) -> Result<(), All
 
 /// Adds the end of an element: the mark of an event, nothing for a rise, the single step of a fall.
 fn push_end(
+    lines: &mut Vec<RunLine>,
     automaton: &Automaton,
     pattern: &Pattern,
     meanings: &[Meaning],
     values: &[i128],
     number: u32,
     element: Element,
-    lines: &mut Vec<RunLine>,
 ) -> Result<(), AllocError>
     requires known { AreNaturals meanings.now values.now }
     requires ends { MayEnd automaton.now pattern.now (unknown_value meanings.now values.now) number element }

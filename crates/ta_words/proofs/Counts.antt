@@ -1,22 +1,5 @@
 -- a legal word has at most as many elements as there are events and guards
-use Rattle.std.proofs.Common.{◌≡◌, ◌⊎◌, inl, inr, ℕ, ◌+◌, ◌-◌, ◌^◌, ◌<◌, ◌≤◌, List, [], ◌∷◌, ◌++◌, length, map, Bool, true, not, slice_get, Some, arith, sym, ap, refl, subst, reverse}
-use Rattle.std.specs.Prelude.{filter, ◌==◌}
-use Rattle.std.proofs.lemmas.List.{length-reverse}
-use Rattle.std.proofs.lemmas.Option.{slice_get_cases}
-use Rattle.std.proofs.lemmas.Bool.{and_parts, eq-eqb, not-true, or_left, or_right}
-use Rattle.ta_base.specs.Masks.{has_bit, implies, numbers_from, In}
-use Rattle.ta_base.proofs.Bits.{all_below-at, some_bit}
-use Rattle.ta_base.proofs.Booleans.{implies-at}
-use Rattle.ta_base.proofs.Members.{In-filter, In-left, In-map, In-right, cond_more, in_append, in_filter, in_map, in_more}
-use Rattle.ta_base.proofs.Naturals.{count, count_most, count_new}
-use Rattle.ta_base.proofs.Ranges.{In-numbers, in_numbers}
-use Rattle.ta_automaton.specs.declared.automaton.Automaton.{Automaton}
-use Rattle.ta_automaton.specs.declared.pattern.Pattern.{Pattern}
-use Rattle.ta_automaton.specs.declared.file.File.{File}
-use Rattle.ta_words.specs.Calls.{OfPattern}
-use Rattle.ta_words.specs.Words.{has_event, has_rise, has_fallen, is_complete, is_due, is_ready, is_standing, may_rise, children, LegalWord, LegalUnder}
-use Rattle.ta_words.specs.declared.element.Element.{Element}
-use Rattle.ta_words.specs.declared.element.Element.TheVariants.{Event, Rise, Fall}
+use Rattle.ta_words.proofs.Common.{◌≡◌, ◌⊎◌, inl, inr, ℕ, ◌+◌, ◌-◌, ◌^◌, ◌<◌, ◌≤◌, List, [], ◌∷◌, ◌++◌, length, map, Bool, true, not, slice_get, Some, arith, sym, ap, refl, subst, reverse, filter, ◌==◌, length-reverse, slice_get_cases, and_parts, eq-eqb, not-true, or_left, or_right, has_bit, implies, numbers_from, In, all_below-at, some_bit, implies-at, In-filter, In-left, In-map, In-right, cond_more, in_append, in_filter, in_map, in_more, count, count_most, count_new, In-numbers, in_numbers, Automaton, Pattern, File, OfPattern, has_event, has_rise, has_fallen, is_complete, is_due, is_ready, is_standing, may_rise, children, LegalWord, LegalUnder, Element, Event, Rise, Fall}
 use Rattle.ta_words.proofs.Lists.{events_named}
 
 -- a number that passes, among n numbers from k on

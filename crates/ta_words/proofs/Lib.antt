@@ -5,3 +5,4 @@ pub mod Pushes
 pub mod Lists
 pub mod Pairs
 pub mod Counts
+mod Common

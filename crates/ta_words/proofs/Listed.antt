@@ -1,15 +1,5 @@
 -- children of a word
-use Rattle.std.proofs.Common.{◌≡◌, ℕ, ◌-◌, ◌^◌, ◌<◌, ◌≤◌, List, [], ◌++◌, map, length, true, false, arith, sym, subst}
-use Rattle.std.specs.Prelude.{filter}
-use Rattle.ta_base.proofs.Booleans.{cond_false}
-use Rattle.ta_base.proofs.Members.{In-filter, In-left, In-map, In-right}
-use Rattle.ta_base.proofs.Ranges.{In-numbers}
-use Rattle.ta_automaton.specs.declared.automaton.Automaton.{Automaton}
-use Rattle.ta_automaton.specs.declared.pattern.Pattern.{Pattern}
-use Rattle.ta_base.specs.Masks.{numbers_from, In}
-use Rattle.ta_words.specs.declared.element.Element.{Element}
-use Rattle.ta_words.specs.declared.element.Element.TheVariants.{Event, Rise, Fall}
-use Rattle.ta_words.specs.Words.{is_complete, is_ready, is_standing, may_rise, children}
+use Rattle.ta_words.proofs.Common.{◌≡◌, ℕ, ◌-◌, ◌^◌, ◌<◌, ◌≤◌, List, [], ◌++◌, map, length, true, false, arith, sym, subst, filter, cond_false, In-filter, In-left, In-map, In-right, In-numbers, Automaton, Pattern, numbers_from, In, Element, Event, Rise, Fall, is_complete, is_ready, is_standing, may_rise, children}
 
 pub event_child : (a : Automaton) (p : Pattern) (pairs : List (ℕ × ℕ)) (start : ℕ) (past : List Element) (e : ℕ) → is_complete p past ≡ false → e < length p.events → is_ready p past e ≡ true → In (Event e) (children a p pairs start past)
 unfolding children

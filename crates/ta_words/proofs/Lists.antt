@@ -1,24 +1,9 @@
 -- what follows a word, and how long words and lists of children get
-use Rattle.std.proofs.Common.{◌≡◌, ℕ, ◌+◌, ◌-◌, ◌^◌, ◌<◌, ◌≤◌, List, [], ◌++◌, length, map, Bool, true, false, get_or, slice_get, Some, arith, sym, ap, ◌∙◌, refl, subst, append_assoc, length-append}
-use Rattle.std.specs.Prelude.{filter}
+use Rattle.ta_words.proofs.Common.{◌≡◌, ℕ, ◌+◌, ◌-◌, ◌^◌, ◌<◌, ◌≤◌, List, [], ◌++◌, length, map, Bool, true, false, get_or, slice_get, Some, arith, sym, ap, ◌∙◌, refl, subst, append_assoc, length-append, filter, length-map, slice_get_read, slice_get_within, get_or_from_slice_get, numbers_from, cond_false, cond_true, filter_shorter, length_numbers, Automaton, File, Pattern, OfPattern, EventsNamed, is_complete, is_ready, is_standing, may_rise, children, Element, Event, Rise, Fall}
 use Rattle.std.proofs.Math.Nat.{pow-le-pow_right}
-use Rattle.std.proofs.lemmas.List.{length-map}
-use Rattle.std.proofs.lemmas.Option.{slice_get_read, slice_get_within, get_or_from_slice_get}
-use Rattle.ta_base.specs.Masks.{numbers_from}
-use Rattle.ta_base.proofs.Booleans.{cond_false, cond_true}
 use Rattle.ta_base.proofs.Each.{each_from_at}
-use Rattle.ta_base.proofs.Lists.{filter_shorter}
-use Rattle.ta_base.proofs.Ranges.{length_numbers}
 use Rattle.ta_automaton.specs.Patterns.{EventWithin}
-use Rattle.ta_automaton.specs.declared.automaton.Automaton.{Automaton}
-use Rattle.ta_automaton.specs.declared.file.File.{File}
-use Rattle.ta_automaton.specs.declared.pattern.Pattern.{Pattern}
 use Rattle.ta_automaton.proofs.Thresholds.{pattern_within}
-use Rattle.ta_words.specs.Calls.{OfPattern}
-use Rattle.ta_words.specs.Seen.{EventsNamed}
-use Rattle.ta_words.specs.Words.{is_complete, is_ready, is_standing, may_rise, children}
-use Rattle.ta_words.specs.declared.element.Element.{Element}
-use Rattle.ta_words.specs.declared.element.Element.TheVariants.{Event, Rise, Fall}
 
 -- the pattern that a call reads is the pattern with its number
 pub pattern_at : (file : File) (items : List Pattern) (k : ℕ) (p : Pattern) → items ≡ file.patterns → k < length file.patterns → p ≡ get_or items k p → slice_get file.patterns k ≡ Some p

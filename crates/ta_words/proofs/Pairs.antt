@@ -1,19 +1,6 @@
 -- rise guards that come after others
-use Rattle.std.proofs.Common.{◌≡◌, ◌↔◌, inl, inr, ℕ, ◌-◌, ◌^◌, ◌<◌, ◌≤◌, List, [], ◌∷◌, ◌++◌, length, map, cond, Bool, true, false, not, ◌&&◌, arith, sym, ap, ◌∙◌, refl}
-use Rattle.std.specs.Prelude.{filter, ◌==◌}
+use Rattle.ta_words.proofs.Common.{◌≡◌, ◌↔◌, inl, inr, ℕ, ◌-◌, ◌^◌, ◌<◌, ◌≤◌, List, [], ◌∷◌, ◌++◌, length, map, cond, Bool, true, false, not, ◌&&◌, arith, sym, ap, ◌∙◌, refl, filter, ◌==◌, true≢false, and_from, and_parts, eq-eqb, eqb-true, all_below, has_bit, implies, numbers_from, In, all_below-at, all_below-from, has_above, and_right, both_ways, implies-at, implies-from, in_or_above, Automaton, Pattern, IsSeen, NamesBefore, has_rise, is_complete, is_due, is_ready, is_standing, may_rise, children, Element, Event, Rise, Fall, Seen}
 use Rattle.std.proofs.Math.Path.{fun_ext}
-use Rattle.std.proofs.lemmas.Bool.{true≢false, and_from, and_parts, eq-eqb, eqb-true}
-use Rattle.ta_base.specs.Masks.{all_below, has_bit, implies, numbers_from, In}
-use Rattle.ta_base.proofs.Bits.{all_below-at, all_below-from, has_above}
-use Rattle.ta_base.proofs.Booleans.{and_right, both_ways, implies-at, implies-from}
-use Rattle.ta_base.proofs.Naturals.{in_or_above}
-use Rattle.ta_automaton.specs.declared.automaton.Automaton.{Automaton}
-use Rattle.ta_automaton.specs.declared.pattern.Pattern.{Pattern}
-use Rattle.ta_words.specs.Seen.{IsSeen, NamesBefore}
-use Rattle.ta_words.specs.Words.{has_rise, is_complete, is_due, is_ready, is_standing, may_rise, children}
-use Rattle.ta_words.specs.declared.element.Element.{Element}
-use Rattle.ta_words.specs.declared.element.Element.TheVariants.{Event, Rise, Fall}
-use Rattle.ta_words.specs.declared.seen.Seen.{Seen}
 
 -- a guard that is due has those before it in the word
 pub due_at : (pairs : List (ℕ × ℕ)) (past : List Element) (i j : ℕ) → is_due pairs past i ≡ true → In (j, i) pairs → has_rise past j ≡ true

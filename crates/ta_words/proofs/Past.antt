@@ -1,18 +1,5 @@
 -- the masks of a word, element by element
-use Rattle.std.proofs.Common.{◌≡◌, ℕ, ◌-◌, ◌*◌, ◌%◌, ◌<◌, ◌≤◌, ◌^◌, List, [], ◌∷◌, length, Bool, true, false, not, ◌&&◌, ◌||◌, Some, arith, sym, ap, ◌∙◌, refl}
-use Rattle.std.specs.Prelude.{◌==◌}
-use Rattle.ta_base.proofs.Bits.{all_below-same, first_numbers, has_none}
-use Rattle.ta_base.proofs.Booleans.{and_else, and_group, and_then}
-use Rattle.ta_base.proofs.Naturals.{first_bits_below}
-use Rattle.ta_automaton.specs.declared.automaton.Automaton.{Automaton}
-use Rattle.ta_automaton.specs.declared.pattern.Pattern.{Pattern}
-use Rattle.ta_automaton.specs.declared.rule.Rule.{Rule}
-use Rattle.ta_base.specs.Masks.{has_bit, all_below, implies}
-use Rattle.ta_words.specs.Seen.{IsSeen}
-use Rattle.ta_words.specs.Words.{has_event, has_rise, has_fallen, is_complete, may_fire}
-use Rattle.ta_words.specs.declared.element.Element.{Element}
-use Rattle.ta_words.specs.declared.element.Element.TheVariants.{Event, Rise, Fall}
-use Rattle.ta_words.specs.declared.seen.Seen.{Seen}
+use Rattle.ta_words.proofs.Common.{◌≡◌, ℕ, ◌-◌, ◌*◌, ◌%◌, ◌<◌, ◌≤◌, ◌^◌, List, [], ◌∷◌, length, Bool, true, false, not, ◌&&◌, ◌||◌, Some, arith, sym, ap, ◌∙◌, refl, ◌==◌, all_below-same, first_numbers, has_none, and_else, and_group, and_then, first_bits_below, Automaton, Pattern, Rule, has_bit, all_below, implies, IsSeen, has_event, has_rise, has_fallen, is_complete, may_fire, Element, Event, Rise, Fall, Seen}
 
 pub none_seen : (start : ℕ) → IsSeen (record { events = 0; rises = 0; fallen = start }) start []
 unfolding has_event has_rise has_fallen

@@ -1,18 +1,6 @@
 -- numbers that pass a test, one after another
-use Rattle.std.proofs.Common.{◌≡◌, ℕ, ◌+◌, ◌<◌, ◌≤◌, List, [], ◌∷◌, ◌++◌, length, map, get_or, Bool, true, false, not, ◌&&◌, Some, slice_get, arith, sym, ap, ◌∙◌, refl, subst, append_assoc}
-use Rattle.std.specs.Prelude.{filter}
-use Rattle.std.proofs.lemmas.List.{map-append}
-use Rattle.std.proofs.lemmas.Option.{slice_get_read}
-use Rattle.ta_base.proofs.Booleans.{cond_false, cond_true}
-use Rattle.ta_base.proofs.Lists.{append_nil, one_longer}
-use Rattle.ta_base.proofs.Ranges.{filter_more}
+use Rattle.ta_words.proofs.Common.{◌≡◌, ℕ, ◌+◌, ◌<◌, ◌≤◌, List, [], ◌∷◌, ◌++◌, length, map, get_or, Bool, true, false, not, ◌&&◌, Some, slice_get, arith, sym, ap, ◌∙◌, refl, subst, append_assoc, filter, map-append, slice_get_read, cond_false, cond_true, append_nil, one_longer, filter_more, Pattern, has_bit, all_below, implies, numbers_from, IsSeen, Seen, has_event, is_ready, Element}
 use Rattle.ta_automaton.specs.declared.pattern.Event.{Event as PatternEvent}
-use Rattle.ta_automaton.specs.declared.pattern.Pattern.{Pattern}
-use Rattle.ta_base.specs.Masks.{has_bit, all_below, implies, numbers_from}
-use Rattle.ta_words.specs.Seen.{IsSeen}
-use Rattle.ta_words.specs.declared.seen.Seen.{Seen}
-use Rattle.ta_words.specs.Words.{has_event, is_ready}
-use Rattle.ta_words.specs.declared.element.Element.{Element}
 
 -- a list with what passes among n numbers from k on
 abbrev pub with_passed : (ℕ → Element) → (ℕ → Bool) → List Element → ℕ → ℕ → List Element

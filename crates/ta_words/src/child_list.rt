@@ -12,13 +12,14 @@ use crate::seen::Seen;
 use arrayvec::ArrayVec;
 use std::marker::Model;
 use ta_automaton::{Automaton, Pattern};
+use ta_base::limits::{MOST_CHILDREN, MOST_EVENTS, MOST_FALL_SETS, MOST_RISES};
 use ta_implied::Orders;
 
 /// A list of at most 87 elements: 8 events, 16 rise guards and 63 sets of fall guards. Contracts
 /// see it as that list.
 #[derive(Drop)]
 pub struct Children {
-    elements: ArrayVec<Element, 87>,
+    elements: ArrayVec<Element, MOST_CHILDREN>,
 }
 
 impl Model for Children {
@@ -58,7 +59,7 @@ impl Children {
     }
 
     fn push(&mut self, element: Element)
-        requires { length self.old < 87 }
+        requires { length self.old < MOST_CHILDREN }
         ensures { self.new ≡ self.old ++ element ∷ [] }
     {
         self.elements.push(element);
@@ -66,7 +67,7 @@ impl Children {
 
     pub(crate) fn push_events(&mut self, pattern: &Pattern, seen: Seen)
         requires named { EventsNamed pattern.now }
-        requires room { length self.old + 8 ≤ 87 }
+        requires room { length self.old + MOST_EVENTS ≤ MOST_CHILDREN }
         ensures { (start : ℕ) (past : List Element) → IsSeen seen start past
             → self.new ≡ self.old ++ map Event (filter (is_ready pattern.now past) (numbers_from 0 (length pattern.now.events))) }
     {
@@ -78,7 +79,7 @@ impl Children {
     }
 
     pub(crate) fn push_rises(&mut self, automaton: &Automaton, orders: &Orders, seen: Seen)
-        requires { length self.old + 16 ≤ 87 }
+        requires { length self.old + MOST_RISES ≤ MOST_CHILDREN }
         ensures { (start : ℕ) (past : List Element) → IsSeen seen start past
             → self.new ≡ self.old ++ map Rise (filter (may_rise orders.now past) (numbers_from 0 (length automaton.now.rise))) }
     {
@@ -90,7 +91,7 @@ impl Children {
     }
 
     pub(crate) fn push_falls(&mut self, automaton: &Automaton, seen: Seen)
-        requires { length self.old + 63 ≤ 87 }
+        requires { length self.old + MOST_FALL_SETS ≤ MOST_CHILDREN }
         ensures { (start : ℕ) (past : List Element) → IsSeen seen start past
             → self.new ≡ self.old ++ map Fall (filter (is_standing automaton.now start past) (numbers_from 1 (2 ^ length automaton.now.fall - 1))) }
     {

@@ -11,24 +11,26 @@ use crate::following::children;
 use arrayvec::ArrayVec;
 use std::marker::Model;
 use ta_automaton::File;
+use ta_base::limits::LONGEST_WORD;
 use ta_implied::Orders;
 
 /// A list of at most 30 elements, which contracts see as that list. It is legal for a pattern and
 /// a start set if each element is a child of the elements before it.
 #[derive(Drop)]
 pub struct Word {
-    elements: ArrayVec<Element, 30>,
+    elements: ArrayVec<Element, LONGEST_WORD>,
 }
 
 impl Model for Word {
     ghost use Rattle.std.specs.Prelude.{List, ◌≤◌, length};
+    ghost use Rattle.ta_base.specs.declared.limits.TheConstants.{LONGEST_WORD};
     ghost use Rattle.ta_words.specs.declared.element.Element.{Element};
 
     ghost Value = { List Element };
 
     ghost view = { λ s. s.elements.items };
 
-    ghost invariant = { λ s. length s.elements.items ≤ 30 };
+    ghost invariant = { λ s. length s.elements.items ≤ LONGEST_WORD };
 }
 
 impl Word {

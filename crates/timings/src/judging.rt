@@ -6,13 +6,11 @@ use std::io::Read;
 use std::rt::Clock;
 use std::time::Instant;
 use std::{fs, io};
+use ta_base::limits::FILE_BYTES;
 use ta_cert::CertFault;
 use ta_check::{Accepted, Checker};
 use ta_meaning::read_file;
 use ta_scope::ScopedFile;
-
-/// How many bytes an automaton file has at most.
-const LIMIT: usize = 1_048_576;
 
 /// How many bytes are read at a time.
 const PIECE: usize = 65_536;
@@ -23,7 +21,7 @@ pub(crate) fn print(rt: &HostRuntime, words: &[String]) -> io::Result<()> {
         return println!(rt; "timings: judging FILE CERT");
     }
     let bytes = fs::read(rt, words[0].as_str())?;
-    if bytes.len() > LIMIT {
+    if bytes.len() > FILE_BYTES {
         return println!(rt; "timings: too long");
     }
     match read_file(rt.alloc(), bytes.as_slice()) {

@@ -5,17 +5,15 @@ use std::alloc::{AllocError, Global};
 use std::io;
 use std::rt::Clock;
 use std::time::Instant;
+use ta_base::limits::FILE_BYTES;
 use ta_syntax::read_tree;
-
-/// How many bytes a file has at most.
-const LIMIT: usize = 1_048_576;
 
 const HEAD: &[u8] =
     b"automaton a;parameters n;shared x;locations A initial;processes n;resilience n>=0;\n";
 
 /// Reads files of two sizes, and prints the times.
 pub(crate) fn print(rt: &HostRuntime) -> io::Result<()> {
-    for size in [131_072usize, LIMIT] {
+    for size in [131_072usize, FILE_BYTES] {
         let comments = commented(rt.alloc(), size)?;
         time(rt, rt.alloc(), "long comments", comments.as_slice())?;
         let conditions = conditioned(rt.alloc(), size)?;
@@ -31,7 +29,7 @@ pub(crate) fn print(rt: &HostRuntime) -> io::Result<()> {
 
 /// Reads a text, and prints its size and the time.
 fn time<R: Clock + Print>(rt: &R, alloc: Global, what: &str, bytes: &[u8]) -> io::Result<()> {
-    if bytes.len() > LIMIT {
+    if bytes.len() > FILE_BYTES {
         return Ok(());
     }
     let start = Instant::now(rt)?;

@@ -8,6 +8,7 @@ use std::alloc::{AllocError, Global};
 use std::io;
 use std::rt::Clock;
 use std::time::Instant;
+use ta_base::limits::MOST_NODES;
 use ta_cursor::PatternTree;
 use ta_dense::Dictionary;
 use ta_implied::Orders;
@@ -26,7 +27,7 @@ pub(crate) fn print<C: Clock + Print, D: Dictionary>(
     nodes: u64,
 ) -> io::Result<()>
     requires exists { pattern < length scoped.now.file.patterns }
-    requires limit { nodes ≤ 1000000000 }
+    requires limit { nodes ≤ MOST_NODES }
 {
     let tree = PatternTree::new(&scoped.file, pattern, orders);
     let mut branch: Branch<D> = Branch::new(alloc);

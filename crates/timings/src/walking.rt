@@ -8,17 +8,12 @@ use std::rt::Clock;
 use std::thread::Threads;
 use std::time::Instant;
 use std::{fs, io};
+use ta_base::limits::{FILE_BYTES, MOST_NODES};
 use ta_dense::{DenseDictionary, Dictionary, NarrowDictionary};
 use ta_links::LinkedDictionary;
 use ta_meaning::read_file;
 use ta_scope::ScopedFile;
 use ta_walk::{WalkEnd, find_orders, walk};
-
-/// How many bytes a file has at most.
-const LIMIT: usize = 1_048_576;
-
-/// How many nodes a walk visits at most.
-const MOST: u64 = 1_000_000_000;
 
 /// Walks the pattern of a number, from 0, of a file, and visits so many nodes at most: the words say
 /// which, and a fourth may name the rows that are taken, if not narrow ones.
@@ -38,7 +33,7 @@ pub(crate) fn print<R: Threads + Sync>(
     let bytes = fs::read(rt, words[0].as_str())?;
     let pattern = words[1].as_str().parse::<u32>().unwrap_or(0);
     let nodes = words[2].as_str().parse::<u64>().unwrap_or(1);
-    if bytes.len() > LIMIT || nodes == 0 || nodes > MOST {
+    if bytes.len() > FILE_BYTES || nodes == 0 || nodes > MOST_NODES {
         return println!(rt; "timings: too long");
     }
     match read_file(rt.alloc(), bytes.as_slice()) {
@@ -75,7 +70,10 @@ fn time<R: Threads + Sync, C: Clock + Print, D: Dictionary>(
     pattern: u32,
     nodes: u64,
 ) -> io::Result<()> {
-    if pattern as usize >= scoped.file().patterns.as_slice().len() || nodes == 0 || nodes > MOST {
+    if pattern as usize >= scoped.file().patterns.as_slice().len()
+        || nodes == 0
+        || nodes > MOST_NODES
+    {
         return println!(rt; "timings: no such pattern");
     }
     let Ok(found) = find_orders::<NarrowDictionary>(alloc, scoped) else {

@@ -1,9 +1,12 @@
 //! Leaves of one system, and their first faults.
 
+ghost use Rattle.std.specs.Prelude.{◌^◌};
+ghost use Rattle.ta_linear.specs.Leaf.{AreMultipliers};
 ghost use Rattle.ta_linear.specs.Numbers.{InRange};
 ghost use Rattle.ta_linear.specs.Terms.{IsNormal};
 
 use std::alloc::{AllocError, Global};
+use std::process::Abort;
 use std::test::Fail;
 use ta_base::List;
 use ta_farkas::{LeafFault, check_leaf};
@@ -40,26 +43,32 @@ fn kept(alloc: Global) -> Result<System, AllocError> {
     })
 }
 
+/// Compares the answer on a leaf.
+fn expect(
+    rt: &impl Abort,
+    system: &System,
+    multipliers: &[(u32, i128)],
+    want: Result<(), LeafFault>,
+)
+    requires { AreMultipliers 0 (2 ^ 32) multipliers.now }
+{
+    assert_eq!(rt; check_leaf(system, multipliers), want);
+}
+
 #[test]
 fn judges(rt: HostRuntime) -> Result<(), Fail> {
     let system = kept(rt.alloc())?;
     let positive = Err(LeafFault::Positive(1));
-    assert_eq!(rt; check_leaf(&system, &[(1, 1), (5, 1)]), Ok(()));
-    assert_eq!(rt; check_leaf(&system, &[(1, M), (5, M)]), Ok(()));
-    assert_eq!(rt; check_leaf(&system, &[(1, 1), (5, 2)]), positive);
-    assert_eq!(rt; check_leaf(&system, &[(5, 1)]), positive);
-    assert_eq!(rt;
-        check_leaf(&system, &[(1, 1), (2, 1)]),
-        Err(LeafFault::NotNegative)
-    );
-    assert_eq!(rt; check_leaf(&system, &[]), Err(LeafFault::NotNegative));
-    assert_eq!(rt;
-        check_leaf(&system, &[(0, 1), (9, 1)]),
-        Err(LeafFault::RowNumber(9))
-    );
-    assert_eq!(rt;
-        check_leaf(&system, &[(0, M), (1, M)]),
-        Err(LeafFault::Overflow(0))
-    );
+    let not_negative = Err(LeafFault::NotNegative);
+    expect(&rt, &system, &[(1, 1), (5, 1)], Ok(()));
+    expect(&rt, &system, &[(1, M), (5, M)], Ok(()));
+    expect(&rt, &system, &[(1, 1), (5, 2)], positive);
+    expect(&rt, &system, &[(5, 1)], positive);
+    expect(&rt, &system, &[(1, 1), (2, 1)], not_negative);
+    expect(&rt, &system, &[], not_negative);
+    let row_number = Err(LeafFault::RowNumber(9));
+    expect(&rt, &system, &[(0, 1), (9, 1)], row_number);
+    let overflow = Err(LeafFault::Overflow(0));
+    expect(&rt, &system, &[(0, M), (1, M)], overflow);
     Ok(())
 }

@@ -1,16 +1,16 @@
 //! One table for each call, with numbers at the edges of the range.
 
-ghost use Rattle.std.specs.Prelude.{◌≡◌, ◌^◌, IfOk, length};
+ghost use Rattle.std.specs.Prelude.{◌^◌, length};
 ghost use Rattle.ta_linear.specs.Numbers.{InRange};
 ghost use Rattle.ta_linear.specs.Terms.{IsNormal};
 
-use std::alloc::Global;
+use std::alloc::{AllocError, Global};
 use std::process::Abort;
-use std::test::Fail;
 use ta_base::List;
 use ta_linear::{Form, LinearFault, Row, floor_div, gcd, minus, multiply, plus};
 
-type Terms<'a> = &'a [(u32, i128)];
+/// A constant, and terms.
+type Numbers = (i128, &'static [(u32, i128)]);
 
 /// The greatest number of the range.
 const MOST: i128 = i128::MAX;
@@ -18,258 +18,278 @@ const MOST: i128 = i128::MAX;
 /// The first number beyond it is twice this.
 const HALF: i128 = 1 << 126;
 
-fn form(alloc: Global, constant: i128, terms: &[(u32, i128)]) -> Result<Form, Fail>
-    requires constant { InRange constant }
-    requires normal { IsNormal 0 (2 ^ 32) terms.now }
-    ensures { IfOk result (λ form. form.terms ≡ terms.now) }
-{
-    Ok(Form {
-        constant,
-        terms: List::from_vec(terms.to_vec(alloc)?),
-    })
+/// A number of 63 bits.
+const FITS: i128 = 1 << 62;
+
+/// The sum of a form and one term.
+fn with_term(
+    rt: &impl Abort,
+    alloc: Global,
+    form: &Form,
+    variable: u32,
+    coefficient: i128,
+) -> Option<Form> {
+    assert!(rt; coefficient != 0 && coefficient > i128::MIN);
+    let terms = [(variable, coefficient)].to_vec(alloc).ok()?;
+    let term = Form {
+        constant: 0,
+        terms: List::from_vec(terms),
+    };
+    form.add(alloc, &term).ok()
+}
+
+/// The form of a constant and terms, added one after the other.
+fn form(rt: &impl Abort, alloc: Global, numbers: &Numbers) -> Result<Form, LinearFault> {
+    let (constant, terms) = *numbers;
+    assert!(rt; constant > i128::MIN);
+    let mut form = Form::constant_of(alloc, constant);
+    for (variable, coefficient) in terms {
+        form = with_term(rt, alloc, &form, *variable, *coefficient).ok_or(LinearFault::Memory)?;
+    }
+    Ok(form)
 }
 
 /// Compares a form with a constant and terms, and Overflow with `None`.
-fn expect(
-    rt: &impl Abort,
-    form: Result<Form, LinearFault>,
-    want: Option<(i128, Terms)>,
-    name: &str,
-) {
-    match (form, want) {
-        (Ok(form), Some((constant, terms))) => {
-            assert_eq!(rt; form.constant, constant, "{name}");
-            assert_eq!(rt; form.terms.as_slice(), terms, "{name}");
+fn expect(rt: &impl Abort, form: Result<Form, LinearFault>, want: Option<Numbers>, name: &str) {
+    match form {
+        Ok(form) => {
+            let found = (form.constant, form.terms.as_slice());
+            assert!(rt; Some(found) == want, "{name}");
         }
-        (Err(LinearFault::Overflow), None) => {}
-        _ => assert!(rt; false, "{name}"),
+        Err(fault) => {
+            let is_overflow = matches!(fault, LinearFault::Overflow);
+            assert!(rt; is_overflow && want.is_none(), "{name}");
+        }
     }
 }
 
-#[test]
-fn sums(rt: HostRuntime) -> Result<(), Fail> {
-    let alloc = rt.alloc();
-    let small = form(alloc, 1, &[(0, 2), (3, 4)])?;
-    let other = form(alloc, 2, &[(0, -2), (1, 5)])?;
-    let most = form(alloc, MOST, &[(7, MOST)])?;
-    let least = form(alloc, -MOST, &[(7, -MOST)])?;
-    let one = Form::constant_of(alloc, 1);
-    let seventh = form(alloc, 0, &[(7, 1)])?;
-    let eighth = form(alloc, 0, &[(8, 1)])?;
-    expect(
-        &rt,
-        small.add(alloc, &other),
-        Some((3, &[(1, 5), (3, 4)])),
+/// Forms, and their sum.
+const SUMS: &[(&str, Numbers, Numbers, Option<Numbers>)] = &[
+    (
         "terms that cancel",
-    );
-    expect(
-        &rt,
-        most.add(alloc, &least),
-        Some((0, &[])),
+        (1, &[(0, 2), (3, 4)]),
+        (2, &[(0, -2), (1, 5)]),
+        Some((3, &[(1, 5), (3, 4)])),
+    ),
+    (
         "all terms cancel",
-    );
-    expect(
-        &rt,
-        most.add(alloc, &eighth),
-        Some((MOST, &[(7, MOST), (8, 1)])),
-        "at the edge",
-    );
-    expect(&rt, most.add(alloc, &one), None, "the constant leaves");
-    expect(&rt, most.add(alloc, &seventh), None, "a coefficient leaves");
-    expect(&rt, least.add(alloc, &least), None, "both leave downwards");
-    Ok(())
-}
-
-#[test]
-fn multiples(rt: HostRuntime) -> Result<(), Fail> {
-    let alloc = rt.alloc();
-    let small = form(alloc, 3, &[(1, 5), (9, -1)])?;
-    let most = form(alloc, 1, &[(0, 1), (7, MOST)])?;
-    let constant = Form::constant_of(alloc, HALF);
-    let half = form(alloc, 0, &[(4, HALF)])?;
-    expect(
-        &rt,
-        small.scale(alloc, -2),
-        Some((-6, &[(1, -10), (9, 2)])),
-        "turned round",
-    );
-    expect(
-        &rt,
-        most.scale(alloc, -1),
-        Some((-1, &[(0, -1), (7, -MOST)])),
-        "at the edge",
-    );
-    expect(
-        &rt,
-        most.scale(alloc, 0),
+        (MOST, &[(7, MOST)]),
+        (-MOST, &[(7, -MOST)]),
         Some((0, &[])),
-        "no terms are left",
-    );
-    expect(&rt, constant.scale(alloc, 2), None, "the constant leaves");
-    expect(
-        &rt,
-        half.scale(alloc, -2),
+    ),
+    (
+        "at the edge",
+        (MOST, &[(7, MOST)]),
+        (0, &[(8, 1)]),
+        Some((MOST, &[(7, MOST), (8, 1)])),
+    ),
+    ("the constant leaves", (MOST, &[(7, MOST)]), (1, &[]), None),
+    (
+        "a coefficient leaves",
+        (MOST, &[(7, MOST)]),
+        (0, &[(7, 1)]),
         None,
-        "a coefficient leaves at the type's least number",
-    );
-    expect(
-        &rt,
-        most.scale(alloc, MOST),
+    ),
+    (
+        "both leave downwards",
+        (-MOST, &[(7, -MOST)]),
+        (-MOST, &[(7, -MOST)]),
         None,
-        "a coefficient leaves the type",
-    );
-    Ok(())
-}
+    ),
+];
 
-fn expect_negated(
+fn sum(
     rt: &impl Abort,
     alloc: Global,
-    form: Form,
-    want: Option<(i128, Terms)>,
-    name: &str,
-) {
-    match (Row { form }.negated(alloc), want) {
-        (Ok(row), want) => expect(rt, Ok(row.form), want, name),
-        (Err(fault), want) => expect(rt, Err(fault), want, name),
+    left: &Numbers,
+    right: &Numbers,
+) -> Result<Form, LinearFault> {
+    let left = form(rt, alloc, left)?;
+    left.add(alloc, &form(rt, alloc, right)?)
+}
+
+#[test]
+fn sums(rt: HostRuntime) {
+    for (name, left, right, want) in SUMS {
+        expect(&rt, sum(&rt, rt.alloc(), left, right), *want, name);
     }
 }
 
-#[test]
-fn negated_rows(rt: HostRuntime) -> Result<(), Fail> {
-    let alloc = rt.alloc();
-    let small = form(alloc, 3, &[(1, 5), (9, -MOST)])?;
-    expect_negated(
-        &rt,
-        alloc,
-        small,
-        Some((-4, &[(1, -5), (9, MOST)])),
-        "a row",
-    );
-    expect_negated(
-        &rt,
-        alloc,
-        Form::constant_of(alloc, -MOST),
-        Some((MOST - 1, &[])),
-        "the least",
-    );
-    expect_negated(
-        &rt,
-        alloc,
-        Form::constant_of(alloc, MOST - 1),
-        Some((-MOST, &[])),
+/// Forms with a factor, and their product.
+const MULTIPLES: &[(&str, Numbers, i128, Option<Numbers>)] = &[
+    (
+        "turned round",
+        (3, &[(1, 5), (9, -1)]),
+        -2,
+        Some((-6, &[(1, -10), (9, 2)])),
+    ),
+    (
         "at the edge",
-    );
-    expect_negated(
-        &rt,
-        alloc,
-        Form::constant_of(alloc, MOST),
+        (1, &[(0, 1), (7, MOST)]),
+        -1,
+        Some((-1, &[(0, -1), (7, -MOST)])),
+    ),
+    (
+        "no terms are left",
+        (1, &[(0, 1), (7, MOST)]),
+        0,
+        Some((0, &[])),
+    ),
+    ("the constant leaves", (HALF, &[]), 2, None),
+    (
+        "a coefficient leaves at the type's least number",
+        (0, &[(4, HALF)]),
+        -2,
         None,
-        "the constant leaves",
-    );
-    Ok(())
-}
+    ),
+    (
+        "a coefficient leaves the type",
+        (1, &[(0, 1), (7, MOST)]),
+        MOST,
+        None,
+    ),
+];
 
-fn expect_value(rt: &impl Abort, form: Form, values: &[i128], want: Option<i128>, name: &str)
-    requires { IsNormal 0 (length values.now) form.terms }
-{
-    assert_eq!(rt; form.value_at(values).ok(), want, "{name}");
+fn multiple(
+    rt: &impl Abort,
+    alloc: Global,
+    numbers: &Numbers,
+    factor: i128,
+) -> Result<Form, LinearFault> {
+    form(rt, alloc, numbers)?.scale(alloc, factor)
 }
 
 #[test]
-fn values(rt: HostRuntime) -> Result<(), Fail> {
-    let alloc = rt.alloc();
-    let small = form(alloc, 1, &[(0, 2), (2, -3)])?;
-    let up = form(alloc, MOST, &[(0, 1), (1, -1)])?;
-    let down = form(alloc, MOST, &[(0, -1), (1, 1)])?;
-    let double = form(alloc, -MOST, &[(0, 2)])?;
-    expect_value(&rt, small, &[5, 9, 4], Some(-1), "a value");
-    expect_value(
-        &rt,
-        up,
-        &[1, 1],
-        None,
-        "a partial sum leaves, though the value would fit",
-    );
-    expect_value(
-        &rt,
-        down,
-        &[1, 1],
-        Some(MOST),
-        "the same terms in the other order stay",
-    );
-    expect_value(
-        &rt,
-        double,
-        &[HALF],
-        None,
-        "a product leaves, though the sum would fit",
-    );
-    expect_value(
-        &rt,
-        Form::constant_of(alloc, 7),
-        &[],
-        Some(7),
-        "no variables",
-    );
+fn multiples(rt: HostRuntime) {
+    for (name, numbers, factor, want) in MULTIPLES {
+        expect(
+            &rt,
+            multiple(&rt, rt.alloc(), numbers, *factor),
+            *want,
+            name,
+        );
+    }
+}
+
+/// Rows, and their negations.
+const NEGATED: &[(&str, Numbers, Option<Numbers>)] = &[
+    (
+        "a row",
+        (3, &[(1, 5), (9, -MOST)]),
+        Some((-4, &[(1, -5), (9, MOST)])),
+    ),
+    ("the least", (-MOST, &[]), Some((MOST - 1, &[]))),
+    ("at the edge", (MOST - 1, &[]), Some((-MOST, &[]))),
+    ("the constant leaves", (MOST, &[]), None),
+];
+
+fn negated(rt: &impl Abort, alloc: Global, numbers: &Numbers) -> Result<Form, LinearFault> {
+    let form = form(rt, alloc, numbers)?;
+    Ok(Row { form }.negated(alloc)?.form)
+}
+
+#[test]
+fn negated_rows(rt: HostRuntime) {
+    for (name, numbers, want) in NEGATED {
+        expect(&rt, negated(&rt, rt.alloc(), numbers), *want, name);
+    }
+}
+
+/// Compares the value of a form of these terms, and a number that leaves the range with `None`.
+fn expect_value(
+    rt: &impl Abort,
+    alloc: Global,
+    terms: &[(u32, i128)],
+    constant: i128,
+    values: &[i128],
+    want: Option<i128>,
+) -> Result<(), AllocError>
+    requires constant { InRange constant }
+    requires normal { IsNormal 0 (2 ^ 32) terms.now }
+    requires within { IsNormal 0 (length values.now) terms.now }
+{
+    let form = Form {
+        constant,
+        terms: List::from_vec(terms.to_vec(alloc)?),
+    };
+    let value = form.value_at(values).ok();
+    assert!(rt; value == want, "{want:?}");
     Ok(())
 }
+
+#[test]
+fn values(rt: HostRuntime) -> Result<(), AllocError> {
+    let alloc = rt.alloc();
+    expect_value(&rt, alloc, &[(0, 2), (2, -3)], 1, &[5, 9, 4], Some(-1))?;
+    // a partial sum leaves, though the value would fit; in the other order the same terms stay
+    expect_value(&rt, alloc, &[(0, 1), (1, -1)], MOST, &[1, 1], None)?;
+    expect_value(&rt, alloc, &[(0, -1), (1, 1)], MOST, &[1, 1], Some(MOST))?;
+    // a product leaves, though the sum would fit
+    expect_value(&rt, alloc, &[(0, 2)], -MOST, &[HALF], None)?;
+    expect_value(&rt, alloc, &[], 7, &[], Some(7))
+}
+
+/// Pairs of numbers, each with its sum, difference and product.
+const NUMBERS: &[(i128, i128, Option<i128>, Option<i128>, Option<i128>)] = &[
+    (3, -4, Some(-1), Some(7), Some(-12)),
+    (MOST, 0, Some(MOST), Some(MOST), Some(0)),
+    (MOST, 1, None, Some(MOST - 1), Some(MOST)),
+    (-MOST, 1, Some(1 - MOST), None, Some(-MOST)),
+    (-MOST, -MOST, None, Some(0), None),
+    (HALF, -2, Some(HALF - 2), Some(HALF + 2), None),
+    (HALF, HALF, None, Some(0), None),
+    (
+        4 * FITS - 1,
+        2 * FITS,
+        Some(6 * FITS - 1),
+        Some(2 * FITS - 1),
+        Some(MOST - 2 * FITS + 1),
+    ),
+    (-2 * FITS, -2 * FITS, Some(-4 * FITS), Some(0), Some(HALF)),
+];
 
 #[test]
 fn numbers(rt: HostRuntime) {
-    let fits = 1 << 62;
-    let cases = [
-        (3, -4, Some(-1), Some(7), Some(-12)),
-        (MOST, 0, Some(MOST), Some(MOST), Some(0)),
-        (MOST, 1, None, Some(MOST - 1), Some(MOST)),
-        (-MOST, 1, Some(1 - MOST), None, Some(-MOST)),
-        (-MOST, -MOST, None, Some(0), None),
-        (HALF, -2, Some(HALF - 2), Some(HALF + 2), None),
-        (HALF, HALF, None, Some(0), None),
-        (
-            4 * fits - 1,
-            2 * fits,
-            Some(6 * fits - 1),
-            Some(2 * fits - 1),
-            Some(MOST - 2 * fits + 1),
-        ),
-        (-2 * fits, -2 * fits, Some(-4 * fits), Some(0), Some(HALF)),
-    ];
-    for (a, b, sum, difference, product) in cases {
-        assert_eq!(rt; plus(a, b), sum, "{a} + {b}");
-        assert_eq!(rt; minus(a, b), difference, "{a} - {b}");
-        assert_eq!(rt; multiply(a, b), product, "{a} * {b}");
+    for (a, b, sum, difference, product) in NUMBERS {
+        assert!(rt; plus(*a, *b) == *sum, "{a} + {b}");
+        assert!(rt; minus(*a, *b) == *difference, "{a} - {b}");
+        assert!(rt; multiply(*a, *b) == *product, "{a} * {b}");
     }
 }
+
+const DIVISORS: &[(i128, i128, i128)] = &[
+    (0, 0, 0),
+    (0, -7, 7),
+    (12, -18, 6),
+    (MOST, 1, 1),
+    (MOST, -MOST, MOST),
+    (HALF, 3 << 60, 1 << 60),
+];
 
 #[test]
 fn divisors(rt: HostRuntime) {
-    let cases = [
-        (0, 0, 0),
-        (0, -7, 7),
-        (12, -18, 6),
-        (MOST, 1, 1),
-        (MOST, -MOST, MOST),
-        (HALF, 3 << 60, 1 << 60),
-    ];
-    for (a, b, divisor) in cases {
+    for (a, b, divisor) in DIVISORS {
+        let (a, b) = (*a, *b);
         assert!(rt; a > i128::MIN && b > i128::MIN);
-        assert_eq!(rt; gcd(a, b), divisor, "of {a} and {b}");
+        assert!(rt; gcd(a, b) == *divisor, "of {a} and {b}");
     }
 }
 
+const QUOTIENTS: &[(i128, i128, i128)] = &[
+    (7, 2, 3),
+    (-7, 2, -4),
+    (-8, 2, -4),
+    (0, MOST, 0),
+    (-1, MOST, -1),
+    (MOST, 1, MOST),
+    (-MOST, 2, -HALF),
+];
+
 #[test]
 fn quotients(rt: HostRuntime) {
-    let cases = [
-        (7, 2, 3),
-        (-7, 2, -4),
-        (-8, 2, -4),
-        (0, MOST, 0),
-        (-1, MOST, -1),
-        (MOST, 1, MOST),
-        (-MOST, 2, -HALF),
-    ];
-    for (a, b, quotient) in cases {
+    for (a, b, quotient) in QUOTIENTS {
+        let (a, b) = (*a, *b);
         assert!(rt; b > 0);
-        assert_eq!(rt; floor_div(a, b), quotient, "{a} by {b}");
+        assert!(rt; floor_div(a, b) == *quotient, "{a} by {b}");
     }
 }

@@ -21,89 +21,87 @@ fn expect<F: Display>(
     Ok(())
 }
 
+const FILE_FAULTS: &[(FileFault, &str)] = &[
+    (FileFault::Byte(7), "Byte"),
+    (FileFault::Syntax(7), "Syntax"),
+    (FileFault::Duplicate(7), "Duplicate"),
+    (FileFault::Unknown(7), "Unknown"),
+    (FileFault::WrongKind(7), "WrongKind"),
+    (FileFault::TooLarge(7), "TooLarge"),
+    (FileFault::TooMany(7), "TooMany"),
+    (FileFault::TooDeep(7), "TooDeep"),
+    (FileFault::NotThreshold(7), "NotThreshold"),
+    (FileFault::CycleUpdates(7), "CycleUpdates"),
+    (FileFault::NoInitial(7), "NoInitial"),
+    (FileFault::Memory, "Memory"),
+];
+
 #[test]
 fn names_faults_of_files(rt: HostRuntime) -> Result<(), AllocError> {
-    expect(
-        &rt,
-        rt.alloc(),
-        &[
-            (FileFault::Byte(7), "Byte"),
-            (FileFault::Syntax(7), "Syntax"),
-            (FileFault::Duplicate(7), "Duplicate"),
-            (FileFault::Unknown(7), "Unknown"),
-            (FileFault::WrongKind(7), "WrongKind"),
-            (FileFault::TooLarge(7), "TooLarge"),
-            (FileFault::TooMany(7), "TooMany"),
-            (FileFault::TooDeep(7), "TooDeep"),
-            (FileFault::NotThreshold(7), "NotThreshold"),
-            (FileFault::CycleUpdates(7), "CycleUpdates"),
-            (FileFault::NoInitial(7), "NoInitial"),
-            (FileFault::Memory, "Memory"),
-        ],
-    )
+    expect(&rt, rt.alloc(), FILE_FAULTS)
 }
+
+const CERT_FAULTS: &[(CertFault, &str)] = &[
+    (CertFault::Line(1), "Line"),
+    (CertFault::Truncated(1), "Truncated"),
+    (CertFault::UnknownPattern(1), "UnknownPattern"),
+    (CertFault::Row { line: 1, row: 2 }, "Row"),
+    (
+        CertFault::Positive {
+            line: 1,
+            unknown: 3,
+        },
+        "Positive",
+    ),
+    (CertFault::NotNegative(1), "NotNegative"),
+    (CertFault::Overflow { line: 1, column: 4 }, "Overflow"),
+    (CertFault::ExtendComplete(1), "ExtendComplete"),
+    (CertFault::SplitVariable(1), "SplitVariable"),
+    (CertFault::Trailing(1), "Trailing"),
+    (CertFault::RepeatedPattern(1), "RepeatedPattern"),
+    (CertFault::Pair(1), "Pair"),
+    (CertFault::Failed, "Failed"),
+    (CertFault::Memory, "Memory"),
+];
 
 #[test]
 fn names_faults_of_certificates(rt: HostRuntime) -> Result<(), AllocError> {
-    let (line, row, unknown, column) = (1, 2, 3, 4);
-    expect(
-        &rt,
-        rt.alloc(),
-        &[
-            (CertFault::Line(line), "Line"),
-            (CertFault::Truncated(line), "Truncated"),
-            (CertFault::UnknownPattern(line), "UnknownPattern"),
-            (CertFault::Row { line, row }, "Row"),
-            (CertFault::Positive { line, unknown }, "Positive"),
-            (CertFault::NotNegative(line), "NotNegative"),
-            (CertFault::Overflow { line, column }, "Overflow"),
-            (CertFault::ExtendComplete(line), "ExtendComplete"),
-            (CertFault::SplitVariable(line), "SplitVariable"),
-            (CertFault::Trailing(line), "Trailing"),
-            (CertFault::RepeatedPattern(line), "RepeatedPattern"),
-            (CertFault::Pair(line), "Pair"),
-            (CertFault::Failed, "Failed"),
-            (CertFault::Memory, "Memory"),
-        ],
-    )
+    expect(&rt, rt.alloc(), CERT_FAULTS)
 }
+
+const RUN_FAULTS: &[(RunFault, &str)] = &[
+    (RunFault::Line(1), "Line"),
+    (RunFault::Name(1), "Name"),
+    (RunFault::Resilience(1), "Resilience"),
+    (RunFault::Processes, "Processes"),
+    (RunFault::Start(1), "Start"),
+    (RunFault::NotEmpty(1), "NotEmpty"),
+    (RunFault::Guard { line: 1, guard: 2 }, "Guard"),
+    (RunFault::Count(1), "Count"),
+    (RunFault::Event(1), "Event"),
+    (RunFault::MissingEvent(1), "MissingEvent"),
+    (RunFault::Overflow(1), "Overflow"),
+    (RunFault::Order(1), "Order"),
+    (RunFault::Memory, "Memory"),
+];
 
 #[test]
 fn names_faults_of_runs(rt: HostRuntime) -> Result<(), AllocError> {
-    expect(
-        &rt,
-        rt.alloc(),
-        &[
-            (RunFault::Line(1), "Line"),
-            (RunFault::Name(1), "Name"),
-            (RunFault::Resilience(1), "Resilience"),
-            (RunFault::Processes, "Processes"),
-            (RunFault::Start(1), "Start"),
-            (RunFault::NotEmpty(1), "NotEmpty"),
-            (RunFault::Guard { line: 1, guard: 2 }, "Guard"),
-            (RunFault::Count(1), "Count"),
-            (RunFault::Event(1), "Event"),
-            (RunFault::MissingEvent(1), "MissingEvent"),
-            (RunFault::Overflow(1), "Overflow"),
-            (RunFault::Order(1), "Order"),
-            (RunFault::Memory, "Memory"),
-        ],
-    )
+    expect(&rt, rt.alloc(), RUN_FAULTS)
 }
+
+const LINEAR_FAULTS: &[(LinearFault, &str)] = &[
+    (LinearFault::Overflow, "Overflow"),
+    (LinearFault::Memory, "Memory"),
+];
+
+const MAKER_FAULTS: &[(MakerFault, &str)] = &[
+    (MakerFault::Range, "Range"),
+    (MakerFault::Memory, "Memory"),
+];
 
 #[test]
 fn names_other_faults(rt: HostRuntime) -> Result<(), AllocError> {
-    expect(
-        &rt,
-        rt.alloc(),
-        &[
-            (LinearFault::Overflow, "Overflow"),
-            (LinearFault::Memory, "Memory"),
-        ],
-    )?;
-    expect(
-        &rt,
-        rt.alloc(),
-        &[(MakerFault::Range, "Range"), (MakerFault::Memory, "Memory")],
-    )
+    expect(&rt, rt.alloc(), LINEAR_FAULTS)?;
+    expect(&rt, rt.alloc(), MAKER_FAULTS)
 }

@@ -3,6 +3,7 @@
 use std::alloc::{AllocError, Global};
 use std::io::{ErrorKind, Write};
 use std::os::fd::AsRawFd;
+use std::process::Abort;
 use std::test::Fail;
 use std::{fs, io};
 use ta_base::{List, Text};
@@ -42,41 +43,74 @@ fn length_of(read: Result<List<u8>, WholeFault>) -> Result<usize, WholeFault> {
 /// A read of a file of this name up to a limit, and the length or the refusal that is wanted.
 type Read = (&'static str, u16, Result<usize, WholeFault>);
 
+/// Compares the length or the refusal of each read.
+fn expect_lengths<S: Shelf>(rt: &impl Abort, alloc: Global, shelf: &mut S, reads: &[Read]) {
+    for (name, limit, want) in reads {
+        let read = length_of(read_whole(alloc, shelf, name, u64::from(*limit)));
+        assert_eq!(rt; read, *want, "{name} up to {limit}");
+    }
+}
+
+/// Compares all bytes of a file.
+fn expect_whole<S: Shelf>(rt: &impl Abort, alloc: Global, shelf: &mut S, name: &str, bytes: &[u8]) {
+    let read = read_whole(alloc, shelf, name, 20_000);
+    let same = read.is_ok_and(|read| read.as_slice() == bytes);
+    assert!(rt; same, "{name}");
+}
+
+/// A shelf of the four files at which the calls of these numbers fail.
+fn memory_shelf(
+    rt: &impl Abort,
+    alloc: Global,
+    failing: &[u64],
+) -> Result<MemoryShelf, AllocError> {
+    let files = four_files(alloc)?;
+    assert!(rt; are_distinct(files.as_slice()));
+    MemoryShelf::new(files, numbers(alloc, failing)?)
+}
+
+/// A shelf of the four files at which no call fails.
+fn quiet_shelf(rt: &impl Abort, alloc: Global) -> Result<QuietShelf, AllocError> {
+    let files = four_files(alloc)?;
+    assert!(rt; are_distinct(files.as_slice()));
+    QuietShelf::new(files)
+}
+
 /// Two reads of a shelf of the four files, behind the numbers of its calls that fail.
-const READS: [(&[u64], [Read; 2]); 7] = [
+const READS: &[(&[u64], &[Read])] = &[
     (
         &[0],
-        [("three", 3, Ok(3)), ("four", 3, Err(WholeFault::TooLong))],
+        &[("three", 3, Ok(3)), ("four", 3, Err(WholeFault::TooLong))],
     ),
     (
         &[0],
-        [("empty", 0, Ok(0)), ("three", 0, Err(WholeFault::TooLong))],
+        &[("empty", 0, Ok(0)), ("three", 0, Err(WholeFault::TooLong))],
     ),
     (
         &[0],
-        [
+        &[
             ("gone", 9, Err(WholeFault::Missing)),
             ("gone", 9, Err(WholeFault::Missing)),
         ],
     ),
     (
         &[0],
-        [
+        &[
             ("long", 20_000, Ok(20_000)),
             ("long", 19_999, Err(WholeFault::TooLong)),
         ],
     ),
     (
         &[1],
-        [("three", 9, Err(WholeFault::Failed)), ("three", 9, Ok(3))],
+        &[("three", 9, Err(WholeFault::Failed)), ("three", 9, Ok(3))],
     ),
     (
         &[2],
-        [("three", 9, Err(WholeFault::Failed)), ("three", 9, Ok(3))],
+        &[("three", 9, Err(WholeFault::Failed)), ("three", 9, Ok(3))],
     ),
     (
         &[3, 9],
-        [("three", 9, Ok(3)), ("gone", 9, Err(WholeFault::Failed))],
+        &[("three", 9, Ok(3)), ("gone", 9, Err(WholeFault::Failed))],
     ),
 ];
 
@@ -84,44 +118,44 @@ const READS: [(&[u64], [Read; 2]); 7] = [
 fn reads_whole_files(rt: HostRuntime) -> Result<(), Fail> {
     let alloc = rt.alloc();
     for (failing, reads) in READS {
-        let files = four_files(alloc)?;
-        assert!(rt; are_distinct(files.as_slice()));
-        let mut shelf = MemoryShelf::new(files, numbers(alloc, failing)?)?;
-        for (name, limit, want) in reads {
-            let read = length_of(read_whole(alloc, &mut shelf, name, u64::from(limit)));
-            assert_eq!(rt; read, want, "{name} up to {limit}, where {failing:?} fail");
-        }
+        let mut shelf = memory_shelf(&rt, alloc, failing)?;
+        expect_lengths(&rt, alloc, &mut shelf, reads);
     }
-    let files = four_files(alloc)?;
-    assert!(rt; are_distinct(files.as_slice()));
-    let mut shelf = QuietShelf::new(files)?;
-    let read = read_whole(alloc, &mut shelf, "four", 4)?;
-    assert_eq!(rt; read.as_slice(), b"abcd".as_slice());
+    let mut shelf = quiet_shelf(&rt, alloc)?;
+    expect_whole(&rt, alloc, &mut shelf, "four", b"abcd");
     Ok(())
 }
+
+/// A sink of so much room that takes so many bytes at a time, the call that fails, the answer of
+/// writing the text to it, and the bytes that it has then.
+type Wrote = (usize, usize, u64, Result<(), SinkFault>, &'static [u8]);
+
+const WRITES: &[Wrote] = &[
+    (64, 64, 0, Ok(()), TEXT),
+    (16, 1, 17, Ok(()), TEXT),
+    (64, 1, 3, Err(SinkFault::Failed), b"au"),
+    (0, 64, 0, Err(SinkFault::Stuck { at: 0 }), b""),
+    (5, 64, 0, Err(SinkFault::Stuck { at: 5 }), b"autom"),
+    (64, 0, 0, Err(SinkFault::Stuck { at: 0 }), b""),
+];
 
 #[test]
 fn writes_whole_texts(rt: HostRuntime) -> Result<(), Fail> {
     let alloc = rt.alloc();
-    let rows = [
-        (64, 64, 0, Ok(()), 16),
-        (16, 1, 17, Ok(()), 16),
-        (64, 1, 3, Err(SinkFault::Failed), 2),
-        (0, 64, 0, Err(SinkFault::Stuck { at: 0 }), 0),
-        (5, 64, 0, Err(SinkFault::Stuck { at: 5 }), 5),
-        (64, 0, 0, Err(SinkFault::Stuck { at: 0 }), 0),
-    ];
-    for (room, piece, failing, want, length) in rows {
-        let mut sink = MemorySink::new(alloc, room, piece, numbers(alloc, &[failing])?)?;
+    for (room, piece, failing, want, bytes) in WRITES {
+        let mut sink = MemorySink::new(alloc, *room, *piece, numbers(alloc, &[*failing])?)?;
         let wrote = write_whole(&mut sink, TEXT);
-        assert_eq!(rt; wrote, want, "room {room}, pieces of {piece}");
-        assert_eq!(rt; sink.as_slice(), &TEXT[..length]);
+        assert_eq!(rt; wrote, *want, "room {room}, pieces of {piece}");
+        assert_eq!(rt; sink.as_slice(), *bytes);
     }
-    let mut sink = QuietSink::new(alloc, 5)?;
-    assert_eq!(rt;
-        write_whole(&mut sink, TEXT),
-        Err(SinkFault::Stuck { at: 5 })
-    );
+    Ok(())
+}
+
+#[test]
+fn fills_a_quiet_sink(rt: HostRuntime) -> Result<(), Fail> {
+    let mut sink = QuietSink::new(rt.alloc(), 5)?;
+    let wrote = write_whole(&mut sink, TEXT);
+    assert_eq!(rt; wrote, Err(SinkFault::Stuck { at: 5 }));
     assert_eq!(rt; sink.as_slice(), b"autom".as_slice());
     Ok(())
 }
@@ -144,14 +178,21 @@ impl Put {
 }
 
 /// The files that a shelf in memory holds after one change, by name, with None for an absent one.
-type After = [(&'static str, Option<&'static [u8]>); 3];
+type After = &'static [(&'static str, Option<&'static [u8]>)];
+
+/// What a shelf of the four files holds of these names.
+const BEFORE: After = &[
+    ("new", None),
+    ("three", Some(b"abc")),
+    ("four", Some(b"abcd")),
+];
 
 /// Changes of a shelf of the four files: what is done to which name, and the files after it.
-const PUTS: [(&str, Put, After); 4] = [
+const PUTS: &[(&str, Put, After)] = &[
     (
         "new",
         Put::Create,
-        [
+        &[
             ("new", Some(b"")),
             ("three", Some(b"abc")),
             ("four", Some(b"abcd")),
@@ -160,12 +201,12 @@ const PUTS: [(&str, Put, After); 4] = [
     (
         "three",
         Put::Create,
-        [("new", None), ("three", Some(b"")), ("four", Some(b"abcd"))],
+        &[("new", None), ("three", Some(b"")), ("four", Some(b"abcd"))],
     ),
     (
         "three",
         Put::Append(b"xy"),
-        [
+        &[
             ("new", None),
             ("three", Some(b"abcxy")),
             ("four", Some(b"abcd")),
@@ -174,7 +215,7 @@ const PUTS: [(&str, Put, After); 4] = [
     (
         "new",
         Put::Append(b"xy"),
-        [
+        &[
             ("new", Some(b"xy")),
             ("three", Some(b"abc")),
             ("four", Some(b"abcd")),
@@ -183,7 +224,7 @@ const PUTS: [(&str, Put, After); 4] = [
 ];
 
 /// Whether a shelf has the files of these names, each with these bytes.
-fn holds<S: Shelf>(alloc: Global, shelf: &mut S, files: &After) -> bool {
+fn holds<S: Shelf>(alloc: Global, shelf: &mut S, files: After) -> bool {
     for (name, want) in files {
         let read = read_whole(alloc, shelf, name, 9);
         let same = match want {
@@ -197,30 +238,34 @@ fn holds<S: Shelf>(alloc: Global, shelf: &mut S, files: &After) -> bool {
     true
 }
 
+/// Changes a file and compares the files after it.
+fn expect_put<S: Shelf>(
+    rt: &impl Abort,
+    alloc: Global,
+    shelf: &mut S,
+    name: &str,
+    put: Put,
+    after: After,
+) {
+    assert_eq!(rt; put.apply(shelf, name), Ok(()), "{put:?} of {name}");
+    assert!(rt; holds(alloc, shelf, after), "{put:?} of {name}");
+}
+
+/// Changes a file where that fails, and compares the files after it.
+fn expect_no_put<S: Shelf>(rt: &impl Abort, alloc: Global, shelf: &mut S, name: &str, put: Put) {
+    assert_eq!(rt; put.apply(shelf, name), Err(PutFault::Failed));
+    assert!(rt; holds(alloc, shelf, BEFORE), "failed {put:?} of {name}");
+}
+
 #[test]
 fn changes_files_in_memory(rt: HostRuntime) -> Result<(), Fail> {
     let alloc = rt.alloc();
-    let before = [
-        ("new", None),
-        ("three", Some(b"abc".as_slice())),
-        ("four", Some(b"abcd")),
-    ];
     for (name, put, after) in PUTS {
-        let files = four_files(alloc)?;
-        assert!(rt; are_distinct(files.as_slice()));
-        let mut quiet = QuietShelf::new(files)?;
-        assert_eq!(rt; put.apply(&mut quiet, name), Ok(()), "{put:?} of {name}");
-        assert!(rt; holds(alloc, &mut quiet, &after), "{put:?} of {name}");
-        let files = four_files(alloc)?;
-        assert!(rt; are_distinct(files.as_slice()));
-        let mut shelf = MemoryShelf::new(files, numbers(alloc, &[1])?)?;
-        assert_eq!(rt; put.apply(&mut shelf, name), Err(PutFault::Failed));
-        assert!(rt;
-            holds(alloc, &mut shelf, &before),
-            "failed {put:?} of {name}"
-        );
-        assert_eq!(rt; put.apply(&mut shelf, name), Ok(()), "{put:?} of {name}");
-        assert!(rt; holds(alloc, &mut shelf, &after), "{put:?} of {name}");
+        let mut quiet = quiet_shelf(&rt, alloc)?;
+        expect_put(&rt, alloc, &mut quiet, name, *put, after);
+        let mut shelf = memory_shelf(&rt, alloc, &[1])?;
+        expect_no_put(&rt, alloc, &mut shelf, name, *put);
+        expect_put(&rt, alloc, &mut shelf, name, *put, after);
     }
     Ok(())
 }
@@ -284,32 +329,45 @@ fn byte_at<S: Shelf>(shelf: &mut S, name: &str, at: u64) -> Option<u8> {
     }
 }
 
+/// Compares the bytes that a shelf gives of a file at these offsets.
+fn expect_bytes<S: Shelf>(rt: &impl Abort, shelf: &mut S, name: &str, bytes: &[(u64, Option<u8>)]) {
+    for (at, want) in bytes {
+        assert_eq!(rt; byte_at(shelf, name, *at), *want, "at {at}");
+    }
+}
+
+const LONG: &str = "ta_shelf_test_file";
+
 #[test]
 fn reads_real_files(rt: HostRuntime) -> Result<(), Fail> {
-    let name = "ta_shelf_test_file";
     let bytes = bytes_by_place(rt.alloc(), 20_000)?;
-    fs::write(&rt, name, bytes.as_slice())?;
+    fs::write(&rt, LONG, bytes.as_slice())?;
     let mut shelf = DiskShelf::new(rt.clone()?);
-    for (name, limit, want) in [
-        (name, 19_999, Err(WholeFault::TooLong)),
-        (name, 20_000, Ok(20_000)),
-        ("ta_shelf_test_no_file", 3, Err(WholeFault::Missing)),
-        (".", 3, Err(WholeFault::Failed)),
-    ] {
-        let read = length_of(read_whole(rt.alloc(), &mut shelf, name, limit));
-        assert_eq!(rt; read, want, "{name} up to {limit}");
-    }
-    let read = read_whole(rt.alloc(), &mut shelf, name, 20_000)?;
-    assert!(rt; read.as_slice() == bytes.as_slice());
-    for at in [16_384, 5, 6, 12_000] {
-        assert_eq!(rt;
-            byte_at(&mut shelf, name, at),
-            Some((at % 251) as u8),
-            "at {at}"
-        );
-    }
-    assert_eq!(rt; byte_at(&mut shelf, name, 20_000), None);
-    fs::remove_file(&rt, name)?;
+    expect_lengths(
+        &rt,
+        rt.alloc(),
+        &mut shelf,
+        &[
+            (LONG, 19_999, Err(WholeFault::TooLong)),
+            (LONG, 20_000, Ok(20_000)),
+            ("ta_shelf_test_no_file", 3, Err(WholeFault::Missing)),
+            (".", 3, Err(WholeFault::Failed)),
+        ],
+    );
+    expect_whole(&rt, rt.alloc(), &mut shelf, LONG, bytes.as_slice());
+    expect_bytes(
+        &rt,
+        &mut shelf,
+        LONG,
+        &[
+            (16_384, Some(69)),
+            (5, Some(5)),
+            (6, Some(6)),
+            (12_000, Some(203)),
+            (20_000, None),
+        ],
+    );
+    fs::remove_file(&rt, LONG)?;
     Ok(())
 }
 
@@ -320,11 +378,14 @@ fn reads_on_in_one_file(rt: HostRuntime) -> Result<(), Fail> {
     fs::write(&rt, name, b"old".as_slice())?;
     fs::write(&rt, newer, b"new".as_slice())?;
     let mut shelf = DiskShelf::new(rt.clone()?);
-    assert_eq!(rt; byte_at(&mut shelf, name, 0), Some(b'o'));
+    expect_bytes(&rt, &mut shelf, name, &[(0, Some(b'o'))]);
     fs::rename(&rt, newer, name)?;
-    for (at, want) in [(1, b'l'), (0, b'n'), (2, b'w')] {
-        assert_eq!(rt; byte_at(&mut shelf, name, at), Some(want), "at {at}");
-    }
+    expect_bytes(
+        &rt,
+        &mut shelf,
+        name,
+        &[(1, Some(b'l')), (0, Some(b'n')), (2, Some(b'w'))],
+    );
     fs::remove_file(&rt, name)?;
     Ok(())
 }
@@ -337,32 +398,32 @@ fn reads_pipes(rt: HostRuntime) -> Result<(), Fail> {
     drop(writer);
     let name = format!(in rt.alloc(); "/proc/self/fd/{}", reader.as_raw_fd())?;
     let mut shelf = DiskShelf::new(rt.clone()?);
-    let read = read_whole(rt.alloc(), &mut shelf, name.as_str(), 20_000)?;
-    assert!(rt; read.as_slice() == bytes.as_slice());
+    expect_whole(&rt, rt.alloc(), &mut shelf, name.as_str(), bytes.as_slice());
     Ok(())
+}
+
+/// Changes a file, each change with what it holds then.
+const GROWS: &[(Put, &[u8])] = &[
+    (Put::Create, b""),
+    (Put::Append(b"ab"), b"ab"),
+    (Put::Append(b"cde"), b"abcde"),
+    (Put::Create, b""),
+];
+
+/// Makes each change of a file of a name, and then of a folder, where it fails.
+fn expect_growth<S: Shelf>(rt: &impl Abort, alloc: Global, shelf: &mut S, name: &str) {
+    for (put, want) in GROWS {
+        assert_eq!(rt; put.apply(shelf, name), Ok(()), "{put:?}");
+        expect_whole(rt, alloc, shelf, name, want);
+        assert_eq!(rt; put.apply(shelf, "."), Err(PutFault::Failed), "{put:?}");
+    }
 }
 
 #[test]
 fn changes_real_files(rt: HostRuntime) -> Result<(), Fail> {
     let name = "ta_shelf_test_changed_file";
     let mut shelf = DiskShelf::new(rt.clone()?);
-    for (put, want) in [
-        (Put::Create, b"".as_slice()),
-        (Put::Append(b"ab"), b"ab"),
-        (Put::Append(b"cde"), b"abcde"),
-        (Put::Create, b""),
-    ] {
-        assert_eq!(rt; put.apply(&mut shelf, name), Ok(()), "{put:?}");
-        let read = read_whole(rt.alloc(), &mut shelf, name, 9)?;
-        assert_eq!(rt; read.as_slice(), want, "after {put:?}");
-    }
-    for put in [Put::Create, Put::Append(b"ab")] {
-        assert_eq!(rt;
-            put.apply(&mut shelf, "."),
-            Err(PutFault::Failed),
-            "{put:?}"
-        );
-    }
+    expect_growth(&rt, rt.alloc(), &mut shelf, name);
     fs::remove_file(&rt, name)?;
     Ok(())
 }

@@ -4,12 +4,10 @@
 use crate::describing::description;
 use crate::files::Files;
 use std::alloc::{AllocError, Global};
+use ta_base::limits::FILE_BYTES;
 use ta_meaning::read_file;
 use ta_scope::ScopedFile;
 use ta_syntax::FileFault;
-
-/// How many bytes a file has at most.
-const LIMIT: usize = 1_048_576;
 
 /// The file of a name, where its text is legal.
 pub fn scoped(alloc: Global, files: &Files, name: &str) -> Option<ScopedFile> {
@@ -18,7 +16,7 @@ pub fn scoped(alloc: Global, files: &Files, name: &str) -> Option<ScopedFile> {
 
 fn file_of(alloc: Global, text: &str) -> Result<ScopedFile, FileFault> {
     let bytes = text.as_bytes();
-    if bytes.len() > LIMIT {
+    if bytes.len() > FILE_BYTES {
         return Err(FileFault::Memory);
     }
     read_file(alloc, bytes)

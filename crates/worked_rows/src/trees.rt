@@ -2,14 +2,12 @@
 #![tactic(auto)]
 
 use std::alloc::{AllocError, Global};
+use ta_base::limits::FILE_BYTES;
 use ta_syntax::{FileFault, Tree, print_then_read, print_tree, read_tree};
-
-/// How many bytes a file has at most.
-const LIMIT: usize = 1_048_576;
 
 /// The first fault of a text as a tree.
 fn fault_of(alloc: Global, bytes: &[u8]) -> Option<FileFault> {
-    if bytes.len() > LIMIT {
+    if bytes.len() > FILE_BYTES {
         return Some(FileFault::Memory);
     }
     read_tree(alloc, bytes).err()
@@ -26,7 +24,7 @@ pub fn fault(alloc: Global, text: &str) -> Result<String, AllocError> {
 /// What is printed of a text, and again of what is read of that.
 pub fn printed(alloc: Global, text: &str) -> Result<String, AllocError> {
     let bytes = text.as_bytes();
-    if bytes.len() > LIMIT {
+    if bytes.len() > FILE_BYTES {
         return String::from_str(alloc, "too long");
     }
     match read_tree(alloc, bytes) {
@@ -37,7 +35,7 @@ pub fn printed(alloc: Global, text: &str) -> Result<String, AllocError> {
 
 fn printed_twice(alloc: Global, tree: &Tree) -> Result<String, AllocError> {
     let text = print_tree(alloc, tree)?;
-    if text.as_str().len() > LIMIT {
+    if text.as_str().len() > FILE_BYTES {
         return String::from_str(alloc, "too long");
     }
     let Ok(same) = print_then_read(alloc, tree) else {

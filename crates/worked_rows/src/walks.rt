@@ -3,14 +3,12 @@
 
 use std::alloc::{AllocError, Global};
 use std::thread::Threads;
+use ta_base::limits::MOST_NODES;
 use ta_cert::{Order, Proof, write_cert};
 use ta_dense::NarrowDictionary;
 use ta_scope::ScopedFile;
 use ta_walk::{PlaceKind, WalkEnd, find_orders, walk};
 use worked_beside::Beside;
-
-/// How many nodes a walk visits at most.
-const MOST: u64 = 1_000_000_000;
 
 /// How the walk of pattern 0 ends under the orders that are found, and the certificate of a refutation.
 pub fn end<R: Threads + Sync>(
@@ -20,7 +18,7 @@ pub fn end<R: Threads + Sync>(
     nodes: u64,
     narrow: bool,
 ) -> Result<String, AllocError> {
-    if scoped.file().patterns.as_slice().is_empty() || nodes == 0 || nodes > MOST {
+    if scoped.file().patterns.as_slice().is_empty() || nodes == 0 || nodes > MOST_NODES {
         return String::from_str(alloc, "no such walk");
     }
     let found = find_orders::<NarrowDictionary>(alloc, scoped)?;
@@ -61,7 +59,7 @@ pub fn solution<R: Threads + Sync>(
     }
     let orders = find_orders::<NarrowDictionary>(alloc, scoped)?.orders;
     if let WalkEnd::Found { solution, .. } = walk::<NarrowDictionary, R>(
-        rt, alloc, scoped, 0, &orders, MOST,
+        rt, alloc, scoped, 0, &orders, MOST_NODES,
     )? {
         for value in solution.values.as_slice() {
             write!(text, " {value}")?;

@@ -1,6 +1,7 @@
 -- Rows written from terms over places
 use Rattle.std.specs.Prelude.{ℕ, ℤ, pos, ◌-◌, ◌≤◌, ◌-ℤ◌, unsigned_abs, Bool, true, false, List, ◌++◌, length, map, filter, not, slice_get, Some, ◌≡◌}
 use Rattle.std.specs.List.{AllByRecursion}
+use Rattle.ta_base.specs.declared.limits.TheConstants.{LARGEST_NUMBER}
 use Rattle.ta_linear.specs.Rows.{AllBelow}
 use Rattle.ta_linear.specs.declared.form.Form.{Form}
 use Rattle.ta_linear.specs.declared.row.Row.{Row}
@@ -35,7 +36,7 @@ pub record AddsRows (ls : List LinearRow) (n : ℕ) (before after : List Row) : 
 -- a form whose numbers are at most 1,000,000,000 in absolute value
 pub record SmallForm (form : Form) : Type 0 where
   pub terms : SmallTerms form.terms
-  pub constant : unsigned_abs form.constant ≤ 1000000000
+  pub constant : unsigned_abs form.constant ≤ LARGEST_NUMBER
 
 abbrev pub SmallRows : List Row → Type 0
 SmallRows rows = AllByRecursion (λ (r : Row). SmallForm r.form) rows

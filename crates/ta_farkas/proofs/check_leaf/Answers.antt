@@ -1,9 +1,4 @@
-use Rattle.std.proofs.Common.{◌≡◌, ◌<ℤ◌, arith, rules, pos, subst, refl}
-use Rattle.std.proofs.lemmas.Int.{ints, to_z-of_z}
-use mir.Val.{SFits}
-use mir.Syntax.{w128}
-use Rattle.ta_farkas.specs.Faults.{FineBefore, IsFirstFaultOfLeaf}
-use Rattle.ta_farkas.specs.declared.LeafFault.TheVariants.{RowNumber, Positive, NotNegative}
+use Rattle.ta_farkas.proofs.Common.{◌≡◌, ◌<ℤ◌, arith, rules, pos, subst, refl, ints, to_z-of_z, SFits, w128, FineBefore, IsFirstFaultOfLeaf, RowNumber, Positive, NotNegative}
 use Rattle.ta_farkas.proofs.Judging.{leaf_of, no_fault}
 use Rattle.ta_farkas.proofs.check_leaf.Goals as goal
 

@@ -1,5 +1,4 @@
-use Rattle.std.proofs.Common.{ℕ, ◌<◌, length}
-use Rattle.ta_farkas.specs.Faults.{row_at}
+use Rattle.ta_farkas.proofs.Common.{ℕ, ◌<◌, length, row_at}
 use Rattle.ta_farkas.proofs.missing_row.Given as goal
 
 abbrev pub invariant-loop-row : goal.invariant-loop-row

@@ -1,9 +1,4 @@
-use Rattle.std.proofs.Common.{◌≡◌, arith, ◌∙◌, ap, rules, pos, get_or, subst, ℤ, ◌*ℤ◌, ◌+ℤ◌}
-use Rattle.std.proofs.lemmas.Int.{ints, to_z-of_z}
-use mir.Val.{SFits, to_z}
-use mir.Syntax.{w128}
-use Rattle.ta_linear.specs.Numbers.{InRange}
-use Rattle.ta_farkas.specs.Columns.{part_in, entry}
+use Rattle.ta_farkas.proofs.Common.{◌≡◌, arith, ◌∙◌, ap, rules, pos, get_or, subst, ℤ, ◌*ℤ◌, ◌+ℤ◌, ints, to_z-of_z, SFits, to_z, w128, InRange, part_in, entry}
 use Rattle.ta_farkas.proofs.Sums.{product_at, weighted-at, weighted-end, stays-out, stays-in, stays-end}
 use Rattle.ta_farkas.proofs.sum_of_column.Goals as goal
 

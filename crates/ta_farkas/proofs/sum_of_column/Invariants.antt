@@ -1,7 +1,4 @@
-use Rattle.std.proofs.Common.{◌≡◌, drop, ◌+ℤ◌}
-use Rattle.ta_linear.specs.Leaf.{weighted}
-use Rattle.ta_linear.specs.Sums.{StaysInRange}
-use Rattle.ta_farkas.specs.Columns.{part_in, entry, column_sum, ColumnStays}
+use Rattle.ta_farkas.proofs.Common.{◌≡◌, drop, ◌+ℤ◌, weighted, StaysInRange, part_in, entry, column_sum, ColumnStays}
 use Rattle.ta_farkas.proofs.sum_of_column.Given as goal
 
 abbrev pub invariant-loop-row : goal.invariant-loop-row

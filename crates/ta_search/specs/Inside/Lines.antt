@@ -1,5 +1,6 @@
 -- What the parts of a template's reader find
 use Rattle.std.specs.Prelude.{ℕ, ◌+◌, ◌<◌, ◌≤◌, ◌≡◌, ◌⊎◌, ◌++◌, List, [], ◌∷◌, length, true, false, Some}
+use Rattle.ta_base.specs.declared.limits.TheConstants.{LARGEST_VALUE, MOST_HOLES, MOST_VECTORS}
 use Rattle.ta_smt.specs.WordText.{is_name}
 use Rattle.ta_search.specs.declared.template.Hole.{Hole}
 use Rattle.ta_search.specs.declared.fault.TemplateFault.{TemplateFault}
@@ -26,13 +27,13 @@ pub record AddsHole (hs : List Hole) (line : List ℕ) (h : Hole) : Type 0 where
   pub text : line ≡ hole_line h
   pub fresh : is_among hs h.name ≡ false
   pub range : HoleInRange h
-  pub few : length (hs ++ (h ∷ [])) ≤ 4
-  pub vectors : vector_count (hs ++ (h ∷ [])) ≤ 10000
+  pub few : length (hs ++ (h ∷ [])) ≤ MOST_HOLES
+  pub vectors : vector_count (hs ++ (h ∷ [])) ≤ MOST_VECTORS
 
 -- a line of a hole that may not stand behind these
 abbrev pub HoleRefused : List Hole → Hole → TemplateFault → ℕ → Type 0
 HoleRefused hs h (fault.Repeated k) number = (k ≡ number) × (is_among hs h.name ≡ true)
-HoleRefused hs h (fault.Range k) number = (k ≡ number) × (is_among hs h.name ≡ false) × ((h.high < h.low) ⊎ (1000000000 < h.high))
+HoleRefused hs h (fault.Range k) number = (k ≡ number) × (is_among hs h.name ≡ false) × ((h.high < h.low) ⊎ (LARGEST_VALUE < h.high))
 HoleRefused hs h (fault.TooMany k) number =
     (k ≡ number) × (is_among hs h.name ≡ false) × HoleInRange h × AreTooMany (hs ++ (h ∷ []))
 HoleRefused hs h _ number = ⊥

@@ -1,6 +1,7 @@
 -- Parts of a visit: the words of a list, each with its tree
 use Rattle.std.specs.Prelude.{ℕ, ◌+◌, ◌-◌, ◌≤◌, ◌<◌, ◌≡◌, List, [], ◌++◌, length, reverse, nat_lt, if◌then◌else◌}
 use Rattle.std.specs.List.{AllByRecursion}
+use Rattle.ta_base.specs.declared.limits.TheConstants.{MOST_NODES}
 use Rattle.ta_cert.specs.declared.line.Node.{Node}
 use Rattle.ta_encode.specs.Search.{Comes, Pending, Search}
 use Rattle.ta_encode.specs.PatternSearch.{pattern_search}
@@ -83,7 +84,7 @@ HasFewBounds most w = length w.bounds ≤ most
 pub record HasFewLeft (s : Search) (nodes : ℕ) (c : Cursor) : Type 0 where
   pub within : Within s c (left_at s c)
   pub most : ℕ
-  pub room : most + nodes ≤ 1000000000
+  pub room : most + nodes ≤ MOST_NODES
   pub few : AllByRecursion (HasFewBounds most) (left_at s c)
 
 -- behind some nodes, so many of them leaves, the words are those of a cursor, and then those of another one

@@ -1,5 +1,4 @@
-use Rattle.std.proofs.Common.{◌<◌, ◌≤◌, ◌^◌, arith, sym, ℕ}
-use Rattle.std.specs.Str.Parse.{digits_value}
+use Rattle.ta_base.proofs.Common.{◌<◌, ◌≤◌, ◌^◌, arith, sym, ℕ, digits_value}
 use Rattle.ta_base.proofs.Digits.{none_padded}
 use Rattle.ta_base.proofs.decimals.read_decimal.Goals as goal
 use Rattle.ta_base.proofs.DecimalDigits.{none_large, number_at}

@@ -1,6 +1,4 @@
-use Rattle.std.proofs.Common.{arith}
-use Rattle.std.specs.Char.{is_ascii_digit}
-use Rattle.std.proofs.lemmas.List.Sums.{prefix_len-le-length}
+use Rattle.ta_base.proofs.Common.{arith, is_ascii_digit, prefix_len-le-length}
 use Rattle.ta_base.proofs.decimals.split_digits.Goals as goal
 use Rattle.ta_base.proofs.DecimalDigits.{run}
 

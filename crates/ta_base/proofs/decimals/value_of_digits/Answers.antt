@@ -1,5 +1,4 @@
-use Rattle.std.proofs.Common.{ap, ◌∙◌, arith, take_all}
-use Rattle.std.specs.Str.Parse.{digits_value}
+use Rattle.ta_base.proofs.Common.{ap, ◌∙◌, arith, take_all, digits_value}
 use Rattle.ta_base.proofs.decimals.value_of_digits.Goals as goal
 use Rattle.ta_base.proofs.DecimalDigits.{value_more}
 

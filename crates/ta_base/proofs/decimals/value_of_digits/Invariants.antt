@@ -1,5 +1,4 @@
-use Rattle.std.proofs.Common.{◌≡◌, ◌<◌, ◌^◌, take}
-use Rattle.std.specs.Str.Parse.{digits_value}
+use Rattle.ta_base.proofs.Common.{◌≡◌, ◌<◌, ◌^◌, take, digits_value}
 use Rattle.ta_base.proofs.decimals.value_of_digits.Given as goal
 
 abbrev pub invariant-loop-digit : goal.invariant-loop-digit

@@ -1,6 +1,4 @@
-use Rattle.std.proofs.Common.{subst, sym, ◌∙◌}
-use Rattle.ta_cert.specs.Certificates.{cert_lines}
-use Rattle.ta_cert.specs.Streams.{IsComplete}
+use Rattle.ta_cert.proofs.Common.{subst, sym, ◌∙◌, cert_lines, IsComplete}
 use Rattle.ta_cert.proofs.Reading.{read_complete}
 use Rattle.ta_cert.proofs.law.read_again.Goals as goal
 

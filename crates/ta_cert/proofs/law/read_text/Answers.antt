@@ -1,10 +1,5 @@
-use Rattle.std.proofs.Common.{◌≡◌, ◌++◌, [], List, ℕ, length, take, drop, sym, ap, subst, ◌∙◌, take-append-drop, eqb-true, Ok}
-use Rattle.std.proofs.lemmas.List.{nil_from_length}
-use Rattle.std.proofs.lemmas.Result.{err_from_is_err_and}
+use Rattle.ta_cert.proofs.Common.{◌≡◌, ◌++◌, [], List, ℕ, length, take, drop, sym, ap, subst, ◌∙◌, take-append-drop, eqb-true, Ok, nil_from_length, err_from_is_err_and, FeedAnswers, Line, Reader}
 use Rattle.ta_cert.proofs.Reading.{ReadSoFar, goes_on_reading, stops_reading, ends_reading, cut_reading}
-use Rattle.ta_cert.specs.Streams.{FeedAnswers}
-use Rattle.ta_cert.specs.declared.line.Line.{Line}
-use Rattle.ta_cert.specs.declared.reader.Reader.{Reader}
 use Rattle.ta_cert.proofs.law.read_text.Goals as goal
 
 halves : (rest piece behind : List ℕ) (n : ℕ) → piece ≡ take n rest → behind ≡ drop n rest → rest ≡ piece ++ behind

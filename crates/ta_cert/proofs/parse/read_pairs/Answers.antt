@@ -1,5 +1,4 @@
-use Rattle.std.proofs.Common.{ℕ, ℤ, ◌<◌, ◌≤◌, ◌≡◌, List, [], length, sym, subst, arith, eqb-true, false-eqb}
-use Rattle.std.proofs.lemmas.List.{nil_from_length}
+use Rattle.ta_cert.proofs.Common.{ℕ, ℤ, ◌<◌, ◌≤◌, ◌≡◌, List, [], length, sym, subst, arith, eqb-true, false-eqb, nil_from_length}
 use Rattle.ta_cert.proofs.Pairs.{SoFar, begins_so, goes_on_so, shorter, too_low, all_read, none_read, other_rest}
 use Rattle.ta_cert.proofs.parse.read_pairs.Goals as goal
 use Rattle.ta_cert.proofs.parse.read_pairs.Goals.{else-is_empty-via-then-is_empty+else-not-is_empty, else-is_empty-via-else-is_empty}

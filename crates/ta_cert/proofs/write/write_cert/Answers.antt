@@ -1,8 +1,4 @@
-use Rattle.std.proofs.Common.{◌++◌, ◌∷◌, [], ap, sym, subst, ◌∙◌, arith, codes, drop, string_bytes}
-use Rattle.std.proofs.lemmas.List.{at_drop_all}
-use Rattle.ta_base.proofs.Lists.{append_last}
-use Rattle.ta_cert.specs.Certificates.{cert_lines, head_text, proofs_text}
-use Rattle.ta_cert.specs.Streams.{IsComplete}
+use Rattle.ta_cert.proofs.Common.{◌++◌, ◌∷◌, [], ap, sym, subst, ◌∙◌, arith, codes, drop, string_bytes, at_drop_all, append_last, cert_lines, head_text, proofs_text, IsComplete}
 use Rattle.ta_cert.proofs.CertLines.{cert_complete}
 use Rattle.ta_cert.proofs.Writing.{cert_parts}
 use Rattle.ta_cert.proofs.write.write_cert.Goals as goal

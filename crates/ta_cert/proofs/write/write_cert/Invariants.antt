@@ -1,5 +1,4 @@
-use Rattle.std.proofs.Common.{◌≡◌, ◌++◌, drop, string_bytes}
-use Rattle.ta_cert.specs.Certificates.{proofs_text}
+use Rattle.ta_cert.proofs.Common.{◌≡◌, ◌++◌, drop, string_bytes, proofs_text}
 use Rattle.ta_cert.proofs.write.write_cert.Given as goal
 
 abbrev pub invariant-loop-proof : goal.invariant-loop-proof

@@ -1,8 +1,4 @@
-use Rattle.std.proofs.Common.{ℕ, List, ◌++◌, ◌∷◌, [], ap, ◌∙◌, append_assoc, arith, drop, string_bytes}
-use Rattle.std.proofs.lemmas.List.{at_drop_all}
-use Rattle.ta_base.proofs.Lists.{written_whole}
-use Rattle.ta_cert.specs.Lines.{line_text}
-use Rattle.ta_cert.specs.Certificates.{orders_text, version_of}
+use Rattle.ta_cert.proofs.Common.{ℕ, List, ◌++◌, ◌∷◌, [], ap, ◌∙◌, append_assoc, arith, drop, string_bytes, at_drop_all, written_whole, line_text, orders_text, version_of}
 use Rattle.ta_cert.specs.declared.line.Line.TheVariants as line
 use Rattle.ta_cert.proofs.write.write_head.Goals as goal
 

@@ -1,6 +1,4 @@
-use Rattle.std.proofs.Common.{length, arith, ap, length-drop}
-use Rattle.std.proofs.lemmas.Result.{err_from_is_err_and}
-use Rattle.ta_check.specs.Subjects.{claiming}
+use Rattle.ta_check.proofs.Common.{length, arith, ap, length-drop, err_from_is_err_and, claiming}
 use Rattle.ta_check.proofs.Pieces.{somewhere, goes_on, goes_within, goes_wrong}
 use Rattle.ta_check.proofs.checker.take_lines.Goals as goal
 

@@ -1,5 +1,4 @@
-use Rattle.std.proofs.Common.{length}
-use Rattle.ta_check.specs.Subjects.{claiming}
+use Rattle.ta_check.proofs.Common.{length, claiming}
 use Rattle.ta_check.proofs.Pieces.{FrontTaken}
 use Rattle.ta_check.proofs.checker.take_lines.Given as goal
 

@@ -1,5 +1,4 @@
-use Rattle.std.proofs.lemmas.Result.{err_from_is_err_and}
-use Rattle.ta_check.specs.Subjects.{claiming}
+use Rattle.ta_check.proofs.Common.{err_from_is_err_and, claiming}
 use Rattle.ta_check.proofs.Pieces.{next_refused, next_some, next_fails, line_is}
 use Rattle.ta_check.proofs.checker.take_next.Goals as goal
 

@@ -1,11 +1,6 @@
-use Rattle.std.proofs.Common.{List, ℕ, IfErr, subst}
+use Rattle.ta_check.proofs.Common.{List, ℕ, IfErr, subst, IsErrOrMemory, CertFault, CertificateFor, IsFirstFaultFor, Subject}
 use Rattle.std.specs.Prelude.{◌≢◌}
-use Rattle.ta_cert.specs.Laws.{IsErrOrMemory}
-use Rattle.ta_cert.specs.declared.fault.CertFault.{CertFault}
 use Rattle.ta_cert.specs.declared.fault.CertFault.TheVariants as fault
-use Rattle.ta_check.specs.Certificate.{CertificateFor}
-use Rattle.ta_check.specs.Faults.{IsFirstFaultFor}
-use Rattle.ta_check.specs.Subjects.{Subject}
 use Rattle.ta_check.proofs.checking.check.Goals as goal
 
 pub returns-clause-refused : goal.returns-clause-refused

@@ -1,7 +1,4 @@
-use Rattle.std.proofs.Common.{[], subst}
-use Rattle.std.proofs.lemmas.Result.{err_from_is_err_and}
-use Rattle.ta_check.specs.Checkers.{CheckerFinishAnswers, subject_of}
-use Rattle.ta_check.specs.Subjects.{Subject}
+use Rattle.ta_check.proofs.Common.{[], subst, err_from_is_err_and, CheckerFinishAnswers, subject_of, Subject}
 use Rattle.ta_check.proofs.Answering.{exact_answer, refused_answer, finished_accepts, finished_faults, fed_faults}
 use Rattle.ta_check.proofs.checking.judge_whole.Goals as goal
 

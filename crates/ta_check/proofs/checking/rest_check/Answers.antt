@@ -1,14 +1,6 @@
-use Rattle.std.proofs.Common.{List, ℕ, Ok, Err, Result, IfOk, IfErr, subst}
+use Rattle.ta_check.proofs.Common.{List, ℕ, Ok, Err, Result, IfOk, IfErr, subst, File, IsErrOrMemory, CertFault, EndingsOf, AllClaimsHold, AllRestSafe, CertificateFor, IsFirstFaultFor, Subject, Accepted}
 use Rattle.std.specs.Prelude.{◌≢◌}
-use Rattle.ta_automaton.specs.declared.file.File.{File}
-use Rattle.ta_cert.specs.Laws.{IsErrOrMemory}
-use Rattle.ta_cert.specs.declared.fault.CertFault.{CertFault}
 use Rattle.ta_cert.specs.declared.fault.CertFault.TheVariants as fault
-use Rattle.ta_rest.specs.Faults.{EndingsOf}
-use Rattle.ta_check.specs.Certificate.{AllClaimsHold, AllRestSafe, CertificateFor}
-use Rattle.ta_check.specs.Faults.{IsFirstFaultFor}
-use Rattle.ta_check.specs.Subjects.{Subject}
-use Rattle.ta_check.specs.declared.accepted.Accepted.{Accepted}
 use Rattle.ta_check.proofs.OwnPatterns.{all_own}
 use Rattle.ta_check.proofs.checking.rest_check.Goals as goal
 

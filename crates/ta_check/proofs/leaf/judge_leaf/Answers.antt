@@ -1,13 +1,4 @@
-use Rattle.std.proofs.Common.{◌≤◌, ◌^◌, ℕ, inr, reverse, sym, ◌∙◌, subst, refl, arith}
-use Rattle.ta_linear.specs.Leaf.{AreMultipliers, LeafOf}
-use Rattle.ta_linear.specs.declared.row.System.{System}
-use Rattle.ta_encode.specs.Lines.{BoundsWithin}
-use Rattle.ta_encode.proofs.Whole.{unbounded_rows}
-use Rattle.ta_farkas.specs.Columns.{CheckStays}
-use Rattle.ta_farkas.specs.Faults.{IsFirstFaultOfLeaf}
-use Rattle.ta_farkas.specs.declared.LeafFault.TheVariants.{RowNumber}
-use Rattle.ta_cursor.specs.Cursors.{here}
-use Rattle.ta_check.specs.Inside.Leaves.{WithoutBounds}
+use Rattle.ta_check.proofs.Common.{◌≤◌, ◌^◌, ℕ, inr, reverse, sym, ◌∙◌, subst, refl, arith, AreMultipliers, LeafOf, System, BoundsWithin, unbounded_rows, CheckStays, IsFirstFaultOfLeaf, RowNumber, here, WithoutBounds}
 use Rattle.ta_check.proofs.Picking.{renumbered_rise, named_here, absent_here, judged_picked, fault_picked}
 use Rattle.ta_check.proofs.leaf.judge_leaf.Goals as goal
 

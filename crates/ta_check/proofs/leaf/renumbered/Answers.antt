@@ -1,7 +1,5 @@
-use Rattle.std.proofs.Common.{◌≡◌, ◌+◌, ◌<◌, ◌^◌, ◌++◌, ◌∷◌, [], take, get_or, pos, to_z, of_z, arith, sym, ap, ◌∙◌}
-use Rattle.std.specs.Int.{w128}
+use Rattle.ta_check.proofs.Common.{◌≡◌, ◌+◌, ◌<◌, ◌^◌, ◌++◌, ◌∷◌, [], take, get_or, pos, to_z, of_z, arith, sym, ap, ◌∙◌, w128, renumbered}
 use Rattle.std.proofs.Math.Facts.{Fits-of_lt}
-use Rattle.ta_check.specs.Inside.Leaves.{renumbered}
 use Rattle.ta_check.proofs.Leaves.{pairs_few, renumbered_more, pair_clean}
 use Rattle.ta_check.proofs.leaf.renumbered.Goals as goal
 

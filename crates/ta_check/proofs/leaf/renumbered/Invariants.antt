@@ -1,5 +1,4 @@
-use Rattle.std.proofs.Common.{◌≡◌, take}
-use Rattle.ta_check.specs.Inside.Leaves.{renumbered}
+use Rattle.ta_check.proofs.Common.{◌≡◌, take, renumbered}
 use Rattle.ta_check.proofs.leaf.renumbered.Given as goal
 
 abbrev pub invariant-loop-place : goal.invariant-loop-place

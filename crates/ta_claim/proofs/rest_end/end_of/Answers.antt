@@ -1,6 +1,4 @@
-use Rattle.std.proofs.Common.{◌&&◌, Bool, Fits, w32, not, arith, ap, ◌∙◌, rules}
-use Rattle.ta_base.specs.Masks.{has_bit}
-use Rattle.ta_base.proofs.Bits.{left_bit, standing_bit}
+use Rattle.ta_claim.proofs.Common.{◌&&◌, Bool, Fits, w32, not, arith, ap, ◌∙◌, rules, has_bit, left_bit, standing_bit}
 use Rattle.ta_claim.proofs.rest_end.end_of.Goals as goal
 
 pub returns : goal.returns

@@ -1,8 +1,5 @@
-use Rattle.std.proofs.Common.{◌≡◌, ◌||◌, ℕ, length, reverse, slice_get, Option, Some, Bool, List, arith, sym, ap, ◌∙◌, refl, subst}
+use Rattle.ta_claim.proofs.Common.{◌≡◌, ◌||◌, ℕ, length, reverse, slice_get, Option, Some, Bool, List, arith, sym, ap, ◌∙◌, refl, subst, has_none, Rule, leads_out, some_below}
 use Rattle.std.proofs.lemmas.Option.{slice_get_read}
-use Rattle.ta_base.proofs.Bits.{has_none}
-use Rattle.ta_automaton.specs.declared.rule.Rule.{Rule}
-use Rattle.ta_rest.specs.RestSearch.{leads_out, some_below}
 use Rattle.ta_claim.proofs.RestMasks.{some_more, some_none}
 use Rattle.ta_claim.proofs.rest_end.left_after.Goals as goal
 

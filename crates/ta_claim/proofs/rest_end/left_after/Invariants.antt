@@ -1,6 +1,4 @@
-use Rattle.std.proofs.Common.{◌≡◌, ℕ, reverse, slice_get}
-use Rattle.ta_base.specs.Masks.{has_bit}
-use Rattle.ta_rest.specs.RestSearch.{leads_out, some_below}
+use Rattle.ta_claim.proofs.Common.{◌≡◌, ℕ, reverse, slice_get, has_bit, leads_out, some_below}
 use Rattle.ta_claim.proofs.rest_end.left_after.Given as goal
 
 -- the locations out of which one of the first rules leads

@@ -1,10 +1,5 @@
-use Rattle.std.proofs.Common.{◌≢◌, inl, subst}
-use Rattle.ta_automaton.specs.declared.file.File.{File}
-use Rattle.ta_replay.specs.Fits.{Fits}
-use Rattle.ta_replay.specs.ReplayFaults.{FirstRefusal, ReplayFault}
-use Rattle.ta_replay.specs.declared.fault.RunFault.{RunFault}
+use Rattle.ta_compress.proofs.Common.{◌≢◌, inl, subst, File, Fits, FirstRefusal, ReplayFault, RunFault, Run}
 use Rattle.ta_replay.specs.declared.fault.RunFault.TheVariants.{Memory}
-use Rattle.ta_replay.specs.declared.run.Run.{Run}
 use Rattle.ta_compress.proofs.compressing.admit.Goals as goal
 
 -- no check of a replay wants memory

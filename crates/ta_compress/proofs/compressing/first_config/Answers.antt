@@ -1,5 +1,4 @@
-use Rattle.std.proofs.Common.{ℤ, List, subst}
-use Rattle.ta_counter.specs.Starts.{StartFails}
+use Rattle.ta_compress.proofs.Common.{ℤ, List, subst, StartFails}
 use Rattle.ta_compress.proofs.AlwaysStarts.{always_starts}
 use Rattle.ta_compress.proofs.compressing.first_config.Goals as goal
 

@@ -1,6 +1,4 @@
-use Rattle.std.proofs.Common.{get_or, pos}
-use Rattle.std.proofs.lemmas.Option.{slice_get-get_or}
-use Rattle.ta_replay.specs.declared.run.RunLine.TheVariants.{Step}
+use Rattle.ta_compress.proofs.Common.{get_or, pos, slice_get-get_or, Step}
 use Rattle.ta_compress.proofs.Lasts.{last_none, last_next, last_all}
 use Rattle.ta_compress.proofs.compressing.last_mark.Goals as goal
 

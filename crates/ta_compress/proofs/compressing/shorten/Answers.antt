@@ -1,10 +1,4 @@
-use Rattle.std.proofs.Common.{◌≡◌, ◌<◌, ℕ, pos, List, length, arith, ap, subst, slice_get, get_or, Some}
-use Rattle.std.proofs.lemmas.Option.{slice_get-get_or}
-use Rattle.std.proofs.lemmas.Result.{err_from_is_err_and}
-use Rattle.ta_replay.specs.declared.run.Run.{Run}
-use Rattle.ta_replay.specs.declared.run.RunLine.{RunLine}
-use Rattle.ta_replay.specs.declared.run.RunLine.TheVariants.{Step}
-use Rattle.ta_compress.specs.Units.{EndsAtLastMark}
+use Rattle.ta_compress.proofs.Common.{◌≡◌, ◌<◌, ℕ, pos, List, length, arith, ap, subst, slice_get, get_or, Some, slice_get-get_or, err_from_is_err_and, Run, RunLine, Step, EndsAtLastMark}
 use Rattle.ta_compress.proofs.Shortening.{Going, may_follow, going_next, going_stops, gone, gone_stayed}
 use Rattle.ta_compress.proofs.compressing.shorten.Goals as goal
 

@@ -1,14 +1,4 @@
-use Rattle.std.proofs.Common.{◌≡◌, ◌<◌, ◌-◌, ◌^◌, ◌∙◌, ap, sym, take, min, pos, get_or, arith, ℕ}
-use Rattle.std.proofs.lemmas.Bool.Decides.{nat_tests}
-use Rattle.std.proofs.lemmas.Int.{ints}
-use Rattle.std.proofs.lemmas.List.{take_all}
-use Rattle.std.proofs.lemmas.Option.{slice_get-get_or}
-use mir.Syntax.{w128}
-use mir.Val.{to_z}
-use Rattle.ta_base.proofs.Naturals.{capped}
-use Rattle.ta_replay.specs.declared.run.RunLine.TheVariants.{Step}
-use Rattle.ta_replay.specs.Shows.{factor_of, factors_sum}
-use Rattle.ta_replay.proofs.Lines.{factors_sum-next}
+use Rattle.ta_compress.proofs.Common.{◌≡◌, ◌<◌, ◌-◌, ◌^◌, ◌∙◌, ap, sym, take, min, pos, get_or, arith, ℕ, nat_tests, ints, take_all, slice_get-get_or, w128, to_z, capped, Step, factor_of, factors_sum, factors_sum-next}
 use Rattle.ta_compress.proofs.compressing.steps_of.Goals as goal
 
 pub loop-line-preserved : goal.loop-line-preserved

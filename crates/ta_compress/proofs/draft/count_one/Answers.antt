@@ -1,10 +1,4 @@
-use Rattle.std.proofs.Common.{arith, pos, ◌≡◌, ◌+ℤ◌, refl, sym, ◌∙◌}
-use Rattle.std.proofs.lemmas.Option.{same_Some, slice_get-get_or}
-use Rattle.std.proofs.lemmas.Int.{ints}
-use mir.Syntax.{w128}
-use mir.Val.{to_z, of_z}
-use Rattle.ta_base.proofs.Lists.{read_same}
-use Rattle.ta_scope.specs.Arranged.{count_at}
+use Rattle.ta_compress.proofs.Common.{arith, pos, ◌≡◌, ◌+ℤ◌, refl, sym, ◌∙◌, same_Some, slice_get-get_or, ints, w128, to_z, of_z, read_same, count_at}
 use Rattle.ta_compress.proofs.Counted.{one_more_set}
 use Rattle.ta_compress.proofs.draft.count_one.Goals as goal
 

@@ -1,6 +1,4 @@
-use Rattle.std.proofs.Common.{◌<◌, ◌^◌, arith}
-use Rattle.std.proofs.lemmas.Bool.{false≢true}
-use Rattle.ta_base.proofs.Bits.{bit_below}
+use Rattle.ta_compress.proofs.Common.{◌<◌, ◌^◌, arith, false≢true, bit_below}
 use Rattle.ta_compress.proofs.draft.has_fallen.Goals as goal
 
 pub returns : goal.returns

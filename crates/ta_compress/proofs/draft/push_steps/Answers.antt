@@ -1,11 +1,4 @@
-use Rattle.std.proofs.Common.{rules, arith, ◌≡◌, ◌++◌, ◌∷◌, [], ℕ, ℤ, pos, List, map, sym, ap, ◌∙◌, get_or, take, append_assoc}
-use Rattle.std.proofs.lemmas.List.{take_more, take_all, map_push}
-use Rattle.std.proofs.lemmas.Int.{ints}
-use mir.Syntax.{w128}
-use mir.Val.{to_z, of_z}
-use Rattle.ta_replay.specs.declared.run.RunLine.{RunLine}
-use Rattle.ta_replay.specs.declared.run.RunLine.TheVariants.{Step}
-use Rattle.ta_replay.specs.Pieces.{step_line}
+use Rattle.ta_compress.proofs.Common.{rules, arith, ◌≡◌, ◌++◌, ◌∷◌, [], ℕ, ℤ, pos, List, map, sym, ap, ◌∙◌, get_or, take, append_assoc, take_more, take_all, map_push, ints, w128, to_z, of_z, RunLine, Step, step_line}
 use Rattle.ta_compress.proofs.draft.push_steps.Goals as goal
 
 pub loop-rule-preserved : goal.loop-rule-preserved

@@ -1,5 +1,4 @@
-use Rattle.std.proofs.Common.{◌≡◌, ◌++◌, map, take}
-use Rattle.ta_replay.specs.Pieces.{step_line}
+use Rattle.ta_compress.proofs.Common.{◌≡◌, ◌++◌, map, take, step_line}
 use Rattle.ta_compress.proofs.draft.push_steps.Given as goal
 
 -- the earlier steps are added

@@ -1,9 +1,4 @@
-use Rattle.std.proofs.Common.{◌≤◌, ap, arith, length, subst, List}
-use Rattle.std.proofs.lemmas.Result.{err_from_is_err_and}
-use Rattle.ta_base.proofs.Lists.{all_passed, one_passed, read_same}
-use Rattle.ta_linear.specs.Values.{point_of}
-use Rattle.ta_automaton.specs.declared.condition.Comparison.{Comparison}
-use Rattle.ta_counter.specs.Checks.{RowFails, RowOutOfRange, RowsPass, RowsStop}
+use Rattle.ta_counter.proofs.Common.{◌≤◌, ap, arith, length, subst, List, err_from_is_err_and, all_passed, one_passed, read_same, point_of, Comparison, RowFails, RowOutOfRange, RowsPass, RowsStop}
 use Rattle.ta_counter.proofs.Rows.{rows_pass, rows_fail, holds_from, fails_from}
 use Rattle.ta_counter.proofs.condition.first_false.Goals as goal
 

@@ -1,7 +1,4 @@
-use Rattle.ta_base.proofs.Lists.{PassedTo}
-use Rattle.ta_linear.specs.Values.{point_of}
-use Rattle.ta_automaton.specs.declared.condition.Comparison.{Comparison}
-use Rattle.ta_counter.specs.Checks.{RowsPass}
+use Rattle.ta_counter.proofs.Common.{PassedTo, point_of, Comparison, RowsPass}
 use Rattle.ta_counter.proofs.condition.first_false.Given as goal
 
 abbrev pub invariant-loop-number : goal.invariant-loop-number

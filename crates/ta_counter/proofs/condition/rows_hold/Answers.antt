@@ -1,12 +1,4 @@
-use Rattle.std.proofs.Common.{refl}
-use Rattle.std.proofs.lemmas.Result.{err_from_is_err_and}
-use Rattle.ta_base.proofs.Each.{each_at}
-use Rattle.ta_base.proofs.Lists.{all_passed, one_passed, read_same}
-use Rattle.ta_linear.specs.Terms.{IsNormal}
-use Rattle.ta_linear.specs.Values.{point_of}
-use Rattle.ta_linear.specs.declared.row.Row.{Row}
-use Rattle.std.proofs.Common.{length}
-use Rattle.ta_counter.specs.Checks.{RowPasses}
+use Rattle.ta_counter.proofs.Common.{refl, err_from_is_err_and, each_at, all_passed, one_passed, read_same, IsNormal, point_of, Row, length, RowPasses}
 use Rattle.ta_counter.proofs.Rows.{row_passes, row_fails}
 use Rattle.ta_counter.proofs.condition.rows_hold.Goals as goal
 

@@ -1,7 +1,4 @@
-use Rattle.ta_base.proofs.Lists.{PassedTo}
-use Rattle.ta_linear.specs.Values.{point_of}
-use Rattle.ta_linear.specs.declared.row.Row.{Row}
-use Rattle.ta_counter.specs.Checks.{RowPasses}
+use Rattle.ta_counter.proofs.Common.{PassedTo, point_of, Row, RowPasses}
 use Rattle.ta_counter.proofs.condition.rows_hold.Given as goal
 
 abbrev pub invariant-loop-row : goal.invariant-loop-row

@@ -1,8 +1,4 @@
-use Rattle.std.proofs.Common.{List, length, ap, sym, subst}
-use Rattle.std.proofs.lemmas.Result.{err_from_is_err_and, IfErr-weaker, on_ok_weaker}
-use Rattle.ta_linear.specs.Values.{point_of}
-use Rattle.ta_linear.specs.declared.row.Row.{Row}
-use Rattle.ta_counter.specs.Checks.{RowsOver}
+use Rattle.ta_counter.proofs.Common.{List, length, ap, sym, subst, err_from_is_err_and, IfErr-weaker, on_ok_weaker, point_of, Row, RowsOver}
 use Rattle.ta_counter.proofs.Guarding.{rise_rows_over, fall_rows_over, rise_fault, fall_fault}
 use Rattle.ta_counter.proofs.guards.check_guards.Goals as goal
 

@@ -1,11 +1,4 @@
-use Rattle.std.proofs.Common.{refl, sym, ◌∙◌, IsBitSet}
-use Rattle.std.proofs.lemmas.Bool.{false≢true}
-use Rattle.std.proofs.lemmas.Result.{err_from_is_err_and}
-use Rattle.ta_base.proofs.Lists.{one_passed, read_same}
-use Rattle.ta_linear.specs.Values.{point_of}
-use Rattle.ta_linear.specs.declared.row.Row.{Row}
-use Rattle.ta_counter.specs.Checks.{RowPasses}
-use Rattle.std.proofs.Common.{length}
+use Rattle.ta_counter.proofs.Common.{refl, sym, ◌∙◌, IsBitSet, false≢true, err_from_is_err_and, one_passed, read_same, point_of, Row, RowPasses, length}
 use Rattle.ta_counter.proofs.Guarding.{masked_fault}
 use Rattle.ta_counter.proofs.guards.check_rows.Goals as goal
 use Rattle.ta_counter.proofs.guards.check_rows.Goals.{then-contains+in_ok-check_row, else-contains}

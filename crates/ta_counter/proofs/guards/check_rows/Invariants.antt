@@ -1,8 +1,4 @@
-use Rattle.std.proofs.Common.{IsBitSet}
-use Rattle.ta_base.proofs.Lists.{PassedTo}
-use Rattle.ta_linear.specs.Values.{point_of}
-use Rattle.ta_linear.specs.declared.row.Row.{Row}
-use Rattle.ta_counter.specs.Checks.{RowPasses}
+use Rattle.ta_counter.proofs.Common.{IsBitSet, PassedTo, point_of, Row, RowPasses}
 use Rattle.ta_counter.proofs.guards.check_rows.Given as goal
 
 abbrev pub invariant-loop-number : goal.invariant-loop-number

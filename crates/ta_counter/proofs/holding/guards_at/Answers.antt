@@ -1,5 +1,4 @@
-use Rattle.std.proofs.Common.{length, ap, sym, subst, ◌∙◌, ℤ, List}
-use Rattle.ta_counter.specs.Checks.{RowsOver}
+use Rattle.ta_counter.proofs.Common.{length, ap, sym, subst, ◌∙◌, ℤ, List, RowsOver}
 use Rattle.ta_counter.proofs.Guarding.{rise_rows_over, fall_rows_over}
 use Rattle.ta_counter.proofs.holding.guards_at.Goals as goal
 

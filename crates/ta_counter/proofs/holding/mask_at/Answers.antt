@@ -1,10 +1,4 @@
-use Rattle.std.proofs.Common.{refl, length}
-use Rattle.ta_base.proofs.Each.{each_at}
-use Rattle.ta_base.proofs.Lists.{all_passed, one_passed, read_same}
-use Rattle.ta_linear.specs.Sums.{StaysInRange}
-use Rattle.ta_linear.specs.Terms.{IsNormal}
-use Rattle.ta_linear.specs.Values.{point_of}
-use Rattle.ta_linear.specs.declared.row.Row.{Row}
+use Rattle.ta_counter.proofs.Common.{refl, length, each_at, all_passed, one_passed, read_same, StaysInRange, IsNormal, point_of, Row}
 use Rattle.ta_counter.proofs.Holdings.{mask_more, mask_all, told_stays}
 use Rattle.ta_counter.proofs.holding.mask_at.Goals as goal
 

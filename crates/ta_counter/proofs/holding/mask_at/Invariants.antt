@@ -1,7 +1,4 @@
-use Rattle.ta_base.proofs.Lists.{PassedTo}
-use Rattle.ta_linear.specs.Sums.{StaysInRange}
-use Rattle.ta_linear.specs.Values.{point_of}
-use Rattle.ta_linear.specs.declared.row.Row.{Row}
+use Rattle.ta_counter.proofs.Common.{PassedTo, StaysInRange, point_of, Row}
 use Rattle.ta_counter.proofs.Holdings.{MaskBefore}
 use Rattle.ta_counter.proofs.holding.mask_at.Given as goal
 

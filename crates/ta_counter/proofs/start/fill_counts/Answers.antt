@@ -1,12 +1,4 @@
-use Rattle.std.proofs.Common.{◌≡◌, rules, arith, ℕ, ℤ, pos, ◌+◌, ◌<◌, List, length, ap, refl, subst, get_or, slice_get, Some, FitsSigned}
-use Rattle.std.proofs.lemmas.Int.{to_z-of_z}
-use Rattle.std.proofs.lemmas.List.{length-set}
-use Rattle.std.proofs.lemmas.Option.{slice_get-get_or}
-use Rattle.std.specs.Int.{w128}
-use Rattle.ta_base.proofs.Each.{each_point}
-use Rattle.ta_automaton.specs.Places.{location_place}
-use Rattle.ta_counter.specs.Values.{Value}
-use Rattle.ta_counter.specs.Inside.Filling.{Filling}
+use Rattle.ta_counter.proofs.Common.{◌≡◌, rules, arith, ℕ, ℤ, pos, ◌+◌, ◌<◌, List, length, ap, refl, subst, get_or, slice_get, Some, FitsSigned, to_z-of_z, length-set, slice_get-get_or, w128, each_point, location_place, Value, Filling}
 use Rattle.ta_counter.proofs.Filling.{fill_next, location_exists}
 use Rattle.ta_counter.proofs.start.fill_counts.Goals as goal
 

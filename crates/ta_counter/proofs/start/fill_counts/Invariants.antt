@@ -1,6 +1,4 @@
-use Rattle.std.proofs.Common.{◌≡◌, ℤ, List, length}
-use Rattle.ta_counter.specs.Configs.{places_of}
-use Rattle.ta_counter.specs.Inside.Filling.{Filling}
+use Rattle.ta_counter.proofs.Common.{◌≡◌, ℤ, List, length, places_of, Filling}
 use Rattle.ta_counter.proofs.start.fill_counts.Given as goal
 
 abbrev pub invariant-loop-number : goal.invariant-loop-number

@@ -1,7 +1,4 @@
-use Rattle.std.proofs.Common.{◌≡◌, arith, ℕ, ℤ, pos, ◌+◌, ◌≤◌, ◌++◌, List, length, replicate, ap, ◌∙◌, sym, subst}
-use Rattle.std.proofs.lemmas.List.{take-replicate}
-use Rattle.ta_base.proofs.Lists.{front_back}
-use Rattle.ta_counter.specs.Inside.Filling.{Filling}
+use Rattle.ta_counter.proofs.Common.{◌≡◌, arith, ℕ, ℤ, pos, ◌+◌, ◌≤◌, ◌++◌, List, length, replicate, ap, ◌∙◌, sym, subst, take-replicate, front_back, Filling}
 use Rattle.ta_counter.proofs.Filling.{fill_start}
 use Rattle.ta_counter.proofs.start.start_values.Goals as goal
 

@@ -1,9 +1,4 @@
-use Rattle.std.proofs.Common.{◌≡◌, ◌≤◌, ◌<◌, rules, arith, ℕ, ℤ, pos, ◌+◌, List, length, ap, refl, subst, get_or, slice_get, Some, FitsSigned}
-use Rattle.std.proofs.lemmas.Int.{to_z-of_z}
-use Rattle.std.proofs.lemmas.Option.{slice_get-get_or}
-use Rattle.std.specs.Int.{w128}
-use Rattle.ta_base.proofs.Each.{each_point}
-use Rattle.ta_counter.specs.Values.{Value}
+use Rattle.ta_counter.proofs.Common.{◌≡◌, ◌≤◌, ◌<◌, rules, arith, ℕ, ℤ, pos, ◌+◌, List, length, ap, refl, subst, get_or, slice_get, Some, FitsSigned, to_z-of_z, slice_get-get_or, w128, each_point, Value}
 use Rattle.ta_counter.proofs.Moving.{value_fits}
 use Rattle.ta_counter.proofs.Updating.{update_start, update_next, update_leaves, update_place, update_all, update_end}
 use Rattle.ta_counter.proofs.updates.add_updates.Goals as goal

@@ -1,7 +1,4 @@
-use Rattle.std.proofs.Common.{pos, ◌+ℤ◌, ◌-ℤ◌, get_or, FitsSigned}
-use Rattle.std.proofs.lemmas.Int.{to_z-of_z}
-use Rattle.std.specs.Int.{w128}
-use Rattle.ta_automaton.specs.Places.{location_place}
+use Rattle.ta_counter.proofs.Common.{pos, ◌+ℤ◌, ◌-ℤ◌, get_or, FitsSigned, to_z-of_z, w128, location_place}
 use Rattle.ta_counter.proofs.Moving.{may_move, value_fits, from_value, to_value, left_value, right_value, moved_at, moved_natural, moved_sum}
 use Rattle.ta_counter.proofs.updates.move_processes.Goals as goal
 

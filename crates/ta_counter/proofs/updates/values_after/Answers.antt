@@ -1,15 +1,4 @@
-use Rattle.std.proofs.Common.{◌≡◌, ℕ, ℤ, pos, ◌-ℤ◌, List, length, drop, ap, ◌∙◌, sym, subst, FitsSigned}
-use Rattle.std.proofs.lemmas.Int.{to_z-of_z}
-use Rattle.std.proofs.lemmas.Result.{err_from_is_err_and}
-use Rattle.std.specs.Int.{w128}
-use mathlib.Core.Path.{fun_ext}
-use Rattle.std.specs.List.{refill}
-use Rattle.ta_base.proofs.Integers.{less_fits}
-use Rattle.ta_base.proofs.Lists.{front_back, twice_back}
-use Rattle.ta_linear.specs.Numbers.{InRange}
-use Rattle.ta_linear.specs.Values.{point_of}
-use Rattle.ta_counter.specs.Configs.{sum_of}
-use Rattle.ta_counter.specs.Steps.{AllGrow, UpdateOutOfRange, shifted, before_last}
+use Rattle.ta_counter.proofs.Common.{◌≡◌, ℕ, ℤ, pos, ◌-ℤ◌, List, length, drop, ap, ◌∙◌, sym, subst, FitsSigned, to_z-of_z, err_from_is_err_and, w128, fun_ext, refill, less_fits, front_back, twice_back, InRange, point_of, sum_of, AllGrow, UpdateOutOfRange, shifted, before_last}
 use Rattle.ta_counter.proofs.Stepping.{no_leave, updates_fail, guards_fail, enough_after, counters_after, taken, of_after}
 use Rattle.ta_counter.proofs.updates.values_after.Goals as goal
 

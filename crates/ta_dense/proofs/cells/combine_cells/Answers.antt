@@ -1,9 +1,4 @@
-use Rattle.std.proofs.Common.{set, ℕ, arith, pos, get_or, rules, below_more}
-use Rattle.std.proofs.lemmas.Int.{to_z-of_z}
-use mir.Val.{SFits}
-use mir.Syntax.{w128}
-use Rattle.ta_base.proofs.Lists.{done_more, rest_more}
-use Rattle.ta_dense.specs.Tableau.{combine}
+use Rattle.ta_dense.proofs.Common.{set, ℕ, arith, pos, get_or, rules, below_more, to_z-of_z, SFits, w128, done_more, rest_more, combine}
 use Rattle.ta_dense.proofs.CellSteps.{target_at_column, target_elsewhere, target_done}
 use Rattle.ta_dense.proofs.cells.combine_cells.Goals as goal
 use Rattle.ta_dense.proofs.cells.combine_cells.Goals.{then-j-column, else-j-column+in-Some}

@@ -1,9 +1,5 @@
-use Rattle.std.proofs.Common.{rules, refl}
-use Rattle.std.proofs.lemmas.Int.{to_z-of_z}
-use mir.Val.{SFits}
-use mir.Syntax.{w128}
+use Rattle.ta_dense.proofs.Common.{rules, refl, to_z-of_z, SFits, w128, CombinesInRange}
 use Rattle.ta_base.proofs.Options.{SomeIff-same}
-use Rattle.ta_dense.specs.Merge.{CombinesInRange}
 use Rattle.ta_dense.proofs.cells.combined.Goals as goal
 
 pub returns : goal.returns

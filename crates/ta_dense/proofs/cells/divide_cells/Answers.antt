@@ -1,10 +1,4 @@
-use Rattle.std.proofs.Common.{arith, pos, ℤ, get_or, rules}
-use Rattle.std.specs.Prelude.{int_div}
-use Rattle.std.proofs.lemmas.Int.{to_z-of_z, quot_fits}
-use Rattle.std.proofs.lemmas.List.Edits.{map_over_more}
-use Rattle.std.proofs.lemmas.List.{get_or_default}
-use mir.Val.{SFits}
-use mir.Syntax.{w128}
+use Rattle.ta_dense.proofs.Common.{arith, pos, ℤ, get_or, rules, int_div, to_z-of_z, quot_fits, map_over_more, get_or_default, SFits, w128}
 use Rattle.ta_dense.proofs.cells.divide_cells.Goals as goal
 
 pub loop-cell-preserved : goal.loop-cell-preserved

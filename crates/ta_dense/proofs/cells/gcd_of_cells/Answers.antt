@@ -1,12 +1,5 @@
-use Rattle.std.proofs.Common.{ap, ◌∙◌, sym, drop, pos, get_or, rules}
-use Rattle.std.proofs.lemmas.Int.{to_z-of_z}
-use Rattle.std.proofs.lemmas.List.{at_drop_more}
-use mir.Val.{SFits}
-use mir.Syntax.{w128}
-use Rattle.ta_linear.proofs.GcdLemmas.{gcd_of_is}
+use Rattle.ta_dense.proofs.Common.{ap, ◌∙◌, sym, drop, pos, get_or, rules, to_z-of_z, at_drop_more, SFits, w128, gcd_of_is, gcd_of, gcd_with}
 use Rattle.ta_dense.proofs.cells.gcd_of_cells.Goals as goal
-use Rattle.ta_linear.specs.Gcd.{gcd_of}
-use Rattle.ta_dense.specs.Tableau.{gcd_with}
 use Rattle.ta_dense.proofs.Divide.{gcd_with-one}
 
 pub loop-cell-preserved : goal.loop-cell-preserved

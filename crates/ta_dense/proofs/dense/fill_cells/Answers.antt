@@ -1,7 +1,4 @@
-use Rattle.std.proofs.Common.{pos, length, get_or, refl, rules}
-use Rattle.std.proofs.lemmas.Int.{to_z-of_z}
-use mir.Val.{SFits}
-use mir.Syntax.{w128}
+use Rattle.ta_dense.proofs.Common.{pos, length, get_or, refl, rules, to_z-of_z, SFits, w128}
 use Rattle.ta_dense.proofs.FillSteps.{fill-start, fill-inside, fill-more, fill-end}
 use Rattle.ta_dense.proofs.dense.fill_cells.Goals as goal
 

@@ -1,10 +1,4 @@
-use Rattle.std.proofs.Common.{◌≡◌, ℕ, sym, ap, ◌∙◌, refl, subst, rules, length, pos}
-use Rattle.std.proofs.lemmas.Int.{to_z-of_z}
-use Rattle.std.proofs.lemmas.List.{with_items_is}
-use mir.Val.{SFits}
-use mir.Syntax.{w128}
-use Rattle.ta_dense.specs.Merge.{IsProper}
-use Rattle.ta_dense.specs.Slack.{coefficients}
+use Rattle.ta_dense.proofs.Common.{◌≡◌, ℕ, sym, ap, ◌∙◌, refl, subst, rules, length, pos, to_z-of_z, with_items_is, SFits, w128, IsProper, coefficients}
 use Rattle.ta_dense.proofs.DenseFacts.{IsProper-slack}
 use Rattle.ta_dense.proofs.RowFacts.{row_same}
 use Rattle.ta_dense.proofs.dense.slack_row.Goals as goal

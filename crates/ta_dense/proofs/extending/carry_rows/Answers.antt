@@ -1,9 +1,4 @@
-use Rattle.std.proofs.Common.{◌≡◌, ℕ, List, arith, sym, ◌∙◌, ap, subst, length, map, below_more}
-use Rattle.std.proofs.lemmas.List.{get_or_default, length-map}
-use Rattle.ta_dense.specs.Tableau.{TableauRow, merged}
-use Rattle.ta_dense.specs.Rows.{row_view, views, AreProper}
-use Rattle.ta_dense.specs.Merge.{RowsMergeBelow}
-use Rattle.ta_dense.specs.Kept.{KeptPivot, kept_at, no_pivot, chosen_row, carried}
+use Rattle.ta_dense.proofs.Common.{◌≡◌, ℕ, List, arith, sym, ◌∙◌, ap, subst, length, map, below_more, get_or_default, length-map, TableauRow, merged, row_view, views, AreProper, RowsMergeBelow, KeptPivot, kept_at, no_pivot, chosen_row, carried}
 use Rattle.ta_dense.proofs.ExtendFacts.{carried_more}
 use Rattle.ta_dense.proofs.extending.carry_rows.Goals as goal
 

@@ -1,6 +1,4 @@
-use Rattle.std.proofs.Common.{◌≡◌}
-use Rattle.ta_dense.specs.Rows.{views, AreProper}
-use Rattle.ta_dense.specs.Kept.{carried, StayInRange}
+use Rattle.ta_dense.proofs.Common.{◌≡◌, views, AreProper, carried, StayInRange}
 use Rattle.ta_dense.proofs.extending.carry_rows.Given as goal
 
 abbrev pub invariant-loop-pivot : goal.invariant-loop-pivot

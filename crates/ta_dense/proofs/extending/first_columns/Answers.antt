@@ -1,6 +1,4 @@
-use Rattle.std.proofs.Common.{◌≡◌, arith, sym, ◌∙◌, ap, ◌+◌, suc, ◌++◌, ◌∷◌, [], List, ℕ}
-use Rattle.std.specs.List.{range_with_len}
-use Rattle.ta_base.proofs.Lists.{range_more}
+use Rattle.ta_dense.proofs.Common.{◌≡◌, arith, sym, ◌∙◌, ap, ◌+◌, suc, ◌++◌, ◌∷◌, [], List, ℕ, range_with_len, range_more}
 use Rattle.ta_dense.proofs.extending.first_columns.Goals as goal
 
 pub loop-unknown-preserved : goal.loop-unknown-preserved

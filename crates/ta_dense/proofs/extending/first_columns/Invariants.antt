@@ -1,5 +1,4 @@
-use Rattle.std.proofs.Common.{◌≡◌}
-use Rattle.std.specs.List.{range_with_len}
+use Rattle.ta_dense.proofs.Common.{◌≡◌, range_with_len}
 use Rattle.ta_dense.proofs.extending.first_columns.Given as goal
 
 abbrev pub invariant-loop-unknown : goal.invariant-loop-unknown

@@ -1,6 +1,4 @@
-use Rattle.std.proofs.Common.{◌≡◌, ◌+◌, take, length}
-use Rattle.ta_dense.specs.Slack.{slack_rows}
-use Rattle.ta_dense.specs.Rows.{views, AreProper}
+use Rattle.ta_dense.proofs.Common.{◌≡◌, ◌+◌, take, length, slack_rows, views, AreProper}
 use Rattle.ta_dense.proofs.extending.new_slack_rows.Given as goal
 
 abbrev pub invariant-loop-row : goal.invariant-loop-row

@@ -1,7 +1,4 @@
-use Rattle.std.proofs.Common.{◌≡◌, arith, sym, ◌∙◌, ap, ◌+◌, suc, ◌++◌, ◌∷◌, [], List, ℕ, map, append_assoc}
-use Rattle.std.specs.List.{range_with_len}
-use Rattle.ta_base.proofs.Lists.{range_more}
-use Rattle.ta_dense.specs.Extending.{raised}
+use Rattle.ta_dense.proofs.Common.{◌≡◌, arith, sym, ◌∙◌, ap, ◌+◌, suc, ◌++◌, ◌∷◌, [], List, ℕ, map, append_assoc, range_with_len, range_more, raised}
 use Rattle.ta_dense.proofs.extending.raised_columns.Goals as goal
 
 pub loop-unknown-preserved : goal.loop-unknown-preserved

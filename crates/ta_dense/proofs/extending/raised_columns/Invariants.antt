@@ -1,6 +1,4 @@
-use Rattle.std.proofs.Common.{◌≡◌, ◌++◌, map}
-use Rattle.std.specs.List.{range_with_len}
-use Rattle.ta_dense.specs.Extending.{raised}
+use Rattle.ta_dense.proofs.Common.{◌≡◌, ◌++◌, map, range_with_len, raised}
 use Rattle.ta_dense.proofs.extending.raised_columns.Given as goal
 
 abbrev pub invariant-loop-unknown : goal.invariant-loop-unknown

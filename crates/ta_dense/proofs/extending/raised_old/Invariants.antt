@@ -1,5 +1,4 @@
-use Rattle.std.proofs.Common.{◌≡◌, take, map}
-use Rattle.ta_dense.specs.Extending.{raised}
+use Rattle.ta_dense.proofs.Common.{◌≡◌, take, map, raised}
 use Rattle.ta_dense.proofs.extending.raised_old.Given as goal
 
 abbrev pub invariant-loop-variable : goal.invariant-loop-variable

@@ -1,10 +1,4 @@
-use Rattle.std.proofs.Common.{◌≡◌, arith, sym, ◌∙◌, ap, subst, ◌+◌, ◌++◌, ◌∷◌, [], List, get_or}
-use Rattle.std.proofs.lemmas.List.{map-append, get_or-map}
-use Rattle.ta_dense.specs.Tableau.{TableauRow, no_row}
-use Rattle.ta_dense.specs.Merge.{IsProper}
-use Rattle.ta_dense.specs.Extending.{widened}
-use Rattle.ta_dense.specs.Rows.{row_view, views, AreProper}
-use Rattle.ta_dense.specs.declared.rows.DenseRow.{DenseRow}
+use Rattle.ta_dense.proofs.Common.{◌≡◌, arith, sym, ◌∙◌, ap, subst, ◌+◌, ◌++◌, ◌∷◌, [], List, get_or, map-append, get_or-map, TableauRow, no_row, IsProper, widened, row_view, views, AreProper, DenseRow}
 use Rattle.ta_dense.proofs.DenseFacts.{proper_read}
 use Rattle.ta_dense.proofs.SlackRows.{proper-push}
 use Rattle.ta_dense.proofs.ExtendFacts.{IsProper-padded, padded_widened, map_take_more}

@@ -1,6 +1,4 @@
-use Rattle.std.proofs.Common.{◌≡◌, ◌+◌, take, map}
-use Rattle.ta_dense.specs.Extending.{widened}
-use Rattle.ta_dense.specs.Rows.{views, AreProper}
+use Rattle.ta_dense.proofs.Common.{◌≡◌, ◌+◌, take, map, widened, views, AreProper}
 use Rattle.ta_dense.proofs.extending.widened_rows.Given as goal
 
 abbrev pub invariant-loop-row : goal.invariant-loop-row

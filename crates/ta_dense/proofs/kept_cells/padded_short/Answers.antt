@@ -1,5 +1,4 @@
-use Rattle.std.proofs.Common.{◌≡◌, ◌++◌, drop, replicate, ap, ◌∙◌, length, rules, List, ℤ, pos}
-use Rattle.std.proofs.lemmas.List.{with_items_is, drop-replicate}
+use Rattle.ta_dense.proofs.Common.{◌≡◌, ◌++◌, drop, replicate, ap, ◌∙◌, length, rules, List, ℤ, pos, with_items_is, drop-replicate}
 use Rattle.ta_dense.proofs.kept_cells.padded_short.Goals as goal
 
 pub returns : goal.returns

@@ -1,9 +1,4 @@
-use Rattle.std.proofs.Common.{◌≡◌, ◌+◌, suc, ◌++◌, take, drop, set, get_or, arith, ap, sym, ◌∙◌, ℕ, List, ℤ, pos, rules}
-use Rattle.std.proofs.lemmas.Int.{to_z-of_z}
-use mir.Val.{SFits}
-use mir.Syntax.{w16, w32}
-use Rattle.ta_base.proofs.Lists.{write_more}
-use Rattle.ta_dense.proofs.KeptSteps.{fits_more}
+use Rattle.ta_dense.proofs.Common.{◌≡◌, ◌+◌, suc, ◌++◌, take, drop, set, get_or, arith, ap, sym, ◌∙◌, ℕ, List, ℤ, pos, rules, to_z-of_z, SFits, w16, w32, write_more, fits_more}
 use Rattle.ta_dense.proofs.kept_cells.write_first.Goals as goal
 
 pub loop-j-preserved : goal.loop-j-preserved

@@ -1,9 +1,4 @@
-use Rattle.std.proofs.Common.{subst, length}
-use Rattle.std.specs.Prelude.{IfOk}
-use Rattle.ta_dense.specs.Tableau.{Tableau}
-use Rattle.ta_dense.specs.Kept.{StayInRange}
-use Rattle.ta_dense.specs.Extending.{new_rows}
-use Rattle.ta_dense.specs.GrownPivots.{pivots_of}
+use Rattle.ta_dense.proofs.Common.{subst, length, IfOk, Tableau, StayInRange, new_rows, pivots_of}
 use Rattle.ta_dense.proofs.narrow.extend_small.Goals as goal
 
 pub returns-clause-in_range : goal.returns-clause-in_range

@@ -1,8 +1,4 @@
-use Rattle.std.proofs.Common.{ℕ, List, subst, length}
-use Rattle.std.proofs.lemmas.List.{length-map, map-id}
-use Rattle.ta_dense.specs.Kept.{KeptPivot, StayInRange}
-use Rattle.ta_dense.specs.Extending.{new_rows}
-use Rattle.ta_dense.specs.GrownPivots.{pivot_in_either, pivots_of}
+use Rattle.ta_dense.proofs.Common.{ℕ, List, subst, length, length-map, map-id, KeptPivot, StayInRange, new_rows, pivot_in_either, pivots_of}
 use Rattle.ta_dense.proofs.narrow.extend_wide.Goals as goal
 
 pub returns-clause-in_range : goal.returns-clause-in_range

@@ -1,11 +1,4 @@
-use Rattle.std.proofs.Common.{ℕ, arith, sym, ◌∙◌, ap, subst, pos, ◌-ℤ◌, ◌*ℤ◌, ℤ, get_or, rules}
-use Rattle.std.proofs.lemmas.Int.{to_z-of_z}
-use Rattle.std.proofs.lemmas.List.{ext_get_or}
-use mir.Val.{SFits}
-use mir.Syntax.{w32}
-use Rattle.ta_base.proofs.Lists.{done_more, rest_more}
-use Rattle.ta_dense.specs.Tableau.{combine}
-use Rattle.ta_dense.specs.Bounds.{CombinesIn32}
+use Rattle.ta_dense.proofs.Common.{ℕ, arith, sym, ◌∙◌, ap, subst, pos, ◌-ℤ◌, ◌*ℤ◌, ℤ, get_or, rules, to_z-of_z, ext_get_or, SFits, w32, done_more, rest_more, combine, CombinesIn32}
 use Rattle.ta_dense.proofs.PivotLaws.{get_or-combine, length-combine}
 use Rattle.ta_dense.proofs.narrow_cells.combine_by.Goals as goal
 

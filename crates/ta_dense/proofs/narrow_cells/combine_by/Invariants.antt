@@ -1,5 +1,4 @@
-use Rattle.std.proofs.Common.{◌≡◌, ℕ, ◌<◌, ◌≤◌, get_or, pos}
-use Rattle.ta_dense.specs.Tableau.{combine}
+use Rattle.ta_dense.proofs.Common.{◌≡◌, ℕ, ◌<◌, ◌≤◌, get_or, pos, combine}
 use Rattle.ta_dense.proofs.narrow_cells.combine_by.Given as goal
 
 abbrev pub invariant-loop-j : goal.invariant-loop-j

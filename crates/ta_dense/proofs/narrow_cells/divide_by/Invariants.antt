@@ -1,5 +1,4 @@
-use Rattle.std.proofs.Common.{◌≡◌, ◌++◌, map, take, drop}
-use Rattle.std.specs.Prelude.{int_div}
+use Rattle.ta_dense.proofs.Common.{◌≡◌, ◌++◌, map, take, drop, int_div}
 use Rattle.ta_dense.proofs.narrow_cells.divide_by.Given as goal
 
 abbrev pub invariant-loop-cell : goal.invariant-loop-cell

@@ -1,9 +1,4 @@
-use Rattle.std.proofs.Common.{ap, ◌∙◌, sym, unsigned_abs}
-use Rattle.std.proofs.lemmas.Int.{to_z-of_z}
-use mir.Val.{to_z}
-use mir.Syntax.{w32}
-use Rattle.ta_linear.proofs.GcdLemmas.{gcd_of-zero}
-use Rattle.ta_linear.specs.Gcd.{gcd_of}
+use Rattle.ta_dense.proofs.Common.{ap, ◌∙◌, sym, unsigned_abs, to_z-of_z, to_z, w32, gcd_of-zero, gcd_of}
 use Rattle.ta_dense.proofs.narrow_cells.gcd_with_cell.Goals as goal
 
 pub returns-then-cell-eq0 : goal.returns-then-cell-eq0

@@ -1,5 +1,4 @@
-use Rattle.std.proofs.lemmas.Nat.Gcd.{IsGcd-swap}
-use Rattle.ta_linear.proofs.GcdLemmas.{gcd_of_is}
+use Rattle.ta_dense.proofs.Common.{IsGcd-swap, gcd_of_is}
 use Rattle.ta_dense.proofs.Halves.{gcd_of-one_right}
 use Rattle.ta_dense.proofs.narrow_cells.gcd_with_size.Goals as goal
 

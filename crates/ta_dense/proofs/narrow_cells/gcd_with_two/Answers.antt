@@ -1,9 +1,4 @@
-use Rattle.std.proofs.Common.{◌∙◌, sym, pos, get_or, rules}
-use Rattle.std.proofs.lemmas.Int.{to_z-of_z}
-use Rattle.std.proofs.lemmas.List.{at_drop_more}
-use mir.Val.{SFits}
-use mir.Syntax.{w32}
-use Rattle.ta_dense.specs.Tableau.{gcd_with}
+use Rattle.ta_dense.proofs.Common.{◌∙◌, sym, pos, get_or, rules, to_z-of_z, at_drop_more, SFits, w32, gcd_with}
 use Rattle.ta_dense.proofs.narrow_cells.gcd_with_two.Goals as goal
 
 pub loop-cell-preserved : goal.loop-cell-preserved

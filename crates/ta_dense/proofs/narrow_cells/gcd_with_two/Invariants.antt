@@ -1,5 +1,4 @@
-use Rattle.std.proofs.Common.{◌≡◌, ◌<◌, drop}
-use Rattle.ta_dense.specs.Tableau.{gcd_with}
+use Rattle.ta_dense.proofs.Common.{◌≡◌, ◌<◌, drop, gcd_with}
 use Rattle.ta_dense.proofs.narrow_cells.gcd_with_two.Given as goal
 
 abbrev pub invariant-loop-cell : goal.invariant-loop-cell

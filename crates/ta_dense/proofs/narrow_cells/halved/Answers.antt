@@ -1,6 +1,4 @@
-use Rattle.std.proofs.Common.{◌≡◌, ℕ, ◌%◌, arith, subst, unsigned_abs}
-use Rattle.std.proofs.lemmas.Int.{to_z-of_z}
-use Rattle.std.proofs.lemmas.Nat.{mod_below}
+use Rattle.ta_dense.proofs.Common.{◌≡◌, ℕ, ◌%◌, arith, subst, unsigned_abs, to_z-of_z, mod_below}
 use Rattle.ta_dense.proofs.Halves.{halved_odd, halved_even}
 use Rattle.ta_dense.proofs.narrow_cells.halved.Goals as goal
 

@@ -1,9 +1,4 @@
-use Rattle.std.proofs.Common.{ℕ, List, sym, subst, length}
-use Rattle.ta_dense.specs.Tableau.{TableauRow}
-use Rattle.ta_dense.specs.Merge.{RowsMergeBelow}
-use Rattle.ta_dense.specs.Narrow.{narrow_view, narrow_views}
-use Rattle.ta_dense.specs.Kept.{chosen_row}
-use Rattle.ta_dense.specs.GrownPivots.{form_pivot}
+use Rattle.ta_dense.proofs.Common.{ℕ, List, sym, subst, length, TableauRow, RowsMergeBelow, narrow_view, narrow_views, chosen_row, form_pivot}
 use Rattle.ta_dense.specs.declared.small_pivot.PivotForm.{PivotForm}
 use Rattle.ta_dense.proofs.NarrowFacts.{narrow_itself, all_in_range}
 use Rattle.ta_dense.proofs.narrow_extending.carry_narrow.Goals as goal

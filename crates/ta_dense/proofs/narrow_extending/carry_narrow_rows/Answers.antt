@@ -1,10 +1,4 @@
-use Rattle.std.proofs.Common.{◌≡◌, ℕ, List, arith, sym, ◌∙◌, ap, subst, length, map, below_more}
-use Rattle.std.proofs.lemmas.List.{get_or-map, length-map}
-use Rattle.ta_dense.specs.Tableau.{TableauRow, merged}
-use Rattle.ta_dense.specs.Merge.{RowsMergeBelow}
-use Rattle.ta_dense.specs.Narrow.{narrow_views}
-use Rattle.ta_dense.specs.Kept.{KeptPivot, IsKept, kept_at, no_pivot, chosen_row, carried}
-use Rattle.ta_dense.specs.GrownPivots.{pivot_in_either, pivots_of}
+use Rattle.ta_dense.proofs.Common.{◌≡◌, ℕ, List, arith, sym, ◌∙◌, ap, subst, length, map, below_more, get_or-map, length-map, TableauRow, merged, RowsMergeBelow, narrow_views, KeptPivot, IsKept, kept_at, no_pivot, chosen_row, carried, pivot_in_either, pivots_of}
 use Rattle.ta_dense.proofs.ExtendFacts.{carried_more, length-carried}
 use Rattle.ta_dense.proofs.narrow_extending.carry_narrow_rows.Goals as goal
 

@@ -1,7 +1,4 @@
-use Rattle.std.proofs.Common.{◌≡◌}
-use Rattle.ta_dense.specs.Narrow.{narrow_views, AreNarrow}
-use Rattle.ta_dense.specs.GrownPivots.{pivots_of}
-use Rattle.ta_dense.specs.Kept.{carried, StayInRange}
+use Rattle.ta_dense.proofs.Common.{◌≡◌, narrow_views, AreNarrow, pivots_of, carried, StayInRange}
 use Rattle.ta_dense.proofs.narrow_extending.carry_narrow_rows.Given as goal
 
 abbrev pub invariant-loop-pivot : goal.invariant-loop-pivot

@@ -1,10 +1,4 @@
-use Rattle.std.proofs.Common.{◌≡◌, arith, sym, ◌∙◌, ap, subst, ◌+◌, ◌++◌, ◌∷◌, [], List}
-use Rattle.std.proofs.lemmas.List.{map-append}
-use Rattle.std.proofs.lemmas.List.Elements.{All-push}
-use Rattle.ta_dense.specs.Tableau.{TableauRow}
-use Rattle.ta_dense.specs.Inside.Padded.{zero_filled}
-use Rattle.ta_dense.specs.Narrow.{narrow_view, narrow_views, IsNarrow, AreNarrow}
-use Rattle.ta_dense.specs.declared.narrow_rows.NarrowRow.{NarrowRow}
+use Rattle.ta_dense.proofs.Common.{◌≡◌, arith, sym, ◌∙◌, ap, subst, ◌+◌, ◌++◌, ◌∷◌, [], List, map-append, All-push, TableauRow, zero_filled, narrow_view, narrow_views, IsNarrow, AreNarrow, NarrowRow}
 use Rattle.ta_dense.proofs.ExtendFacts.{padded_filled, map_take_more}
 use Rattle.ta_dense.proofs.narrow_extending.filled_rows.Goals as goal
 

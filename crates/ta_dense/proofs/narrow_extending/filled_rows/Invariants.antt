@@ -1,6 +1,4 @@
-use Rattle.std.proofs.Common.{◌≡◌, ◌+◌, take, map}
-use Rattle.ta_dense.specs.Inside.Padded.{zero_filled}
-use Rattle.ta_dense.specs.Narrow.{narrow_views, AreNarrow}
+use Rattle.ta_dense.proofs.Common.{◌≡◌, ◌+◌, take, map, zero_filled, narrow_views, AreNarrow}
 use Rattle.ta_dense.proofs.narrow_extending.filled_rows.Given as goal
 
 abbrev pub invariant-loop-row : goal.invariant-loop-row

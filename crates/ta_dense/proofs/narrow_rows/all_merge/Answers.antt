@@ -1,7 +1,5 @@
-use Rattle.std.proofs.Common.{arith, ◌∙◌, length}
+use Rattle.ta_dense.proofs.Common.{arith, ◌∙◌, length, All-set, AllWithin-more_set, narrow_view, IsNarrow, MergesIn32}
 use Rattle.std.proofs.Math.Seq.{map-set_same}
-use Rattle.std.proofs.lemmas.List.Elements.{All-set, AllWithin-more_set}
-use Rattle.ta_dense.specs.Narrow.{narrow_view, IsNarrow, MergesIn32}
 use Rattle.ta_dense.proofs.narrow_rows.all_merge.Goals as goal
 
 pub returns-then-not-merges-clause-views : goal.returns-then-not-merges-clause-views

@@ -1,6 +1,4 @@
-use Rattle.std.proofs.Common.{◌≡◌, length}
-use Rattle.std.specs.List.{AllWithin}
-use Rattle.ta_dense.specs.Narrow.{narrow_views, AreNarrow, MergesIn32}
+use Rattle.ta_dense.proofs.Common.{◌≡◌, length, AllWithin, narrow_views, AreNarrow, MergesIn32}
 use Rattle.ta_dense.proofs.narrow_rows.all_merge.Given as goal
 
 abbrev pub invariant-loop-at : goal.invariant-loop-at

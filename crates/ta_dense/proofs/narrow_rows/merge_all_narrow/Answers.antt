@@ -1,9 +1,4 @@
-use Rattle.std.proofs.Common.{◌≡◌, arith, ap, sym, ◌∙◌, length, get_or}
-use Rattle.std.proofs.lemmas.List.{length-map, map-set, get_or-map}
-use Rattle.std.proofs.lemmas.List.Elements.{All-set}
-use Rattle.ta_base.proofs.Lists.{done_more, rest_more}
-use Rattle.ta_dense.specs.Tableau.{merged, no_row}
-use Rattle.ta_dense.specs.Narrow.{narrow_view, narrow_views, IsNarrow}
+use Rattle.ta_dense.proofs.Common.{◌≡◌, arith, ap, sym, ◌∙◌, length, get_or, length-map, map-set, get_or-map, All-set, done_more, rest_more, merged, no_row, narrow_view, narrow_views, IsNarrow}
 use Rattle.ta_dense.proofs.RowSteps.{rows_all}
 use Rattle.ta_dense.proofs.narrow_rows.merge_all_narrow.Goals as goal
 

@@ -1,7 +1,4 @@
-use Rattle.std.proofs.Common.{◌≡◌, ℕ, ◌<◌, ◌≤◌, length, get_or}
-use Rattle.ta_dense.specs.Tableau.{merged, no_row}
-use Rattle.ta_dense.specs.Narrow.{narrow_view, narrow_views, AreNarrow}
-use Rattle.ta_dense.specs.declared.narrow_rows.NarrowRow.{NarrowRow}
+use Rattle.ta_dense.proofs.Common.{◌≡◌, ℕ, ◌<◌, ◌≤◌, length, get_or, merged, no_row, narrow_view, narrow_views, AreNarrow, NarrowRow}
 use Rattle.ta_dense.proofs.narrow_rows.merge_all_narrow.Given as goal
 
 abbrev pub invariant-loop-at : goal.invariant-loop-at

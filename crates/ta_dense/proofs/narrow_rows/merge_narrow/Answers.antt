@@ -1,11 +1,4 @@
-use Rattle.std.proofs.Common.{◌<◌, ◌+◌, ◌*◌, ◌^◌, ◌<ℤ◌, unsigned_abs, arith, ap, ◌∙◌, sym, pos, rules, length}
-use Rattle.std.proofs.lemmas.Int.{to_z-of_z}
-use Rattle.std.proofs.lemmas.List.{get_or_read}
-use mir.Val.{SFits, of_z, to_z}
-use mir.Syntax.{w32}
-use Rattle.ta_base.proofs.Integers.{factors_below}
-use Rattle.ta_dense.specs.Narrow.{narrow_view, IsNarrow}
-use Rattle.ta_dense.specs.Tableau.{reduced, cell_of, factor_divisor}
+use Rattle.ta_dense.proofs.Common.{◌<◌, ◌+◌, ◌*◌, ◌^◌, ◌<ℤ◌, unsigned_abs, arith, ap, ◌∙◌, sym, pos, rules, length, to_z-of_z, get_or_read, SFits, of_z, to_z, w32, factors_below, narrow_view, IsNarrow, reduced, cell_of, factor_divisor}
 use Rattle.ta_dense.proofs.ProperFacts.{Factored, factored, merged_from, merged-zero}
 use Rattle.ta_dense.proofs.ReduceFacts.{factors_positive}
 use Rattle.ta_dense.proofs.NarrowFacts.{narrow_merged_by, narrow_reduced, narrow_itself}

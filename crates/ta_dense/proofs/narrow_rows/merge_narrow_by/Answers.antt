@@ -1,10 +1,6 @@
-use Rattle.std.proofs.Common.{refl, ap, ◌∙◌, rules, length, set, List, ℤ, ◌*ℤ◌, ◌+◌, ◌*◌, unsigned_abs}
+use Rattle.ta_dense.proofs.Common.{refl, ap, ◌∙◌, rules, length, set, List, ℤ, ◌*ℤ◌, ◌+◌, ◌*◌, unsigned_abs, to_z-of_z, with_items_is, SFits, w32}
 use Rattle.ta_dense.proofs.RowFacts.{row_same}
 use Rattle.ta_dense.proofs.Bounded.{combines_below, in32, cells_in32}
-use Rattle.std.proofs.lemmas.Int.{to_z-of_z}
-use Rattle.std.proofs.lemmas.List.{with_items_is}
-use mir.Val.{SFits}
-use mir.Syntax.{w32}
 use Rattle.ta_dense.proofs.narrow_rows.merge_narrow_by.Goals as goal
 
 pub overflow_mul-turned : goal.overflow_mul-turned

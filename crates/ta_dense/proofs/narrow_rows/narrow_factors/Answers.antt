@@ -1,13 +1,15 @@
-use Rattle.std.proofs.Common.{◌≡◌, ap, arith, pos, ◌<ℤ◌, sym, ◌∙◌, ℕ}
-use Rattle.std.specs.Prelude.{int_div}
-use Rattle.std.proofs.lemmas.Int.{to_z-of_z, to_z_pos, quot_fits, ints, fits_signed_from_abs}
-use mir.Val.{SFits, to_z}
-use mir.Syntax.{w32}
-use Rattle.ta_base.proofs.Integers.{div-one}
-use Rattle.ta_linear.proofs.GcdLemmas.{gcd_of_is}
-use Rattle.ta_dense.specs.Tableau.{factor_divisor}
+use Rattle.ta_dense.proofs.Common.{◌≡◌, ap, arith, pos, ◌<ℤ◌, sym, ◌∙◌, ℕ, int_div, to_z-of_z, to_z_pos, quot_fits, ints, fits_signed_from_abs, SFits, to_z, w32, div-one, gcd_of_is, factor_divisor}
 use Rattle.ta_dense.proofs.Bounded.{factor_small, first_one, second_one}
 use Rattle.ta_dense.proofs.narrow_rows.narrow_factors.Goals as goal
+use Rattle.ta_dense.proofs.narrow_rows.narrow_factors.Goals.{After-gcd_narrow-divisor}
+
+is_divisor : (c : After-gcd_narrow-divisor) → c.gcd_narrow-divisor.result ≡ factor_divisor c.args.c c.args.a
+is_divisor c =
+    let fc = c.ranges.c in
+    let fa = c.ranges.a in
+    let u = simp to_z-of_z at c.unsigned_abs.ensures.value in
+    let v = simp to_z-of_z at c.unsigned_abs-2.ensures.value in
+    rw (u, v) at (gcd_of_is _ _ _ c.gcd_narrow-divisor.ensures)
 
 pub returns-then-c-eq1-clause-first : goal.returns-then-c-eq1-clause-first
 returns-then-c-eq1-clause-first c = first_one c.args.c c.args.a (sym (to_z-of_z w32 c.args.c c.ranges.c) ∙ ap (to_z w32) c.if-c-eq1.true)
@@ -21,9 +23,7 @@ pub overflow_cast-divisor : goal.overflow_cast-divisor
 overflow_cast-divisor c =
     let fc = c.ranges.c in
     let fa = c.ranges.a in
-    let u = simp to_z-of_z at c.unsigned_abs.ensures.value in
-    let v = simp to_z-of_z at c.unsigned_abs-2.ensures.value in
-    let d : c.gcd_narrow-divisor.result ≡ factor_divisor c.args.c c.args.a = rw (u, v) at (gcd_of_is _ _ _ c.gcd_narrow-divisor.ensures) in
+    let d = is_divisor (goal.at.overflow_cast-divisor c).After-gcd_narrow-divisor in
     let s = factor_small c.args.c c.args.a c.gcd_narrow-divisor.result d c.requires.positive fc in
     let below = s.1 in
     let some = s.0 in
@@ -33,9 +33,7 @@ pub nonzero_div-result : goal.nonzero_div-result
 nonzero_div-result c =
     let fc = c.ranges.c in
     let fa = c.ranges.a in
-    let u = simp to_z-of_z at c.unsigned_abs.ensures.value in
-    let v = simp to_z-of_z at c.unsigned_abs-2.ensures.value in
-    let d : c.gcd_narrow-divisor.result ≡ factor_divisor c.args.c c.args.a = rw (u, v) at (gcd_of_is _ _ _ c.gcd_narrow-divisor.ensures) in
+    let d = is_divisor (goal.at.nonzero_div-result c).After-gcd_narrow-divisor in
     let s = factor_small c.args.c c.args.a c.gcd_narrow-divisor.result d c.requires.positive fc in
     let below = s.1 in
     let some = s.0 in
@@ -47,9 +45,7 @@ pub nonzero_div-result-2 : goal.nonzero_div-result-2
 nonzero_div-result-2 c =
     let fc = c.ranges.c in
     let fa = c.ranges.a in
-    let u = simp to_z-of_z at c.unsigned_abs.ensures.value in
-    let v = simp to_z-of_z at c.unsigned_abs-2.ensures.value in
-    let d : c.gcd_narrow-divisor.result ≡ factor_divisor c.args.c c.args.a = rw (u, v) at (gcd_of_is _ _ _ c.gcd_narrow-divisor.ensures) in
+    let d = is_divisor (goal.at.nonzero_div-result-2 c).After-gcd_narrow-divisor in
     let s = factor_small c.args.c c.args.a c.gcd_narrow-divisor.result d c.requires.positive fc in
     let below = s.1 in
     let some = s.0 in
@@ -61,9 +57,7 @@ pub returns-clause-first : goal.returns-clause-first
 returns-clause-first c =
     let fc = c.ranges.c in
     let fa = c.ranges.a in
-    let u = simp to_z-of_z at c.unsigned_abs.ensures.value in
-    let v = simp to_z-of_z at c.unsigned_abs-2.ensures.value in
-    let d : c.gcd_narrow-divisor.result ≡ factor_divisor c.args.c c.args.a = rw (u, v) at (gcd_of_is _ _ _ c.gcd_narrow-divisor.ensures) in
+    let d = is_divisor (goal.at.returns-clause-first c).After-gcd_narrow-divisor in
     let s = factor_small c.args.c c.args.a c.gcd_narrow-divisor.result d c.requires.positive fc in
     let below = s.1 in
     let some = s.0 in
@@ -76,9 +70,7 @@ pub returns-clause-second : goal.returns-clause-second
 returns-clause-second c =
     let fc = c.ranges.c in
     let fa = c.ranges.a in
-    let u = simp to_z-of_z at c.unsigned_abs.ensures.value in
-    let v = simp to_z-of_z at c.unsigned_abs-2.ensures.value in
-    let d : c.gcd_narrow-divisor.result ≡ factor_divisor c.args.c c.args.a = rw (u, v) at (gcd_of_is _ _ _ c.gcd_narrow-divisor.ensures) in
+    let d = is_divisor (goal.at.returns-clause-second c).After-gcd_narrow-divisor in
     let s = factor_small c.args.c c.args.a c.gcd_narrow-divisor.result d c.requires.positive fc in
     let below = s.1 in
     let some = s.0 in
@@ -91,9 +83,7 @@ pub returns-then-divisor-eq1-clause-first : goal.returns-then-divisor-eq1-clause
 returns-then-divisor-eq1-clause-first c =
     let fc = c.ranges.c in
     let fa = c.ranges.a in
-    let u = simp to_z-of_z at c.unsigned_abs.ensures.value in
-    let v = simp to_z-of_z at c.unsigned_abs-2.ensures.value in
-    let d : c.gcd_narrow-divisor.result ≡ factor_divisor c.args.c c.args.a = rw (u, v) at (gcd_of_is _ _ _ c.gcd_narrow-divisor.ensures) in
+    let d = is_divisor (goal.at.returns-then-divisor-eq1-clause-first c).After-gcd_narrow-divisor in
     let one : factor_divisor c.args.c c.args.a ≡ 1 = sym d ∙ c.if-divisor-eq1.true in
     simp to_z-of_z (sym (ap (λ (n : ℕ). int_div c.args.c (pos n)) one ∙ div-one c.args.c))
 
@@ -101,8 +91,6 @@ pub returns-then-divisor-eq1-clause-second : goal.returns-then-divisor-eq1-claus
 returns-then-divisor-eq1-clause-second c =
     let fc = c.ranges.c in
     let fa = c.ranges.a in
-    let u = simp to_z-of_z at c.unsigned_abs.ensures.value in
-    let v = simp to_z-of_z at c.unsigned_abs-2.ensures.value in
-    let d : c.gcd_narrow-divisor.result ≡ factor_divisor c.args.c c.args.a = rw (u, v) at (gcd_of_is _ _ _ c.gcd_narrow-divisor.ensures) in
+    let d = is_divisor (goal.at.returns-then-divisor-eq1-clause-second c).After-gcd_narrow-divisor in
     let one : factor_divisor c.args.c c.args.a ≡ 1 = sym d ∙ c.if-divisor-eq1.true in
     simp to_z-of_z (sym (ap (λ (n : ℕ). int_div c.args.a (pos n)) one ∙ div-one c.args.a))

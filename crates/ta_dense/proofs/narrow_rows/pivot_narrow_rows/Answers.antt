@@ -1,8 +1,4 @@
-use Rattle.std.proofs.Common.{arith, refl, sym, ◌∙◌, ap, subst, ℕ, pos, ◌<ℤ◌, List, ◌++◌, ◌∷◌, length}
-use Rattle.std.proofs.lemmas.List.{map-append, length-map}
-use Rattle.ta_dense.specs.Tableau.{TableauRow, cell_of}
-use Rattle.ta_dense.specs.Narrow.{narrow_view, narrow_views, AreNarrow}
-use Rattle.ta_dense.specs.declared.narrow_rows.NarrowRow.{NarrowRow}
+use Rattle.ta_dense.proofs.Common.{arith, refl, sym, ◌∙◌, ap, subst, ℕ, pos, ◌<ℤ◌, List, ◌++◌, ◌∷◌, length, map-append, length-map, TableauRow, cell_of, narrow_view, narrow_views, AreNarrow, NarrowRow}
 use Rattle.ta_dense.proofs.PivotParts.{at_row, pivoted_cut, all_others}
 use Rattle.ta_dense.proofs.NarrowFacts.{narrow_cut, narrow_cut_same, narrow_joined, narrow_turned, all_in_range}
 use Rattle.ta_dense.proofs.narrow_rows.pivot_narrow_rows.Goals as goal

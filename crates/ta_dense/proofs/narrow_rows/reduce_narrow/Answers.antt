@@ -1,9 +1,6 @@
-use Rattle.std.proofs.Common.{◌≡◌, arith, ap, ◌∙◌, sym, ℕ, pos, ◌<◌, ◌^◌}
+use Rattle.ta_dense.proofs.Common.{◌≡◌, arith, ap, ◌∙◌, sym, ℕ, pos, ◌<◌, ◌^◌, ints, to_z_pos, fits_signed_from_abs, narrow_view, divided}
 use Rattle.std.specs.Prelude.{unsigned_abs}
 use Rattle.std.specs.Int.{w32}
-use Rattle.std.proofs.lemmas.Int.{ints, to_z_pos, fits_signed_from_abs}
-use Rattle.ta_dense.specs.Narrow.{narrow_view}
-use Rattle.ta_dense.specs.Tableau.{divided}
 use Rattle.ta_dense.proofs.Bounded.{divisor_le}
 use Rattle.ta_dense.proofs.ReduceFacts.{divided-one}
 use Rattle.ta_dense.proofs.narrow_rows.reduce_narrow.Goals as goal

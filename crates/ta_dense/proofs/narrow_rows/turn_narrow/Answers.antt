@@ -1,9 +1,4 @@
-use Rattle.std.proofs.Common.{arith, ◌∙◌, ap, pos, neg_ℤ, ℤ, ◌-ℤ◌, map, length, rules, set, List}
-use Rattle.std.proofs.lemmas.Int.{to_z-of_z}
-use Rattle.std.proofs.lemmas.List.{with_items_is, get_or_read}
-use mir.Val.{SFits}
-use mir.Syntax.{w32}
-use Rattle.ta_base.proofs.Integers.{zero_minus}
+use Rattle.ta_dense.proofs.Common.{arith, ◌∙◌, ap, pos, neg_ℤ, ℤ, ◌-ℤ◌, map, length, rules, set, List, to_z-of_z, with_items_is, get_or_read, SFits, w32, zero_minus}
 use Rattle.ta_dense.proofs.RowFacts.{row_same}
 use Rattle.ta_dense.proofs.Bounded.{fits_minus32}
 use Rattle.ta_dense.proofs.narrow_rows.turn_narrow.Goals as goal

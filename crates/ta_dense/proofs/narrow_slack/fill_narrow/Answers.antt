@@ -1,9 +1,4 @@
-use Rattle.std.proofs.Common.{◌<◌, ◌+◌, ◌^◌, pos, length, get_or, drop, set, refl, rules, arith, subst, sym, unsigned_abs, ℤ}
-use Rattle.std.proofs.lemmas.Int.{to_z-of_z}
-use Rattle.std.proofs.lemmas.List.Elements.{All-set, All-replicate}
-use mir.Val.{SFits}
-use mir.Syntax.{w128, w32}
-use Rattle.ta_dense.specs.Bounds.{AreSmall}
+use Rattle.ta_dense.proofs.Common.{◌<◌, ◌+◌, ◌^◌, pos, length, get_or, drop, set, refl, rules, arith, subst, sym, unsigned_abs, ℤ, to_z-of_z, All-set, All-replicate, SFits, w128, w32, AreSmall}
 use Rattle.ta_dense.proofs.FillSteps.{Filling, fill-start, fill-inside, fill-more, fill-end}
 use Rattle.ta_dense.proofs.narrow_slack.fill_narrow.Goals as goal
 

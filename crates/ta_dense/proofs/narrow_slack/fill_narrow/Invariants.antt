@@ -1,5 +1,4 @@
-use Rattle.std.proofs.Common.{length, drop}
-use Rattle.ta_dense.specs.Bounds.{AreSmall}
+use Rattle.ta_dense.proofs.Common.{length, drop, AreSmall}
 use Rattle.ta_dense.proofs.FillSteps.{Filling}
 use Rattle.ta_dense.proofs.narrow_slack.fill_narrow.Given as goal
 

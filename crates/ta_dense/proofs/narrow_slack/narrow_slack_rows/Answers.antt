@@ -1,26 +1,10 @@
-use Rattle.std.proofs.Common.{arith, sym, ◌∙◌, ap, ◌+◌, ◌++◌, ◌∷◌, [], List, length, subst, take}
-use Rattle.std.proofs.lemmas.List.{map-append, length-append}
-use Rattle.std.proofs.lemmas.List.Elements.{All-push}
-use Rattle.ta_linear.specs.declared.row.Row.{Row}
-use Rattle.ta_linear.specs.Terms.{IsNormal}
-use Rattle.ta_linear.specs.Rows.{AllBelow}
-use Rattle.ta_dense.specs.Tableau.{TableauRow}
-use Rattle.ta_dense.specs.Slack.{slack_rows, slack_row_of}
-use Rattle.ta_dense.specs.Narrow.{narrow_view, narrow_views, IsNarrow, AreNarrow}
-use Rattle.ta_dense.specs.declared.narrow_rows.NarrowRow.{NarrowRow}
-use Rattle.ta_dense.proofs.DenseFacts.{terms_at}
-use Rattle.ta_dense.proofs.ExtendFacts.{AllBelow-drop}
+use Rattle.ta_dense.proofs.Common.{arith, sym, ◌∙◌, ap, ◌+◌, ◌++◌, ◌∷◌, [], List, length, subst, take, map-append, length-append, All-push, TableauRow, slack_rows, slack_row_of, narrow_view, narrow_views, IsNarrow, AreNarrow, NarrowRow}
+use Rattle.ta_dense.proofs.ExtendFacts.{dropped_normal}
 use Rattle.ta_dense.proofs.SlackRows.{slack_rows-more}
 use Rattle.ta_dense.proofs.narrow_slack.narrow_slack_rows.Goals as goal
 
 pub narrow_slack_row-requires : goal.narrow_slack_row-requires
-narrow_slack_row-requires c =
-    let u = c.args.system.now.unknowns in
-    let list = c.split_at.result.1.now in
-    let all : AllBelow c.args.system.now.unknowns c.split_at.result.1.now =
-    rw (c.split_at.ensures.back, c.as_slice.ensures) (AllBelow-drop u c.args.first c.args.system.now.rows c.args.system.now.within) in
-    let P : Row → Type 0 = λ r. IsNormal 0 c.args.system.now.unknowns r.form.terms in
-    subst P (sym c.row-item.is) (terms_at u list c.loop-row.row-index c.row-item.result all c.loop-row-test.true)
+narrow_slack_row-requires c = dropped_normal c.args.system.now.unknowns c.args.first c.loop-row.row-index c.args.system.now.rows c.as_slice.result.now c.split_at.result.1.now c.row-item.result c.as_slice.ensures c.split_at.ensures.back c.args.system.now.within c.loop-row-test.true c.row-item.is
 
 pub loop-row-preserved : goal.loop-row-preserved
 loop-row-preserved c =

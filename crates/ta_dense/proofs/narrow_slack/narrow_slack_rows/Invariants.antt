@@ -1,6 +1,4 @@
-use Rattle.std.proofs.Common.{◌≡◌, ◌+◌, take, length}
-use Rattle.ta_dense.specs.Slack.{slack_rows}
-use Rattle.ta_dense.specs.Narrow.{narrow_views, AreNarrow}
+use Rattle.ta_dense.proofs.Common.{◌≡◌, ◌+◌, take, length, slack_rows, narrow_views, AreNarrow}
 use Rattle.ta_dense.proofs.narrow_slack.narrow_slack_rows.Given as goal
 
 abbrev pub invariant-loop-row : goal.invariant-loop-row

@@ -1,10 +1,4 @@
-use Rattle.std.proofs.Common.{ap, ◌∙◌, refl, rules, length}
-use Rattle.std.specs.Prelude.{int_div}
-use Rattle.std.proofs.lemmas.Int.{to_z-of_z, quot_fits}
-use Rattle.std.proofs.lemmas.List.{with_items_is}
-use mir.Val.{SFits}
-use mir.Syntax.{w128}
-use Rattle.ta_base.proofs.Integers.{pos_abs}
+use Rattle.ta_dense.proofs.Common.{ap, ◌∙◌, refl, rules, length, int_div, to_z-of_z, quot_fits, with_items_is, SFits, w128, pos_abs}
 use Rattle.ta_dense.proofs.RowFacts.{row_same}
 use Rattle.ta_dense.proofs.rows.divide_row.Goals as goal
 

@@ -1,8 +1,4 @@
-use Rattle.std.proofs.Common.{ap, arith, pos, rules, ◌<ℤ◌}
-use Rattle.std.specs.Prelude.{int_div}
-use Rattle.std.proofs.lemmas.Int.{to_z-of_z, quot_fits, ints}
-use mir.Val.{SFits}
-use mir.Syntax.{w128}
+use Rattle.ta_dense.proofs.Common.{ap, arith, pos, rules, ◌<ℤ◌, int_div, to_z-of_z, quot_fits, ints, SFits, w128}
 use Rattle.ta_dense.proofs.ReduceFacts.{factor_divisor-is, factors_positive}
 use Rattle.ta_dense.proofs.rows.factors.Goals as goal
 

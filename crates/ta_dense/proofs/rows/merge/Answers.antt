@@ -1,12 +1,5 @@
-use Rattle.std.proofs.Common.{◌≡◌, arith, ap, ◌∙◌, sym, refl, pos, rules, length, subst, true, false}
-use Rattle.std.proofs.lemmas.Int.{to_z-of_z}
-use Rattle.std.proofs.lemmas.List.{get_or_read}
-use mir.Val.{SFits, of_z}
-use mir.Syntax.{w128}
-use Rattle.ta_dense.specs.Rows.{row_view}
-use Rattle.ta_dense.specs.Tableau.{TableauRow, merged_by, reduced}
-use Rattle.ta_dense.specs.Merge.{IsProper, MergesByInRange}
-use Rattle.ta_dense.proofs.ProperFacts.{Factored, factored, merged_from, IsProper-reduced, IsProper-merged_by, IsProper-self, merged-zero, zero_from_bits}
+use Rattle.ta_dense.proofs.Common.{◌≡◌, arith, ap, ◌∙◌, sym, refl, pos, rules, length, subst, true, false, to_z-of_z, get_or_read, SFits, of_z, w128, row_view, TableauRow, merged_by, reduced, IsProper, MergesByInRange, zero_from_bits}
+use Rattle.ta_dense.proofs.ProperFacts.{Factored, factored, merged_from, IsProper-reduced, IsProper-merged_by, IsProper-self, merged-zero}
 use Rattle.ta_dense.proofs.rows.merge.Goals as goal
 use Rattle.ta_dense.proofs.rows.merge.Goals.{After-factors-p}
 

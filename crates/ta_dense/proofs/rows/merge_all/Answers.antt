@@ -1,9 +1,4 @@
-use Rattle.std.proofs.Common.{◌≡◌, ◌<◌, arith, ap, ◌∙◌, sym, refl, get_or, length, subst, below_more, set}
-use Rattle.std.proofs.lemmas.List.{length-map, map-set, get_or-map}
-use Rattle.ta_base.proofs.Lists.{done_more, rest_more}
-use Rattle.ta_dense.specs.Rows.{row_view, views}
-use Rattle.ta_dense.specs.Tableau.{merged, no_row}
-use Rattle.ta_dense.specs.Merge.{MergesInRange}
+use Rattle.ta_dense.proofs.Common.{◌≡◌, ◌<◌, arith, ap, ◌∙◌, sym, refl, get_or, length, subst, below_more, set, length-map, map-set, get_or-map, done_more, rest_more, row_view, views, merged, no_row, MergesInRange}
 use Rattle.ta_dense.proofs.RowSteps.{rows_proper_more, rows_all}
 use Rattle.ta_dense.proofs.rows.merge_all.Goals as goal
 

@@ -1,7 +1,4 @@
-use Rattle.std.proofs.Common.{◌≡◌, ℕ, ◌<◌, ◌≤◌, length, get_or}
-use Rattle.ta_dense.specs.Tableau.{merged, no_row}
-use Rattle.ta_dense.specs.Merge.{RowsMergeBelow}
-use Rattle.ta_dense.specs.Rows.{row_view, views, AreProper}
+use Rattle.ta_dense.proofs.Common.{◌≡◌, ℕ, ◌<◌, ◌≤◌, length, get_or, merged, no_row, RowsMergeBelow, row_view, views, AreProper}
 use Rattle.ta_dense.proofs.rows.merge_all.Given as goal
 
 abbrev pub invariant-loop-at : goal.invariant-loop-at

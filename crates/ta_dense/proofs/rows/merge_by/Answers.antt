@@ -1,11 +1,6 @@
-use Rattle.std.proofs.Common.{ap, ◌∙◌, rules, length, set}
+use Rattle.ta_dense.proofs.Common.{ap, ◌∙◌, rules, length, set, combine, to_z-of_z, with_items_is, SFits, w128}
 use Rattle.ta_base.proofs.Booleans.{OnTrue-weaker}
-use Rattle.ta_dense.specs.Tableau.{combine}
 use Rattle.ta_dense.proofs.RowFacts.{row_same}
-use Rattle.std.proofs.lemmas.Int.{to_z-of_z}
-use Rattle.std.proofs.lemmas.List.{with_items_is}
-use mir.Val.{SFits}
-use mir.Syntax.{w128}
 use Rattle.ta_dense.proofs.rows.merge_by.Goals as goal
 
 pub returns-clause-within : goal.returns-clause-within

@@ -1,6 +1,4 @@
-use Rattle.std.proofs.Common.{arith, sym, ◌∙◌, ap, List, ◌++◌, ◌∷◌, length}
-use Rattle.std.proofs.lemmas.List.{map-append, length-map}
-use Rattle.ta_dense.specs.Rows.{row_view, views}
+use Rattle.ta_dense.proofs.Common.{arith, sym, ◌∙◌, ap, List, ◌++◌, ◌∷◌, length, map-append, length-map, row_view, views}
 use Rattle.ta_dense.proofs.PivotParts.{cut_of, pivoted_cut, refused_before, refused_after, all_others, proper_rest, merge_below_views}
 use Rattle.ta_dense.proofs.rows.pivot_rows.Goals as goal
 

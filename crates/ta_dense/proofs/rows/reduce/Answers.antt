@@ -1,9 +1,5 @@
-use Rattle.std.proofs.Common.{◌≡◌, arith, ap, ◌∙◌, sym, ℕ}
+use Rattle.ta_dense.proofs.Common.{◌≡◌, arith, ap, ◌∙◌, sym, ℕ, to_z_pos, w128, row_view, divided}
 use Rattle.std.specs.Prelude.{unsigned_abs}
-use Rattle.std.proofs.lemmas.Int.{to_z_pos}
-use mir.Syntax.{w128}
-use Rattle.ta_dense.specs.Rows.{row_view}
-use Rattle.ta_dense.specs.Tableau.{divided}
 use Rattle.ta_dense.proofs.ReduceFacts.{divided-one}
 use Rattle.ta_dense.proofs.rows.reduce.Goals as goal
 

@@ -1,9 +1,4 @@
-use Rattle.std.proofs.Common.{◌∙◌, ap, pos, neg_ℤ, ℤ, ◌-ℤ◌, map, length, rules, set, List}
-use Rattle.std.proofs.lemmas.Int.{to_z-of_z}
-use Rattle.std.proofs.lemmas.List.{with_items_is, get_or_read}
-use mir.Val.{SFits}
-use mir.Syntax.{w128}
-use Rattle.ta_base.proofs.Integers.{zero_minus}
+use Rattle.ta_dense.proofs.Common.{◌∙◌, ap, pos, neg_ℤ, ℤ, ◌-ℤ◌, map, length, rules, set, List, to_z-of_z, with_items_is, get_or_read, SFits, w128, zero_minus}
 use Rattle.ta_dense.proofs.RowFacts.{row_same}
 use Rattle.ta_dense.proofs.ReduceFacts.{fits_minus}
 use Rattle.ta_dense.proofs.rows.turn.Goals as goal

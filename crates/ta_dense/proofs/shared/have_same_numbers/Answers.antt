@@ -1,7 +1,4 @@
-use Rattle.std.proofs.Common.{◌≡◌, ◌∙◌, sym, rules}
-use mir.Val.{SFits, to_z, of_z}
-use mir.Syntax.{w32}
-use Rattle.std.proofs.lemmas.Int.{to_z-of_z}
+use Rattle.ta_dense.proofs.Common.{◌≡◌, ◌∙◌, sym, rules, SFits, to_z, of_z, w32, to_z-of_z}
 use Rattle.std.proofs.lemmas.Slice.Eq.{slice_eq-Decides}
 use Rattle.std.proofs.lemmas.Bool.Decides.{Decides-int_eq}
 use Rattle.ta_dense.proofs.RowFacts.{row_same}

@@ -1,5 +1,4 @@
-use Rattle.std.proofs.Common.{ℕ, ◌<◌, ◌≢◌}
-use Rattle.ta_dense.specs.Shared.{at_place}
+use Rattle.ta_dense.proofs.Common.{ℕ, ◌<◌, ◌≢◌, at_place}
 use Rattle.ta_dense.proofs.shared.is_alone.Given as goal
 
 abbrev pub invariant-loop-other : goal.invariant-loop-other

@@ -1,9 +1,4 @@
-use Rattle.std.proofs.Common.{◌≡◌, ◌∙◌, ℕ, List, length, get_or, set, ap, sym, subst, rules}
-use Rattle.std.proofs.lemmas.List.Elements.{All-push}
-use Rattle.ta_dense.specs.Narrow.{narrow_view, narrow_at, IsNarrow, AreNarrow}
-use Rattle.ta_dense.specs.Shared.{rows_at_places, at_place, no_place}
-use Rattle.ta_dense.specs.declared.narrow_rows.NarrowRow.{NarrowRow}
-use Rattle.ta_dense.specs.declared.shared.Place.{Place}
+use Rattle.ta_dense.proofs.Common.{◌≡◌, ◌∙◌, ℕ, List, length, get_or, set, ap, sym, subst, rules, All-push, narrow_view, narrow_at, IsNarrow, AreNarrow, rows_at_places, at_place, no_place, NarrowRow, Place}
 use Rattle.ta_dense.proofs.SharedFacts.{parted_value}
 use Rattle.ta_dense.proofs.shared.part.Goals as goal
 

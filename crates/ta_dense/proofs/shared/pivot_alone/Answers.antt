@@ -1,12 +1,4 @@
-use Rattle.std.proofs.Common.{◌≡◌, ◌∙◌, ◌<◌, ℕ, List, length, get_or, set, ap, sym, subst, refl, rules, arith}
-use Rattle.std.proofs.lemmas.List.{with_items_is}
-use Rattle.std.proofs.lemmas.List.Elements.{All-set}
-use Rattle.ta_dense.specs.Tableau.{TableauRow, pivoted_rows}
-use Rattle.ta_dense.specs.Merge.{OthersMergeBelow}
-use Rattle.ta_dense.specs.Narrow.{narrow_views, narrow_at, AreNarrow}
-use Rattle.ta_dense.specs.Shared.{rows_at_places, at_place, no_place, ArePlaced}
-use Rattle.ta_dense.specs.declared.narrow_rows.NarrowRow.{NarrowRow}
-use Rattle.ta_dense.specs.declared.shared.Place.{Place}
+use Rattle.ta_dense.proofs.Common.{◌≡◌, ◌∙◌, ◌<◌, ℕ, List, length, get_or, set, ap, sym, subst, refl, rules, arith, with_items_is, All-set, TableauRow, pivoted_rows, OthersMergeBelow, narrow_views, narrow_at, AreNarrow, rows_at_places, at_place, no_place, ArePlaced, NarrowRow, Place}
 use Rattle.ta_dense.proofs.SharedFacts.{at_number, placed_longer, pivoted_placed, others_placed}
 use Rattle.ta_dense.proofs.shared.pivot_alone.Goals as goal
 

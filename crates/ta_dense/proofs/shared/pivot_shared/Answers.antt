@@ -1,8 +1,5 @@
-use Rattle.std.proofs.Common.{ℕ, List, length, get_or, ap, sym, subst}
+use Rattle.ta_dense.proofs.Common.{ℕ, List, length, get_or, ap, sym, subst, TableauRow, no_row, OthersMergeBelow, shared_at, AreShared}
 use Rattle.std.specs.Bool.{OnTrue}
-use Rattle.ta_dense.specs.Tableau.{TableauRow, no_row}
-use Rattle.ta_dense.specs.Merge.{OthersMergeBelow}
-use Rattle.ta_dense.specs.Shared.{shared_at, AreShared}
 use Rattle.ta_dense.proofs.shared.pivot_shared.Goals as goal
 
 pub pivot_alone-requires-clause-shared : goal.pivot_alone-requires-clause-shared

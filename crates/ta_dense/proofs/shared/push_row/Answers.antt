@@ -1,6 +1,4 @@
-use Rattle.std.proofs.Common.{◌∙◌, List, ap, refl}
-use Rattle.ta_dense.specs.Shared.{rows_at_places}
-use Rattle.ta_dense.specs.declared.shared.Place.{Place}
+use Rattle.ta_dense.proofs.Common.{◌∙◌, List, ap, refl, rows_at_places, Place}
 use Rattle.ta_dense.proofs.SharedFacts.{pushed_value}
 use Rattle.ta_dense.proofs.shared.push_row.Goals as goal
 

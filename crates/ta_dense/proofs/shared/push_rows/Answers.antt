@@ -1,10 +1,4 @@
-use Rattle.std.proofs.Common.{◌≡◌, ◌∙◌, List, [], ◌∷◌, ◌++◌, length, ap, sym, subst, arith, refl, append_assoc, append-nil}
-use Rattle.std.specs.Vec.Iter.{into_iter_items}
-use Rattle.std.proofs.lemmas.List.Elements.{All-head, All-tail}
-use Rattle.ta_dense.specs.Tableau.{TableauRow}
-use Rattle.ta_dense.specs.Narrow.{narrow_view, narrow_views, IsNarrow, AreNarrow}
-use Rattle.ta_dense.specs.Shared.{shared_views}
-use Rattle.ta_dense.specs.declared.narrow_rows.NarrowRow.{NarrowRow}
+use Rattle.ta_dense.proofs.Common.{◌≡◌, ◌∙◌, List, [], ◌∷◌, ◌++◌, length, ap, sym, subst, arith, refl, append_assoc, append-nil, into_iter_items, All-head, All-tail, TableauRow, narrow_view, narrow_views, IsNarrow, AreNarrow, shared_views, NarrowRow}
 use Rattle.ta_dense.proofs.shared.push_rows.Goals as goal
 
 pub loop-row-preserved : goal.loop-row-preserved

@@ -1,7 +1,4 @@
-use Rattle.std.proofs.Common.{◌≡◌, ◌++◌, length}
-use Rattle.std.specs.Vec.Iter.{into_iter_items, into_iter_len}
-use Rattle.ta_dense.specs.Narrow.{narrow_views, AreNarrow}
-use Rattle.ta_dense.specs.Shared.{shared_views, AreShared}
+use Rattle.ta_dense.proofs.Common.{◌≡◌, ◌++◌, length, into_iter_items, into_iter_len, narrow_views, AreNarrow, shared_views, AreShared}
 use Rattle.ta_dense.proofs.shared.push_rows.Given as goal
 
 abbrev pub invariant-loop-row : goal.invariant-loop-row

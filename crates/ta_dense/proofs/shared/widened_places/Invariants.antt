@@ -1,5 +1,4 @@
-use Rattle.std.proofs.Common.{◌≡◌, take, map}
-use Rattle.ta_dense.specs.Shared.{widened_place}
+use Rattle.ta_dense.proofs.Common.{◌≡◌, take, map, widened_place}
 use Rattle.ta_dense.proofs.shared.widened_places.Given as goal
 
 abbrev pub invariant-loop-place : goal.invariant-loop-place

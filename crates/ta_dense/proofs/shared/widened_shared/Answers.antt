@@ -1,11 +1,4 @@
-use Rattle.std.proofs.Common.{◌≡◌, ◌∙◌, ◌+◌, ℕ, List, length, get_or, map, ap, sym, subst, arith}
-use Rattle.std.proofs.lemmas.List.{length-map}
-use Rattle.ta_dense.specs.Tableau.{TableauRow}
-use Rattle.ta_dense.specs.Inside.Padded.{zero_filled}
-use Rattle.ta_dense.specs.Narrow.{narrow_view, narrow_views}
-use Rattle.ta_dense.specs.Shared.{row_at_place, rows_at_places, widened_place, ArePlaced, no_place}
-use Rattle.ta_dense.specs.declared.narrow_rows.NarrowRow.{NarrowRow}
-use Rattle.ta_dense.specs.declared.shared.Place.{Place}
+use Rattle.ta_dense.proofs.Common.{◌≡◌, ◌∙◌, ◌+◌, ℕ, List, length, get_or, map, ap, sym, subst, arith, length-map, TableauRow, zero_filled, narrow_view, narrow_views, row_at_place, rows_at_places, widened_place, ArePlaced, no_place, NarrowRow, Place}
 use Rattle.ta_dense.proofs.SharedFacts.{at_number, placed_longer, widened_value, widened_inside}
 use Rattle.ta_dense.proofs.shared.widened_shared.Goals as goal
 

@@ -1,6 +1,4 @@
-use Rattle.std.proofs.Common.{◌≤◌, ◌∙◌, List, length, ap, arith}
-use Rattle.std.proofs.lemmas.List.{take_all}
-use Rattle.ta_dense.specs.Shared.{rows_at_places}
+use Rattle.ta_dense.proofs.Common.{◌≤◌, ◌∙◌, List, length, ap, arith, take_all, rows_at_places}
 use Rattle.ta_dense.proofs.SharedFacts.{placed_proper}
 use Rattle.ta_dense.proofs.small.widened_all.Goals as goal
 

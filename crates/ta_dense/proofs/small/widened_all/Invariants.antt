@@ -1,6 +1,4 @@
-use Rattle.std.proofs.Common.{◌≡◌, take}
-use Rattle.ta_dense.specs.Rows.{views}
-use Rattle.ta_dense.specs.Shared.{rows_at_places}
+use Rattle.ta_dense.proofs.Common.{◌≡◌, take, views, rows_at_places}
 use Rattle.ta_dense.proofs.small.widened_all.Given as goal
 
 abbrev pub invariant-loop-place : goal.invariant-loop-place

@@ -1,5 +1,4 @@
-use Rattle.std.proofs.Common.{◌≡◌, take}
-use Rattle.ta_dense.specs.GrownPivots.{pivots_of}
+use Rattle.ta_dense.proofs.Common.{◌≡◌, take, pivots_of}
 use Rattle.ta_dense.proofs.small_pivot.wide_pivots.Given as goal
 
 abbrev pub invariant-loop-pivot : goal.invariant-loop-pivot

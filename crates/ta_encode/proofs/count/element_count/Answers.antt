@@ -1,6 +1,4 @@
-use Rattle.std.proofs.Common.{length, reverse, ap, ◌∙◌, ◌∷◌}
-use Rattle.ta_words.specs.declared.element.Element.{Element}
-use Rattle.ta_encode.specs.Unknowns.{meanings}
+use Rattle.ta_encode.proofs.Common.{length, reverse, ap, ◌∙◌, ◌∷◌, Element, meanings}
 use Rattle.ta_encode.proofs.Counting.{event_length, rise_length, fall_length}
 use Rattle.ta_encode.proofs.count.element_count.Goals as goal
 

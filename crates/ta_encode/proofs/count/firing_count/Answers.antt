@@ -1,7 +1,4 @@
-use Rattle.std.proofs.Common.{◌+◌, ◌<◌, ◌^◌, arith, ap, sym, ◌∙◌}
-use Rattle.ta_base.specs.Masks.{has_bit}
-use Rattle.ta_base.proofs.Bits.{bit_off, bit_on}
-use Rattle.ta_base.proofs.Ranges.{count_few, count_none, count_one}
+use Rattle.ta_encode.proofs.Common.{◌+◌, ◌<◌, ◌^◌, arith, ap, sym, ◌∙◌, has_bit, bit_off, bit_on, count_few, count_none, count_one}
 use Rattle.ta_encode.proofs.count.firing_count.Goals as goal
 use Rattle.ta_encode.proofs.count.firing_count.Goals.{then-allowed-rule-ne0, else-allowed-rule-ne0}
 

@@ -1,6 +1,4 @@
-use Rattle.std.proofs.Common.{◌≡◌, length}
-use Rattle.std.specs.Prelude.{filter}
-use Rattle.ta_base.specs.Masks.{has_bit, numbers_from}
+use Rattle.ta_encode.proofs.Common.{◌≡◌, length, filter, has_bit, numbers_from}
 use Rattle.ta_encode.proofs.count.firing_count.Given as goal
 
 abbrev pub invariant-loop-rule : goal.invariant-loop-rule

@@ -1,10 +1,4 @@
-use Rattle.std.proofs.Common.{◌≡◌, ℕ, Bool, List, ◌+◌, ◌<◌, ◌^◌, length, not, take, get_or, arith, ap, sym, ◌∙◌}
-use Rattle.std.specs.Prelude.{filter}
-use Rattle.std.proofs.Math.Seq.{take-length}
-use Rattle.std.proofs.lemmas.List.{length-take-le}
-use Rattle.ta_base.specs.Masks.{has_bit}
-use Rattle.ta_base.proofs.Bits.{bit_off, bit_on}
-use Rattle.ta_base.proofs.Lists.{filter_shorter, items_none, items_one}
+use Rattle.ta_encode.proofs.Common.{◌≡◌, ℕ, Bool, List, ◌+◌, ◌<◌, ◌^◌, length, not, take, get_or, arith, ap, sym, ◌∙◌, filter, take-length, length-take-le, has_bit, bit_off, bit_on, filter_shorter, items_none, items_one}
 use Rattle.ta_encode.proofs.Masked.{initial_within}
 use Rattle.ta_encode.proofs.Counting.{start_length}
 use Rattle.ta_encode.proofs.Drafts.{initial_few}

@@ -1,6 +1,4 @@
-use Rattle.std.proofs.Common.{◌≡◌, ◌+◌, length, not, take}
-use Rattle.std.specs.Prelude.{filter}
-use Rattle.ta_base.specs.Masks.{has_bit}
+use Rattle.ta_encode.proofs.Common.{◌≡◌, ◌+◌, length, not, take, filter, has_bit}
 use Rattle.ta_encode.proofs.count.start_count.Given as goal
 
 abbrev pub invariant-loop-location : goal.invariant-loop-location

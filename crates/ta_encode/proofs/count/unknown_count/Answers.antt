@@ -1,11 +1,4 @@
-use Rattle.std.proofs.Common.{◌≡◌, ◌+◌, ◌<◌, ◌^◌, List, length, reverse, take, arith, sym, ap, ◌∙◌}
-use Rattle.std.proofs.Math.Seq.{take-length}
-use Rattle.std.proofs.lemmas.List.{length-reverse, length-take-le}
-use Rattle.ta_base.proofs.Lists.{reverse_more}
-use Rattle.ta_words.specs.declared.element.Element.{Element}
-use Rattle.ta_words.proofs.Counts.{legal_length}
-use Rattle.ta_words.proofs.Lists.{pattern_at, same_pattern, events_named}
-use Rattle.ta_encode.specs.Unknowns.{meanings, start_meanings}
+use Rattle.ta_encode.proofs.Common.{◌≡◌, ◌+◌, ◌<◌, ◌^◌, List, length, reverse, take, arith, sym, ap, ◌∙◌, take-length, length-reverse, length-take-le, reverse_more, Element, legal_length, pattern_at, same_pattern, events_named, meanings, start_meanings}
 use Rattle.ta_encode.proofs.Drafts.{meanings_few}
 use Rattle.ta_encode.proofs.count.unknown_count.Goals as goal
 

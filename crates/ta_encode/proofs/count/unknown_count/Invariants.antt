@@ -1,6 +1,4 @@
-use Rattle.std.proofs.Common.{◌≡◌, length, reverse, take}
-use Rattle.ta_words.specs.Calls.{OfPattern}
-use Rattle.ta_encode.specs.Unknowns.{meanings}
+use Rattle.ta_encode.proofs.Common.{◌≡◌, length, reverse, take, OfPattern, meanings}
 use Rattle.ta_encode.proofs.count.unknown_count.Given as goal
 
 abbrev pub invariant-loop-number : goal.invariant-loop-number

@@ -1,13 +1,5 @@
-use Rattle.std.proofs.Common.{◌≡◌, ap, ◌∙◌, sym, refl, subst, ℕ, ℤ, pos, ◌+ℤ◌, ◌-ℤ◌, ◌*ℤ◌, List, [], ◌∷◌, get_or, Bool, inl, inr, ◌⊎◌}
-use Rattle.std.specs.Prelude.{if◌then◌else◌, slice_get}
-use Rattle.ta_base.proofs.Integers.{to_z_range}
-use Rattle.ta_linear.specs.Numbers.{InRange}
-use Rattle.ta_linear.specs.Values.{terms_value}
-use Rattle.ta_automaton.specs.Places.{rule_change}
-use Rattle.ta_automaton.specs.declared.automaton.Automaton.{Automaton}
-use Rattle.ta_encode.specs.Unknowns.{Meaning, Count, Single, place_coefficient}
-use Rattle.ta_encode.specs.Lines.{line_coefficient, coefficient_in_sense}
-use Rattle.ta_encode.specs.declared.line.Sense.{Sense}
+use Rattle.ta_encode.proofs.Common.{◌≡◌, ap, ◌∙◌, sym, refl, subst, ℕ, ℤ, pos, ◌+ℤ◌, ◌-ℤ◌, ◌*ℤ◌, List, [], ◌∷◌, get_or, Bool, inl, inr, ◌⊎◌, if◌then◌else◌, to_z_range, InRange, terms_value, rule_change, Automaton, Meaning, Count, Single, place_coefficient, line_coefficient, coefficient_in_sense, Sense}
+use Rattle.std.specs.Prelude.{slice_get}
 use Rattle.ta_encode.proofs.line.coefficient_of.Goals as goal
 
 -- the firings of a rule change a place alike, whenever they come
@@ -28,14 +20,14 @@ firing_same a ts less sense m r is = elim is [
 pub returns-in-Some-clause-value : goal.returns-in-Some-clause-value
 returns-in-Some-clause-value c =
     let a = c.args.automaton.now in
-    let ts = c.args.terms.now in
+    let ts = c.args.line.now.terms.now in
     let zs = c.args.of_rules.now in
     let r = c.in-Count.rule in
     let z = c.in-Some.coefficient.now in
     let found = c.in-Some.ensures.lookup.3 in
     let at : z ≡ get_or zs r (pos 0) = found.1 (pos 0) in
     let fits : InRange z = subst InRange (sym at) (c.requires.rules.fits r (pos 0) found.0) in
-    to_z_range z fits ∙ at ∙ c.requires.rules.value r found.0 ∙ firing_same a ts c.args.less_starts c.args.sense c.args.meaning r c.in-Count.is
+    to_z_range z fits ∙ at ∙ c.requires.rules.value r found.0 ∙ firing_same a ts c.args.line.now.less_starts c.args.line.now.sense c.args.meaning r c.in-Count.is
 
 pub returns-in-None-clause-value : goal.returns-in-None-clause-value
-returns-in-None-clause-value c = to_z_range c.line_coefficient-in-None.result c.line_coefficient-in-None.ensures.fits ∙ c.line_coefficient-in-None.ensures.value ∙ ap (line_coefficient c.args.automaton.now c.args.terms.now c.args.less_starts c.args.sense) c.in-Count.meaning-is
+returns-in-None-clause-value c = to_z_range c.line_coefficient-in-None.result c.line_coefficient-in-None.ensures.fits ∙ c.line_coefficient-in-None.ensures.value ∙ ap (line_coefficient c.args.automaton.now c.args.line.now.terms.now c.args.line.now.less_starts c.args.line.now.sense) c.in-Count.meaning-is

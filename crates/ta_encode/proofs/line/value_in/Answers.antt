@@ -1,6 +1,4 @@
-use Rattle.std.proofs.Common.{◌≡◌, refl, length, to_z, arith}
-use Rattle.std.specs.Int.{w128}
-use Rattle.ta_encode.specs.Unknowns.{place_coefficient}
+use Rattle.ta_encode.proofs.Common.{◌≡◌, refl, length, to_z, arith, w128, place_coefficient}
 use Rattle.ta_encode.proofs.Running.{product_fits, value_fits, value_more, valued_all}
 use Rattle.ta_encode.proofs.line.value_in.Goals as goal
 

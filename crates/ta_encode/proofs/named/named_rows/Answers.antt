@@ -1,7 +1,4 @@
-use Rattle.std.proofs.Common.{◌≡◌, ◌++◌, length, map, arith, refl, sym, subst}
-use Rattle.ta_linear.specs.Rows.{AllBelow}
-use Rattle.ta_encode.specs.System.{bound_row}
-use Rattle.ta_encode.specs.Named.{row_number_at}
+use Rattle.ta_encode.proofs.Common.{◌≡◌, ◌++◌, length, map, arith, refl, sym, subst, AllBelow, bound_row, row_number_at}
 use Rattle.ta_encode.proofs.Naming.{names_none, names_more, names_all, names_absent}
 use Rattle.ta_encode.proofs.named.named_rows.Goals as goal
 

@@ -1,6 +1,4 @@
-use Rattle.std.proofs.Common.{List, ◌++◌, map}
-use Rattle.ta_encode.specs.System.{LinearRow, bound_row}
-use Rattle.ta_encode.specs.Code.{AreRowsOf}
+use Rattle.ta_encode.proofs.Common.{List, ◌++◌, map, LinearRow, bound_row, AreRowsOf}
 use Rattle.ta_encode.proofs.Naming.{NamedSoFar}
 use Rattle.ta_encode.proofs.named.named_rows.Given as goal
 

@@ -1,8 +1,4 @@
-use Rattle.std.proofs.Common.{◌≡◌, ◌-◌, ◌≤◌, ◌<◌, pos, List, [], ◌∷◌, length, map, get_or, slice_get, Some, arith, ap, refl, subst}
-use Rattle.ta_linear.specs.declared.row.Row.{Row}
-use Rattle.std.proofs.lemmas.Option.{slice_get-get_or, slice_get_read}
-use Rattle.ta_encode.specs.System.{Bound, Low, bound_row}
-use Rattle.ta_encode.specs.Inside.Lines.{AddsRows}
+use Rattle.ta_encode.proofs.Common.{◌≡◌, ◌-◌, ◌≤◌, ◌<◌, pos, List, [], ◌∷◌, length, map, get_or, slice_get, Some, arith, ap, refl, subst, Row, slice_get-get_or, slice_get_read, Bound, Low, bound_row, AddsRows}
 use Rattle.ta_encode.proofs.Naming.{adds_copy, adds_bound, no_row}
 use Rattle.ta_encode.proofs.named.push_named.Goals as goal
 

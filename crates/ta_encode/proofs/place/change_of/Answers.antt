@@ -1,8 +1,4 @@
-use Rattle.std.proofs.Common.{◌≡◌, ◌∙◌, List, length, slice_get, Some, arith, refl, sym, ap, subst}
-use Rattle.std.proofs.lemmas.Option.{slice_get_read}
-use Rattle.ta_base.proofs.Integers.{to_z_abs}
-use Rattle.ta_automaton.specs.Places.{rule_change}
-use Rattle.ta_automaton.specs.declared.rule.Rule.{Rule}
+use Rattle.ta_encode.proofs.Common.{◌≡◌, ◌∙◌, List, length, slice_get, Some, arith, refl, sym, ap, subst, slice_get_read, to_z_abs, rule_change, Rule}
 use Rattle.ta_encode.proofs.place.change_of.Goals as goal
 
 pub returns-in-Some-clause-value : goal.returns-in-Some-clause-value

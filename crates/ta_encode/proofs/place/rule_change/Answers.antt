@@ -1,7 +1,4 @@
-use Rattle.std.proofs.Common.{◌-◌, length, arith, ap, ◌∙◌}
-use Rattle.ta_base.proofs.Integers.{to_z_abs}
-use Rattle.ta_linear.specs.Terms.{coefficient}
-use Rattle.ta_automaton.specs.Places.{one_if}
+use Rattle.ta_encode.proofs.Common.{◌-◌, length, arith, ap, ◌∙◌, to_z_abs, coefficient, one_if}
 use Rattle.ta_encode.proofs.Changes.{change_parameter, change_shared, change_location, clean_move}
 use Rattle.ta_encode.proofs.place.rule_change.Goals as goal
 

@@ -1,7 +1,4 @@
-use Rattle.std.proofs.Common.{◌≡◌, ℕ, ℤ, ◌≤◌, List, to_z, length, arith, sym, ap, ◌∙◌, subst}
-use Rattle.std.specs.Int.{w128}
-use Rattle.std.specs.List.{AllByRecursion}
-use Rattle.ta_linear.specs.Terms.{coefficient}
+use Rattle.ta_encode.proofs.Common.{◌≡◌, ℕ, ℤ, ◌≤◌, List, to_z, length, arith, sym, ap, ◌∙◌, subst, w128, AllByRecursion, coefficient}
 use Rattle.ta_encode.proofs.Running.{Small, count_fits, count_more, count_past, counted_all}
 use Rattle.ta_encode.proofs.place.update_of.Goals as goal
 use Rattle.ta_encode.proofs.place.update_of.Goals.{then-number-variable, else-number-variable}

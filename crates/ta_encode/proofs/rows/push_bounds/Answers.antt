@@ -1,7 +1,4 @@
-use Rattle.std.proofs.Common.{pos, ◌∷◌, [], map, take, get_or}
-use Rattle.ta_base.proofs.Each.{each_get_or}
-use Rattle.ta_encode.specs.System.{Bound, Low, bound_row}
-use Rattle.ta_encode.specs.Lines.{BoundWithin}
+use Rattle.ta_encode.proofs.Common.{pos, ◌∷◌, [], map, take, get_or, each_get_or, Bound, Low, bound_row, BoundWithin}
 use Rattle.ta_encode.proofs.Adding.{adds_join, adds_same, map_more}
 use Rattle.ta_encode.proofs.rows.push_bounds.Goals as goal
 

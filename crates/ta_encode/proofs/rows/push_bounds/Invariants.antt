@@ -1,6 +1,4 @@
-use Rattle.std.proofs.Common.{map, take}
-use Rattle.ta_encode.specs.System.{bound_row}
-use Rattle.ta_encode.specs.Inside.Lines.{AddsRows}
+use Rattle.ta_encode.proofs.Common.{map, take, bound_row, AddsRows}
 use Rattle.ta_encode.proofs.rows.push_bounds.Given as goal
 
 abbrev pub invariant-loop-bound : goal.invariant-loop-bound

@@ -1,6 +1,4 @@
-use Rattle.std.proofs.Common.{sym, ap}
-use Rattle.ta_base.proofs.Bits.{bit_off, bit_on}
-use Rattle.ta_encode.specs.Inside.Lines.{start_sense}
+use Rattle.ta_encode.proofs.Common.{sym, ap, bit_off, bit_on, start_sense}
 use Rattle.ta_encode.proofs.rows.sense_at_start.Goals as goal
 
 pub returns-then-start_mask-number-ne0 : goal.returns-then-start_mask-number-ne0

@@ -1,8 +1,4 @@
-use Rattle.std.proofs.Common.{List, ℕ, ◌++◌, map, length, ap, ◌∙◌}
-use Rattle.ta_base.specs.Masks.{numbers_from}
-use Rattle.ta_base.proofs.Bits.{none_kept_empty}
-use Rattle.ta_encode.specs.Sample.{sample_meanings}
-use Rattle.ta_encode.specs.Unknowns.{Parameter, Start}
+use Rattle.ta_encode.proofs.Common.{List, ℕ, ◌++◌, map, length, ap, ◌∙◌, numbers_from, none_kept_empty, sample_meanings, Parameter, Start}
 use Rattle.ta_encode.proofs.sample.sample_meanings.Goals as goal
 
 pub returns : goal.returns

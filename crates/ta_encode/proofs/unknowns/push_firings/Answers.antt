@@ -1,9 +1,5 @@
-use Rattle.std.proofs.Common.{◌<◌, ◌++◌, ◌∷◌, [], map, arith, ap, ◌∙◌, append_assoc}
-use Rattle.std.specs.Prelude.{filter}
-use Rattle.ta_base.specs.Masks.{has_bit, numbers_from}
-use Rattle.ta_base.proofs.Bits.{bit_off, bit_on}
-use Rattle.ta_base.proofs.Ranges.{passed_none, passed_one}
-use Rattle.ta_encode.specs.Inside.Firings.{firing}
+use Rattle.ta_encode.proofs.Common.{◌≡◌, ℕ, ◌+◌, ◌≤◌, Bool, List, length, ◌<◌, ◌++◌, ◌∷◌, [], map, arith, ap, ◌∙◌, append_assoc, filter, has_bit, numbers_from, bit_off, bit_on, length-map, filter_shorter, length_numbers, passed_none, passed_one, Meaning, firing}
+use Rattle.std.proofs.lemmas.List.{length-append}
 use Rattle.ta_encode.proofs.unknowns.push_firings.Goals as goal
 use Rattle.ta_encode.proofs.unknowns.push_firings.Goals.{then-allowed-rule-ne0+in_ok-push, else-allowed-rule-ne0}
 
@@ -21,3 +17,16 @@ loop-rule-preserved c =
       | else-allowed-rule-ne0 w ↦
           ap (λ v. v.items) w.meanings-is ∙ c.loop-rule.invariant ∙ ap (λ ms. before ++ ms) (passed_none f (has_bit c.args.allowed) r (bit_off 128 c.args.allowed r within w.if-allowed-rule-ne0.false))
     ]
+
+-- the unknowns so far
+most_so_far : (f : ℕ → Meaning) (test : ℕ → Bool) (before now : List Meaning) (r rules : ℕ) → r ≤ rules → now ≡ before ++ map f (filter test (numbers_from 0 r)) → length now ≤ length before + rules
+most_so_far f test before now r rules b e = omega (arith, b, ap length e, length-append before (map f (filter test (numbers_from 0 r))), length-map (filter test (numbers_from 0 r)) f, filter_shorter test (numbers_from 0 r), length_numbers 0 r)
+
+pub returns-in_err-push-clause-most : goal.returns-in_err-push-clause-most
+returns-in_err-push-clause-most c =
+    let most = most_so_far (firing c.args.single c.args.element) (has_bit c.args.allowed) c.args.meanings.now.items c.loop-rule.meanings.items c.loop-rule.rule c.args.rules c.loop-rule.auto.rule-end c.loop-rule.invariant in
+    let same = ap length c.in_err-push.ensures.items in
+    omega arith
+
+pub returns-clause-most : goal.returns-clause-most
+returns-clause-most c = most_so_far (firing c.args.single c.args.element) (has_bit c.args.allowed) c.args.meanings.now.items c.loop-rule.meanings.items c.loop-rule.rule c.args.rules c.loop-rule.auto.rule-end c.loop-rule.invariant

@@ -1,7 +1,4 @@
-use Rattle.std.proofs.Common.{◌≡◌, ◌++◌, map}
-use Rattle.std.specs.Prelude.{filter}
-use Rattle.ta_base.specs.Masks.{has_bit, numbers_from}
-use Rattle.ta_encode.specs.Inside.Firings.{firing}
+use Rattle.ta_encode.proofs.Common.{◌≡◌, ◌++◌, map, filter, has_bit, numbers_from, firing}
 use Rattle.ta_encode.proofs.unknowns.push_firings.Given as goal
 
 abbrev pub invariant-loop-rule : goal.invariant-loop-rule

@@ -1,8 +1,4 @@
-use Rattle.std.proofs.Common.{◌≡◌, ◌+◌, ◌++◌, ◌∷◌, [], map, arith, sym, ap, ◌∙◌, append_assoc}
-use Rattle.std.proofs.lemmas.List.{map-append}
-use Rattle.ta_base.specs.Masks.{numbers_from}
-use Rattle.ta_base.proofs.Ranges.{numbers_more}
-use Rattle.ta_encode.specs.Unknowns.{Parameter}
+use Rattle.ta_encode.proofs.Common.{◌≡◌, ◌+◌, ◌++◌, ◌∷◌, [], map, arith, sym, ap, ◌∙◌, append_assoc, map-append, numbers_from, numbers_more, Parameter}
 use Rattle.ta_encode.proofs.unknowns.push_parameters.Goals as goal
 
 pub loop-parameter-preserved : goal.loop-parameter-preserved

@@ -1,6 +1,4 @@
-use Rattle.std.proofs.Common.{◌≡◌, ◌++◌, map}
-use Rattle.ta_base.specs.Masks.{numbers_from}
-use Rattle.ta_encode.specs.Unknowns.{Parameter}
+use Rattle.ta_encode.proofs.Common.{◌≡◌, ◌++◌, map, numbers_from, Parameter}
 use Rattle.ta_encode.proofs.unknowns.push_parameters.Given as goal
 
 abbrev pub invariant-loop-parameter : goal.invariant-loop-parameter

@@ -1,9 +1,4 @@
-use Rattle.std.proofs.Common.{ℕ, Bool, ◌++◌, ◌∷◌, [], map, not, take, get_or, ap, ◌∙◌, append_assoc}
-use Rattle.std.specs.Prelude.{filter}
-use Rattle.ta_base.specs.Masks.{has_bit}
-use Rattle.ta_base.proofs.Bits.{bit_off, bit_on}
-use Rattle.ta_base.proofs.Lists.{item_none, item_one}
-use Rattle.ta_encode.specs.Unknowns.{Start}
+use Rattle.ta_encode.proofs.Common.{ℕ, Bool, ◌++◌, ◌∷◌, [], map, not, take, get_or, ap, ◌∙◌, append_assoc, filter, has_bit, bit_off, bit_on, item_none, item_one, Start}
 use Rattle.ta_encode.proofs.Masked.{initial_within}
 use Rattle.ta_encode.proofs.unknowns.push_starts.Goals as goal
 use Rattle.ta_encode.proofs.unknowns.push_starts.Goals.{then-empty-location-eq0+in_ok-push, else-empty-location-eq0}

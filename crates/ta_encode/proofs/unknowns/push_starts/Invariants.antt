@@ -1,7 +1,4 @@
-use Rattle.std.proofs.Common.{◌≡◌, ◌++◌, map, not, take}
-use Rattle.std.specs.Prelude.{filter}
-use Rattle.ta_base.specs.Masks.{has_bit}
-use Rattle.ta_encode.specs.Unknowns.{Start}
+use Rattle.ta_encode.proofs.Common.{◌≡◌, ◌++◌, map, not, take, filter, has_bit, Start}
 use Rattle.ta_encode.proofs.unknowns.push_starts.Given as goal
 
 abbrev pub invariant-loop-location : goal.invariant-loop-location

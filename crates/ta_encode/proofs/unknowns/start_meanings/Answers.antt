@@ -1,6 +1,4 @@
-use Rattle.std.proofs.Common.{List, ℕ, ◌++◌, map, length, ap, ◌∙◌}
-use Rattle.ta_base.specs.Masks.{numbers_from}
-use Rattle.ta_encode.specs.Unknowns.{Parameter, Start, start_locations, start_meanings}
+use Rattle.ta_encode.proofs.Common.{List, ℕ, ◌++◌, map, length, ap, ◌∙◌, numbers_from, Parameter, Start, start_locations, start_meanings}
 use Rattle.ta_encode.proofs.unknowns.start_meanings.Goals as goal
 
 pub returns : goal.returns

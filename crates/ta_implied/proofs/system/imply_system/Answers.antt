@@ -1,6 +1,4 @@
-use Rattle.std.proofs.Common.{◌≡◌, ◌++◌, ◌∷◌, [], slice_get, Some, sym, subst}
-use Rattle.ta_base.proofs.Lists.{read_at}
-use Rattle.ta_implied.specs.Implied.{resilience_rows, AreCopies}
+use Rattle.ta_implied.proofs.Common.{◌≡◌, ◌++◌, ◌∷◌, [], slice_get, Some, sym, subst, read_at, resilience_rows, AreCopies}
 use Rattle.ta_implied.proofs.Copying.{system_copies, system_below}
 use Rattle.ta_implied.proofs.system.imply_system.Goals as goal
 

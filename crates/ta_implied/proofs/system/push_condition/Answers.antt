@@ -1,6 +1,4 @@
-use Rattle.std.proofs.Common.{List, subst}
-use Rattle.ta_linear.specs.declared.row.Row.{Row}
-use Rattle.ta_implied.specs.Copies.{AreCopied}
+use Rattle.ta_implied.proofs.Common.{List, subst, Row, AreCopied}
 use Rattle.ta_implied.proofs.Copying.{comparison_copied}
 use Rattle.ta_implied.proofs.system.push_condition.Goals as goal
 

@@ -1,5 +1,4 @@
-use Rattle.std.proofs.Common.{take}
-use Rattle.ta_implied.specs.Copies.{AreCopied, resilience_of}
+use Rattle.ta_implied.proofs.Common.{take, AreCopied, resilience_of}
 use Rattle.ta_implied.proofs.system.push_condition.Given as goal
 
 -- copies of the rows of the comparisons so far stand behind those that were there

@@ -1,5 +1,4 @@
-use Rattle.std.proofs.Common.{take}
-use Rattle.ta_implied.specs.Copies.{AreCopied}
+use Rattle.ta_implied.proofs.Common.{take, AreCopied}
 use Rattle.ta_implied.proofs.system.push_rows.Given as goal
 
 -- copies of the rows so far stand behind those that were there

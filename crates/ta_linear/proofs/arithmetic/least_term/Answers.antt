@@ -1,6 +1,4 @@
-use Rattle.std.proofs.Common.{rules, arith, FitsSigned}
-use Rattle.std.proofs.lemmas.Int.{ints, to_z-of_z}
-use Rattle.std.specs.Int.{w128}
+use Rattle.ta_linear.proofs.Common.{rules, arith, FitsSigned, ints, to_z-of_z, w128}
 use Rattle.ta_linear.proofs.LeastTerm.{least-left, least-right, least-both, leaves-both, StartsAbove-nil}
 use Rattle.ta_linear.proofs.arithmetic.least_term.Goals as goal
 

@@ -1,6 +1,4 @@
-use Rattle.std.proofs.Common.{arith}
-use Rattle.std.proofs.lemmas.Int.{to_z-of_z}
-use Rattle.ta_base.proofs.Integers.{floor_high, floor_low}
+use Rattle.ta_linear.proofs.Common.{arith, to_z-of_z, floor_high, floor_low}
 use Rattle.ta_linear.proofs.Floor.{floor_fits}
 use Rattle.ta_linear.proofs.number.floor_div.Goals as goal
 

@@ -1,7 +1,4 @@
-use Rattle.std.proofs.lemmas.Int.{to_z_pos, to_z-of_z}
-use Rattle.std.proofs.Common.{FitsSigned}
-use Rattle.std.specs.Int.{w128}
-use Rattle.ta_base.proofs.Integers.{IsGcd-whole}
+use Rattle.ta_linear.proofs.Common.{to_z_pos, to_z-of_z, FitsSigned, w128, IsGcd-whole}
 use Rattle.ta_linear.proofs.number.gcd.Goals as goal
 
 pub returns-clause-value : goal.returns-clause-value

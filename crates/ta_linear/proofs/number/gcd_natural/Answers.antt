@@ -1,6 +1,4 @@
-use Rattle.std.proofs.Common.{◌<◌, ◌%◌, arith}
-use Rattle.std.proofs.lemmas.Nat.{mod_below}
-use Rattle.std.proofs.lemmas.Nat.Gcd.{IsGcd-from_mod, IsGcd-from_zero}
+use Rattle.ta_linear.proofs.Common.{◌<◌, ◌%◌, arith, mod_below, IsGcd-from_mod, IsGcd-from_zero}
 use Rattle.ta_linear.proofs.number.gcd_natural.Goals as goal
 
 pub loop-y-preserved : goal.loop-y-preserved

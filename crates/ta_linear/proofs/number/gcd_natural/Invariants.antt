@@ -1,5 +1,4 @@
-use Rattle.std.proofs.Common.{ℕ, ◌<◌, ◌^◌}
-use Rattle.std.specs.Int.{IsGcd}
+use Rattle.ta_linear.proofs.Common.{ℕ, ◌<◌, ◌^◌, IsGcd}
 use Rattle.ta_linear.proofs.number.gcd_natural.Given as goal
 
 -- a greatest common divisor of what is left is one of the given numbers

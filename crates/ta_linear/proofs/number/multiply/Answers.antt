@@ -1,6 +1,4 @@
-use Rattle.std.proofs.Common.{◌*ℤ◌, FitsSigned, refl}
-use Rattle.std.proofs.lemmas.Int.{to_z-of_z, fits_signed_from_abs}
-use Rattle.std.specs.Int.{w64, w128}
+use Rattle.ta_linear.proofs.Common.{◌*ℤ◌, FitsSigned, refl, to_z-of_z, fits_signed_from_abs, w64, w128}
 use Rattle.ta_linear.proofs.SmallProduct.{small_product}
 use Rattle.ta_linear.proofs.number.multiply.Goals as goal
 

@@ -1,7 +1,4 @@
-use Rattle.std.proofs.Common.{◌+◌, ◌<ℤ◌, sym, subst, length, pos, ℕ}
-use Rattle.ta_links.specs.Values.{value_in}
-use Rattle.ta_links.specs.Merging.{MergedBelow}
-use Rattle.ta_links.specs.MergingAll.{RefusedFirst}
+use Rattle.ta_links.proofs.Common.{◌+◌, ◌<ℤ◌, sym, subst, length, pos, ℕ, value_in, MergedBelow, RefusedFirst}
 use Rattle.ta_links.proofs.CarriedRows.{placed_positive, carried_done, carry_refused}
 use Rattle.ta_links.proofs.carrying.carry_through.Goals as goal
 

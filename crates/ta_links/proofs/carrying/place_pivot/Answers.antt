@@ -1,6 +1,4 @@
-use Rattle.std.proofs.Common.{sym, subst, arith, length, ℕ, ℤ, List}
-use Rattle.ta_linear.specs.Terms.{IsNormal}
-use Rattle.ta_linear.proofs.TermLemmas.{IsNormal-higher}
+use Rattle.ta_links.proofs.Common.{sym, subst, arith, length, ℕ, ℤ, List, IsNormal, IsNormal-higher}
 use Rattle.ta_links.proofs.carrying.place_pivot.Goals as goal
 
 pub write_columns-requires-clause-list : goal.write_columns-requires-clause-list

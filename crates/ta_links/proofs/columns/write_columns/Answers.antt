@@ -1,9 +1,6 @@
-use Rattle.std.proofs.Common.{pos, get_or, arith, rules}
-use Rattle.std.proofs.lemmas.Int.{to_z-of_z}
+use Rattle.ta_links.proofs.Common.{pos, get_or, arith, rules, to_z-of_z, SFits, w128}
 use Rattle.ta_links.proofs.ColumnSteps.{PutOver, overwriting, next_column, overwritten_more, overwritten_all}
 use Rattle.ta_links.proofs.columns.write_columns.Goals as goal
-use mir.Val.{SFits}
-use mir.Syntax.{w128}
 
 pub loop-column-init : goal.loop-column-init
 loop-column-init c = overwriting c.args.links.now c.args.row c.args.list.now c.args.form.now.terms c.requires.sound c.requires.list

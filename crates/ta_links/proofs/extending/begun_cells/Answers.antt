@@ -1,6 +1,4 @@
-use Rattle.std.proofs.Common.{◌∙◌, ap, arith, List}
-use Rattle.ta_links.specs.declared.cell.Cell.{Cell}
-use Rattle.ta_links.specs.Values.{value_in}
+use Rattle.ta_links.proofs.Common.{◌∙◌, ap, arith, List, Cell, value_in}
 use Rattle.ta_links.proofs.ExtendedRows.{outside_rows}
 use Rattle.ta_links.proofs.extending.begun_cells.Goals as goal
 

@@ -1,6 +1,4 @@
-use Rattle.std.proofs.Common.{◌≡◌, sym, subst, arith}
-use Rattle.std.proofs.lemmas.List.{get_or_read}
-use Rattle.ta_dense.specs.Kept.{IsKept, kept_at, no_pivot}
+use Rattle.ta_links.proofs.Common.{◌≡◌, sym, subst, arith, get_or_read, IsKept, kept_at, no_pivot}
 use Rattle.ta_links.proofs.ExtendedRows.{carrying_none, carrying_more, carrying_refused}
 use Rattle.ta_links.proofs.extending.carry_rows.Goals as goal
 

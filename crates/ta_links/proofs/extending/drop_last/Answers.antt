@@ -1,5 +1,4 @@
-use Rattle.std.proofs.Common.{◌≡◌, ◌∙◌, sym, subst, take, List, ℕ, Option}
-use Rattle.ta_links.specs.Free.{AreLinked}
+use Rattle.ta_links.proofs.Common.{◌≡◌, ◌∙◌, sym, subst, take, List, ℕ, Option, AreLinked}
 use Rattle.ta_links.proofs.ExtendedRows.{dropped_linked}
 use Rattle.ta_links.proofs.extending.drop_last.Goals as goal
 

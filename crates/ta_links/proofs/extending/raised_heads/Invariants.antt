@@ -1,5 +1,4 @@
-use Rattle.std.proofs.Common.{◌≡◌, take, map}
-use Rattle.ta_links.specs.Extending.{raised_head}
+use Rattle.ta_links.proofs.Common.{◌≡◌, take, map, raised_head}
 use Rattle.ta_links.proofs.extending.raised_heads.Given as goal
 
 abbrev pub invariant-loop-head : goal.invariant-loop-head

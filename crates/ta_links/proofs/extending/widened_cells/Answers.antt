@@ -1,8 +1,4 @@
-use Rattle.std.proofs.Common.{◌≡◌, ◌≤◌, ◌∙◌, ◌-◌, ◌++◌, ap, sym, subst, arith, length, replicate, List, ℕ, Option, None}
-use Rattle.std.proofs.lemmas.List.{length-append}
-use Rattle.ta_links.specs.declared.cell.Cell.{Cell}
-use Rattle.ta_links.specs.Chains.{head_at}
-use Rattle.ta_links.specs.Free.{AreLinked}
+use Rattle.ta_links.proofs.Common.{◌≡◌, ◌≤◌, ◌∙◌, ◌-◌, ◌++◌, ap, sym, subst, arith, length, replicate, List, ℕ, Option, None, length-append, Cell, head_at, AreLinked}
 use Rattle.ta_links.proofs.ExtendedRows.{widened_linked, padded_same}
 use Rattle.ta_links.proofs.extending.widened_cells.Goals as goal
 

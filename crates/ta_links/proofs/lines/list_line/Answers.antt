@@ -1,10 +1,4 @@
-use Rattle.std.proofs.Common.{◌≡◌, ◌∙◌, ap, sym, subst, rules, ℕ, ℤ, List, ◌++◌, ◌∷◌, [], Some}
-use Rattle.std.proofs.lemmas.Int.{to_z-of_z}
-use mir.Val.{SFits}
-use mir.Syntax.{w128}
-use Rattle.ta_links.specs.declared.cell.Cell.{Cell}
-use Rattle.ta_links.specs.Chains.{cell_at, place_at}
-use Rattle.ta_links.specs.Links.{direction}
+use Rattle.ta_links.proofs.Common.{◌≡◌, ◌∙◌, ap, sym, subst, rules, ℕ, ℤ, List, ◌++◌, ◌∷◌, [], Some, to_z-of_z, SFits, w128, Cell, cell_at, place_at, direction}
 use Rattle.ta_links.proofs.Listed.{Listing, listed_more, listed_all}
 use Rattle.ta_links.proofs.lines.list_line.Goals as goal
 

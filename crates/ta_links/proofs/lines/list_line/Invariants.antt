@@ -1,7 +1,4 @@
-use Rattle.std.proofs.Common.{◌-◌}
-use Rattle.ta_links.specs.Gaps.{spot}
-use Rattle.ta_links.specs.Links.{direction}
-use Rattle.ta_links.specs.Listing.{line_places}
+use Rattle.ta_links.proofs.Common.{◌-◌, spot, direction, line_places}
 use Rattle.ta_links.proofs.Listed.{Listing}
 use Rattle.ta_links.proofs.lines.list_line.Given as goal
 

@@ -1,7 +1,4 @@
-use Rattle.std.proofs.Common.{◌≡◌, ◌∙◌, ap, List, ℕ, length, arith, Option}
-use Rattle.ta_links.specs.declared.cell.Cell.{Cell}
-use Rattle.ta_links.specs.Links.{direction, following}
-use Rattle.ta_links.specs.Listing.{heads_of}
+use Rattle.ta_links.proofs.Common.{◌≡◌, ◌∙◌, ap, List, ℕ, length, arith, Option, Cell, direction, following, heads_of}
 use Rattle.ta_links.proofs.Walking.{walk_next, walk_none, chained_along}
 use Rattle.ta_links.proofs.lines.next_on.Goals as goal
 

@@ -1,5 +1,4 @@
-use Rattle.std.proofs.Common.{ap, arith, drop, drop_of_length-le, ◌≡◌, []}
-use Rattle.ta_links.specs.Linked.{live_count}
+use Rattle.ta_links.proofs.Common.{ap, arith, drop, drop_of_length-le, ◌≡◌, [], live_count}
 use Rattle.ta_links.proofs.LinkedFacts.{live_few}
 use Rattle.ta_links.proofs.linked.count_live.Goals as goal
 

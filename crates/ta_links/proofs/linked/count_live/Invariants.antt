@@ -1,5 +1,4 @@
-use Rattle.std.proofs.Common.{◌≡◌, ◌≤◌, ◌+◌, drop}
-use Rattle.ta_links.specs.Linked.{live_count}
+use Rattle.ta_links.proofs.Common.{◌≡◌, ◌≤◌, ◌+◌, drop, live_count}
 use Rattle.ta_links.proofs.linked.count_live.Given as goal
 
 abbrev pub invariant-loop-cell : goal.invariant-loop-cell

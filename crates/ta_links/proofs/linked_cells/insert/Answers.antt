@@ -1,10 +1,4 @@
-use Rattle.std.proofs.Common.{◌≡◌, ◌≤◌, ◌∙◌, ap, sym, List, ℕ, length, Option, Some, arith}
-use Rattle.std.proofs.lemmas.Int.{to_z-of_z}
-use Rattle.ta_base.proofs.Options.{some_below}
-use Rattle.ta_links.specs.declared.cell.Cell.{Cell}
-use Rattle.ta_links.specs.declared.way.Way.TheVariants.{Rows}
-use Rattle.ta_links.specs.Chains.{along_rows, along_columns}
-use Rattle.ta_links.specs.Links.{following, next_free}
+use Rattle.ta_links.proofs.Common.{◌≡◌, ◌≤◌, ◌∙◌, ap, sym, List, ℕ, length, Option, Some, arith, to_z-of_z, some_below, Cell, Rows, along_rows, along_columns, following, next_free}
 use Rattle.ta_links.proofs.Splicing.{spliced_long}
 use Rattle.ta_links.proofs.Inserting.{Put, put_from, free_in, taken_longer, right_in, below_in}
 use Rattle.ta_links.proofs.linked_cells.insert.Goals as goal

@@ -1,8 +1,4 @@
-use Rattle.std.proofs.Common.{◌≡◌, ◌∙◌, ap, sym, List, length, arith}
-use Rattle.ta_base.proofs.Options.{some_below}
-use Rattle.ta_links.specs.declared.cell.Cell.{Cell}
-use Rattle.ta_links.specs.Chains.{cell_at, along_rows, along_columns}
-use Rattle.ta_links.specs.declared.way.Way.TheVariants.{Rows}
+use Rattle.ta_links.proofs.Common.{◌≡◌, ◌∙◌, ap, sym, List, length, arith, some_below, Cell, cell_at, along_rows, along_columns, Rows}
 use Rattle.ta_links.proofs.Splicing.{spliced_long}
 use Rattle.ta_links.proofs.Removing.{cut_from, before_in, after_in}
 use Rattle.ta_links.proofs.linked_cells.remove.Goals as goal

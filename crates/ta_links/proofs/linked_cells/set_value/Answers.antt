@@ -1,10 +1,4 @@
-use Rattle.std.proofs.Common.{◌≡◌, ◌∙◌, ap, sym, subst, List}
-use Rattle.std.proofs.lemmas.Int.{to_z-of_z}
-use Rattle.ta_links.specs.declared.cell.Cell.{Cell}
-use Rattle.ta_links.specs.Free.{AreLinked}
-use Rattle.ta_links.specs.Values.{value_in}
-use Rattle.ta_links.specs.Links.{valued}
-use Rattle.ta_links.specs.Gaps.{Stays}
+use Rattle.ta_links.proofs.Common.{◌≡◌, ◌∙◌, ap, sym, subst, List, to_z-of_z, Cell, AreLinked, value_in, valued, Stays}
 use Rattle.ta_links.proofs.Removing.{set_keeps}
 use Rattle.ta_links.proofs.linked_cells.set_value.Goals as goal
 

@@ -1,11 +1,4 @@
-use Rattle.std.proofs.Common.{◌∙◌, ap, rules, below_more, arith}
-use Rattle.std.proofs.lemmas.Int.{to_z-of_z}
-use mir.Val.{SFits}
-use mir.Syntax.{w128}
-use Rattle.ta_linear.specs.Gcd.{gcd_of}
-use Rattle.ta_linear.proofs.GcdLemmas.{gcd_of_is}
-use Rattle.ta_links.specs.Values.{value_in}
-use Rattle.ta_links.specs.Merging.{merged_cell}
+use Rattle.ta_links.proofs.Common.{◌∙◌, ap, rules, below_more, arith, to_z-of_z, SFits, w128, gcd_of, gcd_of_is, value_in, merged_cell}
 use Rattle.ta_links.proofs.MergeSteps.{gcd_more, may_before_next}
 use Rattle.ta_links.proofs.merging.divisor_of_merged.Goals as goal
 

@@ -1,8 +1,4 @@
-use Rattle.std.proofs.Common.{◌≡◌, ℕ, ◌<◌, ◌^◌}
-use Rattle.ta_links.specs.Chains.{along_rows}
-use Rattle.ta_links.specs.Gaps.{MayBefore}
-use Rattle.ta_links.specs.Values.{value_in}
-use Rattle.ta_links.specs.Merging.{merged_cell, MergesAt, gcd_below}
+use Rattle.ta_links.proofs.Common.{◌≡◌, ℕ, ◌<◌, ◌^◌, along_rows, MayBefore, value_in, merged_cell, MergesAt, gcd_below}
 use Rattle.ta_links.proofs.merging.divisor_of_merged.Given as goal
 
 abbrev pub invariant-loop-place : goal.invariant-loop-place

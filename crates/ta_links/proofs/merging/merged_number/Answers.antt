@@ -1,8 +1,4 @@
-use Rattle.std.proofs.Common.{rules}
-use Rattle.std.proofs.lemmas.Int.{to_z-of_z}
-use mir.Val.{SFits}
-use mir.Syntax.{w128}
-use Rattle.ta_links.specs.Values.{value_in}
+use Rattle.ta_links.proofs.Common.{rules, to_z-of_z, SFits, w128, value_in}
 use Rattle.ta_links.proofs.MergeSteps.{merged_told}
 use Rattle.ta_links.proofs.merging.merged_number.Goals as goal
 

@@ -1,7 +1,4 @@
-use Rattle.std.specs.Prelude.{int_div}
-use Rattle.std.proofs.lemmas.Int.{to_z-of_z, quot_fits}
-use mir.Val.{SFits}
-use mir.Syntax.{w128}
+use Rattle.ta_links.proofs.Common.{int_div, to_z-of_z, quot_fits, SFits, w128}
 use Rattle.ta_links.proofs.MergeSteps.{quotient_fits}
 use Rattle.ta_links.proofs.merging.quotient.Goals as goal
 

@@ -1,11 +1,4 @@
-use Rattle.std.proofs.Common.{◌≡◌, sym, subst, rules, ℤ, arith}
-use Rattle.std.specs.Prelude.{int_div}
-use Rattle.std.proofs.lemmas.Int.{to_z-of_z}
-use mir.Val.{SFits}
-use mir.Syntax.{w128}
-use Rattle.ta_links.specs.Values.{value_in}
-use Rattle.ta_links.specs.Chains.{along_rows}
-use Rattle.ta_links.specs.Gaps.{MayBefore}
+use Rattle.ta_links.proofs.Common.{◌≡◌, sym, subst, rules, ℤ, arith, int_div, to_z-of_z, SFits, w128, value_in, along_rows, MayBefore}
 use Rattle.ta_links.proofs.ColumnSteps.{PutOver}
 use Rattle.ta_links.proofs.MergeSteps.{chosen_kept, merges_same, rewritten_more}
 use Rattle.ta_links.proofs.merging.write_merged.Goals as goal

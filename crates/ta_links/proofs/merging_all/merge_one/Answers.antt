@@ -1,7 +1,4 @@
-use Rattle.std.proofs.Common.{◌∙◌, sym, inl, inr, rules}
-use mir.Val.{SFits}
-use mir.Syntax.{w128}
-use Rattle.ta_dense.proofs.ProperFacts.{zero_from_bits}
+use Rattle.ta_links.proofs.Common.{◌∙◌, sym, inl, inr, rules, SFits, w128, zero_from_bits}
 use Rattle.ta_links.proofs.AllMerging.{step_none, step_merged, not_spared_by}
 use Rattle.ta_links.proofs.merging_all.merge_one.Goals as goal
 

@@ -1,15 +1,5 @@
-use Rattle.std.proofs.Common.{unsigned_abs, ◌≡◌, ◌∙◌, ap, sym, subst, rules, List, ℤ, pos, ◌*ℤ◌, ◌-ℤ◌, ◌<ℤ◌, get_or, set, arith}
-use Rattle.std.specs.Prelude.{int_div}
-use Rattle.std.proofs.lemmas.Int.{to_z-of_z, to_z_pos, ints}
-use mir.Val.{SFits, to_z}
-use mir.Syntax.{w128}
-use Rattle.ta_dense.specs.Merge.{MergesInRange}
-use Rattle.ta_links.specs.declared.row_head.RowHead.{RowHead}
-use Rattle.ta_links.specs.Linked.{table_row, no_head, IsProperHead}
-use Rattle.ta_linear.proofs.GcdLemmas.{gcd_of_is}
-use Rattle.ta_linear.specs.Gcd.{gcd_of}
-use Rattle.ta_links.specs.Values.{value_in}
-use Rattle.ta_links.specs.Merging.{MergedHead, merged_cell, gcd_below}
+use Rattle.ta_links.proofs.Common.{◌≡◌, ◌∙◌, ap, sym, subst, rules, List, ℤ, pos, ◌*ℤ◌, ◌-ℤ◌, ◌<ℤ◌, get_or, set, arith, int_div, to_z-of_z, to_z_pos, ints, SFits, to_z, w128, MergesInRange, RowHead, table_row, no_head, IsProperHead, gcd_of_is, gcd_of, value_in, MergedHead, merged_cell, gcd_below}
+use Rattle.std.proofs.Common.{unsigned_abs}
 use Rattle.ta_links.proofs.RowMerging.{Begun, RowWritten, new_head, refused_heads, refused_cells, divisor_from, divisor_above, row_done}
 use Rattle.ta_links.proofs.merging_rows.merge_row.Goals as goal
 use Rattle.ta_links.proofs.merging_rows.merge_row.Goals.{After-head_of-head, In-Some-divisor_of_merged}
@@ -23,7 +13,7 @@ begun c =
     let fq : SFits w128 c.factors-p.result.1 = search rules in
     let fx = simp to_z-of_z at c.factors-p.ensures in
     record {
-      inside = c.requires.column;
+      inside = c.requires.may.column;
       a_is = c.number-a.ensures.value;
       c_is = c.number-c.ensures.value;
       apart = c.requires.apart;
@@ -91,11 +81,11 @@ signed : (c : In-Some-divisor_of_merged) → to_z w128 c.in-Some-divisor_of_merg
 signed c = to_z_pos w128 c.in-Some-divisor_of_merged.common c.in-Some-divisor_of_merged.ensures.bound
 
 proper : (c : After-head_of-head) → IsProperHead c.head_of-head.result
-proper c = subst IsProperHead (sym (head_is c)) (c.requires.proper c.args.at c.requires.at)
+proper c = subst IsProperHead (sym (head_is c)) (c.requires.may.proper c.args.at c.requires.may.at)
 
 above : (c : In-Some-divisor_of_merged) → pos 0 <ℤ c.factors-p.result.0 → IsProperHead c.head_of-head.result → pos 0 <ℤ to_z w128 c.in-Some-divisor_of_merged.common
 above c positive head =
-    let more = divisor_above c.args.links.now.cells.items c.args.columns c.args.row c.args.at c.args.column c.factors-p.result.0 c.factors-p.result.1 c.head_of-head.result c.head_of-chosen.result c.in-Some-divisor_of_merged.common c.requires.column positive head.positive (divisor c) in
+    let more = divisor_above c.args.links.now.cells.items c.args.columns c.args.row c.args.at c.args.column c.factors-p.result.0 c.factors-p.result.1 c.head_of-head.result c.head_of-chosen.result c.in-Some-divisor_of_merged.common c.requires.may.column positive head.positive (divisor c) in
     subst (λ (z : ℤ). pos 0 <ℤ z) (sym (signed c)) (omega (arith, ints, more))
 
 pub write_merged-requires-clause-divisor : goal.write_merged-requires-clause-divisor
@@ -142,9 +132,9 @@ returns-clause-done c e =
     let set_ : c.write_head.new.heads.items ≡ set hs c.args.at nh = simp to_z-of_z at c.write_head.ensures in
     let nh_is : nh ≡ new_head p q c.head_of-head.result c.head_of-chosen.result common = ap (λ (z : ℤ). record { basic = c.head_of-head.result.basic; denominator = z; constant = c.quotient-2.result }) q1 ∙ ap (λ (z : ℤ). record { basic = c.head_of-head.result.basic; denominator = int_div (p *ℤ c.head_of-head.result.denominator) (pos common); constant = z }) q2 in
     let w : RowWritten cells c.write_merged.new.links.cells.items n c.args.row c.args.at c.args.column p q c.head_of-head.result c.head_of-chosen.result common = record {
-      inside = c.requires.column;
+      inside = c.requires.may.column;
       divisor = divisor within;
       values = λ j b. wm.values j b ∙ ap (int_div (merged_cell p q c.args.column c.in-Some.turned (value_in cells c.args.at) (value_in cells c.args.row) j)) as_ ∙ ap (λ (z : ℤ). int_div (merged_cell p q c.args.column z (value_in cells c.args.at) (value_in cells c.args.row) j) (pos common)) mh.turned;
     } in
     row_done n c.args.row c.args.at c.args.column hs c.write_head.new.heads.items l c.write_merged.new.links p q c.number-c.result c.number-a.result c.head_of-head.result c.head_of-chosen.result nh common
-    c.requires.sound c.requires.proper c.requires.row c.requires.at (chosen_is before) (head_is before) (begun before) c.requires.positive mh.within dv.within w set_ nh_is wm.sound wm.rows wm.same_columns wm.others wm.held
+    c.requires.may.sound c.requires.may.proper c.requires.may.row c.requires.may.at (chosen_is before) (head_is before) (begun before) c.requires.may.positive mh.within dv.within w set_ nh_is wm.sound wm.rows wm.same_columns wm.others wm.held

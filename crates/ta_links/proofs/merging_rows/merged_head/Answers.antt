@@ -1,7 +1,4 @@
-use Rattle.std.proofs.Common.{rules}
-use Rattle.std.proofs.lemmas.Int.{to_z-of_z}
-use mir.Val.{SFits}
-use mir.Syntax.{w128}
+use Rattle.ta_links.proofs.Common.{rules, to_z-of_z, SFits, w128}
 use Rattle.ta_links.proofs.merging_rows.merged_head.Goals as goal
 
 pub returns-clause-some : goal.returns-clause-some

@@ -1,14 +1,6 @@
-use Rattle.std.proofs.Common.{◌≡◌, ◌≢◌, ℕ, ℤ, pos, ap, sym, ◌∙◌, subst, List, Option, arith}
-use Rattle.std.proofs.lemmas.Int.{to_z-of_z, ints}
-use Rattle.ta_dense.proofs.ProperFacts.{zero_from_bits}
-use Rattle.ta_links.specs.declared.cell.Cell.{Cell}
-use Rattle.ta_links.specs.Chains.{along_columns}
-use Rattle.ta_links.specs.Values.{value_in, written}
-use Rattle.ta_links.specs.Gaps.{IsSought}
+use Rattle.ta_links.proofs.Common.{◌≡◌, ◌≢◌, ℕ, ℤ, pos, ap, sym, ◌∙◌, subst, List, Option, arith, to_z-of_z, ints, Cell, along_columns, value_in, written, IsSought, of_z, w128, zero_from_bits}
 use Rattle.ta_links.proofs.Writing.{gap_value, zero_is, written_by, fills_one, before_kept, sought_gap}
 use Rattle.ta_links.proofs.putting.fill.Goals as goal
-use mir.Val.{of_z}
-use mir.Syntax.{w128}
 
 pub returns-then-value-eq0-clause-values : goal.returns-then-value-eq0-clause-values
 returns-then-value-eq0-clause-values c q p =

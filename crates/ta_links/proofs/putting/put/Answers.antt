@@ -1,8 +1,4 @@
-use Rattle.std.proofs.Common.{subst, sym, ◌∙◌, List}
-use Rattle.std.proofs.lemmas.Int.{to_z-of_z}
-use Rattle.ta_links.specs.declared.cell.Cell.{Cell}
-use Rattle.ta_links.specs.Chains.{along_rows}
-use Rattle.ta_links.specs.Gaps.{MayBefore, IsAt}
+use Rattle.ta_links.proofs.Common.{subst, sym, ◌∙◌, List, to_z-of_z, Cell, along_rows, MayBefore, IsAt}
 use Rattle.ta_links.proofs.Writing.{at_value}
 use Rattle.ta_links.proofs.putting.put.Goals as goal
 

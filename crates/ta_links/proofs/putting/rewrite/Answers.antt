@@ -1,11 +1,6 @@
-use Rattle.std.proofs.Common.{◌≡◌, ℤ, pos, ap, sym, ◌∙◌}
-use Rattle.std.proofs.lemmas.Int.{to_z-of_z}
-use Rattle.ta_dense.proofs.ProperFacts.{zero_from_bits}
-use Rattle.ta_links.specs.Values.{value_in, written}
+use Rattle.ta_links.proofs.Common.{◌≡◌, ℤ, pos, ap, sym, ◌∙◌, to_z-of_z, value_in, written, of_z, w128, zero_from_bits}
 use Rattle.ta_links.proofs.Writing.{removed_is, set_is, before_kept, before_apart}
 use Rattle.ta_links.proofs.putting.rewrite.Goals as goal
-use mir.Val.{of_z}
-use mir.Syntax.{w128}
 
 pub returns-then-value-eq0 : goal.returns-then-value-eq0
 returns-then-value-eq0 c =

@@ -1,10 +1,4 @@
-use Rattle.std.proofs.Common.{◌∙◌, ap, sym, subst, List, ℕ, Option, rules}
-use Rattle.std.proofs.lemmas.Int.{to_z-of_z}
-use mir.Val.{SFits}
-use mir.Syntax.{w128}
-use Rattle.ta_links.specs.declared.cell.Cell.{Cell}
-use Rattle.ta_links.specs.Chains.{along_rows, cell_at}
-use Rattle.ta_links.specs.Gaps.{IsAt, IsEmptyPlace, IsSought}
+use Rattle.ta_links.proofs.Common.{◌∙◌, ap, sym, subst, List, ℕ, Option, rules, to_z-of_z, SFits, w128, Cell, along_rows, cell_at, IsAt, IsEmptyPlace, IsSought}
 use Rattle.ta_links.proofs.Writing.{at_value, gap_value}
 use Rattle.ta_links.proofs.reading.number_behind.Goals as goal
 

@@ -1,5 +1,4 @@
-use Rattle.std.proofs.Common.{sym}
-use Rattle.ta_links.specs.Chains.{along_rows}
+use Rattle.ta_links.proofs.Common.{sym, along_rows}
 use Rattle.ta_links.proofs.Heads.{following_live}
 use Rattle.ta_links.proofs.seeking.cell_at_place.Goals as goal
 

@@ -1,7 +1,6 @@
-use Rattle.ta_links.specs.Links.{direction}
+use Rattle.ta_links.proofs.Common.{direction, sym}
 use Rattle.ta_links.proofs.Heads.{following_live}
 use Rattle.ta_links.proofs.seeking.next_before.Goals as goal
-use Rattle.std.proofs.Common.{sym}
 
 pub cell_behind-requires-clause-before : goal.cell_behind-requires-clause-before
 cell_behind-requires-clause-before c h e = (c.requires.before h e).live.inside

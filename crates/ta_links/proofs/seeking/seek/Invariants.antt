@@ -1,6 +1,4 @@
-use Rattle.std.proofs.Common.{◌-◌}
-use Rattle.ta_links.specs.Gaps.{MayBefore, spot}
-use Rattle.ta_links.specs.Links.{direction}
+use Rattle.ta_links.proofs.Common.{◌-◌, MayBefore, spot, direction}
 use Rattle.ta_links.proofs.seeking.seek.Given as goal
 
 abbrev pub invariant-seek : goal.invariant-seek

@@ -1,7 +1,4 @@
-use Rattle.std.proofs.Common.{subst, sym, List, ℕ, Option}
-use Rattle.ta_links.specs.declared.cell.Cell.{Cell}
-use Rattle.ta_links.specs.Chains.{along_rows}
-use Rattle.ta_links.specs.Gaps.{IsSought, MayBefore}
+use Rattle.ta_links.proofs.Common.{subst, sym, List, ℕ, Option, Cell, along_rows, IsSought, MayBefore}
 use Rattle.ta_links.proofs.seeking.seek_in_row.Goals as goal
 
 pub seek-requires-clause-start : goal.seek-requires-clause-start

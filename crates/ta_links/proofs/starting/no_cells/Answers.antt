@@ -1,5 +1,4 @@
-use Rattle.std.proofs.Common.{ap, length, List}
-use Rattle.ta_links.specs.declared.cell.Cell.{Cell}
+use Rattle.ta_links.proofs.Common.{ap, length, List, Cell}
 use Rattle.ta_links.proofs.Beginning.{empty_linked}
 use Rattle.ta_links.proofs.starting.no_cells.Goals as goal
 

@@ -1,5 +1,4 @@
-use Rattle.std.proofs.Common.{arith, length, List, Option, ℕ, ap, None, ◌∷◌, []}
-use Rattle.std.proofs.lemmas.List.{length-append}
+use Rattle.ta_links.proofs.Common.{arith, length, List, Option, ℕ, ap, None, ◌∷◌, [], length-append}
 use Rattle.ta_links.proofs.Beginning.{heads_pushed}
 use Rattle.ta_links.proofs.starting.no_heads.Goals as goal
 

@@ -1,5 +1,4 @@
-use Rattle.std.proofs.Common.{◌≡◌, ℕ, length, None}
-use Rattle.ta_links.specs.Chains.{head_at}
+use Rattle.ta_links.proofs.Common.{◌≡◌, ℕ, length, None, head_at}
 use Rattle.ta_links.proofs.starting.no_heads.Given as goal
 
 abbrev pub invariant-loop-line : goal.invariant-loop-line

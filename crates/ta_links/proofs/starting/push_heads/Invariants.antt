@@ -1,5 +1,4 @@
-use Rattle.std.proofs.Common.{◌≡◌, ◌+◌, ◌++◌, drop}
-use Rattle.ta_links.specs.Starting.{slack_heads}
+use Rattle.ta_links.proofs.Common.{◌≡◌, ◌+◌, ◌++◌, drop, slack_heads}
 use Rattle.ta_links.proofs.starting.push_heads.Given as goal
 
 abbrev pub invariant-loop-row : goal.invariant-loop-row

@@ -1,10 +1,6 @@
-use Rattle.std.proofs.Common.{◌≡◌, ◌∙◌, ap, sym, subst, refl, List, ℕ, ℤ, get_or, arith}
-use Rattle.std.proofs.lemmas.List.{get_or_read}
-use Rattle.ta_linear.specs.Terms.{coefficient, IsNormal}
+use Rattle.ta_links.proofs.Common.{◌≡◌, ◌∙◌, ap, sym, subst, refl, List, ℕ, ℤ, get_or, arith, get_or_read, coefficient, IsNormal, Row, value_in}
 use Rattle.ta_linear.specs.Rows.{AllBelow}
-use Rattle.ta_linear.specs.declared.row.Row.{Row}
 use Rattle.ta_dense.proofs.DenseFacts.{terms_at}
-use Rattle.ta_links.specs.Values.{value_in}
 use Rattle.ta_links.proofs.Beginning.{shows_none, shows_more}
 use Rattle.ta_links.proofs.starting.write_rows.Goals as goal
 

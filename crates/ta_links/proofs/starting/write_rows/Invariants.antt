@@ -1,7 +1,4 @@
-use Rattle.std.proofs.Common.{◌≡◌, ◌≤◌, length, None}
-use Rattle.ta_links.specs.Values.{value_in}
-use Rattle.ta_links.specs.Gaps.{AreSound}
-use Rattle.ta_links.specs.Starting.{RowsShow}
+use Rattle.ta_links.proofs.Common.{◌≡◌, ◌≤◌, length, None, value_in, AreSound, RowsShow}
 use Rattle.ta_links.proofs.starting.write_rows.Given as goal
 
 abbrev pub invariant-loop-row : goal.invariant-loop-row

@@ -1,12 +1,5 @@
-use Rattle.std.proofs.Common.{◌≡◌, ◌∙◌, ap, sym, subst, rules, List, ℤ, pos, neg_ℤ, ◌-ℤ◌, get_or, set}
-use Rattle.std.proofs.lemmas.Int.{to_z-of_z}
-use mir.Val.{SFits}
-use mir.Syntax.{w128}
-use Rattle.ta_base.proofs.Integers.{zero_minus}
-use Rattle.ta_links.specs.declared.row_head.RowHead.{RowHead}
-use Rattle.ta_links.specs.Linked.{no_head, IsProperHead}
+use Rattle.ta_links.proofs.Common.{◌≡◌, ◌∙◌, ap, sym, subst, rules, List, ℤ, pos, neg_ℤ, ◌-ℤ◌, get_or, set, to_z-of_z, SFits, w128, zero_minus, RowHead, no_head, IsProperHead, fits_minus}
 use Rattle.ta_links.proofs.TurnedRow.{turns_within, turn_done}
-use Rattle.ta_dense.proofs.ReduceFacts.{fits_minus}
 use Rattle.ta_links.proofs.turning.turn_row.Goals as goal
 
 pub write_merged-requires-clause-turned : goal.write_merged-requires-clause-turned

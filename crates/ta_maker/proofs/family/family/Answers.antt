@@ -1,8 +1,4 @@
-use Rattle.std.proofs.Common.{◌≡◌, ◌∙◌, sym, ap, length, arith}
-use Rattle.std.proofs.lemmas.List.{length-map}
-use Rattle.std.specs.Prelude.{codes}
-use Rattle.ta_syntax.specs.PlainTrees.{plain_location, plain_name, plain_rule}
-use Rattle.ta_maker.specs.Family.{numbered}
+use Rattle.ta_maker.proofs.Common.{◌≡◌, ◌∙◌, sym, ap, length, arith, length-map, codes, plain_location, plain_name, plain_rule, numbered}
 use Rattle.ta_maker.proofs.Counting.{few_items, few_rules}
 use Rattle.ta_maker.proofs.Naming.{is_lone, name_family, shallow_lone}
 use Rattle.ta_maker.proofs.family.family.Goals as goal

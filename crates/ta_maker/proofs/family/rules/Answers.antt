@@ -1,5 +1,4 @@
-use Rattle.std.proofs.Common.{arith}
-use Rattle.ta_syntax.specs.PlainTrees.{plain_rule}
+use Rattle.ta_maker.proofs.Common.{arith, plain_rule}
 use Rattle.ta_maker.proofs.Counting.{more_rules}
 use Rattle.ta_maker.proofs.family.rules.Goals as goal
 

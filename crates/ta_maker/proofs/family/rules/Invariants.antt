@@ -1,6 +1,4 @@
-use Rattle.std.proofs.Common.{◌≡◌, ◌≤◌, ◌+◌, ◌-◌, ◌++◌, map}
-use Rattle.ta_syntax.specs.PlainTrees.{plain_rule}
-use Rattle.ta_maker.specs.Family.{numbers_on, rules_of}
+use Rattle.ta_maker.proofs.Common.{◌≡◌, ◌≤◌, ◌+◌, ◌-◌, ◌++◌, map, plain_rule, numbers_on, rules_of}
 use Rattle.ta_maker.proofs.family.rules.Given as goal
 
 -- the rules so far, and those that are left

@@ -1,7 +1,4 @@
-use Rattle.std.proofs.Common.{arith}
-use Rattle.std.specs.Prelude.{codes}
-use Rattle.ta_syntax.specs.PlainTrees.{plain_name}
-use Rattle.ta_maker.specs.Family.{numbered}
+use Rattle.ta_maker.proofs.Common.{arith, codes, plain_name, numbered}
 use Rattle.ta_maker.proofs.Counting.{more_items}
 use Rattle.ta_maker.proofs.Naming.{name_x}
 use Rattle.ta_maker.proofs.family.shared.Goals as goal

@@ -1,7 +1,4 @@
-use Rattle.std.proofs.Common.{◌≡◌, ◌≤◌, ◌+◌, ◌-◌, ◌++◌, map}
-use Rattle.std.specs.Prelude.{codes}
-use Rattle.ta_syntax.specs.PlainTrees.{plain_name}
-use Rattle.ta_maker.specs.Family.{numbered, numbers_on}
+use Rattle.ta_maker.proofs.Common.{◌≡◌, ◌≤◌, ◌+◌, ◌-◌, ◌++◌, map, codes, plain_name, numbered, numbers_on}
 use Rattle.ta_maker.proofs.family.shared.Given as goal
 
 -- the names so far, and those that are left

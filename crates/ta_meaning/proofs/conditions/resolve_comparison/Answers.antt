@@ -1,8 +1,4 @@
-use Rattle.std.proofs.Common.{◌≡◌, inr, List, sym, ap, subst, ◌∙◌}
-use Rattle.std.proofs.lemmas.Result.{err_from_is_err_and}
-use Rattle.ta_syntax.specs.declared.fault.FileFault.{FileFault}
-use Rattle.ta_meaning.specs.Faults.{First}
-use Rattle.ta_meaning.specs.Inside.Resolved.{first_places}
+use Rattle.ta_meaning.proofs.Common.{◌≡◌, inr, List, sym, ap, subst, ◌∙◌, err_from_is_err_and, FileFault, First, first_places}
 use Rattle.ta_meaning.proofs.ComparedForms.{comparison_answers, last_of_comparison, left_first}
 use Rattle.ta_meaning.proofs.conditions.resolve_comparison.Goals as goal
 

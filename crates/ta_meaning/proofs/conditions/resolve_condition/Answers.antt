@@ -1,7 +1,4 @@
-use Rattle.std.proofs.Common.{List, subst}
-use Rattle.std.proofs.Math.ListN.{drop_of_length-le}
-use Rattle.ta_syntax.specs.declared.tree.TreeComparison.{TreeComparison}
-use Rattle.ta_meaning.specs.Inside.Resolved.{first_places}
+use Rattle.ta_meaning.proofs.Common.{List, subst, drop_of_length-le, TreeComparison, first_places}
 use Rattle.ta_meaning.proofs.ComparedForms.{Resolving, condition_ends}
 use Rattle.ta_meaning.proofs.conditions.resolve_condition.Goals as goal
 

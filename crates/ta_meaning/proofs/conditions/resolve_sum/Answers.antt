@@ -1,6 +1,4 @@
-use Rattle.ta_meaning.specs.Inside.Resolved.{first_places}
-use Rattle.ta_meaning.specs.Faults.{sum_faults}
-use Rattle.ta_syntax.specs.PlainSums.{plain_sum}
+use Rattle.ta_meaning.proofs.Common.{first_places, sum_faults, plain_sum}
 use Rattle.ta_meaning.proofs.Answering.{judges-answer}
 use Rattle.ta_meaning.proofs.ComparedForms.{sum_answers}
 use Rattle.ta_meaning.proofs.conditions.resolve_sum.Goals as goal

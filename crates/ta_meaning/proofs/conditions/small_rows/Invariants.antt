@@ -1,5 +1,4 @@
-use Rattle.std.proofs.Common.{◌≡◌, drop}
-use Rattle.ta_meaning.specs.Inside.SumParts.{any_large_row}
+use Rattle.ta_meaning.proofs.Common.{◌≡◌, drop, any_large_row}
 use Rattle.ta_meaning.proofs.conditions.small_rows.Given as goal
 
 abbrev pub invariant-rows : goal.invariant-rows

@@ -1,6 +1,4 @@
-use Rattle.std.proofs.Common.{◌≡◌, not, List, sym, ap, ◌∙◌}
-use Rattle.ta_syntax.specs.declared.tree.TreeLocation.{TreeLocation}
-use Rattle.ta_meaning.specs.Faults.{any_initial}
+use Rattle.ta_meaning.proofs.Common.{◌≡◌, not, List, sym, ap, ◌∙◌, TreeLocation, any_initial}
 use Rattle.ta_meaning.proofs.Answering.{where-false, where-leads}
 use Rattle.ta_meaning.proofs.Declared.{any_initial_is}
 use Rattle.ta_meaning.proofs.declarations.check_initial.Goals as goal

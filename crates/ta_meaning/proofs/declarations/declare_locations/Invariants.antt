@@ -1,5 +1,4 @@
-use Rattle.std.proofs.Common.{drop, map}
-use Rattle.ta_meaning.specs.Faults.{location_spelled}
+use Rattle.ta_meaning.proofs.Common.{drop, map, location_spelled}
 use Rattle.ta_meaning.proofs.DeclaredSteps.{DeclaredTo}
 use Rattle.ta_meaning.proofs.declarations.declare_locations.Given as goal
 

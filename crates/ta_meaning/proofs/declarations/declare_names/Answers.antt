@@ -1,8 +1,4 @@
-use Rattle.std.proofs.Common.{◌≡◌, ◌+◌, List, ◌∷◌, drop, subst, arith}
-use Rattle.std.proofs.lemmas.Result.{err_from_is_err_and}
-use Rattle.std.proofs.Math.ListN.{drop_of_length-le}
-use Rattle.ta_base.proofs.Lists.{next_item}
-use Rattle.ta_syntax.specs.declared.names.Spelled.{Spelled}
+use Rattle.ta_meaning.proofs.Common.{◌≡◌, ◌+◌, List, ◌∷◌, drop, subst, arith, err_from_is_err_and, drop_of_length-le, next_item, Spelled}
 use Rattle.ta_meaning.proofs.DeclaredSteps.{DeclaredTo, declaring_begins, declaring_goes_on, declaring_stops, declaring_ends}
 use Rattle.ta_meaning.proofs.declarations.declare_names.Goals as goal
 

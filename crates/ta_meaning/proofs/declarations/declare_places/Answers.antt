@@ -1,6 +1,4 @@
-use Rattle.std.proofs.Common.{◌≡◌, ℕ, ◌+◌, List, length, sym, ap, subst, ◌∙◌, arith}
-use Rattle.ta_syntax.specs.declared.names.Spelled.{Spelled}
-use Rattle.ta_base.specs.Lists.{Distinct}
+use Rattle.ta_meaning.proofs.Common.{◌≡◌, ℕ, ◌+◌, List, length, sym, ap, subst, ◌∙◌, arith, Spelled, Distinct}
 use Rattle.ta_meaning.proofs.Declared.{names-distinct}
 use Rattle.ta_meaning.proofs.DeclaredTrees.{lengths, kinds_are}
 use Rattle.ta_meaning.proofs.declarations.declare_places.Goals as goal

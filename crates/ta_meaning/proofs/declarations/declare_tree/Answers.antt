@@ -1,5 +1,4 @@
-use Rattle.std.proofs.Common.{inr}
-use Rattle.std.proofs.lemmas.Result.{err_from_is_err_and}
+use Rattle.ta_meaning.proofs.Common.{inr, err_from_is_err_and}
 use Rattle.ta_meaning.proofs.DeclaredTrees.{InitialFits, after_parameters, after_shared, after_all, parameters_fit, shared_fit, all_fit, stops_at_name, stops_at_parameters, stops_at_shared, stops_at_initial, stops_at_locations}
 use Rattle.ta_meaning.proofs.declarations.declare_tree.Goals as goal
 

@@ -1,6 +1,4 @@
-use Rattle.std.proofs.Common.{◌≡◌, ◌++◌, map, drop}
-use Rattle.ta_syntax.specs.PlainTrees.{plain_location}
-use Rattle.ta_meaning.specs.Meaning.{initial_from}
+use Rattle.ta_meaning.proofs.Common.{◌≡◌, ◌++◌, map, drop, plain_location, initial_from}
 use Rattle.ta_meaning.proofs.file.initial_locations.Given as goal
 
 abbrev pub invariant-loop-number : goal.invariant-loop-number

@@ -1,6 +1,4 @@
-use Rattle.std.proofs.Common.{◌≡◌, pos, FitsSigned, ◌∙◌, rules}
-use Rattle.std.specs.Int.{w128}
-use Rattle.std.proofs.lemmas.Int.{to_z-of_z}
+use Rattle.ta_meaning.proofs.Common.{◌≡◌, pos, FitsSigned, ◌∙◌, rules, w128, to_z-of_z}
 use Rattle.ta_meaning.proofs.SmallForms.{difference_of}
 use Rattle.ta_meaning.proofs.forms.difference.Goals as goal
 

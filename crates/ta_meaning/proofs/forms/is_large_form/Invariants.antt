@@ -1,5 +1,4 @@
-use Rattle.std.proofs.Common.{◌≡◌, drop}
-use Rattle.ta_meaning.specs.Inside.SumParts.{any_large_term}
+use Rattle.ta_meaning.proofs.Common.{◌≡◌, drop, any_large_term}
 use Rattle.ta_meaning.proofs.forms.is_large_form.Given as goal
 
 abbrev pub invariant-terms : goal.invariant-terms

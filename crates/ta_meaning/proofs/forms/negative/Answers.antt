@@ -1,5 +1,4 @@
-use Rattle.std.proofs.Common.{Err, ap}
-use Rattle.ta_linear.proofs.TermLemmas.{negative_stays}
+use Rattle.ta_meaning.proofs.Common.{Err, ap, negative_stays}
 use Rattle.ta_meaning.proofs.forms.negative.Goals as goal
 
 pub unreachable-requires : goal.unreachable-requires

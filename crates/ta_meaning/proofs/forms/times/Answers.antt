@@ -1,6 +1,4 @@
-use Rattle.std.proofs.Common.{◌≤◌, ℤ, Err, unsigned_abs, FitsSigned, sym, ap, subst, rules}
-use Rattle.std.specs.Int.{w128}
-use Rattle.std.proofs.lemmas.Int.{to_z-of_z}
+use Rattle.ta_meaning.proofs.Common.{◌≤◌, ℤ, Err, unsigned_abs, FitsSigned, sym, ap, subst, rules, w128, to_z-of_z}
 use Rattle.ta_meaning.proofs.SmallForms.{product_stays}
 use Rattle.ta_meaning.proofs.forms.times.Goals as goal
 

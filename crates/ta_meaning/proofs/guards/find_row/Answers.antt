@@ -1,8 +1,4 @@
-use Rattle.std.proofs.Common.{◌≡◌, ◌∙◌, sym, below_more, arith, subst, slice_get, Some, refl}
-use Rattle.std.proofs.lemmas.Bool.{false≢true}
-use Rattle.std.proofs.lemmas.Option.{slice_get_read, slice_get_within, same_Some}
-use Rattle.ta_linear.specs.declared.row.Row.{Row}
-use Rattle.ta_meaning.specs.Inside.Numbering.{SameAt, HasSameTerms}
+use Rattle.ta_meaning.proofs.Common.{◌≡◌, ◌∙◌, sym, below_more, arith, subst, slice_get, Some, refl, false≢true, slice_get_read, slice_get_within, same_Some, Row, SameAt, HasSameTerms}
 use Rattle.ta_meaning.proofs.guards.find_row.Goals as goal
 
 pub returns-then-is_same-clause-some : goal.returns-then-is_same-clause-some

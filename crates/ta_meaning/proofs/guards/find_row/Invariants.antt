@@ -1,5 +1,4 @@
-use Rattle.std.proofs.Common.{ℕ, ◌<◌}
-use Rattle.ta_meaning.specs.Inside.Numbering.{SameAt}
+use Rattle.ta_meaning.proofs.Common.{ℕ, ◌<◌, SameAt}
 use Rattle.ta_meaning.proofs.guards.find_row.Given as goal
 
 abbrev pub invariant-loop-number : goal.invariant-loop-number

@@ -1,8 +1,4 @@
-use Rattle.std.proofs.Common.{ℕ, ℤ, ◌≡◌, eqb, ◌&&◌, int_eq, Decides, ap, ◌∙◌, sym, refl, rules, FitsSigned}
-use Rattle.std.specs.Int.{w128}
-use Rattle.std.proofs.lemmas.Int.{to_z-of_z}
-use Rattle.std.proofs.lemmas.Slice.Eq.{slice_eq-Decides}
-use Rattle.std.proofs.lemmas.Bool.Decides.{Decides-eqb, Decides-int_eq, Decides-and, Decides-like}
+use Rattle.ta_meaning.proofs.Common.{ℕ, ℤ, ◌≡◌, eqb, ◌&&◌, int_eq, Decides, ap, ◌∙◌, sym, refl, rules, FitsSigned, w128, to_z-of_z, slice_eq-Decides, Decides-eqb, Decides-int_eq, Decides-and, Decides-like}
 use Rattle.ta_meaning.proofs.guards.is_same.Goals as goal
 
 term_decides : (a b : ℕ × ℤ) → Decides (eqb a.0 b.0 && int_eq a.1 b.1) (a ≡ b)

@@ -1,7 +1,4 @@
-use Rattle.std.proofs.Common.{length, sym, refl}
-use Rattle.std.proofs.lemmas.Result.{err_from_is_err_and}
-use Rattle.ta_meaning.specs.Inside.Resolved.{kinds_of}
-use Rattle.ta_meaning.specs.Inside.Numbering.{guards_so_far}
+use Rattle.ta_meaning.proofs.Common.{length, sym, refl, err_from_is_err_and, kinds_of, guards_so_far}
 use Rattle.ta_meaning.proofs.Exits.{exit-first}
 use Rattle.ta_meaning.proofs.PlaceNames.{parameters_count}
 use Rattle.ta_meaning.proofs.GuardPlaces.{guard_none, guard_resolved, guard_first, one_row_from}

@@ -1,10 +1,4 @@
-use Rattle.std.proofs.Common.{◌+◌, List, drop, subst}
-use Rattle.std.proofs.lemmas.Result.{err_from_is_err_and}
-use Rattle.std.proofs.Math.ListN.{drop_of_length-le}
-use Rattle.ta_base.proofs.Lists.{next_item}
-use Rattle.ta_syntax.specs.PlainTrees.{plain_comparison}
-use Rattle.ta_syntax.specs.declared.tree.TreeComparison.{TreeComparison}
-use Rattle.ta_meaning.specs.Inside.Resolved.{kinds_of}
+use Rattle.ta_meaning.proofs.Common.{◌+◌, List, drop, subst, err_from_is_err_and, drop_of_length-le, next_item, plain_comparison, TreeComparison, kinds_of}
 use Rattle.ta_meaning.proofs.Exits.{exit-first}
 use Rattle.ta_meaning.proofs.GuardReading.{GuardsReading, number_fits, reading_more, reading_stops, reading_ends}
 use Rattle.ta_meaning.proofs.guards.number_guards.Goals as goal

@@ -1,5 +1,4 @@
-use Rattle.std.proofs.Common.{drop}
-use Rattle.ta_meaning.specs.Inside.Resolved.{kinds_of}
+use Rattle.ta_meaning.proofs.Common.{drop, kinds_of}
 use Rattle.ta_meaning.proofs.GuardReading.{GuardsReading}
 use Rattle.ta_meaning.proofs.guards.number_guards.Given as goal
 

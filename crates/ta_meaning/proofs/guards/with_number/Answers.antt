@@ -1,5 +1,4 @@
-use Rattle.std.proofs.Common.{refl, w8, w16}
-use Rattle.std.proofs.lemmas.Nat.Bits.{bit_at_set_same, bit_at_set_other}
+use Rattle.ta_meaning.proofs.Common.{refl, w8, w16, bit_at_set_same, bit_at_set_other}
 use Rattle.ta_meaning.proofs.GuardMasks.{with_bit}
 use Rattle.ta_meaning.proofs.guards.with_number.Goals as goal
 

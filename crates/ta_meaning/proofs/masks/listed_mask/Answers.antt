@@ -1,11 +1,4 @@
-use Rattle.std.proofs.Common.{◌≡◌, ◌+◌, List, ◌∷◌, drop, refl, subst, arith}
-use Rattle.std.proofs.lemmas.Bool.{false≢true}
-use Rattle.std.proofs.lemmas.Option.{slice_get_within}
-use Rattle.std.proofs.lemmas.Result.{err_from_is_err_and}
-use Rattle.std.proofs.Math.ListN.{drop_of_length-le}
-use Rattle.ta_base.proofs.Lists.{next_item}
-use Rattle.ta_syntax.specs.declared.names.Spelled.{Spelled}
-use Rattle.ta_meaning.specs.Inside.Listed.{between}
+use Rattle.ta_meaning.proofs.Common.{◌≡◌, ◌+◌, List, ◌∷◌, drop, refl, subst, arith, false≢true, slice_get_within, err_from_is_err_and, drop_of_length-le, next_item, Spelled, between}
 use Rattle.ta_meaning.proofs.ListedSteps.{ListedTo, listing_begins, listing_stops, listing_repeats, listing_goes_on, listing_ends, between-distinct, between-within, between-length}
 use Rattle.ta_meaning.proofs.masks.listed_mask.Goals as goal
 

@@ -1,5 +1,4 @@
-use Rattle.std.proofs.Common.{drop}
-use Rattle.ta_meaning.specs.Inside.Listed.{between}
+use Rattle.ta_meaning.proofs.Common.{drop, between}
 use Rattle.ta_meaning.proofs.ListedSteps.{ListedTo}
 use Rattle.ta_meaning.proofs.masks.listed_mask.Given as goal
 

@@ -1,5 +1,4 @@
-use Rattle.std.proofs.Common.{◌≡◌, ◌≤◌, take}
-use Rattle.ta_meaning.specs.Sums.{number_of}
+use Rattle.ta_meaning.proofs.Common.{◌≡◌, ◌≤◌, take, number_of}
 use Rattle.ta_meaning.proofs.numbers.read_number.Given as goal
 
 abbrev pub invariant-digits : goal.invariant-digits

@@ -1,6 +1,4 @@
-use Rattle.std.proofs.Common.{Ok, Err, refl}
-use Rattle.std.proofs.lemmas.Result.{err_from_is_err_and}
-use Rattle.ta_meaning.specs.Inside.Listed.{between}
+use Rattle.ta_meaning.proofs.Common.{Ok, Err, refl, err_from_is_err_and, between}
 use Rattle.ta_meaning.proofs.PlaceScopes.{listed_along, between-end}
 use Rattle.ta_meaning.proofs.patterns.after_mask.Goals as goal
 

@@ -1,7 +1,4 @@
-use Rattle.std.proofs.Common.{◌+◌, drop, sym}
-use Rattle.ta_meaning.specs.Names.{all_names}
-use Rattle.ta_meaning.specs.Inside.Listed.{between}
-use Rattle.ta_meaning.specs.Inside.Resolved.{kinds_of}
+use Rattle.ta_meaning.proofs.Common.{◌+◌, drop, sym, all_names, between, kinds_of}
 use Rattle.ta_meaning.proofs.PlaceNames.{all_names_are}
 use Rattle.ta_meaning.proofs.PlaceScopes.{listed_along, between-end}
 use Rattle.ta_meaning.proofs.patterns.empty_mask.Goals as goal

@@ -1,39 +1,55 @@
-use Rattle.std.proofs.Common.{◌≡◌, ◌+◌, List, ◌∷◌, drop, subst, arith}
-use Rattle.std.proofs.lemmas.Result.{err_from_is_err_and}
-use Rattle.std.proofs.Math.ListN.{drop_of_length-le}
-use Rattle.ta_base.proofs.Lists.{next_item}
-use Rattle.ta_syntax.specs.declared.tree.TreePattern.{TreePattern}
-use Rattle.ta_meaning.specs.Inside.Resolved.{kinds_of}
+use Rattle.ta_meaning.proofs.Common.{◌≡◌, ℕ, List, [], ◌∷◌, ◌++◌, map, length, ap, sym, subst, ◌∙◌, arith, into_iter_items, nil_from_length, err_from_is_err_and, Distinct, pattern_name, Pattern, plain_pattern, TreePattern, FirstOrMemory, pattern_faults, ResolvedPattern, kinds_of}
 use Rattle.ta_meaning.proofs.PatternSteps.{PatternsTo, patterns_begin, patterns_stop, patterns_go_on, patterns_end}
 use Rattle.ta_meaning.proofs.patterns.resolve_patterns.Goals as goal
 
 pub loop-pattern-init : goal.loop-pattern-init
-loop-pattern-init c = patterns_begin (kinds_of c.args.places.now) c.args.patterns.now c.new-names.result c.new-resolved.result.items c.new-names.ensures c.new-resolved.ensures.items
+loop-pattern-init c =
+    let xs = c.args.patterns.items in
+    let gives = c.into_iter-pattern-iterator.ensures.into_iter_gives in
+    let none = c.new-resolved.ensures.items in
+    let resolved = c.new-resolved.result.items in
+    let start = patterns_begin (kinds_of c.args.places.now) xs (map pattern_name resolved) resolved (ap (map pattern_name) none) none in
+    record {
+      so_far = subst (λ (ps : List TreePattern). PatternsTo (kinds_of c.args.places.now) xs ps (map pattern_name resolved) resolved) (sym gives.0) start;
+      long = gives.1 ∙ c.args.patterns.ok.0 ∙ ap (λ (ps : List TreePattern). length ps) (sym gives.0);
+    }
 
 pub resolve_pattern-requires : goal.resolve_pattern-requires
-resolve_pattern-requires c = c.loop-pattern.invariant.distinct
+resolve_pattern-requires c = subst (λ (before : List Pattern). Distinct (map pattern_name before)) (sym c.as_slice.ensures.value) c.loop-pattern.invariant.so_far.distinct
 
-pub returns-in_err-resolve_pattern : goal.returns-in_err-resolve_pattern
-returns-in_err-resolve_pattern c =
-    let xs = c.args.patterns.now in
+pub returns-in_err-one : goal.returns-in_err-one
+returns-in_err-one c =
+    let xs = c.args.patterns.items in
     let ns = kinds_of c.args.places.now in
-    let i = c.loop-pattern.pattern-index in
-    let x = c.pattern-item.result in
-    let here : drop i xs ≡ x ∷ drop (i + 1) xs = next_item xs i x (omega arith) c.pattern-item.is in
+    let resolved = c.loop-pattern.resolved.items in
+    let e = c.in_err-one.field-0.0 in
+    let here = subst (λ (ys : List TreePattern). PatternsTo ns xs ys (map pattern_name resolved) resolved) c.in-Some.ensures.steps.0 c.loop-pattern.invariant.so_far in
+    let told = subst (λ (before : List Pattern). FirstOrMemory (pattern_faults ns (map pattern_name before) c.in-Some.pattern) e) c.as_slice.ensures.value c.in_err-one.ensures in
     let p = err_from_is_err_and c.from_residual.result c.from_residual.ensures.1 in
-    rw (p.1, p.2) (patterns_stop ns xs x (drop (i + 1) xs) c.loop-pattern.names c.loop-pattern.resolved.items (subst (λ (ys : List TreePattern). PatternsTo ns xs ys c.loop-pattern.names c.loop-pattern.resolved.items) here c.loop-pattern.invariant) c.in_err-resolve_pattern.field-0.0 c.in_err-resolve_pattern.ensures)
+    rw (p.1, p.2) (patterns_stop ns xs c.in-Some.pattern (into_iter_items c.next.new.self) (map pattern_name resolved) resolved here e told)
 
 pub loop-pattern-preserved : goal.loop-pattern-preserved
 loop-pattern-preserved c =
-    let xs = c.args.patterns.now in
+    let xs = c.args.patterns.items in
     let ns = kinds_of c.args.places.now in
-    let i = c.loop-pattern.pattern-index in
-    let x = c.pattern-item.result in
-    let here : drop i xs ≡ x ∷ drop (i + 1) xs = next_item xs i x (omega arith) c.pattern-item.is in
-    rw c.in_ok-push.ensures.items (patterns_go_on ns xs x (drop (i + 1) xs) c.loop-pattern.names c.loop-pattern.resolved.items (subst (λ (ys : List TreePattern). PatternsTo ns xs ys c.loop-pattern.names c.loop-pattern.resolved.items) here c.loop-pattern.invariant) c.resolve_pattern.new.names c.in_ok-resolve_pattern.field-0 c.in_ok-resolve_pattern.ensures.0 c.in_ok-resolve_pattern.ensures.1)
+    let rest = into_iter_items c.next.new.self in
+    let pattern = c.in-Some.pattern in
+    let steps = c.in-Some.ensures.steps in
+    let resolved = c.loop-pattern.resolved.items in
+    let one = c.in_ok-one.one in
+    let here = subst (λ (ys : List TreePattern). PatternsTo ns xs ys (map pattern_name resolved) resolved) steps.0 c.loop-pattern.invariant.so_far in
+    let read = subst (λ (before : List Pattern). (pattern_faults ns (map pattern_name before) pattern ≡ []) × ResolvedPattern ns (map pattern_name before) (plain_pattern pattern) (map pattern_name before ++ pattern.name.name ∷ []) one) c.as_slice.ensures.value c.in_ok-one.ensures in
+    let more = patterns_go_on ns xs pattern rest (map pattern_name resolved) resolved here (map pattern_name resolved ++ pattern.name.name ∷ []) one read.0 read.1 in
+    let named = subst (λ (names : List (List ℕ)). PatternsTo ns xs rest names (resolved ++ one ∷ [])) more.names_are more in
+    record {
+      so_far = subst (λ (zs : List Pattern). PatternsTo ns xs rest (map pattern_name zs) zs) (sym c.in_ok-push.ensures.items) named;
+      long = omega (arith, steps.1, c.loop-pattern.invariant.long, ap (λ (ps : List TreePattern). length ps) steps.0);
+    }
 
 pub returns : goal.returns
 returns c =
-    let xs = c.args.patterns.now in
+    let xs = c.args.patterns.items in
     let ns = kinds_of c.args.places.now in
-    patterns_end ns xs c.loop-pattern.names c.loop-pattern.resolved.items c.requires (subst (λ (ys : List TreePattern). PatternsTo ns xs ys c.loop-pattern.names c.loop-pattern.resolved.items) (drop_of_length-le xs c.loop-pattern-test.false) c.loop-pattern.invariant)
+    let resolved = c.loop-pattern.resolved.items in
+    let none = nil_from_length (into_iter_items c.loop-pattern.pattern-iterator) (sym c.loop-pattern.invariant.long ∙ c.in-None.ensures.steps.0) in
+    patterns_end ns xs (map pattern_name resolved) resolved c.requires (subst (λ (ys : List TreePattern). PatternsTo ns xs ys (map pattern_name resolved) resolved) none c.loop-pattern.invariant.so_far)

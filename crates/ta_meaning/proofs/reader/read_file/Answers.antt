@@ -10,6 +10,6 @@ returns-in_err-file c =
 pub returns-in-Ok : goal.returns-in-Ok
 returns-in-Ok c = is-legal c.args.bytes.now c.in_ok-tree.tree c.in_ok-file.file c.in-Ok.scoped c.in_ok-tree.ensures.exact c.in_ok-file.ensures.0 c.in_ok-file.ensures.1 c.in-Ok.ensures.ok
 
-pub returns : goal.returns
-returns c =
+pub returns-in-Err : goal.returns-in-Err
+returns-in-Err c =
     rw c.fault_of.ensures (scope-fault c.args.bytes.now c.in_ok-tree.tree c.in_ok-file.file c.in-Err.fault c.in_ok-tree.ensures.exact c.in_ok-file.ensures.0 c.in_ok-file.ensures.1 c.in-Err.ensures.fault)

@@ -1,5 +1,4 @@
-use Rattle.std.proofs.Common.{◌≡◌, ◌+◌, ◌-◌, ℕ, List, Some, slice_get, take, drop, subst}
-use Rattle.ta_meaning.specs.Inside.Resolved.{kinds_of}
+use Rattle.ta_meaning.proofs.Common.{◌≡◌, ◌+◌, ◌-◌, ℕ, List, Some, slice_get, take, drop, subst, kinds_of}
 use Rattle.ta_meaning.proofs.Answering.{judges-along}
 use Rattle.ta_meaning.proofs.ListedPlaces.{locations_part_is, used_in}
 use Rattle.ta_meaning.proofs.rules.location_in.Goals as goal

@@ -1,33 +1,25 @@
-use Rattle.std.proofs.Common.{◌≡◌, inr, List, [], map, length, subst, refl}
-use Rattle.std.proofs.lemmas.Result.{err_from_is_err_and}
-use Rattle.ta_syntax.specs.PlainTrees.{plain_comparison, plain_update}
-use Rattle.ta_syntax.specs.declared.tree.TreeComparison.{TreeComparison}
-use Rattle.ta_syntax.specs.declared.tree.TreeUpdate.{TreeUpdate}
-use Rattle.ta_meaning.specs.Faults.{FirstOrMemory, in_guards, guards_faults, updates_faults}
-use Rattle.ta_meaning.specs.Inside.Resolved.{kinds_of}
-use Rattle.ta_meaning.specs.Inside.Numbering.{guards_so_far, GuardsNumbered}
-use Rattle.ta_meaning.specs.Inside.Updating.{UpdatesRead}
+use Rattle.ta_meaning.proofs.Common.{◌≡◌, inr, List, [], ◌∷◌, ◌++◌, map, length, subst, refl, err_from_is_err_and, plain_comparison, plain_update, TreeComparison, TreeUpdate, name_of, FirstOrMemory, in_guards, guards_faults, updates_faults, kinds_of, guards_so_far, GuardsNumbered, UpdatesRead}
 use Rattle.ta_meaning.proofs.Exits.{exit-first}
 use Rattle.ta_meaning.proofs.RuleSteps.{first_declared, first_from, first_to, first_guards, first_updates, none_in_rule, rule_read}
 use Rattle.ta_meaning.proofs.rules.resolve_rule.Goals as goal
 
-pub returns-in_err-declare : goal.returns-in_err-declare
-returns-in_err-declare c =
+pub returns-in_err-check_declared : goal.returns-in_err-check_declared
+returns-in_err-check_declared c =
     let ns = kinds_of c.args.places.now in
     let g = guards_so_far ns c.args.guards.now in
-    exit-first _ _ _ c.in_err-declare.field-0.0 (err_from_is_err_and _ c.from_residual.ensures.1) (first_declared ns c.args.names.now g c.args.rule.now c.in_err-declare.field-0.0 c.in_err-declare.ensures.faults)
+    exit-first _ _ _ c.in_err-check_declared.field-0.0 (err_from_is_err_and _ c.from_residual.ensures.1) (first_declared ns (map name_of c.args.before.now) g c.args.rule c.in_err-check_declared.field-0.0 (inr c.in_err-check_declared.ensures))
 
 pub returns-in_err-from : goal.returns-in_err-from
 returns-in_err-from c =
     let ns = kinds_of c.args.places.now in
     let g = guards_so_far ns c.args.guards.now in
-    exit-first _ _ _ c.in_err-from.field-0.0 (err_from_is_err_and _ c.from_residual-in_err-from.ensures.1) (first_from ns c.args.names.now g c.args.rule.now c.in_err-from.field-0.0 c.in_ok-declare.ensures.faults.0 (inr c.in_err-from.ensures))
+    exit-first _ _ _ c.in_err-from.field-0.0 (err_from_is_err_and _ c.from_residual-in_err-from.ensures.1) (first_from ns (map name_of c.args.before.now) g c.args.rule c.in_err-from.field-0.0 c.in_ok-check_declared.ensures.0 (inr c.in_err-from.ensures))
 
 pub returns-in_err-to : goal.returns-in_err-to
 returns-in_err-to c =
     let ns = kinds_of c.args.places.now in
     let g = guards_so_far ns c.args.guards.now in
-    exit-first _ _ _ c.in_err-to.field-0.0 (err_from_is_err_and _ c.from_residual-in_err-to.ensures.1) (first_to ns c.args.names.now g c.args.rule.now c.in_err-to.field-0.0 c.in_ok-declare.ensures.faults.0 c.in_ok-from.ensures.0 (inr c.in_err-to.ensures))
+    exit-first _ _ _ c.in_err-to.field-0.0 (err_from_is_err_and _ c.from_residual-in_err-to.ensures.1) (first_to ns (map name_of c.args.before.now) g c.args.rule c.in_err-to.field-0.0 c.in_ok-check_declared.ensures.0 c.in_ok-from.ensures.0 (inr c.in_err-to.ensures))
 
 pub returns-in_err-masks : goal.returns-in_err-masks
 returns-in_err-masks c =
@@ -35,7 +27,7 @@ returns-in_err-masks c =
     let g = guards_so_far ns c.args.guards.now in
     let e = c.in_err-masks.field-0.0 in
     let told = subst (λ (cs : List TreeComparison). FirstOrMemory (guards_faults (length ns.parameters) (in_guards ns) g cs) e) c.as_slice.ensures c.in_err-masks.ensures in
-    exit-first _ _ _ e (err_from_is_err_and _ c.from_residual-in_err-masks.ensures.1) (first_guards ns c.args.names.now g c.args.rule.now e c.in_ok-declare.ensures.faults.0 c.in_ok-from.ensures.0 c.in_ok-to.ensures.0 told)
+    exit-first _ _ _ e (err_from_is_err_and _ c.from_residual-in_err-masks.ensures.1) (first_guards ns (map name_of c.args.before.now) g c.args.rule e c.in_ok-check_declared.ensures.0 c.in_ok-from.ensures.0 c.in_ok-to.ensures.0 told)
 
 pub returns-in_err-updates : goal.returns-in_err-updates
 returns-in_err-updates c =
@@ -44,7 +36,7 @@ returns-in_err-updates c =
     let e = c.in_err-updates.field-0.0 in
     let when = subst (λ (cs : List TreeComparison). guards_faults (length ns.parameters) (in_guards ns) g cs ≡ []) c.as_slice.ensures c.in_ok-masks.ensures.0 in
     let told = subst (λ (us : List TreeUpdate). FirstOrMemory (updates_faults ns [] us) e) c.as_slice-2.ensures c.in_err-updates.ensures in
-    exit-first _ _ _ e (err_from_is_err_and _ c.from_residual-in_err-updates.ensures.1) (first_updates ns c.args.names.now g c.args.rule.now e c.in_ok-declare.ensures.faults.0 c.in_ok-from.ensures.0 c.in_ok-to.ensures.0 when told)
+    exit-first _ _ _ e (err_from_is_err_and _ c.from_residual-in_err-updates.ensures.1) (first_updates ns (map name_of c.args.before.now) g c.args.rule e c.in_ok-check_declared.ensures.0 c.in_ok-from.ensures.0 c.in_ok-to.ensures.0 when told)
 
 pub returns : goal.returns
 returns c =
@@ -54,8 +46,8 @@ returns c =
     let guards = subst (λ (cs : List TreeComparison). GuardsNumbered ns c.args.guards.now (map plain_comparison cs) c.number_guards.new.guards c.in_ok-masks.masks) c.as_slice.ensures c.in_ok-masks.ensures.1 in
     let none = subst (λ (us : List TreeUpdate). updates_faults ns [] us ≡ []) c.as_slice-2.ensures c.in_ok-updates.ensures.0 in
     let updates = subst (λ (us : List TreeUpdate). UpdatesRead ns (map plain_update us) c.in_ok-updates.updates.items) c.as_slice-2.ensures c.in_ok-updates.ensures.1 in (
-      none_in_rule ns c.args.names.now g c.args.rule.now c.in_ok-declare.ensures.faults.0 c.in_ok-from.ensures.0 c.in_ok-to.ensures.0 when none,
-      rule_read ns c.args.names.now c.declare.new.self c.args.guards.now c.number_guards.new.guards c.args.rule.now c.in_ok-masks.masks c.in_ok-updates.updates.items
-          (record { name = c.in_ok-name.name; from = c.in_ok-from.from; to = c.in_ok-to.to; rise = c.in_ok-masks.masks.rise; fall = c.in_ok-masks.masks.fall; updates = c.from_vec.result })
-          c.in_ok-declare.ensures.faults.0 c.in_ok-declare.ensures.faults.1 c.in_ok-from.ensures.1 c.in_ok-to.ensures.1 guards updates c.in_ok-name.ensures refl refl c.from_vec.ensures,
+      none_in_rule ns (map name_of c.args.before.now) g c.args.rule c.in_ok-check_declared.ensures.0 c.in_ok-from.ensures.0 c.in_ok-to.ensures.0 when none,
+      rule_read ns (map name_of c.args.before.now) (map name_of c.args.before.now ++ c.args.rule.name.name ∷ []) c.args.guards.now c.number_guards.new.guards c.args.rule c.in_ok-masks.masks c.in_ok-updates.updates.items
+          (record { name = c.args.rule.name.name; from = c.in_ok-from.from; to = c.in_ok-to.to; rise = c.in_ok-masks.masks.rise; fall = c.in_ok-masks.masks.fall; updates = c.from_vec.result })
+          c.in_ok-check_declared.ensures.0 refl c.in_ok-from.ensures.1 c.in_ok-to.ensures.1 guards updates refl refl refl c.from_vec.ensures,
     )

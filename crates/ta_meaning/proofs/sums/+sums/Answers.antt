@@ -1,21 +1,5 @@
-use Rattle.std.proofs.Common.{◌≡◌, inr, ◌+◌, ◌^◌, ◌∷◌, List, drop, sym, ap, subst, ◌∙◌, rules, arith}
-use Rattle.std.proofs.Common.{pos, FitsSigned}
-use Rattle.std.specs.Int.{w128}
-use Rattle.std.proofs.lemmas.Int.{to_z-of_z}
-use Rattle.std.proofs.lemmas.Result.{err_from_is_err_and}
-use Rattle.std.proofs.lemmas.List.{drop_more}
-use Rattle.std.proofs.Math.ListN.{drop_of_length-le}
-use Rattle.ta_syntax.specs.Grammar.{Terms}
-use Rattle.ta_syntax.specs.PlainSums.{plain_sum, plain_terms}
-use Rattle.ta_syntax.specs.declared.sums.Sign.{Sign}
-use Rattle.ta_syntax.specs.declared.sums.TreeTerm.{TreeTerm}
-use Rattle.ta_syntax.specs.declared.fault.FileFault.{FileFault}
+use Rattle.ta_meaning.proofs.Common.{◌≡◌, inr, ◌+◌, ◌^◌, ◌∷◌, List, drop, sym, ap, subst, ◌∙◌, rules, arith, pos, FitsSigned, w128, to_z-of_z, err_from_is_err_and, drop_more, drop_of_length-le, Terms, plain_sum, plain_terms, Sign, TreeTerm, FileFault, sum_uses, linear_sum, FirstOrMemory, sum_faults, first_places, PartOf}
 use Rattle.ta_syntax.proofs.PrintSteps.{plain_sum_out}
-use Rattle.ta_meaning.specs.Sums.{sum_uses}
-use Rattle.ta_meaning.specs.Linear.{linear_sum}
-use Rattle.ta_meaning.specs.Faults.{FirstOrMemory, sum_faults}
-use Rattle.ta_meaning.specs.Inside.Resolved.{first_places}
-use Rattle.ta_meaning.specs.Inside.SumParts.{PartOf}
 use Rattle.ta_meaning.proofs.Answering.{judges-answer}
 use Rattle.ta_meaning.proofs.TreeSums.{terms_faults, sum_faults_out}
 use Rattle.ta_meaning.proofs.PartForms.{alone_answers, number_first, product_answers, Summing, sum_begins, sum_more, sum_fails, sum_ends, sum_within}

@@ -1,5 +1,4 @@
-use Rattle.std.proofs.Common.{drop}
-use Rattle.ta_meaning.specs.Inside.Resolved.{first_places}
+use Rattle.ta_meaning.proofs.Common.{drop, first_places}
 use Rattle.ta_meaning.proofs.PartForms.{Summing}
 use Rattle.ta_meaning.proofs.sums.+sums.Given as goal
 

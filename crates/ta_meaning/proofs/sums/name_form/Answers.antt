@@ -1,6 +1,4 @@
-use Rattle.std.proofs.Common.{◌≡◌, ◌-◌, ◌∷◌, ◌++◌, [], pos, List, ℕ, ℤ, take, slice_get, Some, refl, ap, subst, ◌∙◌, arith}
-use Rattle.ta_base.proofs.Each.{distinct_take}
-use Rattle.ta_meaning.specs.Faults.{used_faults}
+use Rattle.ta_meaning.proofs.Common.{◌≡◌, ◌-◌, ◌∷◌, ◌++◌, [], pos, List, ℕ, ℤ, take, slice_get, Some, refl, ap, subst, ◌∙◌, arith, distinct_take, used_faults}
 use Rattle.ta_meaning.proofs.PartForms.{name_part}
 use Rattle.ta_meaning.proofs.sums.name_form.Goals as goal
 

@@ -1,10 +1,4 @@
-use Rattle.std.proofs.Common.{ℕ, ℤ, leb, ◌&&◌, ◌||◌, ◌∙◌, refl, rules, tests}
-use Rattle.std.proofs.lemmas.Iterator.{YieldsList-from_slice}
-use Rattle.std.proofs.lemmas.Iterator.Search.{any_from_yields_List}
-use Rattle.std.proofs.lemmas.List.Recursion.{same_from_clauses}
-use Rattle.std.specs.List.{list_any}
-use Rattle.ta_meaning.specs.Guards.{is_positive}
-use Rattle.ta_meaning.specs.Inside.Numbering.{any_shared}
+use Rattle.ta_meaning.proofs.Common.{ℕ, ℤ, leb, ◌&&◌, ◌||◌, ◌∙◌, refl, rules, tests, YieldsList-from_slice, any_from_yields_List, same_from_clauses, list_any, is_positive, any_shared}
 use Rattle.ta_meaning.proofs.thresholds.has_positive.Goals as goal
 
 pub returns : goal.returns

@@ -1,11 +1,4 @@
-use Rattle.std.proofs.Common.{◌≡◌, inr, ◌+◌, ℕ, List, [], drop, sym, subst}
-use Rattle.std.proofs.lemmas.Result.{err_from_is_err_and}
-use Rattle.std.proofs.Math.ListN.{drop_of_length-le}
-use Rattle.ta_base.proofs.Lists.{next_item}
-use Rattle.ta_syntax.specs.declared.tree.TreeUpdate.{TreeUpdate}
-use Rattle.ta_meaning.specs.Faults.{First}
-use Rattle.ta_meaning.specs.Inside.Resolved.{kinds_of}
-use Rattle.ta_meaning.specs.Inside.Updating.{names_at, variable_faults, IsNewVariable}
+use Rattle.ta_meaning.proofs.Common.{◌≡◌, inr, ◌+◌, ℕ, List, [], drop, sym, subst, err_from_is_err_and, drop_of_length-le, next_item, TreeUpdate, First, kinds_of, names_at, variable_faults, IsNewVariable}
 use Rattle.ta_meaning.proofs.Exits.{exit-first}
 use Rattle.ta_meaning.proofs.UpdateReading.{UpdatesReading, variable_stops, amount_stops, updates_more, updates_end}
 use Rattle.ta_meaning.proofs.updates.read_updates.Goals as goal

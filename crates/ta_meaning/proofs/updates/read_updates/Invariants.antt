@@ -1,5 +1,4 @@
-use Rattle.std.proofs.Common.{drop}
-use Rattle.ta_meaning.specs.Inside.Resolved.{kinds_of}
+use Rattle.ta_meaning.proofs.Common.{drop, kinds_of}
 use Rattle.ta_meaning.proofs.UpdateReading.{UpdatesReading}
 use Rattle.ta_meaning.proofs.updates.read_updates.Given as goal
 

@@ -1,8 +1,4 @@
-use Rattle.std.proofs.Common.{◌≡◌, ◌∙◌, sym, ℕ, List, Some, slice_get, subst, arith}
-use Rattle.std.proofs.lemmas.Result.{err_from_is_err_and}
-use Rattle.std.proofs.lemmas.Bool.{eqb-true, eqb-false}
-use Rattle.ta_syntax.specs.declared.fault.FileFault.{FileFault}
-use Rattle.ta_meaning.specs.Faults.{First}
+use Rattle.ta_meaning.proofs.Common.{◌≡◌, ◌∙◌, sym, ℕ, List, Some, slice_get, subst, arith, err_from_is_err_and, eqb-true, eqb-false, FileFault, First}
 use Rattle.ta_meaning.proofs.Exits.{exit-leads}
 use Rattle.ta_meaning.proofs.ListedPlaces.{shared_part_is, used_in, variable_first, variable_again, variable_new}
 use Rattle.ta_meaning.proofs.updates.variable_in.Goals as goal

@@ -1,9 +1,6 @@
-use Rattle.std.proofs.Common.{IfNone, IfSome}
+use Rattle.ta_pattern.proofs.Common.{IfNone, IfSome, point_of, Holds, HoldsAt, config_of}
 use Rattle.std.proofs.lemmas.Result.{IfOk-weaker}
 use Rattle.ta_base.proofs.Options.{none_weaker, some_weaker}
-use Rattle.ta_linear.specs.Values.{point_of}
-use Rattle.ta_automaton.specs.Runs.{Holds, HoldsAt}
-use Rattle.ta_counter.specs.Configs.{config_of}
 use Rattle.ta_pattern.proofs.Agreeing.{holds_there, holds_here}
 use Rattle.ta_pattern.proofs.condition.failing_start.Goals as goal
 

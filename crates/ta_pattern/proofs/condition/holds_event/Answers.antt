@@ -1,10 +1,7 @@
-use Rattle.std.proofs.Common.{◌<◌, ◌∙◌, sym, ap, subst, length, List, ℤ, arith, Ok}
+use Rattle.ta_pattern.proofs.Common.{◌<◌, ◌∙◌, sym, ap, subst, length, List, ℤ, arith, Ok, point_of, FirstFalse, EventAnswer}
 use Rattle.std.proofs.lemmas.Option.{same_Some}
 use Rattle.ta_base.proofs.Lists.{read_same}
-use Rattle.ta_linear.specs.Values.{point_of}
 use Rattle.ta_automaton.specs.declared.pattern.Event.{Event}
-use Rattle.ta_counter.specs.Checks.{FirstFalse}
-use Rattle.ta_pattern.specs.Events.{EventAnswer}
 use Rattle.ta_pattern.proofs.Agreeing.{event_answer, tells_event}
 use Rattle.ta_pattern.proofs.condition.holds_event.Goals as goal
 

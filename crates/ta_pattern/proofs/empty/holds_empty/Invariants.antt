@@ -1,6 +1,4 @@
-use Rattle.std.proofs.Common.{◌≡◌, ℕ, ◌<◌, pos, IsBitSet}
-use Rattle.ta_linear.specs.Values.{point_of}
-use Rattle.ta_automaton.specs.Places.{location_place}
+use Rattle.ta_pattern.proofs.Common.{◌≡◌, ℕ, ◌<◌, pos, IsBitSet, point_of, location_place}
 use Rattle.ta_pattern.proofs.empty.holds_empty.Given as goal
 
 -- each earlier location of the mask has counter 0

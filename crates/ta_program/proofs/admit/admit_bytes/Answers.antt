@@ -1,6 +1,5 @@
+use Rattle.ta_program.proofs.Common.{legal_exists, legal_of, word_seen}
 use Rattle.ta_smt.proofs.Admitted.{admits_are_exact}
-use Rattle.ta_smt.proofs.WordsNamed.{legal_exists, legal_of}
-use Rattle.ta_program.specs.WordSeen.{word_seen}
 use Rattle.ta_program.proofs.admit.admit_bytes.Goals as goal
 
 pub admit-requires-clause-exists : goal.admit-requires-clause-exists

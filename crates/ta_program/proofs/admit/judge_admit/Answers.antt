@@ -1,9 +1,4 @@
-use Rattle.std.proofs.Common.{[], refl}
-use Rattle.ta_scope.specs.declared.scoped.ScopedFile.{ScopedFile}
-use Rattle.ta_shell.proofs.Read.{grew_then}
-use Rattle.ta_program.specs.Admit.{run_meaning}
-use Rattle.ta_program.specs.Kinds.{file_kind}
-use Rattle.ta_program.specs.WordSeen.{asked_seen}
+use Rattle.ta_program.proofs.Common.{[], refl, ScopedFile, grew_then, run_meaning, file_kind, asked_seen}
 use Rattle.ta_program.proofs.WordMeanings.{run_monotone}
 use Rattle.ta_program.proofs.admit.judge_admit.Goals as goal
 

@@ -1,10 +1,4 @@
-use Rattle.std.proofs.Common.{[], refl}
-use Rattle.ta_replay.specs.declared.run.Run.{Run}
-use Rattle.ta_replay.specs.RunText.{run_text}
-use Rattle.ta_shell.specs.Stages.{Writes, replies}
-use Rattle.ta_shell.proofs.Read.{grew_none, grew_then, replies_monotone}
-use Rattle.ta_program.specs.Admit.{values_kind}
-use Rattle.ta_program.specs.WordSeen.{word_seen}
+use Rattle.ta_program.proofs.Common.{[], refl, Run, run_text, Writes, replies, grew_none, grew_then, replies_monotone, values_kind, word_seen}
 use Rattle.ta_program.proofs.admit.judge_values.Goals as goal
 
 pub returns-in-Ok-clause-says : goal.returns-in-Ok-clause-says

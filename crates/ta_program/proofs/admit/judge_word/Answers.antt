@@ -1,11 +1,4 @@
-use Rattle.std.proofs.Common.{[], refl}
-use Rattle.ta_shell.specs.declared.answer.Answer.{Answer}
-use Rattle.ta_shell.proofs.Read.{grew_found, grew_none}
-use Rattle.ta_smt.specs.Named.{IsWholeWordOf, WholeFaultOf}
-use Rattle.ta_smt.proofs.WordsNamed.{legal_word}
-use Rattle.ta_program.specs.Admit.{values_meaning}
-use Rattle.ta_program.specs.Export.{WordHinders}
-use Rattle.ta_program.specs.WordSeen.{asked_seen, word_seen}
+use Rattle.ta_program.proofs.Common.{[], refl, Answer, grew_found, grew_none, IsWholeWordOf, WholeFaultOf, legal_word, values_meaning, WordHinders, asked_seen, word_seen}
 use Rattle.ta_program.proofs.WordMeanings.{word_cause, word_refused}
 use Rattle.ta_program.proofs.admit.judge_word.Goals as goal
 

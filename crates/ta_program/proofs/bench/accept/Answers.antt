@@ -1,9 +1,4 @@
-use Rattle.std.proofs.Common.{◌≡◌, ◌∙◌, ◌++◌, List, ℕ, sym, ap, subst, inr, take, take_all}
-use Rattle.std.specs.Prelude.{IfOk}
-use Rattle.ta_check.specs.Subjects.{Subject}
-use Rattle.ta_check.specs.Certificate.{Certificate}
-use Rattle.ta_check.specs.Checkers.{CheckerFinishAnswers, CheckerStandsFor}
-use Rattle.ta_shell.specs.Puts.{texts_joined}
+use Rattle.ta_program.proofs.Common.{◌≡◌, ◌∙◌, ◌++◌, List, ℕ, sym, ap, subst, inr, take, take_all, IfOk, Subject, Certificate, CheckerFinishAnswers, CheckerStandsFor, texts_joined}
 use Rattle.ta_program.proofs.Benching.{ends_well, one_more_piece}
 use Rattle.ta_program.proofs.bench.accept.Goals as goal
 

@@ -1,8 +1,5 @@
-use Rattle.std.proofs.Common.{◌≡◌, take}
+use Rattle.ta_program.proofs.Common.{◌≡◌, take, CheckerStandsFor, subject_of, claiming, texts_joined}
 use Rattle.ta_claim.specs.declared.claim.Claim.TheVariants.{Safe}
-use Rattle.ta_check.specs.Checkers.{CheckerStandsFor, subject_of}
-use Rattle.ta_check.specs.Subjects.{claiming}
-use Rattle.ta_shell.specs.Puts.{texts_joined}
 use Rattle.ta_program.proofs.bench.accept.Given as goal
 
 -- the checker stands for the pieces so far

@@ -1,7 +1,4 @@
-use Rattle.std.proofs.Common.{◌∙◌, List, refl, sym, ap, slice_get}
-use Rattle.ta_automaton.specs.declared.pattern.Pattern.{Pattern}
-use Rattle.ta_report.specs.declared.verdict.Verdict.{Verdict}
-use Rattle.ta_shell.specs.Puts.{texts_joined}
+use Rattle.ta_program.proofs.Common.{◌∙◌, List, refl, sym, ap, slice_get, Pattern, Verdict, texts_joined}
 use Rattle.ta_program.proofs.Benching.{says_ok}
 use Rattle.ta_program.proofs.bench.bench_family.Goals as goal
 

@@ -1,5 +1,4 @@
-use Rattle.std.proofs.Common.{◌∙◌}
-use Rattle.ta_syntax.specs.PlainTrees.{plain_tree}
+use Rattle.ta_program.proofs.Common.{◌∙◌, plain_tree}
 use Rattle.ta_program.proofs.Benching.{legal_family}
 use Rattle.ta_program.proofs.bench.read_family.Goals as goal
 

@@ -1,5 +1,4 @@
-use Rattle.std.proofs.Common.{◌≡◌, ◌<◌, ◌+◌, length, sym, arith}
-use Rattle.std.proofs.lemmas.Bool.{false≢true}
+use Rattle.ta_program.proofs.Common.{◌≡◌, ◌<◌, ◌+◌, length, sym, arith, false≢true}
 use Rattle.ta_program.proofs.Within.{size_more, size_of, size_within}
 use Rattle.ta_program.proofs.certified.are_within.Goals as goal
 

@@ -1,8 +1,4 @@
-use Rattle.std.proofs.Common.{◌≡◌, ◌-◌, inl, inr, length, min, rules}
-use Rattle.ta_base.proofs.Lists.{piece_size}
-use Rattle.ta_shell.specs.Lines.{longer_than}
-use Rattle.ta_check.specs.Checkers.{subject_of}
-use Rattle.ta_program.specs.declared.limits.TheConstants.{CERTIFICATE}
+use Rattle.ta_program.proofs.Common.{◌≡◌, ◌-◌, inl, inr, length, min, rules, piece_size, longer_than, subject_of, CERTIFICATE}
 use Rattle.ta_program.proofs.PiecesJudged.{fault_only, passes_limit, piece_allowed, piece_breaks, says_only}
 use Rattle.ta_program.proofs.check.feed_piece.Goals as goal
 

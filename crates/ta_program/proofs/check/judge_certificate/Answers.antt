@@ -1,12 +1,5 @@
-use Rattle.std.proofs.Common.{[], refl, subst, Ok}
+use Rattle.ta_program.proofs.Common.{[], refl, subst, Ok, Subject, claiming, Grew, Accepted, check_text, Stage, Writes, replies, grew_none, grew_then, replies_monotone, certificate_kind}
 use Rattle.ta_claim.specs.declared.claim.Claim.TheVariants as claim
-use Rattle.ta_check.specs.Subjects.{Subject, claiming}
-use Rattle.ta_shelf.specs.Calls.{Grew}
-use Rattle.ta_check.specs.declared.accepted.Accepted.{Accepted}
-use Rattle.ta_report.specs.Check.{check_text}
-use Rattle.ta_shell.specs.Stages.{Stage, Writes, replies}
-use Rattle.ta_shell.proofs.Read.{grew_none, grew_then, replies_monotone}
-use Rattle.ta_program.specs.Kinds.{certificate_kind}
 use Rattle.ta_program.proofs.check.judge_certificate.Goals as goal
 
 pub returns-in-Ok-clause-says : goal.returns-in-Ok-clause-says

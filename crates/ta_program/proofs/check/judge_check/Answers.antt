@@ -1,8 +1,4 @@
-use Rattle.std.proofs.Common.{[], refl}
-use Rattle.ta_scope.specs.declared.scoped.ScopedFile.{ScopedFile}
-use Rattle.ta_shell.proofs.Read.{grew_then}
-use Rattle.ta_program.specs.Check.{proved_meaning}
-use Rattle.ta_program.specs.Kinds.{file_kind}
+use Rattle.ta_program.proofs.Common.{[], refl, ScopedFile, grew_then, proved_meaning, file_kind}
 use Rattle.ta_program.proofs.Meanings.{proved_monotone}
 use Rattle.ta_program.proofs.check.judge_check.Goals as goal
 

@@ -1,5 +1,4 @@
-use Rattle.std.proofs.Common.{◌<◌, arith, length, nat_lt, ltb-false, ltb-true}
-use Rattle.ta_check.specs.Checkers.{subject_of}
+use Rattle.ta_program.proofs.Common.{◌<◌, arith, length, nat_lt, ltb-false, ltb-true, subject_of}
 use Rattle.ta_program.proofs.PiecesJudged.{no_read, turn, turn_refused}
 use Rattle.ta_program.proofs.check.judge_piece.Goals as goal
 

@@ -1,7 +1,4 @@
-use Rattle.std.proofs.Common.{◌∙◌, ◌≤◌, Option, arith, length, subst, sym}
-use Rattle.ta_shelf.specs.Put.{Told}
-use Rattle.ta_check.specs.Checkers.{subject_of}
-use Rattle.ta_program.specs.Inside.Judged.{JudgedTo}
+use Rattle.ta_program.proofs.Common.{◌∙◌, ◌≤◌, Option, arith, length, subst, sym, Told, subject_of, JudgedTo}
 use Rattle.ta_program.proofs.PiecesJudged.{turn_more}
 use Rattle.ta_program.proofs.check.judge_pieces.Goals as goal
 

@@ -1,10 +1,4 @@
-use Rattle.std.proofs.Common.{◌≡◌, ◌-◌, ℕ, List, Option, length}
-use Rattle.ta_check.specs.declared.checker.Checker.{Checker}
-use Rattle.ta_check.specs.Checkers.{subject_of}
-use Rattle.ta_check.specs.Subjects.{Subject}
-use Rattle.ta_shelf.specs.Calls.{Call}
-use Rattle.ta_shelf.specs.Put.{Told}
-use Rattle.ta_program.specs.Inside.Judged.{JudgedTo}
+use Rattle.ta_program.proofs.Common.{◌≡◌, ◌-◌, ℕ, List, Option, length, Checker, subject_of, Subject, Call, Told, JudgedTo}
 use Rattle.ta_program.proofs.check.judge_pieces.Given as goal
 
 -- the pieces so far are judged

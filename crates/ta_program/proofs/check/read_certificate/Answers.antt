@@ -1,6 +1,4 @@
-use Rattle.std.proofs.Common.{Err, subst}
-use Rattle.ta_check.specs.Checkers.{CheckerFinishAnswers, IsExactCheck, subject_of}
-use Rattle.ta_check.specs.Subjects.{Subject}
+use Rattle.ta_program.proofs.Common.{Err, subst, CheckerFinishAnswers, IsExactCheck, subject_of, Subject}
 use Rattle.ta_program.proofs.PiecesJudged.{stage_ended}
 use Rattle.ta_program.proofs.check.read_certificate.Goals as goal
 

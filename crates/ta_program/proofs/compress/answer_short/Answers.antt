@@ -1,12 +1,4 @@
-use Rattle.std.proofs.Common.{◌≡◌, ◌∙◌, ◌≤◌, ℕ, List, [], Option, Ok, arith, refl}
-use Rattle.ta_automaton.specs.declared.file.File.{File}
-use Rattle.ta_replay.specs.declared.run.Run.{Run}
-use Rattle.ta_replay.specs.RunText.{run_text}
-use Rattle.ta_shelf.specs.Put.{Told}
-use Rattle.ta_shell.specs.declared.answer.Answer.{Answer}
-use Rattle.ta_shell.specs.Commands.{Says}
-use Rattle.ta_shell.specs.Stages.{Writes, replies}
-use Rattle.ta_program.specs.Compress.{SaysShort, ShortOf}
+use Rattle.ta_program.proofs.Common.{◌≡◌, ◌∙◌, ◌≤◌, ℕ, List, [], Option, Ok, arith, refl, File, Run, run_text, Told, Answer, Says, Writes, replies, SaysShort, ShortOf}
 use Rattle.ta_program.proofs.compress.answer_short.Goals as goal
 
 short_says : (file : File) (run short : Run) (files : Option Told) (answer : Answer) (text : List ℕ) → ShortOf file run short → Writes 0 text answer → text ≡ run_text file short → Says (replies [] (SaysShort file run)) files (Ok answer) []

@@ -1,8 +1,4 @@
-use Rattle.std.proofs.Common.{[], refl}
-use Rattle.ta_scope.specs.declared.scoped.ScopedFile.{ScopedFile}
-use Rattle.ta_shell.proofs.Read.{grew_then}
-use Rattle.ta_program.specs.Compress.{short_meaning}
-use Rattle.ta_program.specs.Kinds.{file_kind}
+use Rattle.ta_program.proofs.Common.{[], refl, ScopedFile, grew_then, short_meaning, file_kind}
 use Rattle.ta_program.proofs.Meanings.{short_monotone}
 use Rattle.ta_program.proofs.compress.judge_compress.Goals as goal
 

@@ -1,8 +1,5 @@
-use Rattle.std.proofs.Common.{[], refl}
-use Rattle.ta_shell.specs.Stages.{replies}
-use Rattle.ta_shell.proofs.Read.{grew_none, grew_then, replies_monotone}
+use Rattle.ta_program.proofs.Common.{[], refl, replies, grew_none, grew_then, replies_monotone, SaysShort, long_kind}
 use Rattle.ta_program.specs.declared.compress.Shortened.{Shortened}
-use Rattle.ta_program.specs.Compress.{SaysShort, long_kind}
 use Rattle.ta_program.proofs.compress.judge_long.Goals as goal
 
 pub returns-in-Ok-clause-says : goal.returns-in-Ok-clause-says

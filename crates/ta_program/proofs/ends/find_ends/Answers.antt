@@ -1,6 +1,4 @@
-use Rattle.std.proofs.Common.{ap, refl, subst}
-use Rattle.ta_shell.specs.Lines.{file_line}
-use Rattle.ta_scope.specs.LongerCycles.{LoopsAlone}
+use Rattle.ta_program.proofs.Common.{ap, refl, subst, file_line, LoopsAlone}
 use Rattle.ta_rest.proofs.Moving.{moves_bounded}
 use Rattle.ta_program.proofs.ends.find_ends.Goals as goal
 

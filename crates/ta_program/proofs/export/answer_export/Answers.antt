@@ -1,11 +1,4 @@
-use Rattle.std.proofs.Common.{[], refl}
-use Rattle.ta_shell.specs.Stages.{replies}
-use Rattle.ta_shell.specs.declared.answer.Answer.{Answer}
-use Rattle.ta_shell.proofs.Read.{finds_then}
-use Rattle.ta_smt.specs.Named.{IsWordOf, WordFaultOf}
-use Rattle.ta_smt.proofs.WordsNamed.{legal_word}
-use Rattle.ta_program.specs.Export.{SaysSystem, WordHinders}
-use Rattle.ta_program.specs.WordSeen.{asked_seen, word_seen}
+use Rattle.ta_program.proofs.Common.{[], refl, replies, Answer, finds_then, IsWordOf, WordFaultOf, legal_word, SaysSystem, WordHinders, asked_seen, word_seen}
 use Rattle.ta_program.proofs.WordMeanings.{word_cause, word_refused}
 use Rattle.ta_program.proofs.export.answer_export.Goals as goal
 

@@ -1,9 +1,4 @@
-use Rattle.std.proofs.Common.{[], refl}
-use Rattle.ta_scope.specs.declared.scoped.ScopedFile.{ScopedFile}
-use Rattle.ta_shell.proofs.Read.{grew_none, grew_then}
-use Rattle.ta_program.specs.Export.{system_meaning}
-use Rattle.ta_program.specs.Kinds.{file_kind}
-use Rattle.ta_program.specs.WordSeen.{asked_seen}
+use Rattle.ta_program.proofs.Common.{[], refl, ScopedFile, grew_none, grew_then, system_meaning, file_kind, asked_seen}
 use Rattle.ta_program.proofs.WordMeanings.{system_monotone}
 use Rattle.ta_program.proofs.export.judge_export.Goals as goal
 

@@ -1,9 +1,6 @@
-use Rattle.std.proofs.Common.{◌≢◌, refl, inl, inr, rules}
+use Rattle.ta_program.proofs.Common.{◌≢◌, refl, inl, inr, rules, ScopedFile, grew_fault, file_kind}
 use Rattle.ta_meaning.specs.FirstFault.{FirstFault}
-use Rattle.ta_scope.specs.declared.scoped.ScopedFile.{ScopedFile}
-use Rattle.ta_shell.proofs.Read.{grew_fault}
 use Rattle.ta_syntax.specs.declared.fault.FileFault.TheVariants as fault
-use Rattle.ta_program.specs.Kinds.{file_kind}
 use Rattle.ta_program.proofs.reading.read_legal.Goals as goal
 
 pub returns-in-Ok-clause-stage : goal.returns-in-Ok-clause-stage

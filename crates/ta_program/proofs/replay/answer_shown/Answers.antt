@@ -1,15 +1,4 @@
-use Rattle.std.proofs.Common.{◌≡◌, ◌∙◌, ◌≤◌, ℕ, List, [], Option, Ok, Some, ap, arith, refl, slice_get}
-use Rattle.std.proofs.lemmas.Option.{get_or_from_slice_get}
-use Rattle.ta_automaton.specs.declared.file.File.{File}
-use Rattle.ta_automaton.specs.declared.pattern.Pattern.{Pattern}
-use Rattle.ta_replay.specs.declared.run.Run.{Run}
-use Rattle.ta_replay.specs.Shows.{shown_of}
-use Rattle.ta_report.specs.Shown.{shown_line}
-use Rattle.ta_shelf.specs.Put.{Told}
-use Rattle.ta_shell.specs.declared.answer.Answer.{Answer}
-use Rattle.ta_shell.specs.Commands.{Says}
-use Rattle.ta_shell.specs.Stages.{Writes, replies}
-use Rattle.ta_program.specs.Replay.{SaysShown}
+use Rattle.ta_program.proofs.Common.{◌≡◌, ◌∙◌, ◌≤◌, ℕ, List, [], Option, Ok, Some, ap, arith, refl, slice_get, get_or_from_slice_get, File, Pattern, Run, shown_of, shown_line, Told, Answer, Says, Writes, replies, SaysShown}
 use Rattle.ta_program.proofs.replay.answer_shown.Goals as goal
 
 shown_says : (file : File) (run : Run) (files : Option Told) (answer : Answer) (pattern : Pattern) (text : List ℕ) → slice_get file.patterns run.pattern ≡ Some pattern → Writes 0 text answer → text ≡ shown_line pattern.name (shown_of run) → Says (replies [] (SaysShown file run)) files (Ok answer) []

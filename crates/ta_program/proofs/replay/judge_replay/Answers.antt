@@ -1,8 +1,4 @@
-use Rattle.std.proofs.Common.{[], refl}
-use Rattle.ta_scope.specs.declared.scoped.ScopedFile.{ScopedFile}
-use Rattle.ta_shell.proofs.Read.{grew_then}
-use Rattle.ta_program.specs.Kinds.{file_kind}
-use Rattle.ta_program.specs.Replay.{shown_meaning}
+use Rattle.ta_program.proofs.Common.{[], refl, ScopedFile, grew_then, file_kind, shown_meaning}
 use Rattle.ta_program.proofs.Meanings.{shown_monotone}
 use Rattle.ta_program.proofs.replay.judge_replay.Goals as goal
 

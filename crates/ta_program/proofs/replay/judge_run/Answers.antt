@@ -1,9 +1,5 @@
-use Rattle.std.proofs.Common.{[], refl}
-use Rattle.ta_shell.specs.Stages.{replies}
-use Rattle.ta_shell.proofs.Read.{grew_none, grew_then, replies_monotone}
+use Rattle.ta_program.proofs.Common.{[], refl, replies, grew_none, grew_then, replies_monotone, run_kind, SaysShown}
 use Rattle.ta_program.specs.declared.replay.ShownRun.{ShownRun}
-use Rattle.ta_program.specs.Kinds.{run_kind}
-use Rattle.ta_program.specs.Replay.{SaysShown}
 use Rattle.ta_program.proofs.replay.judge_run.Goals as goal
 
 pub returns-in-Ok-clause-says : goal.returns-in-Ok-clause-says

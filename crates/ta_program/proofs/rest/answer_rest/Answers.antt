@@ -1,11 +1,4 @@
-use Rattle.std.proofs.Common.{◌≡◌, ◌∙◌, List, ap, length, subst, sym, true}
-use Rattle.std.specs.Prelude.{is_some}
-use Rattle.std.specs.List.{AllByRecursion}
-use Rattle.ta_report.specs.declared.verdict.Verdict.{Verdict}
-use Rattle.ta_report.specs.Report.{VerdictFits}
-use Rattle.ta_shell.specs.Puts.{texts_joined}
-use Rattle.ta_program.specs.Inside.Reported.{RestReported}
-use Rattle.ta_program.specs.Statuses.{verdicts_number}
+use Rattle.ta_program.proofs.Common.{◌≡◌, ◌∙◌, List, ap, length, subst, sym, true, is_some, AllByRecursion, Verdict, VerdictFits, texts_joined, RestReported, verdicts_number}
 use Rattle.ta_program.proofs.Resting.{certified_says, plain_says}
 use Rattle.ta_program.proofs.rest.answer_rest.Goals as goal
 

@@ -1,9 +1,4 @@
-use Rattle.std.proofs.Common.{option_map, refl}
-use Rattle.ta_shell.specs.declared.answer.Answer.{Answer}
-use Rattle.ta_shell.proofs.Read.{finds_then}
-use Rattle.ta_program.specs.Certified.{may_put}
-use Rattle.ta_program.specs.Rest.{rest_report_meaning}
-use Rattle.ta_program.specs.RestEnds.{CycleHinders, IsEnds, ends_of}
+use Rattle.ta_program.proofs.Common.{option_map, refl, Answer, finds_then, may_put, rest_report_meaning, CycleHinders, IsEnds, ends_of}
 use Rattle.ta_program.proofs.Resting.{ends_refused, refused_cause}
 use Rattle.ta_program.proofs.rest.answer_scoped.Goals as goal
 

@@ -1,11 +1,4 @@
-use Rattle.std.proofs.Common.{option_map, refl}
-use Rattle.ta_scope.specs.declared.scoped.ScopedFile.{ScopedFile}
-use Rattle.ta_shell.proofs.Read.{grew_none, grew_then}
-use Rattle.ta_shell.specs.Stages.{finds}
-use Rattle.ta_program.specs.Certified.{may_put}
-use Rattle.ta_program.specs.Kinds.{file_kind}
-use Rattle.ta_program.specs.Rest.{rest_report_meaning}
-use Rattle.ta_program.specs.RestEnds.{CycleHinders, IsEnds}
+use Rattle.ta_program.proofs.Common.{option_map, refl, ScopedFile, grew_none, grew_then, finds, may_put, file_kind, rest_report_meaning, CycleHinders, IsEnds}
 use Rattle.ta_program.proofs.RestMeanings.{ends_monotone, rest_report_monotone}
 use Rattle.ta_program.proofs.rest.judge_file.Goals as goal
 

@@ -1,10 +1,4 @@
-use Rattle.std.proofs.Common.{[], refl}
-use Rattle.ta_scope.specs.declared.scoped.ScopedFile.{ScopedFile}
-use Rattle.ta_shell.proofs.Read.{grew_then}
-use Rattle.ta_shell.specs.Stages.{finds}
-use Rattle.ta_program.specs.Kinds.{file_kind}
-use Rattle.ta_program.specs.RestCheck.{rest_proved_meaning}
-use Rattle.ta_program.specs.RestEnds.{CycleHinders, IsEnds}
+use Rattle.ta_program.proofs.Common.{[], refl, ScopedFile, grew_then, finds, file_kind, rest_proved_meaning, CycleHinders, IsEnds}
 use Rattle.ta_program.proofs.RestMeanings.{ends_monotone, rest_proved_monotone}
 use Rattle.ta_program.proofs.rest_check.judge_files.Goals as goal
 

@@ -1,12 +1,5 @@
-use Rattle.std.proofs.Common.{[], refl, subst, List, ℕ}
-use Rattle.ta_check.specs.declared.accepted.Accepted.{Accepted}
-use Rattle.ta_check.specs.Subjects.{claiming}
+use Rattle.ta_program.proofs.Common.{[], refl, subst, List, ℕ, Accepted, claiming, rest_check_text, Says, Writes, replies, grew_none, grew_then, replies_monotone, certificate_kind}
 use Rattle.ta_claim.specs.declared.claim.Claim.TheVariants.{RestSafe}
-use Rattle.ta_report.specs.Check.{rest_check_text}
-use Rattle.ta_shell.specs.Commands.{Says}
-use Rattle.ta_shell.specs.Stages.{Writes, replies}
-use Rattle.ta_shell.proofs.Read.{grew_none, grew_then, replies_monotone}
-use Rattle.ta_program.specs.Kinds.{certificate_kind}
 use Rattle.ta_program.proofs.Resting.{check_alike}
 use Rattle.ta_program.proofs.rest_check.judge_rest.Goals as goal
 

@@ -1,8 +1,4 @@
-use Rattle.std.proofs.Common.{[], refl}
-use Rattle.ta_shell.specs.declared.answer.Answer.{Answer}
-use Rattle.ta_shell.proofs.Read.{grew_found, grew_none}
-use Rattle.ta_program.specs.RestCheck.{rest_proved_meaning}
-use Rattle.ta_program.specs.RestEnds.{CycleHinders, IsEnds, ends_of}
+use Rattle.ta_program.proofs.Common.{[], refl, Answer, grew_found, grew_none, rest_proved_meaning, CycleHinders, IsEnds, ends_of}
 use Rattle.ta_program.proofs.Resting.{ends_refused, refused_cause}
 use Rattle.ta_program.proofs.rest_check.judge_scoped.Goals as goal
 

@@ -1,10 +1,6 @@
-use Rattle.std.specs.Prelude.{codes, map}
-use Rattle.std.specs.Str.{bytes_eq}
-use Rattle.std.proofs.Common.{ℕ, List, ◌∷◌, ◌≡◌, ◌≢◌, false, refl}
-use Rattle.std.proofs.lemmas.Bool.{false_from_ne_true}
+use Rattle.ta_program.proofs.Common.{codes, bytes_eq, ℕ, List, ◌∷◌, ◌≡◌, ◌≢◌, false, refl, false_from_ne_true, NoCommand, request_of}
+use Rattle.std.specs.Prelude.{map}
 use Rattle.std.proofs.lemmas.Slice.Eq.{bytes_eq-Decides}
-use Rattle.ta_program.specs.Asked.Asked.{NoCommand}
-use Rattle.ta_program.specs.Requests.{request_of}
 use Rattle.ta_program.proofs.running.obey.Goals as goal
 
 -- another word than a row's name

@@ -1,6 +1,4 @@
-use Rattle.std.proofs.Common.{◌≡◌, true, false, arith, refl, map}
-use Rattle.ta_shell.specs.Ends.{state}
-use Rattle.ta_program.specs.Requests.{request_of}
+use Rattle.ta_program.proofs.Common.{◌≡◌, true, false, arith, refl, map, state, request_of}
 use Rattle.ta_program.proofs.Clauses.{number_by, admitting, benches, certificate_written, check_proves, exactly_so, exports, keeps_files, printed_holds, quiet, replay_shows, rest_proves, rests_report, run_shortens, searches, verify_reports, status_tells}
 use Rattle.ta_program.proofs.Complete.{completes}
 use Rattle.ta_program.proofs.running.run.Goals as goal

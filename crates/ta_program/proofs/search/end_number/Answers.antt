@@ -1,9 +1,4 @@
-use Rattle.std.proofs.Common.{◌≡◌, ◌∙◌, sym, false, rules, tests}
-use Rattle.std.specs.List.{list_any}
-use Rattle.std.proofs.lemmas.Iterator.{YieldsList-from_slice}
-use Rattle.std.proofs.lemmas.Iterator.Search.{any_from_yields_List}
-use Rattle.ta_search.specs.declared.outcome.Tried.{Tried}
-use Rattle.ta_program.specs.Search.{leaves_unknown}
+use Rattle.ta_program.proofs.Common.{◌≡◌, ◌∙◌, sym, false, rules, tests, list_any, YieldsList-from_slice, any_from_yields_List, Tried, leaves_unknown}
 use Rattle.ta_program.proofs.search.end_number.Goals as goal
 
 pub returns-else-any : goal.returns-else-any

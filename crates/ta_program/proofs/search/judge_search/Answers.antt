@@ -1,8 +1,4 @@
-use Rattle.std.proofs.Common.{refl}
-use Rattle.ta_search.specs.declared.template.Template.{Template}
-use Rattle.ta_shell.proofs.Read.{grew_none, grew_then}
-use Rattle.ta_program.specs.Search.{found_meaning, found_names, template_kind}
-use Rattle.ta_program.specs.SearchSeen.{search_seen}
+use Rattle.ta_program.proofs.Common.{refl, Template, grew_none, grew_then, found_meaning, found_names, template_kind, search_seen}
 use Rattle.ta_program.proofs.SearchMeanings.{found_monotone}
 use Rattle.ta_program.proofs.search.judge_search.Goals as goal
 

@@ -1,5 +1,4 @@
-use Rattle.ta_shell.specs.Puts.{texts_joined}
-use Rattle.ta_program.specs.SearchSeen.{search_seen}
+use Rattle.ta_program.proofs.Common.{texts_joined, search_seen}
 use Rattle.ta_program.proofs.SearchAnswers.{says_long}
 use Rattle.ta_program.proofs.search.put_last.Goals as goal
 

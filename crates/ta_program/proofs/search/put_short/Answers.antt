@@ -1,6 +1,4 @@
-use Rattle.std.proofs.Common.{refl}
-use Rattle.ta_shell.specs.Puts.{texts_joined}
-use Rattle.ta_program.specs.SearchSeen.{search_seen}
+use Rattle.ta_program.proofs.Common.{refl, texts_joined, search_seen}
 use Rattle.ta_program.proofs.SearchAnswers.{says_found, values_sized}
 use Rattle.ta_program.proofs.search.put_short.Goals as goal
 

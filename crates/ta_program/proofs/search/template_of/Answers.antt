@@ -1,7 +1,5 @@
-use Rattle.std.proofs.Common.{◌≢◌, List, ℕ}
-use Rattle.ta_search.specs.declared.fault.TemplateFault.{TemplateFault}
+use Rattle.ta_program.proofs.Common.{◌≢◌, List, ℕ, TemplateFault, FaultOf, FirstTemplateFault}
 use Rattle.ta_search.specs.declared.fault.TemplateFault.TheVariants as fault
-use Rattle.ta_search.specs.TemplateFaults.{FaultOf, FirstTemplateFault}
 use Rattle.ta_program.proofs.search.template_of.Goals as goal
 
 first_of : (bytes : List ℕ) (e : TemplateFault) → e ≢ fault.Memory → FaultOf bytes e → FirstTemplateFault bytes e

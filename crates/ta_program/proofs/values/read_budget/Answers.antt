@@ -1,5 +1,4 @@
-use Rattle.std.proofs.Common.{◌≡◌, ◌<◌, length, false, refl, rules}
-use Rattle.ta_program.specs.Values.{is_budget}
+use Rattle.ta_program.proofs.Common.{◌≡◌, ◌<◌, length, false, refl, rules, is_budget}
 use Rattle.ta_program.proofs.WordsBudget.{no_budget}
 use Rattle.ta_program.proofs.values.read_budget.Goals as goal
 

@@ -1,11 +1,5 @@
-use Rattle.std.proofs.Common.{◌≡◌, ◌∙◌, List, ap, subst, sym, true}
-use Rattle.std.specs.Prelude.{is_some}
-use Rattle.ta_report.specs.declared.verdict.Verdict.{Verdict}
-use Rattle.ta_shell.specs.Puts.{texts_joined}
-use Rattle.ta_program.specs.Inside.Reported.{SampleReported}
-use Rattle.ta_program.specs.Statuses.{verdicts_number}
+use Rattle.ta_program.proofs.Common.{◌≡◌, ◌∙◌, List, ap, subst, sym, true, is_some, Verdict, texts_joined, SampleReported, verdicts_number, AreVerdicts}
 use Rattle.ta_program.proofs.Certifying.{certified_says}
-use Rattle.ta_verdict.specs.Verdicts.{AreVerdicts}
 use Rattle.ta_program.proofs.verify.answer_report.Goals as goal
 
 pub report-requires : goal.report-requires

@@ -1,9 +1,4 @@
-use Rattle.std.proofs.Common.{option_map, refl}
-use Rattle.ta_scope.specs.declared.scoped.ScopedFile.{ScopedFile}
-use Rattle.ta_shell.proofs.Read.{grew_none, grew_then}
-use Rattle.ta_program.specs.Certified.{may_put}
-use Rattle.ta_program.specs.Kinds.{file_kind}
-use Rattle.ta_program.specs.Reporting.{report_meaning}
+use Rattle.ta_program.proofs.Common.{option_map, refl, ScopedFile, grew_none, grew_then, may_put, file_kind, report_meaning}
 use Rattle.ta_program.proofs.Meanings.{report_monotone}
 use Rattle.ta_program.proofs.verify.judge_verify.Goals as goal
 

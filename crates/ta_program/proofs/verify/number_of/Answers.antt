@@ -1,8 +1,4 @@
-use Rattle.std.proofs.Common.{◌≡◌, sym, ◌∙◌, true, false, rules, tests}
-use Rattle.std.specs.List.{list_any}
-use Rattle.std.proofs.lemmas.Iterator.{YieldsList-from_slice}
-use Rattle.std.proofs.lemmas.Iterator.Search.{any_from_yields_List}
-use Rattle.ta_verdict.specs.Verdicts.{is_unsafe, is_unknown}
+use Rattle.ta_program.proofs.Common.{◌≡◌, sym, ◌∙◌, true, false, rules, tests, list_any, YieldsList-from_slice, any_from_yields_List, is_unsafe, is_unknown}
 use Rattle.ta_program.proofs.verify.number_of.Goals as goal
 
 pub returns-then-any-2 : goal.returns-then-any-2

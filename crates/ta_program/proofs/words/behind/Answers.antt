@@ -1,5 +1,4 @@
-use Rattle.std.proofs.Common.{List, ℕ, Some, sym, ap, ◌∙◌, drop}
-use Rattle.ta_program.specs.Words.{behind}
+use Rattle.ta_program.proofs.Common.{List, ℕ, Some, sym, ap, ◌∙◌, drop, behind}
 use Rattle.ta_program.proofs.Prefixes.{behind_none, behind_prefix}
 use Rattle.ta_program.proofs.words.behind.Goals as goal
 

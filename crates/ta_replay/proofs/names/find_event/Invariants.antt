@@ -1,6 +1,4 @@
-use Rattle.std.proofs.Common.{◌≡◌, ℕ, ◌<◌, map}
-use Rattle.ta_automaton.specs.Patterns.{event_name}
-use Rattle.ta_replay.specs.RunText.{name_at}
+use Rattle.ta_replay.proofs.Common.{◌≡◌, ℕ, ◌<◌, map, event_name, name_at}
 use Rattle.ta_replay.proofs.names.find_event.Given as goal
 
 abbrev pub invariant-loop-i : goal.invariant-loop-i

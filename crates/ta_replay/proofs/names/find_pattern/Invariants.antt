@@ -1,6 +1,4 @@
-use Rattle.std.proofs.Common.{◌≡◌, ℕ, ◌<◌, map}
-use Rattle.ta_automaton.specs.Patterns.{pattern_name}
-use Rattle.ta_replay.specs.RunText.{name_at}
+use Rattle.ta_replay.proofs.Common.{◌≡◌, ℕ, ◌<◌, map, pattern_name, name_at}
 use Rattle.ta_replay.proofs.names.find_pattern.Given as goal
 
 abbrev pub invariant-loop-i : goal.invariant-loop-i

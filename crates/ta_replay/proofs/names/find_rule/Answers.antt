@@ -1,6 +1,4 @@
-use Rattle.std.proofs.Common.{sym, ap, ◌∙◌, arith, below_more}
-use Rattle.std.proofs.lemmas.Bool.{false≢true}
-use Rattle.ta_automaton.specs.Shape.{name_of}
+use Rattle.ta_replay.proofs.Common.{sym, ap, ◌∙◌, arith, below_more, false≢true, name_of}
 use Rattle.ta_replay.proofs.NumberedNames.{name_of_item, other_item, no_name_of_item}
 use Rattle.ta_replay.proofs.names.find_rule.Goals as goal
 

@@ -1,7 +1,4 @@
-use Rattle.std.proofs.Common.{ap, ◌∙◌, ◌<◌, ◌^◌}
-use Rattle.std.specs.Int.{w128}
-use Rattle.std.specs.Fmt.{signed_decimal}
-use Rattle.std.proofs.lemmas.Int.{to_z_pos}
+use Rattle.ta_replay.proofs.Common.{ap, ◌∙◌, ◌<◌, ◌^◌, w128, signed_decimal, to_z_pos}
 use Rattle.ta_replay.proofs.Decimals.{natural, value_is}
 use Rattle.ta_replay.proofs.numbers.read_number.Goals as goal
 

@@ -1,8 +1,4 @@
-use Rattle.std.proofs.Common.{◌≡◌, ◌<◌, ◌+◌, length, get_or, ap, subst, ◌∙◌, arith}
-use Rattle.std.proofs.lemmas.List.{length_push, get_or_default}
-use Rattle.std.proofs.lemmas.Result.{err_from_is_err_and}
-use Rattle.ta_base.proofs.Ranges.{rises_at}
-use Rattle.ta_replay.specs.RunText.{start_slot, start_slots}
+use Rattle.ta_replay.proofs.Common.{◌≡◌, ◌<◌, ◌+◌, length, get_or, ap, subst, ◌∙◌, arith, length_push, get_or_default, err_from_is_err_and, rises_at, start_slot, start_slots}
 use Rattle.ta_replay.proofs.Decimals.{stored}
 use Rattle.ta_replay.proofs.ValueLines.{values_none, value_step, value_stop}
 use Rattle.ta_replay.proofs.reading.read_counts.Goals as goal

@@ -1,6 +1,4 @@
-use Rattle.std.proofs.Common.{◌≡◌, length}
-use Rattle.ta_replay.specs.RunText.{start_slots}
-use Rattle.ta_replay.specs.Inside.Reading.{ValuesBegun}
+use Rattle.ta_replay.proofs.Common.{◌≡◌, length, start_slots, ValuesBegun}
 use Rattle.ta_replay.proofs.reading.read_counts.Given as goal
 
 abbrev pub invariant-loop-location : goal.invariant-loop-location

@@ -1,7 +1,4 @@
-use Rattle.std.proofs.Common.{◌≡◌, ◌+◌, length, ap, ◌∙◌, arith}
-use Rattle.std.proofs.lemmas.List.{length_push}
-use Rattle.std.proofs.lemmas.Result.{err_from_is_err_and}
-use Rattle.ta_replay.specs.RunText.{parameter_slot, parameter_slots}
+use Rattle.ta_replay.proofs.Common.{◌≡◌, ◌+◌, length, ap, ◌∙◌, arith, length_push, err_from_is_err_and, parameter_slot, parameter_slots}
 use Rattle.ta_replay.proofs.Decimals.{stored}
 use Rattle.ta_replay.proofs.ValueLines.{values_none, value_step, value_stop}
 use Rattle.ta_replay.proofs.reading.read_parameters.Goals as goal

@@ -1,6 +1,4 @@
-use Rattle.std.proofs.Common.{◌≡◌, length}
-use Rattle.ta_replay.specs.RunText.{parameter_slots}
-use Rattle.ta_replay.specs.Inside.Reading.{ValuesBegun}
+use Rattle.ta_replay.proofs.Common.{◌≡◌, length, parameter_slots, ValuesBegun}
 use Rattle.ta_replay.proofs.reading.read_parameters.Given as goal
 
 abbrev pub invariant-loop-name : goal.invariant-loop-name

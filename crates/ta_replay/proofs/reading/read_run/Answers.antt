@@ -1,11 +1,5 @@
-use Rattle.std.proofs.Common.{ℕ, ◌≡◌, ◌+◌, ◌<◌, ◌++◌, List, Some, length, get_or, refl, ap, ◌∙◌, arith, length-append}
+use Rattle.ta_replay.proofs.Common.{ℕ, ◌≡◌, ◌+◌, ◌<◌, ◌++◌, List, Some, length, get_or, refl, ap, ◌∙◌, arith, length-append, length-map, slice_get_read, err_from_is_err_and, rises_length_added, Pattern, parameter_slot, start_slot}
 use Rattle.std.specs.Prelude.{slice_get}
-use Rattle.std.proofs.lemmas.List.{length-map}
-use Rattle.std.proofs.lemmas.Option.{slice_get_read}
-use Rattle.std.proofs.lemmas.Result.{err_from_is_err_and}
-use Rattle.ta_base.proofs.Ranges.{rises_length_added}
-use Rattle.ta_automaton.specs.declared.pattern.Pattern.{Pattern}
-use Rattle.ta_replay.specs.RunText.{parameter_slot, start_slot}
 use Rattle.ta_replay.proofs.WholeTexts.{whole_read, parameters_fault, counts_fault, lines_fault}
 use Rattle.ta_replay.specs.declared.fault.RunFault.TheVariants as fault
 use Rattle.ta_replay.proofs.OneRun.{one_run, no_fault}

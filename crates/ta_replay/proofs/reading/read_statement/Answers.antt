@@ -1,8 +1,4 @@
-use Rattle.std.proofs.Common.{pos, ◌≤ℤ◌, inl, refl, sym, subst, map, ◌∙◌, arith}
-use Rattle.std.proofs.lemmas.Bool.{false≢true}
-use Rattle.std.proofs.lemmas.Int.{ints}
-use Rattle.ta_automaton.specs.Shape.{name_of}
-use Rattle.ta_replay.specs.Inside.Reading.{NoNameOf}
+use Rattle.ta_replay.proofs.Common.{pos, ◌≤ℤ◌, inl, refl, sym, subst, map, ◌∙◌, arith, false≢true, ints, name_of, NoNameOf}
 use Rattle.ta_replay.proofs.Statements.{no_factor, no_rule}
 use Rattle.ta_replay.proofs.reading.read_statement.Goals as goal
 

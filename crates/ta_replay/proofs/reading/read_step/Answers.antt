@@ -1,8 +1,4 @@
-use Rattle.std.proofs.Common.{◌++◌, ◌∷◌, refl, ap, subst, sym, ◌∙◌}
-use Rattle.std.proofs.lemmas.Bool.{false≢true}
-use Rattle.std.proofs.lemmas.Result.{err_from_is_err_and}
-use Rattle.ta_replay.specs.Inside.Reading.{IsStatement}
-use Rattle.ta_replay.specs.Inside.Reading.StepRefused.{Refused, Trailing}
+use Rattle.ta_replay.proofs.Common.{◌++◌, ◌∷◌, refl, ap, subst, sym, ◌∙◌, false≢true, err_from_is_err_and, IsStatement, Refused, Trailing}
 use Rattle.ta_replay.proofs.reading.read_step.Goals as goal
 
 pub returns-in_err-step-clause-fault : goal.returns-in_err-step-clause-fault

@@ -1,5 +1,4 @@
-use Rattle.std.proofs.Common.{◌≡◌, ◌+◌, length, arith}
-use Rattle.std.proofs.lemmas.Result.{err_from_is_err_and}
+use Rattle.ta_replay.proofs.Common.{◌≡◌, ◌+◌, length, arith, err_from_is_err_and}
 use Rattle.ta_replay.proofs.StepLines.{steps_more, steps_stop}
 use Rattle.ta_replay.proofs.reading.read_steps.Goals as goal
 

@@ -1,5 +1,4 @@
-use Rattle.std.proofs.Common.{length}
-use Rattle.ta_replay.specs.Inside.Reading.{StepsBegun}
+use Rattle.ta_replay.proofs.Common.{length, StepsBegun}
 use Rattle.ta_replay.proofs.reading.read_steps.Given as goal
 
 abbrev pub invariant-lines : goal.invariant-lines

@@ -1,5 +1,4 @@
-use Rattle.std.proofs.Common.{ℤ, List, refl, subst}
-use Rattle.ta_counter.specs.Starts.{StartFails}
+use Rattle.ta_replay.proofs.Common.{ℤ, List, refl, subst, StartFails}
 use Rattle.ta_replay.proofs.replaying.first_config.Goals as goal
 
 pub returns-in-Err-OutOfRange-clause-refuses : goal.returns-in-Err-OutOfRange-clause-refuses

@@ -1,11 +1,6 @@
-use Rattle.std.proofs.Common.{◌≡◌, ℕ, ℤ, inl, inr, List, length, pos, slice_get, get_or, Some, IsBitSet, IsTrue, arith, rules, ap, sym, ◌∙◌, subst}
-use Rattle.std.proofs.lemmas.Bool.{cases_lt, false≢true}
-use Rattle.std.proofs.lemmas.Int.{to_z-of_z}
-use Rattle.std.proofs.lemmas.Option.{slice_get-get_or, same_Some}
+use Rattle.ta_replay.proofs.Common.{◌≡◌, ℕ, ℤ, inl, inr, List, length, pos, slice_get, get_or, Some, IsBitSet, IsTrue, arith, rules, ap, sym, ◌∙◌, subst, cases_lt, false≢true, to_z-of_z, slice_get-get_or, same_Some, rises_within, point_of}
 use mir.Val.{SFits, to_z, of_z}
 use mir.Syntax.{w128}
-use Rattle.ta_base.proofs.Ranges.{rises_within}
-use Rattle.ta_linear.specs.Values.{point_of}
 use Rattle.ta_replay.proofs.replaying.first_filled.Goals as goal
 use Rattle.ta_replay.proofs.replaying.first_filled.Goals.{else-contains-via-then-contains+else-counts-place-ne0, else-contains-via-else-contains}
 

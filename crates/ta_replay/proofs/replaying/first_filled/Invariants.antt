@@ -1,5 +1,4 @@
-use Rattle.std.proofs.Common.{◌≡◌, ℕ, ◌<◌, pos, slice_get, Some, IsBitSet}
-use Rattle.ta_linear.specs.Values.{point_of}
+use Rattle.ta_replay.proofs.Common.{◌≡◌, ℕ, ◌<◌, pos, slice_get, Some, IsBitSet, point_of}
 use Rattle.ta_replay.proofs.replaying.first_filled.Given as goal
 
 -- no earlier initial location of `empty` has a process

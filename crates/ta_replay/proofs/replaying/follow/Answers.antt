@@ -1,9 +1,4 @@
-use Rattle.std.proofs.Common.{◌≡◌, ℕ, List, Some, pos, ap, arith, get_or, length, slice_get, subst}
-use Rattle.std.proofs.lemmas.Option.{slice_get-get_or}
-use Rattle.std.proofs.lemmas.Result.{err_from_is_err_and}
-use Rattle.ta_replay.specs.declared.run.RunLine.{RunLine}
-use Rattle.ta_replay.specs.declared.run.RunLine.TheVariants.{Step}
-use Rattle.ta_replay.specs.Inside.Following.{Following}
+use Rattle.ta_replay.proofs.Common.{◌≡◌, ℕ, List, Some, pos, ap, arith, get_or, length, slice_get, subst, slice_get-get_or, err_from_is_err_and, RunLine, Step, Following}
 use Rattle.ta_replay.proofs.Along.{following_next, following_stops}
 use Rattle.ta_replay.proofs.replaying.follow.Goals as goal
 

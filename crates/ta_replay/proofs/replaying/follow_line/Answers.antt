@@ -1,10 +1,4 @@
-use Rattle.std.proofs.Common.{IsBitSet, subst, sym, FitsSigned, rules}
-use Rattle.std.proofs.lemmas.Int.{to_z-of_z}
-use Rattle.std.proofs.lemmas.Result.{err_from_is_err_and}
-use Rattle.std.specs.Int.{w128}
-use Rattle.ta_replay.specs.declared.run.RunLine.{RunLine}
-use Rattle.ta_replay.specs.Replays.{LineTakes}
-use Rattle.ta_replay.specs.ReplayFaults.{LineRefuses}
+use Rattle.ta_replay.proofs.Common.{IsBitSet, subst, sym, FitsSigned, rules, to_z-of_z, err_from_is_err_and, w128, RunLine, LineTakes, LineRefuses}
 use Rattle.ta_replay.proofs.Values.{event_over}
 use Rattle.ta_replay.proofs.replaying.follow_line.Goals as goal
 

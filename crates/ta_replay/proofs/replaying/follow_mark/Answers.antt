@@ -1,5 +1,4 @@
-use Rattle.std.proofs.Common.{Bool, Ok, subst}
-use Rattle.ta_linear.specs.Values.{point_of}
+use Rattle.ta_replay.proofs.Common.{Bool, Ok, subst, point_of}
 use Rattle.ta_pattern.specs.Events.{EventAnswer}
 use Rattle.ta_replay.proofs.replaying.follow_mark.Goals as goal
 

@@ -1,8 +1,4 @@
-use Rattle.std.proofs.Common.{refl, sym, ◌∙◌, subst, FitsSigned}
-use Rattle.std.proofs.lemmas.Bool.{false≢true}
-use Rattle.std.proofs.lemmas.Int.{to_z-of_z}
-use Rattle.std.specs.Int.{w128}
-use Rattle.ta_counter.specs.Steps.{StepFails}
+use Rattle.ta_replay.proofs.Common.{refl, sym, ◌∙◌, subst, FitsSigned, false≢true, to_z-of_z, w128, StepFails}
 use Rattle.ta_replay.proofs.Values.{empty_at, keeps_at}
 use Rattle.ta_replay.proofs.replaying.follow_step.Goals as goal
 

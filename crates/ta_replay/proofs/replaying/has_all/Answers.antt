@@ -1,5 +1,4 @@
-use Rattle.std.proofs.Common.{◌≤◌, ◌<◌, ◌^◌, arith, refl}
-use Rattle.ta_base.proofs.Bits.{bit_below}
+use Rattle.ta_replay.proofs.Common.{◌≤◌, ◌<◌, ◌^◌, arith, refl, bit_below}
 use Rattle.ta_replay.proofs.replaying.has_all.Goals as goal
 
 pub returns : goal.returns

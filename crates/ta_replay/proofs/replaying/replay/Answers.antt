@@ -1,13 +1,5 @@
-use Rattle.std.proofs.Common.{◌-◌, ◌^◌, ◌≤◌, ◌∙◌, ℕ, List, length, min, ap, sym, subst, arith}
-use Rattle.std.proofs.lemmas.Option.{same_Some}
-use Rattle.std.proofs.lemmas.Result.{err_from_is_err_and}
-use Rattle.ta_automaton.specs.declared.pattern.Event.{Event}
-use Rattle.ta_automaton.specs.declared.pattern.Pattern.{Pattern}
-use Rattle.ta_automaton.proofs.Thresholds.{pattern_within}
-use Rattle.ta_replay.specs.declared.run.RunLine.{RunLine}
+use Rattle.ta_replay.proofs.Common.{◌-◌, ◌^◌, ◌≤◌, ◌∙◌, ℕ, List, length, min, ap, sym, subst, arith, same_Some, err_from_is_err_and, Event, Pattern, pattern_within, RunLine, NumbersStay, factors_sum}
 use Rattle.ta_replay.specs.declared.run.Shown.{Shown}
-use Rattle.ta_replay.specs.Replays.{NumbersStay}
-use Rattle.ta_replay.specs.Shows.{factors_sum}
 use Rattle.ta_replay.proofs.Counting.{marks_are_events}
 use Rattle.ta_replay.proofs.Naming.{named_read, fits_read, shows_read}
 use Rattle.ta_replay.proofs.Refusing.{denied, only_memory, refused_though}

@@ -1,8 +1,4 @@
-use Rattle.std.proofs.Common.{◌-◌, ◌^◌, ◌∙◌, ap, sym, take, min, pos, get_or}
-use Rattle.std.proofs.lemmas.Option.{slice_get-get_or}
-use Rattle.ta_base.proofs.Naturals.{capped}
-use Rattle.ta_replay.specs.declared.run.RunLine.TheVariants.{Step}
-use Rattle.ta_replay.specs.Shows.{factor_of, factors_sum}
+use Rattle.ta_replay.proofs.Common.{◌-◌, ◌^◌, ◌∙◌, ap, sym, take, min, pos, get_or, slice_get-get_or, capped, Step, factor_of, factors_sum}
 use Rattle.ta_replay.proofs.Lines.{factors_sum-next}
 use Rattle.ta_replay.proofs.replaying.steps_of.Goals as goal
 

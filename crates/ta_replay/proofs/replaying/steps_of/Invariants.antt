@@ -1,5 +1,4 @@
-use Rattle.std.proofs.Common.{◌≡◌, ◌-◌, ◌^◌, take, min}
-use Rattle.ta_replay.specs.Shows.{factors_sum}
+use Rattle.ta_replay.proofs.Common.{◌≡◌, ◌-◌, ◌^◌, take, min, factors_sum}
 use Rattle.ta_replay.proofs.replaying.steps_of.Given as goal
 
 -- the factors so far

@@ -1,7 +1,4 @@
-use Rattle.std.proofs.Common.{sym, subst, ◌∙◌}
-use Rattle.std.proofs.lemmas.Bool.{false≢true}
-use Rattle.std.proofs.lemmas.List.{append_cancel_left}
-use Rattle.ta_base.specs.Bytes.{IsWord}
+use Rattle.ta_replay.proofs.Common.{sym, subst, ◌∙◌, false≢true, append_cancel_left, IsWord}
 use Rattle.ta_replay.proofs.words.read_named.Goals as goal
 
 pub returns-else-is_word : goal.returns-else-is_word

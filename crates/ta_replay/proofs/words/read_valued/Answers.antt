@@ -1,5 +1,4 @@
-use Rattle.std.proofs.Common.{sym, ◌∙◌}
-use Rattle.std.proofs.lemmas.Bool.{false≢true}
+use Rattle.ta_replay.proofs.Common.{sym, ◌∙◌, false≢true}
 use Rattle.ta_replay.proofs.Forms.{no_space, no_word, no_number}
 use Rattle.ta_replay.proofs.words.read_valued.Goals as goal
 

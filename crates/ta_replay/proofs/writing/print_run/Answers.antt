@@ -1,6 +1,4 @@
-use Rattle.std.proofs.Common.{◌≡◌, Some, ◌++◌, ◌∷◌, [], map, codes, sym, ap, ◌∙◌, get_or, string_bytes}
-use Rattle.std.proofs.lemmas.Option.{get_or_from_slice_get}
-use Rattle.ta_replay.specs.RunText.{parameter_slots, start_slots, value_lines, line_of, lines_text}
+use Rattle.ta_replay.proofs.Common.{◌≡◌, Some, ◌++◌, ◌∷◌, [], map, codes, sym, ap, ◌∙◌, get_or, string_bytes, get_or_from_slice_get, parameter_slots, start_slots, value_lines, line_of, lines_text}
 use Rattle.ta_replay.proofs.PrintedLines.{run_written}
 use Rattle.ta_replay.proofs.writing.print_run.Goals as goal
 

@@ -1,7 +1,4 @@
-use Rattle.std.proofs.Common.{◌<◌, length, get_or, ◌++◌, sym, subst, arith, string_bytes}
-use Rattle.std.proofs.lemmas.List.{get_or_default}
-use Rattle.ta_base.proofs.Ranges.{rises_at}
-use Rattle.ta_replay.specs.RunText.{start_slot, start_slots, value_lines, lines_text}
+use Rattle.ta_replay.proofs.Common.{◌<◌, length, get_or, ◌++◌, sym, subst, arith, string_bytes, get_or_default, rises_at, start_slot, start_slots, value_lines, lines_text}
 use Rattle.ta_replay.proofs.PrintedLines.{item_written}
 use Rattle.ta_replay.proofs.writing.write_counts.Goals as goal
 

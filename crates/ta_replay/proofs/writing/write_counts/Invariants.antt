@@ -1,5 +1,4 @@
-use Rattle.std.proofs.Common.{◌≡◌, ◌++◌, drop, string_bytes}
-use Rattle.ta_replay.specs.RunText.{start_slots, value_lines, lines_text}
+use Rattle.ta_replay.proofs.Common.{◌≡◌, ◌++◌, drop, string_bytes, start_slots, value_lines, lines_text}
 use Rattle.ta_replay.proofs.writing.write_counts.Given as goal
 
 abbrev pub invariant-loop-i : goal.invariant-loop-i

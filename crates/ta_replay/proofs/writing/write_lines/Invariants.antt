@@ -1,5 +1,4 @@
-use Rattle.std.proofs.Common.{◌≡◌, ◌++◌, drop, map, string_bytes}
-use Rattle.ta_replay.specs.RunText.{line_of, lines_text}
+use Rattle.ta_replay.proofs.Common.{◌≡◌, ◌++◌, drop, map, string_bytes, line_of, lines_text}
 use Rattle.ta_replay.proofs.writing.write_lines.Given as goal
 
 abbrev pub invariant-loop-line : goal.invariant-loop-line

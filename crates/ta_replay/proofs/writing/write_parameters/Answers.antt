@@ -1,5 +1,4 @@
-use Rattle.std.proofs.Common.{◌<◌, length, ◌++◌, sym, subst, arith, string_bytes}
-use Rattle.ta_replay.specs.RunText.{parameter_slot, parameter_slots, value_lines, lines_text}
+use Rattle.ta_replay.proofs.Common.{◌<◌, length, ◌++◌, sym, subst, arith, string_bytes, parameter_slot, parameter_slots, value_lines, lines_text}
 use Rattle.ta_replay.proofs.PrintedLines.{item_written}
 use Rattle.ta_replay.proofs.writing.write_parameters.Goals as goal
 

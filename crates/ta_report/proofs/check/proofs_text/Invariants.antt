@@ -1,6 +1,4 @@
-use Rattle.std.proofs.Common.{◌≡◌, ◌++◌, drop}
-use Rattle.std.specs.String.{string_bytes}
-use Rattle.ta_report.specs.Check.{proofs_text, proofs_told}
+use Rattle.ta_report.proofs.Common.{◌≡◌, ◌++◌, drop, string_bytes, proofs_text, proofs_told}
 use Rattle.ta_report.proofs.check.proofs_text.Given as goal
 
 abbrev pub invariant-loop-number : goal.invariant-loop-number

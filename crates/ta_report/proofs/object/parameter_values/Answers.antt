@@ -1,8 +1,4 @@
-use Rattle.std.proofs.Common.{◌≡◌, ◌∙◌, ap, ◌<◌, arith, get_or, pos, length, rules}
-use Rattle.serde_json.specs.Data.{array}
-use Rattle.serde_json.specs.View.{view}
-use Rattle.serde_json.proofs.Views.{view-Array}
-use Rattle.ta_report.specs.Json.{value_data}
+use Rattle.ta_report.proofs.Common.{◌≡◌, ◌∙◌, ap, ◌<◌, arith, get_or, pos, length, rules, array, view, view-Array, value_data}
 use Rattle.ta_report.proofs.JsonItems.{values_list, values_listed, values_count, value_at, pushed, all_pushed}
 use Rattle.ta_report.proofs.object.parameter_values.Goals as goal
 

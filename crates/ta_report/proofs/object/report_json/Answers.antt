@@ -1,7 +1,4 @@
-use Rattle.std.proofs.Common.{◌≡◌, ◌∙◌, ◌++◌, ap, false, codes}
-use Rattle.serde_json.specs.View.{view}
-use Rattle.serde_json.specs.Written.{compact_text, has_float}
-use Rattle.ta_report.specs.Json.{report_data}
+use Rattle.ta_report.proofs.Common.{◌≡◌, ◌∙◌, ◌++◌, ap, false, codes, view, compact_text, has_float, report_data}
 use Rattle.ta_report.proofs.JsonItems.{no_floats}
 use Rattle.ta_report.proofs.object.report_json.Goals as goal
 

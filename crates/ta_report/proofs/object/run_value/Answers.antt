@@ -1,12 +1,8 @@
-use Rattle.std.proofs.Common.{◌≡◌, ◌∙◌, ◌++◌, ap, arith, rules, map, take, length, ◌-◌, [], ◌∷◌}
+use Rattle.ta_report.proofs.Common.{◌≡◌, ◌∙◌, ◌++◌, ap, arith, rules, map, take, length, ◌-◌, [], ◌∷◌, view, view-Array, lines_text, run_lines, run_clear}
 use Rattle.std.specs.Str.Iter.{split_has_more, split_pattern, split_text}
 use Rattle.std.proofs.lemmas.Iterator.Splits.{YieldsList-from_str_split}
 use Rattle.std.proofs.lemmas.Iterator.Consumers.{YieldsList-end}
 use Rattle.serde_json.specs.Data as json
-use Rattle.serde_json.specs.View.{view}
-use Rattle.serde_json.proofs.Views.{view-Array}
-use Rattle.ta_replay.specs.RunText.{lines_text, run_lines}
-use Rattle.ta_replay.proofs.RunFronts.{no_feeds}
 use Rattle.ta_report.proofs.JsonItems.{texts_listed, split_lines, last_off, items_of_views, strings_of}
 use Rattle.ta_report.proofs.object.run_value.Goals as goal
 
@@ -14,7 +10,7 @@ pub returns : goal.returns
 returns c =
     let l = c.loop-line in
     let lines = run_lines c.args.file.now c.args.run.now in
-    let free = no_feeds c.args.file.now c.args.run.now c.requires in
+    let free = run_clear c.args.file.now c.args.run.now c.requires in
     let bytes : c.as_str.result.now ≡ lines_text lines = c.as_str.ensures ∙ c.in_ok-text.ensures in
     let same : c.into_iter-line-iterator.result ≡ c.split-line-items.result = c.into_iter-line-iterator.ensures.into_iter_gives in
     let cut =

@@ -1,6 +1,5 @@
-use Rattle.std.proofs.Common.{◌≡◌, map}
+use Rattle.ta_report.proofs.Common.{◌≡◌, map, view}
 use Rattle.serde_json.specs.Data as json
-use Rattle.serde_json.specs.View.{view}
 use Rattle.ta_report.proofs.object.run_value.Given as goal
 
 -- the lines so far

@@ -1,8 +1,4 @@
-use Rattle.std.proofs.Common.{◌≡◌, ◌∙◌, ◌<◌, ap, arith, length, rules}
-use Rattle.serde_json.specs.Data.{array}
-use Rattle.serde_json.specs.View.{view}
-use Rattle.serde_json.proofs.Views.{view-Array}
-use Rattle.ta_report.specs.Json.{verdict_data}
+use Rattle.ta_report.proofs.Common.{◌≡◌, ◌∙◌, ◌<◌, ap, arith, length, rules, array, view, view-Array, verdict_data}
 use Rattle.ta_report.proofs.JsonItems.{verdicts_list, verdicts_listed, verdicts_count, verdict_at, pushed, all_pushed}
 use Rattle.ta_report.proofs.object.verdict_values.Goals as goal
 

@@ -1,5 +1,4 @@
-use Rattle.std.proofs.Common.{◌≡◌, map, take}
-use Rattle.serde_json.specs.View.{view}
+use Rattle.ta_report.proofs.Common.{◌≡◌, map, take, view}
 use Rattle.ta_report.proofs.JsonItems.{verdicts_list}
 use Rattle.ta_report.proofs.object.verdict_values.Given as goal
 

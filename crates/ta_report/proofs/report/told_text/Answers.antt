@@ -1,12 +1,4 @@
-use Rattle.std.proofs.Common.{◌≡◌, ◌∙◌, sym, ap, subst, List, ℕ, [], ◌∷◌, ◌++◌, length, Bool, append-nil, append_assoc, refl, inl, inr, rules}
-use Rattle.std.specs.Iterator.Adapters.{zip_first, zip_second}
-use Rattle.std.specs.Slice.Iter.{iter_rest}
-use Rattle.std.specs.String.{string_bytes}
-use Rattle.std.specs.List.{AllByRecursion}
-use Rattle.ta_automaton.specs.declared.file.File.{File}
-use Rattle.ta_automaton.specs.declared.pattern.Pattern.{Pattern}
-use Rattle.ta_report.specs.declared.verdict.Verdict.{Verdict}
-use Rattle.ta_report.specs.Report.{VerdictFits, run_part, told_line, told_lines}
+use Rattle.ta_report.proofs.Common.{◌≡◌, ◌∙◌, sym, ap, subst, List, ℕ, [], ◌∷◌, ◌++◌, length, Bool, append-nil, append_assoc, refl, inl, inr, rules, zip_first, zip_second, iter_rest, string_bytes, AllByRecursion, File, Pattern, Verdict, VerdictFits, run_part, told_line, told_lines}
 use Rattle.ta_report.proofs.report.told_text.Goals as goal
 
 -- a line more, and its run

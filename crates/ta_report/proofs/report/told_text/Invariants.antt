@@ -1,9 +1,4 @@
-use Rattle.std.proofs.Common.{◌≡◌, ◌++◌}
-use Rattle.std.specs.Iterator.Adapters.{zip_first, zip_second}
-use Rattle.std.specs.Slice.Iter.{iter_rest}
-use Rattle.std.specs.String.{string_bytes}
-use Rattle.std.specs.List.{AllByRecursion}
-use Rattle.ta_report.specs.Report.{VerdictFits, told_lines, told_text}
+use Rattle.ta_report.proofs.Common.{◌≡◌, ◌++◌, zip_first, zip_second, iter_rest, string_bytes, AllByRecursion, VerdictFits, told_lines, told_text}
 use Rattle.ta_report.proofs.report.told_text.Given as goal
 
 -- the lines that are written and those of the verdicts that are left, which fit

@@ -1,7 +1,4 @@
-use Rattle.std.proofs.Common.{rules, ◌≡◌, ◌∙◌, ◌++◌, ℕ, ap, sym, append_assoc, codes, decimal}
-use Rattle.std.specs.String.{string_bytes}
-use Rattle.ta_report.specs.declared.verdict.ReportKind.{ReportKind}
-use Rattle.ta_report.specs.Report.{overflow_text, place_text, spent_text, values_text}
+use Rattle.ta_report.proofs.Common.{rules, ◌≡◌, ◌∙◌, ◌++◌, ℕ, ap, sym, append_assoc, codes, decimal, string_bytes, ReportKind, overflow_text, place_text, spent_text, values_text}
 use Rattle.ta_report.proofs.report.write_sample.Goals as goal
 
 -- what is written where no sample is known

@@ -1,5 +1,5 @@
-use Rattle.std.proofs.Common.{◌≡◌, ◌++◌, drop, string_bytes}
-use Rattle.ta_report.specs.Report.{values_text}
+use Rattle.ta_report.proofs.Common.{◌≡◌, ◌++◌, drop, values_text}
+use Rattle.std.proofs.Common.{string_bytes}
 use Rattle.ta_report.proofs.report.write_values.Given as goal
 
 abbrev pub invariant-loop-i : goal.invariant-loop-i

@@ -1,5 +1,4 @@
-use Rattle.std.proofs.Common.{inl, refl, arith, ap, ◌∙◌, ◌≡◌, length}
-use Rattle.ta_rest.specs.Endings.{events_below}
+use Rattle.ta_rest.proofs.Common.{inl, refl, arith, ap, ◌∙◌, ◌≡◌, length, events_below}
 use Rattle.ta_rest.proofs.endings.ending_events.Goals as goal
 
 pub returns-in_ok-push-in-Some : goal.returns-in_ok-push-in-Some

@@ -1,5 +1,4 @@
-use Rattle.std.proofs.Common.{◌≡◌, ◌∷◌, List, arith, subst, sym}
-use Rattle.ta_automaton.specs.declared.pattern.Pattern.{Pattern}
+use Rattle.ta_rest.proofs.Common.{◌≡◌, ◌∷◌, List, arith, subst, sym, Pattern}
 use Rattle.ta_rest.proofs.EndingShapes.{EndingsSoFar, next_few, removed_first, so_far_more}
 use Rattle.ta_rest.proofs.endings.endings_of.Goals as goal
 

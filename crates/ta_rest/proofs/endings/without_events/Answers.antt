@@ -1,5 +1,4 @@
-use Rattle.std.proofs.Common.{arith, length, refl}
-use Rattle.std.proofs.lemmas.Option.{slice_get_read, slice_get_within}
+use Rattle.ta_rest.proofs.Common.{arith, length, refl, slice_get_read, slice_get_within}
 use Rattle.ta_rest.proofs.PatternMasks.{more_patterns}
 use Rattle.ta_rest.proofs.endings.without_events.Goals as goal
 

@@ -1,8 +1,5 @@
-use Rattle.std.proofs.Common.{ℕ, List, IsBitSet, ap, subst, sym, ◌∙◌, ◌↔◌}
+use Rattle.ta_rest.proofs.Common.{ℕ, List, IsBitSet, ap, subst, sym, ◌∙◌, ◌↔◌, Pattern, LoopsAlone, Endings}
 use Rattle.ta_automaton.specs.declared.file.File.{File}
-use Rattle.ta_automaton.specs.declared.pattern.Pattern.{Pattern}
-use Rattle.ta_scope.specs.LongerCycles.{LoopsAlone}
-use Rattle.ta_rest.specs.Endings.{Endings}
 use Rattle.ta_rest.proofs.EndingShapes.{endings_last, endings_shape}
 use Rattle.ta_rest.proofs.PatternMasks.{Eventless}
 use Rattle.ta_rest.proofs.scoping.with_endings.Goals as goal

@@ -1,7 +1,4 @@
-use Rattle.std.proofs.Common.{arith, sym, ◌∙◌}
-use Rattle.std.proofs.lemmas.Bool.{false≢true}
-use Rattle.std.proofs.lemmas.Option.{slice_get_within}
-use Rattle.ta_base.proofs.Bits.{bit_set, bit_true}
+use Rattle.ta_rest_run.proofs.Common.{arith, sym, ◌∙◌, false≢true, slice_get_within, bit_set, bit_true}
 use Rattle.ta_rest_run.proofs.Giving.{own_marked, own_plain}
 use Rattle.ta_rest_run.proofs.Resting.{solutions_solve}
 use Rattle.ta_rest_run.proofs.witnessing.rest_witness.Goals as goal

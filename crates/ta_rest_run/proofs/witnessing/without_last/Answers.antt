@@ -1,9 +1,4 @@
-use Rattle.std.proofs.Common.{◌≡◌, ◌++◌, ◌∙◌, List, ap, subst, sym}
-use Rattle.std.specs.Prelude.{option_to_list}
-use Rattle.std.specs.List.{AllByRecursion}
-use Rattle.ta_base.proofs.Each.{each_front}
-use Rattle.ta_replay.specs.declared.run.RunLine.{RunLine}
-use Rattle.ta_replay.specs.Fits.{LineFits}
+use Rattle.ta_rest_run.proofs.Common.{◌≡◌, ◌++◌, ◌∙◌, List, ap, subst, sym, option_to_list, AllByRecursion, each_front, RunLine, LineFits}
 use Rattle.ta_rest_run.proofs.witnessing.without_last.Goals as goal
 
 pub returns-clause-fits : goal.returns-clause-fits

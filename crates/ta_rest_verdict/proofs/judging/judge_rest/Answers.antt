@@ -1,9 +1,5 @@
-use Rattle.std.proofs.Common.{◌∙◌, ◌++◌, List, [], append-nil, subst, sym}
-use Rattle.ta_cert.specs.Certificates.{head_text, proofs_text}
-use Rattle.ta_report.specs.declared.verdict.Verdict.{Verdict}
+use Rattle.ta_rest_verdict.proofs.Common.{◌∙◌, ◌++◌, List, [], append-nil, subst, sym, head_text, proofs_text, Verdict, AreTreesOf, safe_ones, rest_tree}
 use Rattle.ta_shell.specs.Puts.{texts_joined}
-use Rattle.ta_verdict.specs.Certificates.{AreTreesOf, safe_ones}
-use Rattle.ta_rest_verdict.specs.Certificates.{rest_tree}
 use Rattle.ta_rest_verdict.proofs.CertificatesMade.{rest_accepted, rest_made}
 use Rattle.ta_rest_verdict.proofs.judging.judge_rest.Goals as goal
 

@@ -1,10 +1,4 @@
-use Rattle.std.proofs.Common.{◌≡◌, ◌<◌, ◌∙◌, ℕ, List, ap, length, subst, take, arith}
-use Rattle.std.proofs.Math.Seq.{take-length}
-use Rattle.ta_automaton.specs.declared.pattern.Pattern.{Pattern}
-use Rattle.ta_verdict.specs.Certificates.{safe_ones}
-use Rattle.ta_verdict.specs.Drafts.{HasTrees}
-use Rattle.ta_verdict.proofs.DraftsMade.{trees_more}
-use Rattle.ta_rest_verdict.specs.Certificates.{rest_tree}
+use Rattle.ta_rest_verdict.proofs.Common.{◌≡◌, ◌<◌, ◌∙◌, ℕ, List, ap, length, subst, take, arith, take-length, Pattern, safe_ones, HasTrees, trees_more, rest_tree}
 use Rattle.ta_rest_verdict.proofs.VerdictsMade.{RestSoFar, rest_all, rest_more}
 use Rattle.ta_rest_verdict.proofs.judging.verdicts_on.Goals as goal
 

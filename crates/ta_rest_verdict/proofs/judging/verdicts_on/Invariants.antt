@@ -1,7 +1,4 @@
-use Rattle.std.proofs.Common.{◌≡◌, ℕ, List, [], take}
-use Rattle.ta_verdict.specs.Certificates.{safe_ones}
-use Rattle.ta_verdict.specs.Drafts.{HasProofs, HasTrees}
-use Rattle.ta_rest_verdict.specs.Certificates.{rest_tree}
+use Rattle.ta_rest_verdict.proofs.Common.{◌≡◌, ℕ, List, [], take, safe_ones, HasProofs, HasTrees, rest_tree}
 use Rattle.ta_rest_verdict.proofs.VerdictsMade.{RestSoFar}
 use Rattle.ta_rest_verdict.proofs.judging.verdicts_on.Given as goal
 

@@ -1,11 +1,4 @@
-use Rattle.std.proofs.Common.{◌≡◌, ◌++◌, ◌∷◌, [], pos, get_or, cond, eqb, ◌&&◌, ℕ, ℤ, List, arith, refl, sym, ap, ◌∙◌, append-nil, append_assoc, length}
-use Rattle.std.specs.Prelude.{int_lt}
-use Rattle.std.proofs.lemmas.Int.{ints}
-use mir.Syntax.{w128}
-use mir.Val.{to_z, of_z}
-use Rattle.ta_base.proofs.Lists.{read_same}
-use Rattle.ta_automaton.specs.declared.rule.Rule.{Rule}
-use Rattle.ta_scope.specs.Inside.Listed.{steps_from}
+use Rattle.ta_scope.proofs.Common.{◌≡◌, ◌++◌, ◌∷◌, [], pos, get_or, cond, eqb, ◌&&◌, ℕ, ℤ, List, arith, refl, sym, ap, ◌∙◌, append-nil, append_assoc, length, int_lt, ints, w128, to_z, of_z, read_same, Rule, steps_from}
 use Rattle.ta_scope.proofs.Listing.{steps_more}
 use Rattle.ta_scope.proofs.arrange.push_steps.Goals as goal
 

@@ -1,5 +1,4 @@
-use Rattle.std.proofs.Common.{◌≡◌, ◌++◌}
-use Rattle.ta_scope.specs.Inside.Listed.{steps_from}
+use Rattle.ta_scope.proofs.Common.{◌≡◌, ◌++◌, steps_from}
 use Rattle.ta_scope.proofs.arrange.push_steps.Given as goal
 
 -- the steps of the earlier rules are added

@@ -1,7 +1,4 @@
-use Rattle.std.proofs.Common.{◌++◌, ℕ, ℤ, List, refl, sym, ap, ◌∙◌, get_or, length, take}
-use Rattle.std.proofs.lemmas.List.{take_more, take_all}
-use Rattle.ta_scope.specs.Arranged.{steps_along}
-use Rattle.ta_scope.specs.Inside.Listed.{steps_from}
+use Rattle.ta_scope.proofs.Common.{◌++◌, ℕ, ℤ, List, refl, sym, ap, ◌∙◌, get_or, length, take, take_more, take_all, steps_along, steps_from}
 use Rattle.ta_scope.proofs.Listing.{along_more}
 use Rattle.ta_scope.proofs.arrange.steps_of.Goals as goal
 

@@ -1,5 +1,4 @@
-use Rattle.std.proofs.Common.{◌≡◌, take}
-use Rattle.ta_scope.specs.Arranged.{steps_along}
+use Rattle.ta_scope.proofs.Common.{◌≡◌, take, steps_along}
 use Rattle.ta_scope.proofs.arrange.steps_of.Given as goal
 
 -- the steps along the earlier locations

@@ -1,8 +1,4 @@
-use Rattle.std.proofs.Common.{ap, length, arith, List, ℕ, IsBitSet}
-use Rattle.std.proofs.lemmas.Option.{slice_get_within}
-use Rattle.ta_base.proofs.Lists.{read_same}
-use Rattle.ta_automaton.specs.declared.rule.Rule.{Rule}
-use Rattle.ta_scope.specs.Cycles.{OnCycle}
+use Rattle.ta_scope.proofs.Common.{ap, length, arith, List, ℕ, IsBitSet, slice_get_within, read_same, Rule, OnCycle}
 use Rattle.ta_scope.proofs.Cycles.{rules_more}
 use Rattle.ta_scope.proofs.circulation.first_cycle.Goals as goal
 

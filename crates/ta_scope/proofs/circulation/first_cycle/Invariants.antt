@@ -1,6 +1,4 @@
-use Rattle.std.proofs.Common.{ℕ, ◌<◌, ◌≡◌, slice_get, Some, IsBitSet}
-use Rattle.ta_automaton.specs.declared.rule.Rule.{Rule}
-use Rattle.ta_scope.specs.Cycles.{OnCycle}
+use Rattle.ta_scope.proofs.Common.{ℕ, ◌<◌, ◌≡◌, slice_get, Some, IsBitSet, Rule, OnCycle}
 use Rattle.ta_scope.proofs.circulation.first_cycle.Given as goal
 
 -- no earlier rule of the mask is on a cycle

@@ -1,7 +1,4 @@
-use Rattle.std.proofs.Common.{◌≡◌, ◌+◌, arith, refl, sym, ◌∙◌, subst}
-use Rattle.std.proofs.lemmas.Int.{ints}
-use mir.Syntax.{w128}
-use mir.Val.{to_z, of_z}
+use Rattle.ta_scope.proofs.Common.{◌≡◌, ◌+◌, arith, refl, sym, ◌∙◌, subst, ints, w128, to_z, of_z}
 use Rattle.ta_scope.proofs.Taken.{LeastSoFar, least_first, least_more, least_all}
 use Rattle.ta_scope.proofs.circulation.least_count.Goals as goal
 

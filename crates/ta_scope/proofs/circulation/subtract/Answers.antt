@@ -1,9 +1,4 @@
-use Rattle.std.proofs.Common.{rules, ◌≡◌, arith, refl, subst, take, get_or}
-use Rattle.std.proofs.lemmas.Int.{ints}
-use mir.Syntax.{w128}
-use mir.Val.{to_z, of_z}
-use Rattle.ta_base.proofs.Each.{each_get_or}
-use Rattle.ta_scope.specs.Arranged.{SubtractsFrom}
+use Rattle.ta_scope.proofs.Common.{rules, ◌≡◌, arith, refl, subst, take, get_or, ints, w128, to_z, of_z, each_get_or, SubtractsFrom}
 use Rattle.ta_scope.proofs.Taken.{subtracted_none, subtracted_more, subtracted_all, not_subtracted}
 use Rattle.ta_scope.proofs.circulation.subtract.Goals as goal
 

@@ -1,5 +1,4 @@
-use Rattle.std.proofs.Common.{take}
-use Rattle.ta_scope.specs.Arranged.{SubtractsFrom}
+use Rattle.ta_scope.proofs.Common.{take, SubtractsFrom}
 use Rattle.ta_scope.proofs.circulation.subtract.Given as goal
 
 -- the amount is subtracted from the counts of the earlier rules

@@ -1,5 +1,4 @@
-use Rattle.std.proofs.Common.{arith}
-use Rattle.std.proofs.lemmas.Int.{ints}
+use Rattle.ta_scope.proofs.Common.{arith, ints}
 use Rattle.ta_scope.proofs.Taken.{support_none, support_more, support_all}
 use Rattle.ta_scope.proofs.circulation.support_of.Goals as goal
 

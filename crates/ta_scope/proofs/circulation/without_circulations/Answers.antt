@@ -1,7 +1,4 @@
-use Rattle.std.proofs.Common.{◌≡◌, ◌≤ℤ◌, pos, ◌++◌, ◌∷◌, [], List, ℤ, arith, sym, ap, ◌∙◌, subst, length, take, drop, ◌<◌}
-use Rattle.std.proofs.lemmas.List.{take_at}
-use Rattle.ta_scope.specs.Inside.Taking.{IsLeastCycle}
-use Rattle.ta_scope.specs.Arranged.{AreRuleCounts, Support, LeastCount, SubtractsFrom, TakenOut, AllTakenOut, count_at}
+use Rattle.ta_scope.proofs.Common.{◌≡◌, ◌≤ℤ◌, pos, ◌++◌, ◌∷◌, [], List, ℤ, arith, sym, ap, ◌∙◌, subst, length, take, drop, ◌<◌, take_at, IsLeastCycle, AreRuleCounts, Support, LeastCount, SubtractsFrom, TakenOut, AllTakenOut, count_at}
 use Rattle.ta_scope.proofs.Taken.{sum_of, taken_more}
 use Rattle.ta_scope.proofs.Circulations.{taken_counts, taken_less, least_within, least_distinct, least_taken, no_cycle_same}
 use Rattle.ta_scope.proofs.circulation.without_circulations.Goals as goal

@@ -1,5 +1,4 @@
-use Rattle.std.proofs.Common.{List, ℤ}
-use Rattle.ta_scope.specs.Arranged.{AreRuleCounts, AllTakenOut}
+use Rattle.ta_scope.proofs.Common.{List, ℤ, AreRuleCounts, AllTakenOut}
 use Rattle.ta_scope.proofs.Taken.{sum_of}
 use Rattle.ta_scope.proofs.circulation.without_circulations.Given as goal
 

@@ -1,9 +1,4 @@
-use Rattle.std.proofs.Common.{ap, refl, length, arith, List, ℕ}
-use Rattle.std.proofs.lemmas.Bool.{false≢true}
-use Rattle.std.proofs.lemmas.Option.{slice_get_within}
-use Rattle.ta_base.proofs.Lists.{read_same}
-use Rattle.ta_automaton.specs.declared.rule.Rule.{Rule}
-use Rattle.ta_scope.specs.Faults.{AtFault}
+use Rattle.ta_scope.proofs.Common.{ap, refl, length, arith, List, ℕ, false≢true, slice_get_within, read_same, Rule, AtFault}
 use Rattle.ta_scope.proofs.Cycles.{rules_more}
 use Rattle.ta_scope.proofs.Judging.{in_scope, fault_out, fault_exactly}
 use Rattle.ta_scope.proofs.judge.first_at_fault.Goals as goal

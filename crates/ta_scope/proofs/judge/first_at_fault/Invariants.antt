@@ -1,6 +1,4 @@
-use Rattle.std.proofs.Common.{ℕ, ◌<◌, ◌≡◌, slice_get, Some}
-use Rattle.ta_automaton.specs.declared.rule.Rule.{Rule}
-use Rattle.ta_scope.specs.Faults.{AtFault}
+use Rattle.ta_scope.proofs.Common.{ℕ, ◌<◌, ◌≡◌, slice_get, Some, Rule, AtFault}
 use Rattle.ta_scope.proofs.judge.first_at_fault.Given as goal
 
 -- no earlier rule is at fault

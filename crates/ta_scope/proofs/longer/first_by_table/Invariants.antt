@@ -1,6 +1,4 @@
-use Rattle.std.proofs.Common.{ℕ, ◌<◌, ◌≡◌, slice_get, Some}
-use Rattle.ta_automaton.specs.declared.rule.Rule.{Rule}
-use Rattle.ta_scope.specs.LongerCycles.{OnLongerCycle}
+use Rattle.ta_scope.proofs.Common.{ℕ, ◌<◌, ◌≡◌, slice_get, Some, Rule, OnLongerCycle}
 use Rattle.ta_scope.proofs.longer.first_by_table.Given as goal
 
 -- no earlier rule is on such a cycle

@@ -1,6 +1,4 @@
-use Rattle.std.proofs.Common.{ℕ, ◌<◌, ◌≡◌, slice_get, Some, IsBitSet}
-use Rattle.ta_automaton.specs.declared.rule.Rule.{Rule}
-use Rattle.ta_scope.specs.Order.{Blocks}
+use Rattle.ta_scope.proofs.Common.{ℕ, ◌<◌, ◌≡◌, slice_get, Some, IsBitSet, Rule, Blocks}
 use Rattle.ta_scope.proofs.order.is_ready.Given as goal
 
 -- no earlier rule of the mask blocks the location

@@ -1,7 +1,5 @@
-use Rattle.std.proofs.Common.{ℕ, ap, length, arith, List}
-use Rattle.std.proofs.lemmas.Bool.{false≢true}
+use Rattle.ta_scope.proofs.Common.{ℕ, ap, length, arith, List, false≢true, Ready}
 use borrow.Author.Count.{below_more}
-use Rattle.ta_scope.specs.Order.{Ready}
 use Rattle.ta_scope.proofs.order.next_location.Goals as goal
 
 pub loop-location-preserved : goal.loop-location-preserved

@@ -1,5 +1,4 @@
-use Rattle.std.proofs.Common.{ℕ, ◌<◌}
-use Rattle.ta_scope.specs.Order.{Ready}
+use Rattle.ta_scope.proofs.Common.{ℕ, ◌<◌, Ready}
 use Rattle.ta_scope.proofs.order.next_location.Given as goal
 
 -- no earlier location is ready

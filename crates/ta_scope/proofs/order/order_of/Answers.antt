@@ -1,5 +1,4 @@
-use Rattle.std.proofs.Common.{arith, length-append, sym, ap, subst, length, ◌++◌, ◌∷◌, [], List, ℕ}
-use Rattle.ta_scope.specs.Order.{IsBuilt, Next, Ready}
+use Rattle.ta_scope.proofs.Common.{arith, length-append, sym, ap, subst, length, ◌++◌, ◌∷◌, [], List, ℕ, IsBuilt, Next, Ready}
 use Rattle.ta_scope.proofs.OrderLaws.{built_push, built_length, order_done}
 use Rattle.ta_scope.proofs.order.order_of.Goals as goal
 

@@ -1,5 +1,4 @@
-use Rattle.std.proofs.Common.{◌-◌, length}
-use Rattle.ta_scope.specs.Order.{IsBuilt}
+use Rattle.ta_scope.proofs.Common.{◌-◌, length, IsBuilt}
 use Rattle.ta_scope.proofs.order.order_of.Given as goal
 
 abbrev pub invariant-loop-location : goal.invariant-loop-location

@@ -1,5 +1,4 @@
-use Rattle.std.proofs.Common.{arith, sym, ◌∙◌}
-use Rattle.std.proofs.lemmas.Bool.{false≢true}
+use Rattle.ta_scope.proofs.Common.{arith, sym, ◌∙◌, false≢true}
 use Rattle.ta_scope.proofs.Stepping.{layer_first, layer_next, layer_done, layer_stuck}
 use Rattle.ta_scope.proofs.path.distance.Goals as goal
 

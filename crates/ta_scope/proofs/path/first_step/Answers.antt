@@ -1,9 +1,4 @@
-use Rattle.std.proofs.Common.{ap, refl, length, arith, List, ℕ}
-use Rattle.std.proofs.lemmas.Bool.{false≢true}
-use Rattle.std.proofs.lemmas.Option.{slice_get_within}
-use Rattle.ta_base.proofs.Lists.{read_same}
-use Rattle.ta_automaton.specs.declared.rule.Rule.{Rule}
-use Rattle.ta_scope.specs.Inside.Distances.{IsStep}
+use Rattle.ta_scope.proofs.Common.{ap, refl, length, arith, List, ℕ, false≢true, slice_get_within, read_same, Rule, IsStep}
 use Rattle.ta_scope.proofs.Cycles.{rules_more}
 use Rattle.ta_scope.proofs.Stepping.{no_step}
 use Rattle.ta_scope.proofs.path.first_step.Goals as goal

@@ -1,7 +1,4 @@
-use Rattle.std.proofs.Common.{arith, sym, subst, ◌++◌, ◌∷◌, [], List, ℕ, ◌-◌, ◌+◌, ◌≡◌}
-use Rattle.std.proofs.lemmas.Option.{slice_get_within}
-use Rattle.ta_automaton.proofs.Thresholds.{to_within}
-use Rattle.ta_scope.specs.Inside.Distances.{Distance}
+use Rattle.ta_scope.proofs.Common.{arith, sym, subst, ◌++◌, ◌∷◌, [], List, ℕ, ◌-◌, ◌+◌, ◌≡◌, slice_get_within, to_within, Distance}
 use Rattle.ta_scope.proofs.Stepping.{Ahead, ahead_none, ahead_push, ahead_done}
 use Rattle.ta_scope.proofs.path.path_of.Goals as goal
 

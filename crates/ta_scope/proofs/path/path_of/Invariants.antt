@@ -1,5 +1,4 @@
-use Rattle.std.proofs.Common.{◌<◌, length}
-use Rattle.ta_scope.specs.Inside.Distances.{Distance}
+use Rattle.ta_scope.proofs.Common.{◌<◌, length, Distance}
 use Rattle.ta_scope.proofs.Stepping.{Ahead}
 use Rattle.ta_scope.proofs.path.path_of.Given as goal
 

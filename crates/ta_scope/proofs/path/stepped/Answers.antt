@@ -1,6 +1,4 @@
-use Rattle.std.proofs.Common.{arith, ap, length, List}
-use Rattle.ta_base.proofs.Lists.{read_same}
-use Rattle.ta_automaton.specs.declared.rule.Rule.{Rule}
+use Rattle.ta_scope.proofs.Common.{arith, ap, length, List, read_same, Rule}
 use Rattle.ta_scope.proofs.Stepping.{stepped_none, stepped_more, stepped_all}
 use Rattle.ta_scope.proofs.path.stepped.Goals as goal
 

@@ -1,6 +1,4 @@
-use Rattle.std.proofs.Common.{ℕ, ◌<◌, ◌≡◌, slice_get, Some}
-use Rattle.ta_automaton.specs.declared.rule.Rule.{Rule}
-use Rattle.ta_scope.specs.Inside.Reached.{LeadsOut}
+use Rattle.ta_scope.proofs.Common.{ℕ, ◌<◌, ◌≡◌, slice_get, Some, Rule, LeadsOut}
 use Rattle.ta_scope.proofs.reach.grown.Given as goal
 
 -- no earlier rule leads out of the mask

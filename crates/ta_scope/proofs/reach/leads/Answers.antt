@@ -1,5 +1,4 @@
-use Rattle.std.proofs.Common.{ℕ, List, length, length-append, ◌∷◌, [], arith, sym, ap, subst, IsBitSet, ◌↔◌}
-use Rattle.ta_scope.specs.Cycles.{Reaches}
+use Rattle.ta_scope.proofs.Common.{ℕ, List, length, length-append, ◌∷◌, [], arith, sym, ap, subst, IsBitSet, ◌↔◌, Reaches}
 use Rattle.ta_scope.proofs.Reaching.{LeadsSoFar, leads_push}
 use Rattle.ta_scope.proofs.reach.leads.Goals as goal
 

@@ -1,6 +1,4 @@
-use Rattle.std.proofs.Common.{◌≡◌, Option, Some, subst, List, slice_get}
-use Rattle.ta_search.proofs.Places.{none_behind}
-use Rattle.ta_search.specs.declared.outcome.Tried.{Tried}
+use Rattle.ta_search.proofs.Common.{◌≡◌, Option, Some, subst, List, slice_get, Tried, none_behind}
 use Rattle.ta_search.proofs.beside.empty_places.Goals as goal
 
 pub numbers-preserved : goal.numbers-preserved

@@ -1,6 +1,4 @@
-use Rattle.std.proofs.Common.{ℕ}
-use Rattle.ta_search.specs.declared.template.Template.{Template}
-use Rattle.ta_search.specs.Inside.Beside.{AtHand}
+use Rattle.ta_search.proofs.Common.{ℕ, Template, AtHand}
 use Rattle.ta_search.proofs.beside.empty_places.Given as goal
 
 abbrev pub invariant-numbers : goal.invariant-numbers

@@ -1,6 +1,4 @@
-use Rattle.std.proofs.Common.{subst, sym}
-use Rattle.std.specs.List.{AllByRecursion}
-use Rattle.ta_search.specs.Inside.Beside.{IsPlaced}
+use Rattle.ta_search.proofs.Common.{subst, sym, AllByRecursion, IsPlaced}
 use Rattle.ta_search.proofs.beside.in_places.Goals as goal
 
 pub placed-init : goal.placed-init

@@ -1,7 +1,4 @@
-use Rattle.std.proofs.Common.{ℕ}
-use Rattle.std.specs.List.{AllByRecursion}
-use Rattle.ta_search.specs.declared.template.Template.{Template}
-use Rattle.ta_search.specs.Inside.Beside.{AtHand, IsPlaced}
+use Rattle.ta_search.proofs.Common.{ℕ, AllByRecursion, Template, AtHand, IsPlaced}
 use Rattle.ta_search.proofs.beside.in_places.Given as goal
 
 abbrev pub invariant-placed : goal.invariant-placed

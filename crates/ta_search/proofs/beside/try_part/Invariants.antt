@@ -1,5 +1,4 @@
-use Rattle.std.specs.List.{AllByRecursion}
-use Rattle.ta_search.specs.Inside.Beside.{IsPlaced}
+use Rattle.ta_search.proofs.Common.{AllByRecursion, IsPlaced}
 use Rattle.ta_search.proofs.beside.try_part.Given as goal
 
 abbrev pub invariant-vectors : goal.invariant-vectors

@@ -1,5 +1,4 @@
-use Rattle.std.proofs.Common.{◌≡◌, ◌++◌, length}
-use Rattle.ta_search.specs.Filling.{filled_body, filled_text}
+use Rattle.ta_search.proofs.Common.{◌≡◌, ◌++◌, length, filled_body, filled_text}
 use Rattle.ta_search.proofs.filling.fill.Given as goal
 
 abbrev pub invariant-bytes : goal.invariant-bytes

@@ -1,5 +1,4 @@
-use Rattle.std.proofs.Common.{◌*◌, ap, ◌∙◌, arith}
-use Rattle.ta_search.specs.Holes.{vector_count}
+use Rattle.ta_search.proofs.Common.{◌*◌, ap, ◌∙◌, arith, vector_count}
 use Rattle.ta_search.proofs.Adding.{many_tells, vectors_push}
 use Rattle.ta_search.proofs.lines.are_too_many.Goals as goal
 

@@ -1,7 +1,4 @@
-use Rattle.std.proofs.Common.{◌∙◌, ◌++◌, ℕ, List, [], ◌∷◌, ap, sym, take}
-use Rattle.std.proofs.lemmas.List.{take_more}
-use Rattle.ta_search.specs.declared.outcome.Tried.{Tried}
-use Rattle.ta_search.specs.SearchText.{tried_text, tried_texts}
+use Rattle.ta_search.proofs.Common.{◌∙◌, ◌++◌, ℕ, List, [], ◌∷◌, ap, sym, take, take_more, Tried, tried_text, tried_texts}
 use Rattle.ta_search.proofs.SearchTexts.{one_text_more}
 use Rattle.ta_search.proofs.printing.search_text.Goals as goal
 

@@ -1,5 +1,4 @@
-use Rattle.std.proofs.Common.{◌≡◌, string_bytes, take}
-use Rattle.ta_search.specs.SearchText.{tried_texts}
+use Rattle.ta_search.proofs.Common.{◌≡◌, string_bytes, take, tried_texts}
 use Rattle.ta_search.proofs.printing.search_text.Given as goal
 
 abbrev pub invariant-vectors : goal.invariant-vectors

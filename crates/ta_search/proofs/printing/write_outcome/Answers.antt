@@ -1,7 +1,5 @@
-use Rattle.std.proofs.Common.{◌≡◌, ◌∙◌, ◌++◌, List, ℕ, ap, codes}
+use Rattle.ta_search.proofs.Common.{◌≡◌, ◌∙◌, ◌++◌, List, ℕ, ap, codes, named_ended, sample_words, verdict_words}
 use Rattle.std.specs.String.{string_bytes}
-use Rattle.ta_base.proofs.Lists.{named_ended}
-use Rattle.ta_search.specs.SearchText.{sample_words, verdict_words}
 use Rattle.ta_search.proofs.SearchTexts.{ended}
 use Rattle.ta_search.proofs.printing.write_outcome.Goals as goal
 

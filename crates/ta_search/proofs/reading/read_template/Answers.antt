@@ -1,5 +1,4 @@
-use Rattle.std.proofs.Common.{subst}
-use Rattle.ta_search.specs.Inside.Lines.{AddsHole}
+use Rattle.ta_search.proofs.Common.{subst, AddsHole}
 use Rattle.ta_search.proofs.Heads.{read_more}
 use Rattle.ta_search.proofs.reading.read_template.Goals as goal
 

@@ -1,5 +1,4 @@
-use Rattle.std.proofs.Common.{◌≡◌, ◌∙◌, ◌<◌, ◌++◌, [], ◌∷◌, ap, arith, subst, sym}
-use Rattle.ta_search.specs.Holes.{vector_count}
+use Rattle.ta_search.proofs.Common.{◌≡◌, ◌∙◌, ◌<◌, ◌++◌, [], ◌∷◌, ap, arith, subst, sym, vector_count}
 use Rattle.ta_search.proofs.FoundLast.{found_is_last}
 use Rattle.ta_search.proofs.Trying.{Searched, found_end, none_tried, other_end, other_tried}
 use Rattle.ta_search.proofs.searching.search.Goals as goal

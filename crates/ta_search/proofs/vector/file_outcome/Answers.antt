@@ -1,6 +1,4 @@
-use Rattle.std.proofs.Common.{IfOk, refl, subst, sym}
-use Rattle.ta_verdict.specs.Verdicts.{IsSample}
-use Rattle.ta_search.specs.Outcomes.{OutcomeHolds}
+use Rattle.ta_search.proofs.Common.{IfOk, refl, subst, sym, IsSample, OutcomeHolds}
 use Rattle.ta_search.proofs.vector.file_outcome.Goals as goal
 use Rattle.ta_search.proofs.vector.file_outcome.Goals.{in-Sample, in-Empty, in-Spent, in-Overflow}
 

@@ -1,12 +1,6 @@
-use Rattle.std.proofs.Common.{◌≤◌, List, length, refl, subst, sym}
-use Rattle.std.proofs.lemmas.Option.{slice_get_past, slice_get_read}
+use Rattle.ta_search.proofs.Common.{◌≤◌, List, length, refl, subst, sym, slice_get_past, slice_get_read, Verdict, Certificate, CertificateOf, safe_numbers, AreVerdicts, IsSafe}
 use borrow.Author.Tests.{ltb-false}
-use Rattle.ta_report.specs.declared.verdict.Verdict.{Verdict}
-use Rattle.ta_check.specs.Certificate.{Certificate}
 use Rattle.ta_shell.specs.Puts.{texts_joined}
-use Rattle.ta_verdict.specs.Certificates.{CertificateOf, safe_numbers}
-use Rattle.ta_verdict.specs.Verdicts.{AreVerdicts}
-use Rattle.ta_search.specs.Outcomes.{IsSafe}
 use Rattle.ta_search.proofs.Outcoming.{numbered, other_at, pattern_holds, safe_holds}
 use Rattle.ta_search.proofs.vector.patterns_outcome.Goals as goal
 

@@ -6,4 +6,4 @@ use Rattle.ta_search.proofs.vector.text_outcome.Goals as goal
 pub returns-in-Err : goal.returns-in-Err
 returns-in-Err g c =
     let other : c.in-Err.fault ≢ fault.Memory = search rules in
-    refused_by c.args.bytes.now c.in-Err.fault c.if-bytes-gt-LONGEST.false c.in-Err.ensures other
+    refused_by c.args.bytes.now c.in-Err.fault c.if-bytes-gt-FILE_BYTES.false c.in-Err.ensures other

@@ -1,5 +1,4 @@
-use Rattle.std.proofs.Common.{◌≡◌, ◌++◌, [], refl}
-use Rattle.ta_search.specs.Inside.Trying.{vector_at}
+use Rattle.ta_search.proofs.Common.{◌≡◌, ◌++◌, [], refl, vector_at}
 use Rattle.ta_search.proofs.VectorsNumbered.{vector_length}
 use Rattle.ta_search.proofs.vector.try_vector.Goals as goal
 

@@ -1,5 +1,4 @@
-use Rattle.std.proofs.Common.{◌∙◌, ◌+◌, ◌≡◌, ◌≤◌, arith, length, length-take-le, rules, take}
-use Rattle.ta_base.proofs.Lists.{filled_more}
+use Rattle.ta_shelf.proofs.Common.{◌∙◌, ◌+◌, ◌≡◌, ◌≤◌, arith, length, length-take-le, rules, take, filled_more}
 use Rattle.ta_shelf.proofs.CallLemmas.{one_more}
 use Rattle.ta_shelf.proofs.ReadSoFar.{full_if, read_more_if}
 use Rattle.ta_shelf.proofs.reading.read_piece.Goals as goal

@@ -1,5 +1,4 @@
-use Rattle.std.proofs.Common.{◌∙◌, ◌++◌, ◌<◌, take, rules, arith, refl, ◌≡◌, length, length-take-le, List, ℕ, [], sym, subst, append-nil, Err, inl}
-use Rattle.std.specs.Option.{IfSome}
+use Rattle.ta_shelf.proofs.Common.{◌∙◌, ◌++◌, ◌<◌, take, rules, arith, refl, ◌≡◌, length, length-take-le, List, ℕ, [], sym, subst, append-nil, Err, inl, IfSome}
 use Rattle.ta_shelf.proofs.CallLemmas.{one_more}
 use Rattle.ta_shelf.proofs.ReadSoFar.{IsReadFrom, begins_if, nothing_read, read_more_if}
 use Rattle.ta_shelf.specs.declared.fault.WholeFault.TheVariants.{Memory}

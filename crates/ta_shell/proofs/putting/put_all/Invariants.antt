@@ -1,5 +1,4 @@
-use Rattle.std.proofs.Common.{◌≡◌, take}
-use Rattle.ta_shell.specs.Puts.{Stand}
+use Rattle.ta_shell.proofs.Common.{◌≡◌, take, Stand}
 use Rattle.ta_shell.proofs.putting.put_all.Given as goal
 
 -- the files so far stand, and no call failed

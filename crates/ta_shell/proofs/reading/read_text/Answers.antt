@@ -1,11 +1,4 @@
-use Rattle.std.proofs.Common.{◌≡◌, ◌∙◌, ◌++◌, List, Err, Ok, inl, inr, refl, subst, sym}
-use Rattle.std.proofs.lemmas.List.{append_cancel_left}
-use Rattle.std.specs.Option.{IfSome}
-use Rattle.ta_shelf.specs.Calls.{Call}
-use Rattle.ta_shelf.specs.ReadPiece.{GivesFirst}
-use Rattle.ta_shelf.specs.declared.fault.WholeFault.TheVariants.{Missing, TooLong}
-use Rattle.ta_shell.specs.Lines.{longer_than, missing}
-use Rattle.ta_shell.specs.Sights.{seen}
+use Rattle.ta_shell.proofs.Common.{◌≡◌, ◌∙◌, ◌++◌, List, Err, Ok, inl, inr, refl, subst, sym, append_cancel_left, IfSome, Call, GivesFirst, Missing, TooLong, longer_than, missing, seen}
 use Rattle.ta_shell.proofs.ReadCalls.{gives_refusal, is_reading, sees_absent, sees_more, sees_whole}
 use Rattle.ta_shell.proofs.reading.read_text.Goals as goal
 

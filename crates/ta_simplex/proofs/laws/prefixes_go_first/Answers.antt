@@ -1,6 +1,4 @@
-use Rattle.std.proofs.Common.{refl}
-use Rattle.ta_dense.specs.Slack.{slack_tableau}
-use Rattle.ta_dense.specs.Extending.{extended}
+use Rattle.ta_simplex.proofs.Common.{refl, slack_tableau, extended}
 use Rattle.std.specs.Prelude.{length}
 use Rattle.ta_simplex.proofs.FollowLemmas.{follows_reached, pivots_listed}
 use Rattle.ta_simplex.proofs.Prefixes.{follows_extended, overflow_extended}

@@ -1,5 +1,4 @@
-use Rattle.std.proofs.Common.{sym, subst}
-use Rattle.ta_simplex.specs.Refuted.{AreLeafMultipliers}
+use Rattle.ta_simplex.proofs.Common.{sym, subst, AreLeafMultipliers}
 use Rattle.ta_simplex.proofs.LeafLemmas.{multipliers_are_leaf}
 use Rattle.ta_simplex.proofs.multipliers.multipliers_of.Goals as goal
 

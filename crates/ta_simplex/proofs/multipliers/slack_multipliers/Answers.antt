@@ -1,11 +1,5 @@
-use Rattle.std.proofs.Common.{◌≡◌, ◌<◌, ◌+◌, length, replicate, pos, neg_ℤ, ◌-ℤ◌, arith, rules, sym, ap, ◌∙◌, refl, subst}
-use Rattle.std.proofs.lemmas.Int.{to_z-of_z, ints}
-use Rattle.std.proofs.lemmas.List.{with_items_is}
-use mir.Val.{SFits}
-use mir.Syntax.{w128}
-use Rattle.ta_base.proofs.Integers.{zero_minus}
-use Rattle.ta_linear.specs.Numbers.{InRange}
-use Rattle.ta_dense.specs.Slack.{variables}
+use Rattle.ta_simplex.proofs.Common.{◌≡◌, ◌<◌, ◌+◌, length, pos, neg_ℤ, ◌-ℤ◌, arith, rules, sym, ap, ◌∙◌, refl, subst, to_z-of_z, ints, with_items_is, SFits, w128, zero_minus, InRange, variables}
+use Rattle.std.proofs.Common.{replicate}
 use Rattle.ta_dense.proofs.ReduceFacts.{fits_minus}
 use Rattle.ta_simplex.proofs.SlotLemmas.{Filled, fill-first, fill-next}
 use Rattle.ta_simplex.proofs.multipliers.slack_multipliers.Goals as goal

@@ -1,9 +1,4 @@
-use Rattle.std.proofs.Common.{◌+◌, ℕ, ℤ, get_or, pos, rules, sym, ap, subst, Vec, Global}
-use Rattle.std.proofs.lemmas.Int.{to_z-of_z}
-use mir.Val.{SFits, of_z}
-use mir.Syntax.{w128}
-use Rattle.ta_dense.proofs.ProperFacts.{zero_from_bits}
-use Rattle.ta_simplex.specs.Inside.Slots.{ListsSlots}
+use Rattle.ta_simplex.proofs.Common.{◌+◌, ℕ, ℤ, get_or, pos, rules, sym, ap, subst, Vec, Global, to_z-of_z, SFits, of_z, w128, ListsSlots, zero_from_bits}
 use Rattle.ta_simplex.proofs.SlotLemmas.{list-more, list-skip}
 use Rattle.ta_simplex.proofs.multipliers.terms_of.Goals as goal
 use Rattle.ta_simplex.proofs.multipliers.terms_of.Goals.{then-multipliers-row-ne0+in_ok-push, else-multipliers-row-ne0}

@@ -1,6 +1,4 @@
-use Rattle.std.proofs.Common.{length, map}
-use Rattle.ta_dense.specs.Slack.{slack_tableau, variables}
-use Rattle.ta_simplex.specs.Follows.{Follows, AddsPivots}
+use Rattle.ta_simplex.proofs.Common.{length, map, slack_tableau, variables, Follows, AddsPivots}
 use Rattle.ta_simplex.proofs.Ends.{measure}
 use Rattle.ta_simplex.proofs.pivots.run.Given as goal
 

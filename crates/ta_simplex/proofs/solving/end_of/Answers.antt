@@ -1,5 +1,4 @@
-use Rattle.std.proofs.Common.{ℕ, Option, length, map, subst}
-use Rattle.ta_dense.specs.Slack.{slack_tableau}
+use Rattle.ta_simplex.proofs.Common.{ℕ, Option, length, map, subst, slack_tableau}
 use Rattle.ta_simplex.specs.Stops.{RuleStopsAt}
 use Rattle.ta_simplex.proofs.FollowLemmas.{follows_reached}
 use Rattle.ta_simplex.proofs.RunSteps.{follows_dictionary}

@@ -1,9 +1,4 @@
-use Rattle.std.proofs.Common.{◌<◌, ◌+◌, length, arith, rules, sym, ap, ◌∙◌, subst}
-use Rattle.std.proofs.lemmas.Int.{to_z-of_z}
-use Rattle.std.proofs.lemmas.List.{with_items_is}
-use mir.Val.{SFits}
-use mir.Syntax.{w128}
-use Rattle.ta_dense.specs.Slack.{variables}
+use Rattle.ta_simplex.proofs.Common.{◌<◌, ◌+◌, length, arith, rules, sym, ap, ◌∙◌, subst, to_z-of_z, with_items_is, SFits, w128, variables}
 use Rattle.ta_simplex.proofs.ValueLemmas.{ValuesSoFar, values-next}
 use Rattle.ta_simplex.proofs.vertex.vertex_of.Goals as goal
 

@@ -1,7 +1,4 @@
-use Rattle.std.proofs.Common.{subst}
-use Rattle.std.proofs.lemmas.Result.{err_from_is_err_and}
-use Rattle.ta_smt.specs.Admit.{asked}
-use Rattle.ta_smt.specs.Inside.Checking.{PassesCheck, WordFault}
+use Rattle.ta_smt.proofs.Common.{subst, err_from_is_err_and, asked, PassesCheck, WordFault}
 use Rattle.ta_smt.proofs.Admitted.{admits, complete_is, incomplete_is, line_fault, run_fault, solution_from, word_fault}
 use Rattle.ta_smt.proofs.admitting.admit.Goals as goal
 

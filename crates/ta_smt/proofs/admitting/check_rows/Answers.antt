@@ -1,9 +1,4 @@
-use Rattle.std.proofs.Common.{refl}
-use Rattle.std.proofs.lemmas.Result.{err_from_is_err_and}
-use Rattle.ta_base.proofs.Lists.{all_passed, one_passed, read_same}
-use Rattle.ta_linear.specs.Values.{point_of}
-use Rattle.ta_linear.specs.declared.row.Row.{Row}
-use Rattle.ta_counter.specs.Checks.{RowPasses}
+use Rattle.ta_smt.proofs.Common.{refl, err_from_is_err_and, all_passed, one_passed, read_same, point_of, Row, RowPasses}
 use Rattle.ta_smt.proofs.Admitted.{row_stops}
 use Rattle.ta_smt.proofs.admitting.check_rows.Goals as goal
 

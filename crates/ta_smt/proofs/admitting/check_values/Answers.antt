@@ -1,6 +1,4 @@
-use Rattle.std.proofs.Common.{◌≡◌, length, arith, sym, subst}
-use Rattle.ta_linear.specs.Values.{point_of}
-use Rattle.ta_counter.specs.Checks.{RowsOver, RowsPass}
+use Rattle.ta_smt.proofs.Common.{◌≡◌, length, arith, sym, subst, point_of, RowsOver, RowsPass}
 use Rattle.ta_smt.proofs.Admitted.{rows_over}
 use Rattle.ta_smt.proofs.admitting.check_values.Goals as goal
 

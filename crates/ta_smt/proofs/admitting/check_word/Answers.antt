@@ -1,5 +1,4 @@
-use Rattle.std.proofs.lemmas.Result.{err_from_is_err_and}
-use Rattle.ta_smt.specs.Admit.{asked}
+use Rattle.ta_smt.proofs.Common.{err_from_is_err_and, asked}
 use Rattle.ta_smt.proofs.Admitted.{few_in_word, system_asked, word_stops}
 use Rattle.ta_smt.proofs.admitting.check_word.Goals as goal
 

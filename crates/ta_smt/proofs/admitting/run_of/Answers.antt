@@ -1,5 +1,4 @@
-use Rattle.std.proofs.Common.{subst}
-use Rattle.ta_smt.specs.Spelling.{FirstStranger}
+use Rattle.ta_smt.proofs.Common.{subst, FirstStranger}
 use Rattle.ta_smt.proofs.Spelled.{no_stranger}
 use Rattle.ta_smt.proofs.admitting.run_of.Goals as goal
 

@@ -1,7 +1,4 @@
-use Rattle.std.proofs.Common.{◌≡◌, ◌∙◌, ap, pos, get_or, arith, rules, FitsSigned}
-use Rattle.std.proofs.lemmas.Int.{to_z-of_z}
-use Rattle.std.specs.Int.{w128}
-use Rattle.ta_smt.specs.Export.{part}
+use Rattle.ta_smt.proofs.Common.{◌≡◌, ◌∙◌, ap, pos, get_or, arith, rules, FitsSigned, to_z-of_z, w128, part}
 use Rattle.ta_smt.proofs.Written.{term_counted, terms_counted}
 use Rattle.ta_smt.proofs.export.count_terms.Goals as goal
 

@@ -1,7 +1,4 @@
-use Rattle.std.proofs.Common.{ℕ, ◌-◌, ◌≡◌, ◌++◌, ap, map, arith, string_bytes}
-use Rattle.ta_base.specs.Masks.{numbers_from}
-use Rattle.ta_replay.specs.RunText.{lines_text}
-use Rattle.ta_smt.specs.Script.{declare_line}
+use Rattle.ta_smt.proofs.Common.{ℕ, ◌-◌, ◌≡◌, ◌++◌, ap, map, arith, string_bytes, numbers_from, lines_text, declare_line}
 use Rattle.ta_smt.proofs.Written.{declared, line_written, lines_written}
 use Rattle.ta_smt.proofs.export.push_declarations.Goals as goal
 

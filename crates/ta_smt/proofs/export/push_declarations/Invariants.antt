@@ -1,7 +1,4 @@
-use Rattle.std.proofs.Common.{◌≡◌, ◌-◌, ◌++◌, map, string_bytes}
-use Rattle.ta_base.specs.Masks.{numbers_from}
-use Rattle.ta_replay.specs.RunText.{lines_text}
-use Rattle.ta_smt.specs.Script.{declare_line}
+use Rattle.ta_smt.proofs.Common.{◌≡◌, ◌-◌, ◌++◌, map, string_bytes, numbers_from, lines_text, declare_line}
 use Rattle.ta_smt.proofs.export.push_declarations.Given as goal
 
 abbrev pub invariant-loop-number : goal.invariant-loop-number

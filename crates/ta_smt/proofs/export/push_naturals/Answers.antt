@@ -1,6 +1,4 @@
-use Rattle.std.proofs.Common.{ℕ, ◌-◌, ◌≡◌, ◌++◌, ◌∙◌, List, ap, map, arith, string_bytes}
-use Rattle.ta_base.specs.Masks.{numbers_from}
-use Rattle.ta_replay.specs.RunText.{lines_text}
+use Rattle.ta_smt.proofs.Common.{ℕ, ◌-◌, ◌≡◌, ◌++◌, ◌∙◌, List, ap, map, arith, string_bytes, numbers_from, lines_text}
 use Rattle.ta_smt.proofs.Written.{claimed, line_written, lines_written, maps_once, natural_line}
 use Rattle.ta_smt.proofs.export.push_naturals.Goals as goal
 

@@ -1,7 +1,4 @@
-use Rattle.std.proofs.Common.{string_bytes}
-use Rattle.ta_smt.specs.declared.side.Side.TheVariants.{Left, Right}
-use Rattle.ta_smt.specs.Script.{term_text}
-use Rattle.ta_smt.specs.Export.{summed_term, summands}
+use Rattle.ta_smt.proofs.Common.{string_bytes, Left, Right, term_text, summed_term, summands}
 use Rattle.ta_smt.proofs.Written.{claim_written}
 use Rattle.ta_smt.proofs.export.push_row.Goals as goal
 

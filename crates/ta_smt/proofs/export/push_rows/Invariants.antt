@@ -1,7 +1,4 @@
-use Rattle.std.proofs.Common.{◌≡◌, ◌++◌, drop, map, string_bytes}
-use Rattle.ta_replay.specs.RunText.{lines_text}
-use Rattle.ta_smt.specs.Script.{assert_line}
-use Rattle.ta_smt.specs.Export.{row_claim}
+use Rattle.ta_smt.proofs.Common.{◌≡◌, ◌++◌, drop, map, string_bytes, lines_text, assert_line, row_claim}
 use Rattle.ta_smt.proofs.export.push_rows.Given as goal
 
 abbrev pub invariant-loop-row : goal.invariant-loop-row

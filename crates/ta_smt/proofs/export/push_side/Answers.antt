@@ -1,5 +1,4 @@
-use Rattle.std.proofs.Common.{◌++◌, ◌∙◌, ap, arith, string_bytes}
-use Rattle.ta_smt.specs.Export.{summands}
+use Rattle.ta_smt.proofs.Common.{◌++◌, ◌∙◌, ap, arith, string_bytes, summands}
 use Rattle.ta_smt.proofs.Written.{none_text, one_text}
 use Rattle.ta_smt.proofs.export.push_side.Goals as goal
 

@@ -1,6 +1,4 @@
-use Rattle.std.proofs.Common.{◌++◌, ◌∙◌, ap, codes, string_bytes}
-use Rattle.ta_smt.specs.Export.{summands}
-use Rattle.ta_smt.specs.Inside.Leads.{led_text}
+use Rattle.ta_smt.proofs.Common.{◌++◌, ◌∙◌, ap, codes, string_bytes, summands, led_text}
 use Rattle.ta_smt.proofs.Written.{more_text, sum_written}
 use Rattle.ta_smt.proofs.export.push_sum.Goals as goal
 

@@ -1,7 +1,4 @@
-use Rattle.std.proofs.Common.{◌≡◌, ◌++◌, ◌∙◌, ap, rules, string_bytes, FitsSigned}
-use Rattle.std.proofs.lemmas.Int.{to_z-of_z}
-use Rattle.std.specs.Int.{w128}
-use Rattle.ta_smt.specs.Export.{part}
+use Rattle.ta_smt.proofs.Common.{◌≡◌, ◌++◌, ◌∙◌, ap, rules, string_bytes, FitsSigned, to_z-of_z, w128, part}
 use Rattle.ta_smt.proofs.Written.{side_written, terms_text}
 use Rattle.ta_smt.proofs.export.push_summands.Goals as goal
 

@@ -1,7 +1,4 @@
-use Rattle.std.proofs.Common.{◌≡◌, ◌∙◌, ap, pos, get_or, arith, rules, string_bytes, FitsSigned}
-use Rattle.std.proofs.lemmas.Int.{to_z-of_z}
-use Rattle.std.specs.Int.{w128}
-use Rattle.ta_smt.specs.Export.{part}
+use Rattle.ta_smt.proofs.Common.{◌≡◌, ◌∙◌, ap, pos, get_or, arith, rules, string_bytes, FitsSigned, to_z-of_z, w128, part}
 use Rattle.ta_smt.proofs.Written.{term_written, terms_written}
 use Rattle.ta_smt.proofs.export.push_terms.Goals as goal
 

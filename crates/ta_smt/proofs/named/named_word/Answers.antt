@@ -1,5 +1,4 @@
-use Rattle.std.proofs.Common.{◌^◌, length}
-use Rattle.ta_base.proofs.Naturals.{below_by, beyond_by}
+use Rattle.ta_smt.proofs.Common.{◌^◌, length, below_by, beyond_by}
 use Rattle.ta_smt.proofs.WordsNamed.{get_within, no_child, no_start, word_found}
 use Rattle.ta_smt.proofs.named.named_word.Goals as goal
 

@@ -1,6 +1,4 @@
-use Rattle.std.proofs.Common.{refl, sym, ◌∙◌, arith}
-use Rattle.std.proofs.lemmas.Bool.{false≢true}
-use Rattle.ta_base.proofs.Lists.{read_same}
+use Rattle.ta_smt.proofs.Common.{refl, sym, ◌∙◌, arith, false≢true, read_same}
 use Rattle.ta_smt.proofs.WordsNamed.{none_at_all, none_more}
 use Rattle.ta_smt.proofs.named.pattern_named.Goals as goal
 

@@ -1,5 +1,4 @@
-use Rattle.ta_smt.specs.Admit.{asked}
-use Rattle.ta_smt.specs.Named.{spelling}
+use Rattle.ta_smt.proofs.Common.{asked, spelling}
 use Rattle.ta_smt.proofs.WordsNamed.{no_whole, whole_found}
 use Rattle.ta_smt.proofs.named.whole_word.Goals as goal
 

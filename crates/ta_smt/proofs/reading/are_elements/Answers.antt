@@ -1,5 +1,4 @@
-use Rattle.std.proofs.Common.{◌≡◌, ◌∙◌, false, codes, rules}
-use Rattle.std.specs.Str.{bytes_eq}
+use Rattle.ta_smt.proofs.Common.{◌≡◌, ◌∙◌, false, codes, rules, bytes_eq}
 use Rattle.ta_smt.proofs.ElementTexts.{elements_else}
 use Rattle.ta_smt.proofs.reading.are_elements.Goals as goal
 

@@ -1,7 +1,5 @@
-use Rattle.std.proofs.Common.{rules, tests, arith, is_some}
+use Rattle.ta_smt.proofs.Common.{rules, tests, arith, is_some, YieldsList-from_str_split, element_of}
 use Rattle.std.proofs.lemmas.Iterator.Search.{all_from_yields_List}
-use Rattle.std.proofs.lemmas.Iterator.Splits.{YieldsList-from_str_split}
-use Rattle.ta_smt.specs.WordText.{element_of}
 use Rattle.ta_smt.proofs.reading.are_spelled.Goals as goal
 
 pub returns : goal.returns

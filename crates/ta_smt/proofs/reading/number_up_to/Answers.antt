@@ -1,6 +1,4 @@
-use Rattle.std.proofs.Common.{◌<◌, ◌^◌, rules, to_z, of_z, FitsSigned}
-use Rattle.std.proofs.lemmas.Int.{to_z-of_z}
-use Rattle.std.specs.Int.{w128}
+use Rattle.ta_smt.proofs.Common.{◌<◌, ◌^◌, rules, to_z, of_z, FitsSigned, to_z-of_z, w128}
 use Rattle.ta_smt.proofs.ElementTexts.{number_by, number_none}
 use Rattle.ta_smt.proofs.reading.number_up_to.Goals as goal
 

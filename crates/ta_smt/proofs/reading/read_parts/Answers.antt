@@ -1,9 +1,6 @@
-use Rattle.std.proofs.Common.{◌≡◌, ◌∙◌, ap, sym, arith, None, Some}
+use Rattle.ta_smt.proofs.Common.{◌≡◌, ◌∙◌, ap, sym, arith, None, Some, YieldsList-from_str_split, those_elements, element_of}
 use Rattle.std.specs.Str.Iter.{split_has_more, split_pattern, split_text}
-use Rattle.std.proofs.lemmas.Iterator.Splits.{YieldsList-from_str_split}
 use Rattle.std.proofs.lemmas.Iterator.Consumers.{YieldsList-end}
-use Rattle.ta_smt.specs.Inside.Elements.{those_elements}
-use Rattle.ta_smt.specs.WordText.{element_of}
 use Rattle.ta_smt.proofs.ElementTexts.{those_next, those_skip}
 use Rattle.ta_smt.proofs.reading.read_parts.Goals as goal
 

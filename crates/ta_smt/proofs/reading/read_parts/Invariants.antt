@@ -1,5 +1,4 @@
-use Rattle.std.proofs.Common.{◌≡◌, map}
-use Rattle.ta_smt.specs.Inside.Elements.{those_elements}
+use Rattle.ta_smt.proofs.Common.{◌≡◌, map, those_elements}
 use Rattle.ta_smt.proofs.reading.read_parts.Given as goal
 
 -- the elements of the parts so far

@@ -1,6 +1,4 @@
-use Rattle.std.proofs.Common.{◌≡◌, ◌<◌, ◌^◌, ◌∙◌, length, ap, arith, rules, subst, sym}
-use Rattle.ta_words.specs.Calls.{OfPattern}
-use Rattle.ta_smt.specs.Spelling.{FirstStranger}
+use Rattle.ta_smt.proofs.Common.{◌≡◌, ◌<◌, ◌^◌, ◌∙◌, length, ap, arith, rules, subst, sym, OfPattern, FirstStranger}
 use Rattle.ta_smt.proofs.Spelled.{short_word, spelled_length, stranger_found}
 use Rattle.ta_smt.proofs.spelling.word_of.Goals as goal
 

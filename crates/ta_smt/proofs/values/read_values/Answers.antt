@@ -1,5 +1,4 @@
-use Rattle.std.proofs.Common.{[], ◌∷◌, ◌++◌, subst, sym}
-use Rattle.ta_replay.proofs.Decimals.{stored}
+use Rattle.ta_smt.proofs.Common.{[], ◌∷◌, ◌++◌, subst, sym, stored}
 use Rattle.ta_smt.proofs.ValueTexts.{Read, read_more}
 use Rattle.ta_smt.proofs.values.read_values.Goals as goal
 

@@ -1,7 +1,4 @@
-use Rattle.std.proofs.Common.{arith, ◌≡◌, ◌<◌, length, ap, sym, subst}
-use Rattle.std.proofs.lemmas.Result.{err_from_is_err_and}
-use Rattle.ta_syntax.specs.BlockReading.{TookBlock, BlockStops}
-use Rattle.ta_syntax.specs.declared.tokens.Mark.{Mark}
+use Rattle.ta_syntax.proofs.Common.{arith, ◌≡◌, ◌<◌, length, ap, sym, subst, err_from_is_err_and, TookBlock, BlockStops, Mark}
 use Rattle.ta_syntax.proofs.BlockSteps.{blocks_begin, blocks_past, blocks_stop, blocks_go_on, blocks_end}
 use Rattle.ta_syntax.proofs.blocks.read_blocks.Goals as goal
 

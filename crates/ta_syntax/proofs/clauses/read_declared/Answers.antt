@@ -1,5 +1,4 @@
-use Rattle.std.proofs.Common.{◌∙◌}
-use Rattle.std.proofs.lemmas.Result.{err_from_is_err_and}
+use Rattle.ta_syntax.proofs.Common.{◌∙◌, err_from_is_err_and}
 use Rattle.ta_syntax.proofs.ClauseSteps.{leads_some, declared_unmarked, declared_stops, declared_absent, took_declared}
 use Rattle.ta_syntax.proofs.clauses.read_declared.Goals as goal
 

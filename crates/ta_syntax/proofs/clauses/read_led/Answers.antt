@@ -1,5 +1,4 @@
-use Rattle.std.proofs.Common.{◌∙◌}
-use Rattle.std.proofs.lemmas.Result.{err_from_is_err_and}
+use Rattle.ta_syntax.proofs.Common.{◌∙◌, err_from_is_err_and}
 use Rattle.ta_syntax.proofs.ClauseSteps.{leads_some, led_absent, led_stops, took_led}
 use Rattle.ta_syntax.proofs.clauses.read_led.Goals as goal
 

@@ -1,10 +1,4 @@
-use Rattle.std.proofs.Common.{refl, sym, ap, ◌∙◌, ◌≡◌, [], List}
-use Rattle.std.proofs.lemmas.Result.{err_from_is_err_and}
-use Rattle.std.proofs.lemmas.List.{nil_from_length}
-use Rattle.ta_syntax.specs.Inside.Parts.{list_part, comparison_part}
-use Rattle.ta_syntax.specs.Faults.{offset_of}
-use Rattle.ta_syntax.specs.Inside.Reading.{is_sum_start}
-use Rattle.ta_syntax.specs.declared.placed.Token.{Token}
+use Rattle.ta_syntax.proofs.Common.{refl, sym, ap, ◌∙◌, ◌≡◌, [], List, err_from_is_err_and, nil_from_length, list_part, comparison_part, offset_of, is_sum_start, Token}
 use Rattle.ta_syntax.specs.declared.tokens.Mark.TheVariants as mark
 use Rattle.ta_syntax.specs.declared.fault.FileFault.TheVariants as fault
 use Rattle.ta_syntax.proofs.ItemSteps.{begins_other, list_begins_by, comparison_begins}

@@ -1,10 +1,4 @@
-use Rattle.std.proofs.Common.{subst, length, List}
-use Rattle.std.proofs.lemmas.Result.{err_from_is_err_and}
-use Rattle.ta_syntax.specs.Grammar.{FileText}
-use Rattle.ta_syntax.specs.Limits.{at_start}
-use Rattle.ta_syntax.specs.Faults.{IsStopped}
-use Rattle.ta_syntax.specs.Inside.FileReading.{IsSpelled}
-use Rattle.ta_syntax.specs.declared.placed.Token.{Token}
+use Rattle.ta_syntax.proofs.Common.{subst, length, List, err_from_is_err_and, FileText, at_start, IsStopped, IsSpelled, Token}
 use Rattle.ta_syntax.proofs.LegalTrees.{tree_read, scan_fault, file_fault}
 use Rattle.ta_syntax.proofs.NoFault.{no_fault, tree_alone}
 use Rattle.ta_syntax.proofs.file.read_tree.Goals as goal

@@ -1,5 +1,4 @@
-use Rattle.std.proofs.Common.{arith, ◌≡◌, ◌<◌, length, ap}
-use Rattle.std.proofs.lemmas.Result.{err_from_is_err_and}
+use Rattle.ta_syntax.proofs.Common.{arith, ◌≡◌, ◌<◌, length, ap, err_from_is_err_and}
 use Rattle.ta_syntax.proofs.ListSteps.{list_begins, list_past, list_stops, list_goes_on, list_ends}
 use Rattle.ta_syntax.proofs.lists.read_list.Goals as goal
 

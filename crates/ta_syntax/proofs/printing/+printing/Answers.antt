@@ -1,17 +1,6 @@
-use Rattle.std.proofs.Common.{◌≡◌, ◌+◌, ◌∷◌, ◌++◌, [], zero, suc, List, ℕ, drop, sym, ap, subst, ◌∙◌, arith}
-use Rattle.std.proofs.lemmas.List.{drop_more}
-use Rattle.std.proofs.Math.ListN.{drop_of_length-le}
-use Rattle.std.specs.String.{string_bytes}
-use Rattle.ta_base.proofs.Options.{if_ok_then}
-use Rattle.ta_syntax.specs.Grammar.{sum_kinds, term_kinds, factor_kinds}
-use Rattle.ta_syntax.specs.PlainSums.{plain_sum, plain_term, plain_terms, plain_factor}
-use Rattle.ta_syntax.specs.Inside.Printed.{Prints, sign_before}
-use Rattle.ta_syntax.specs.declared.tokens.Kind.{Kind}
+use Rattle.ta_syntax.proofs.Common.{◌≡◌, ◌+◌, ◌∷◌, ◌++◌, [], zero, suc, List, ℕ, drop, sym, ap, subst, ◌∙◌, arith, drop_more, drop_of_length-le, string_bytes, if_ok_then, sum_kinds, term_kinds, factor_kinds, plain_sum, plain_term, plain_terms, plain_factor, Prints, sign_before, Kind, Sign, TreeTerm, TreeFactor}
 use Rattle.ta_syntax.specs.declared.tokens.Kind.TheVariants as kind
 use Rattle.ta_syntax.specs.declared.tokens.Mark.TheVariants as mark
-use Rattle.ta_syntax.specs.declared.sums.Sign.{Sign}
-use Rattle.ta_syntax.specs.declared.sums.TreeTerm.{TreeTerm}
-use Rattle.ta_syntax.specs.declared.sums.TreeFactor.{TreeFactor}
 use Rattle.ta_syntax.proofs.PrintSteps.{Goes, goes_on, goes_to_end, prints_then, signed, signed_all, plain_sum_out}
 use Rattle.ta_syntax.proofs.SumSteps.{plain_nested}
 use Rattle.ta_syntax.proofs.printing.+printing.Goals as goal

@@ -1,5 +1,4 @@
-use Rattle.std.proofs.Common.{drop, zero}
-use Rattle.std.specs.String.{string_bytes}
+use Rattle.ta_syntax.proofs.Common.{drop, zero, string_bytes}
 use Rattle.ta_syntax.proofs.PrintSteps.{Goes, signed}
 use Rattle.ta_syntax.proofs.printing.+printing.Given as goal
 

@@ -1,8 +1,4 @@
-use Rattle.std.proofs.Common.{[], ◌∷◌, ◌++◌}
-use Rattle.std.specs.String.{string_bytes}
-use Rattle.ta_base.proofs.Options.{if_ok_then}
-use Rattle.ta_syntax.specs.Grammar.{listed}
-use Rattle.ta_syntax.specs.Inside.Printed.{Prints}
+use Rattle.ta_syntax.proofs.Common.{[], ◌∷◌, ◌++◌, string_bytes, if_ok_then, listed, Prints}
 use Rattle.ta_syntax.specs.declared.tokens.Kind.TheVariants as kind
 use Rattle.ta_syntax.specs.declared.tokens.Mark.TheVariants as mark
 use Rattle.ta_syntax.proofs.PrintSteps.{prints_then}

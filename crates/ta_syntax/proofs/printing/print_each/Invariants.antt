@@ -1,6 +1,4 @@
-use Rattle.std.proofs.Common.{drop}
-use Rattle.std.specs.String.{string_bytes}
-use Rattle.ta_syntax.specs.Grammar.{each}
+use Rattle.ta_syntax.proofs.Common.{drop, string_bytes, each}
 use Rattle.ta_syntax.proofs.PrintSteps.{Goes}
 use Rattle.ta_syntax.proofs.printing.print_each.Given as goal
 

@@ -1,9 +1,4 @@
-use Rattle.std.proofs.Common.{◌≡◌, ◌+◌, ◌∷◌, [], drop, sym, ap, subst, ◌∙◌, arith}
-use Rattle.std.proofs.lemmas.List.{drop_more}
-use Rattle.std.proofs.Math.ListN.{drop_of_length-le}
-use Rattle.std.specs.String.{string_bytes}
-use Rattle.ta_syntax.specs.Grammar.{listed, further}
-use Rattle.ta_syntax.specs.Inside.Printed.{Prints}
+use Rattle.ta_syntax.proofs.Common.{◌≡◌, ◌+◌, ◌∷◌, [], drop, sym, ap, subst, ◌∙◌, arith, drop_more, drop_of_length-le, string_bytes, listed, further, Prints}
 use Rattle.ta_syntax.specs.declared.tokens.Kind.TheVariants as kind
 use Rattle.ta_syntax.specs.declared.tokens.Mark.TheVariants as mark
 use Rattle.ta_syntax.proofs.PrintSteps.{Goes, goes_on, goes_to_end, prints_then}

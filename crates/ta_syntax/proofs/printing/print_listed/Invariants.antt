@@ -1,6 +1,4 @@
-use Rattle.std.proofs.Common.{drop}
-use Rattle.std.specs.String.{string_bytes}
-use Rattle.ta_syntax.specs.Grammar.{further}
+use Rattle.ta_syntax.proofs.Common.{drop, string_bytes, further}
 use Rattle.ta_syntax.specs.declared.tokens.Kind.TheVariants as kind
 use Rattle.ta_syntax.proofs.PrintSteps.{Goes}
 use Rattle.ta_syntax.proofs.printing.print_listed.Given as goal

@@ -1,10 +1,4 @@
-use Rattle.std.proofs.Common.{ℕ, List, [], ◌∷◌, ◌++◌, map, ap, subst, ◌∙◌}
-use Rattle.std.specs.String.{string_bytes}
-use Rattle.ta_syntax.specs.Grammar.{sum_kinds, listed, each, comparison_kinds, rule_kinds, pattern_kinds}
-use Rattle.ta_syntax.specs.PlainSums.{plain_sum}
-use Rattle.ta_syntax.specs.PlainTrees.{plain_comparison, plain_rule, plain_pattern, plain_tree}
-use Rattle.ta_syntax.specs.Printed.{printed}
-use Rattle.ta_syntax.specs.Inside.Printed.{Prints, head_kinds}
+use Rattle.ta_syntax.proofs.Common.{ℕ, List, [], ◌∷◌, ◌++◌, map, ap, subst, ◌∙◌, string_bytes, sum_kinds, listed, each, comparison_kinds, rule_kinds, pattern_kinds, plain_sum, plain_comparison, plain_rule, plain_pattern, plain_tree, printed, Prints, head_kinds}
 use Rattle.ta_syntax.specs.declared.tokens.Kind.TheVariants as kind
 use Rattle.ta_syntax.specs.declared.tokens.Mark.TheVariants as mark
 use Rattle.ta_syntax.proofs.PrintSteps.{prints_then, each_of, declared_of, declared_then, head_parts}

@@ -1,5 +1,4 @@
-use Rattle.std.proofs.Common.{arith, ◌<◌, ap, length}
-use Rattle.std.proofs.lemmas.Result.{err_from_is_err_and}
+use Rattle.ta_syntax.proofs.Common.{arith, ◌<◌, ap, length, err_from_is_err_and}
 use Rattle.ta_syntax.proofs.SumExits.{sum_begins, sum_stops, sum_goes_on, sum_ends, took_named, took_nested, nested_stops, close_stops, unnamed_stops, too_deep, took_number, took_times, times_stops, took_alone, alone_stops}
 use Rattle.ta_syntax.proofs.reading.+reading.Goals as goal
 

@@ -1,6 +1,4 @@
-use Rattle.std.proofs.Common.{ap, sym, List}
-use Rattle.ta_syntax.specs.Faults.{offset_of}
-use Rattle.ta_syntax.specs.declared.placed.Token.{Token}
+use Rattle.ta_syntax.proofs.Common.{ap, sym, List, offset_of, Token}
 use Rattle.ta_syntax.proofs.reading.read_name.Goals as goal
 
 pub returns : goal.returns

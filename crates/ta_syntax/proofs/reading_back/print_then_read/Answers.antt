@@ -1,7 +1,4 @@
-use Rattle.std.proofs.Common.{List, ℕ, sym, subst, ◌∙◌}
-use Rattle.std.proofs.lemmas.Result.{err_from_is_err_and}
-use Rattle.ta_syntax.specs.PlainTrees.{plain_tree}
-use Rattle.ta_syntax.specs.TreeOf.{IsTextOf}
+use Rattle.ta_syntax.proofs.Common.{List, ℕ, sym, subst, ◌∙◌, err_from_is_err_and, plain_tree, IsTextOf}
 use Rattle.ta_syntax.proofs.LegalTrees.{tree_within}
 use Rattle.ta_syntax.proofs.ReadBack.{text_of}
 use Rattle.ta_syntax.proofs.reading_back.print_then_read.Goals as goal

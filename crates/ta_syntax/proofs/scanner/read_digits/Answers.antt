@@ -1,9 +1,4 @@
-use Rattle.std.proofs.Common.{take}
-use Rattle.std.specs.Char.{is_ascii_digit}
-use Rattle.std.specs.List.{prefix_len}
-use Rattle.std.proofs.lemmas.List.Sums.{prefix_len-le-length}
-use Rattle.ta_base.proofs.DecimalDigits.{digits_ascii}
-use Rattle.ta_base.proofs.Each.{all_front}
+use Rattle.ta_syntax.proofs.Common.{take, is_ascii_digit, prefix_len, prefix_len-le-length, digits_ascii, all_front}
 use Rattle.ta_syntax.proofs.Words.{number_from}
 use Rattle.ta_syntax.proofs.scanner.read_digits.Goals as goal
 

@@ -1,11 +1,5 @@
-use Rattle.std.proofs.Common.{take, ap, ◌∙◌, ◌≡◌, sym, ℕ}
-use Rattle.std.specs.List.{prefix_len}
-use Rattle.std.proofs.lemmas.List.Sums.{prefix_len-le-length}
+use Rattle.ta_syntax.proofs.Common.{take, ap, ◌∙◌, ◌≡◌, sym, ℕ, prefix_len, prefix_len-le-length, all_front, mark_bytes, is_word, Mark}
 use Rattle.ta_base.proofs.ByteLists.{words_ascii}
-use Rattle.ta_base.proofs.Each.{all_front}
-use Rattle.ta_syntax.specs.Kinds.{mark_bytes}
-use Rattle.ta_base.specs.Bytes.{is_word}
-use Rattle.ta_syntax.specs.declared.tokens.Mark.{Mark}
 use Rattle.ta_syntax.proofs.Words.{name_from}
 use Rattle.ta_syntax.proofs.scanner.read_word.Goals as goal
 

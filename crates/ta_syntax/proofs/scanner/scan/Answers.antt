@@ -1,6 +1,4 @@
-use Rattle.std.proofs.Common.{arith, refl, sym, ◌<◌, ◌-◌, length, false-eqb, eqb-true}
-use Rattle.std.proofs.lemmas.Result.{err_from_is_err_and}
-use Rattle.std.proofs.lemmas.List.{nil_from_length}
+use Rattle.ta_syntax.proofs.Common.{arith, refl, sym, ◌<◌, ◌-◌, length, false-eqb, eqb-true, err_from_is_err_and, nil_from_length}
 use Rattle.ta_syntax.proofs.Scans.{scan_goes_on, scan_ends, scan_stops}
 use Rattle.ta_syntax.proofs.scanner.scan.Goals as goal
 

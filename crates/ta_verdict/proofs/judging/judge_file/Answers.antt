@@ -1,11 +1,4 @@
-use Rattle.std.proofs.Common.{◌∙◌, ◌++◌, List, append-nil, subst, sym}
-use Rattle.ta_cert.specs.Certificates.{head_text, proofs_text}
-use Rattle.ta_cert.specs.declared.line.Order.{Order}
-use Rattle.ta_report.specs.declared.verdict.Verdict.{Verdict}
-use Rattle.ta_scope.proofs.Judging.{loops_pure}
-use Rattle.ta_shell.specs.Puts.{texts_joined}
-use Rattle.ta_verdict.specs.Certificates.{AreTrees, safe_ones}
-use Rattle.ta_verdict.specs.Drafts.{HasText}
+use Rattle.ta_verdict.proofs.Common.{◌∙◌, ◌++◌, List, append-nil, subst, sym, head_text, proofs_text, Order, Verdict, loops_pure, texts_joined, AreTrees, safe_ones, HasText}
 use Rattle.ta_verdict.proofs.CertificatesMade.{certificate_accepted, certificate_made}
 use Rattle.ta_verdict.proofs.judging.judge_file.Goals as goal
 

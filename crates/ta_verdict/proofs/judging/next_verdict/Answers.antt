@@ -1,5 +1,4 @@
-use Rattle.std.proofs.Common.{◌∙◌, sym}
-use Rattle.ta_verdict.specs.Certificates.{tree_under}
+use Rattle.ta_verdict.proofs.Common.{◌∙◌, sym, tree_under}
 use Rattle.ta_verdict.proofs.DraftsMade.{adds_tree, wanted_same}
 use Rattle.ta_verdict.proofs.judging.next_verdict.Goals as goal
 

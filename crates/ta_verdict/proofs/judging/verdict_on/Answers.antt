@@ -1,8 +1,4 @@
-use Rattle.std.proofs.Common.{◌≡◌, subst, ℕ}
-use Rattle.ta_encode.specs.PatternSearch.{pattern_search}
-use Rattle.ta_scope.proofs.Judging.{loops_pure}
-use Rattle.ta_walk.specs.Ends.{NodeOf, TreeIs}
-use Rattle.ta_verdict.specs.Verdicts.{IsOutOfRangeIn, SpentHolds}
+use Rattle.ta_verdict.proofs.Common.{◌≡◌, subst, ℕ, pattern_search, loops_pure, NodeOf, TreeIs, IsOutOfRangeIn, SpentHolds}
 use Rattle.ta_verdict.proofs.VerdictsMade.{overflow_holds, safe_holds, solution_found, spent_holds, under}
 use Rattle.ta_verdict.proofs.judging.verdict_on.Goals as goal
 

@@ -1,5 +1,4 @@
-use Rattle.std.proofs.Common.{◌<◌, ◌∙◌, length}
-use Rattle.ta_verdict.specs.Certificates.{tree_under}
+use Rattle.ta_verdict.proofs.Common.{◌<◌, ◌∙◌, length, tree_under}
 use Rattle.ta_verdict.proofs.DraftsMade.{trees_more}
 use Rattle.ta_verdict.proofs.VerdictsMade.{so_far_more, so_many}
 use Rattle.ta_verdict.proofs.judging.verdicts_on.Goals as goal

@@ -1,6 +1,4 @@
-use Rattle.std.proofs.Common.{◌≡◌, ℕ, List, [], take}
-use Rattle.ta_verdict.specs.Certificates.{safe_ones, tree_under}
-use Rattle.ta_verdict.specs.Drafts.{HasProofs, HasTrees}
+use Rattle.ta_verdict.proofs.Common.{◌≡◌, ℕ, List, [], take, safe_ones, tree_under, HasProofs, HasTrees}
 use Rattle.ta_verdict.proofs.VerdictsMade.{VerdictsSoFar}
 use Rattle.ta_verdict.proofs.judging.verdicts_on.Given as goal
 

@@ -1,5 +1,4 @@
-use Rattle.ta_walk.specs.FoundOrders.{FoundAfter}
-use Rattle.ta_walk.specs.Inside.Sought.{MasksAgree}
+use Rattle.ta_walk.proofs.Common.{FoundAfter, MasksAgree}
 use Rattle.ta_walk.proofs.finding.find_orders.Given as goal
 
 abbrev pub invariant-loop-after : goal.invariant-loop-after

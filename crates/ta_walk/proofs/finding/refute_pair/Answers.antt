@@ -1,10 +1,4 @@
-use Rattle.std.proofs.Common.{◌^◌, refl, sym, subst}
-use Rattle.ta_linear.specs.Leaf.{AreMultipliers, LeafOf}
-use Rattle.ta_dense.specs.Slack.{slack_tableau}
-use Rattle.ta_farkas.specs.Columns.{CheckStays}
-use Rattle.ta_simplex.specs.LeastIndex.{OverflowsAt}
-use Rattle.ta_simplex.specs.Refuted.{IsRefuted}
-use Rattle.ta_simplex.specs.Vertex.{IsVertex}
+use Rattle.ta_walk.proofs.Common.{◌^◌, refl, sym, subst, AreMultipliers, LeafOf, slack_tableau, CheckStays, OverflowsAt, IsRefuted, IsVertex}
 use Rattle.ta_walk.proofs.PairSystems.{few_variables_of_pair}
 use Rattle.ta_walk.proofs.OrdersOnce.{none_overflows, none_at_vertex, none_leaves}
 use Rattle.ta_walk.proofs.Nodes.{judgeable}

@@ -1,7 +1,4 @@
-use Rattle.std.proofs.Common.{map, subst, sym}
-use Rattle.ta_walk.specs.declared.end.TreeEnd.{TreeEnd}
-use Rattle.ta_walk.specs.Ends.{IsTreeEnd}
-use Rattle.ta_walk.specs.Inside.Parts.{IsWholeEnd, root_word, search_of_tree}
+use Rattle.ta_walk.proofs.Common.{map, subst, sym, TreeEnd, IsTreeEnd, IsWholeEnd, root_word, search_of_tree}
 use Rattle.ta_walk.proofs.PartsMerged.{whole_visited}
 use Rattle.ta_walk.proofs.forked.visit_parts.Goals as goal
 

@@ -1,7 +1,4 @@
-use Rattle.std.proofs.Common.{◌-◌, ◌∙◌, List, IfOk, arith, map, subst}
-use Rattle.ta_encode.specs.Search.{Pending}
-use Rattle.ta_walk.specs.declared.end.TreeEnd.{TreeEnd}
-use Rattle.ta_walk.specs.Inside.Parts.{PartVisited, beginning, root_word, search_of_tree}
+use Rattle.ta_walk.proofs.Common.{◌-◌, ◌∙◌, List, IfOk, arith, map, subst, Pending, TreeEnd, PartVisited, beginning, root_word, search_of_tree}
 use Rattle.ta_walk.proofs.PartsMerged.{decided_part}
 use Rattle.ta_walk.proofs.RootsListed.{halves_listed}
 use Rattle.ta_walk.proofs.forking.+forks.Goals as goal
@@ -17,13 +14,13 @@ visit_list-returns-clause-visited g t c =
     let all = halves_listed _ c.args.words.items c.split_off.new.self.items c.in_ok-others.others.items c.in_ok-others.ensures.items c.in_ok-others.ensures.tail in
     subst (λ (us : List Pending). IfOk c.visit_halves.result (λ part. PartVisited g.K.Keeper.keeps (beginning (search_of_tree c.args.tree.now) us) c.args.nodes c.args.keeper part.keeper part.end)) all c.visit_halves.ensures.visited
 
-pub visit_in_turn-returns-in_default-clause-visited : goal.visit_in_turn-returns-in_default-clause-visited
-visit_in_turn-returns-in_default-clause-visited g t c =
+pub visit_halves-returns-in_default-clause-visited : goal.visit_halves-returns-in_default-clause-visited
+visit_halves-returns-in_default-clause-visited g t c =
     let part = c.in_ok-first.first in
     decided_part g.K.Keeper.keeps (search_of_tree c.args.tree.now) (map root_word c.args.words.items) (map root_word c.args.others.items) c.args.nodes c.args.keeper part.keeper part.end c.in_default.ensures.none c.in_ok-first.ensures.visited
 
-pub visit_in_turn-returns-clause-visited : goal.visit_in_turn-returns-clause-visited
-visit_in_turn-returns-clause-visited g t c =
+pub visit_halves-returns-clause-visited : goal.visit_halves-returns-clause-visited
+visit_halves-returns-clause-visited g t c =
     let s = search_of_tree c.args.tree.now in
     let keeps = g.K.Keeper.keeps in
     let ws = map root_word c.args.words.items in
@@ -31,7 +28,7 @@ visit_in_turn-returns-clause-visited g t c =
     let n = c.args.nodes in
     let first = c.in_ok-first.first in
     let one = subst (λ (e : TreeEnd). PartVisited keeps (beginning s ws) n c.args.keeper first.keeper e) c.in-Some.ensures.some c.in_ok-first.ensures.visited in
-    c.add.ensures.visited s ws vs (n - c.in-Some.count) c.args.keeper c.args.late one c.in_ok-second.ensures.visited c.requires.fresh
+    c.add.ensures.visited s ws vs (n - c.in-Some.count) c.args.keeper c.in_ok-late.late one c.in_ok-second.ensures.visited (c.in_ok-late.ensures.begins, c.in_ok-late.ensures.keeps)
 
-pub visit_in_turn-returns-clause-patient : goal.visit_in_turn-returns-clause-patient
-visit_in_turn-returns-clause-patient g t c = λ patient. c.add.ensures.whole (c.args.nodes - c.in-Some.count) (omega arith) (c.in_ok-second.ensures.patient (c.second_half-high.ensures ∙ patient))
+pub visit_halves-returns-clause-patient : goal.visit_halves-returns-clause-patient
+visit_halves-returns-clause-patient g t c = λ patient. c.add.ensures.whole (c.args.nodes - c.in-Some.count) (omega arith) (c.in_ok-second.ensures.patient (c.second_half-high.ensures ∙ patient))

@@ -10,9 +10,6 @@ decreases-visit_halves g l = 4 * (vec_len l.words + vec_len l.others) + 3
 abbrev pub decreases-visit_beside : goal.decreases-visit_beside
 decreases-visit_beside g l = 4 * (vec_len l.words + vec_len l.others) + 2
 
-abbrev pub decreases-visit_in_turn : goal.decreases-visit_in_turn
-decreases-visit_in_turn g l = 4 * (vec_len l.words + vec_len l.others) + 2
-
 abbrev pub decreases-visit_beside-front : goal.decreases-visit_beside-front
 decreases-visit_beside-front g l = 4 * vec_len l.words + 5
 

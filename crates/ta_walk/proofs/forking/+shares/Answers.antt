@@ -1,7 +1,4 @@
-use Rattle.std.proofs.Common.{◌-◌, sym, subst}
-use Rattle.ta_cursor.specs.Cursors.{left_at}
-use Rattle.ta_walk.specs.declared.end.TreeEnd.{TreeEnd}
-use Rattle.ta_walk.specs.Inside.Parts.{PartVisited, SharesBudget, beginning, search_of_tree}
+use Rattle.ta_walk.proofs.Common.{◌-◌, sym, subst, left_at, TreeEnd, PartVisited, SharesBudget, beginning, search_of_tree}
 use Rattle.ta_walk.proofs.PartsMerged.{shared_part}
 use Rattle.ta_walk.proofs.forking.+shares.Goals as goal
 

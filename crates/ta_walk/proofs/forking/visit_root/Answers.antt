@@ -1,6 +1,4 @@
-use Rattle.std.proofs.Common.{List, IfOk, subst}
-use Rattle.ta_encode.specs.Search.{Pending}
-use Rattle.ta_walk.specs.Inside.Parts.{PartVisited, beginning, search_of_tree}
+use Rattle.ta_walk.proofs.Common.{List, IfOk, subst, Pending, PartVisited, beginning, search_of_tree}
 use Rattle.ta_walk.proofs.RootsListed.{root_left, root_stands}
 use Rattle.ta_walk.proofs.forking.visit_root.Goals as goal
 

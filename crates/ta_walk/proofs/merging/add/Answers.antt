@@ -1,6 +1,4 @@
-use Rattle.std.proofs.Common.{◌++◌, sym, subst}
-use Rattle.ta_walk.specs.declared.end.TreeEnd.{TreeEnd}
-use Rattle.ta_walk.specs.Inside.Parts.{PartVisited, beginning}
+use Rattle.ta_walk.proofs.Common.{◌++◌, sym, subst, TreeEnd, PartVisited, beginning}
 use Rattle.ta_walk.proofs.PartsMerged.{merged_parts}
 use Rattle.ta_walk.proofs.merging.add.Goals as goal
 

@@ -1,6 +1,4 @@
-use Rattle.std.proofs.Common.{arith, subst}
-use Rattle.ta_walk.specs.declared.end.TreeEnd.{TreeEnd}
-use Rattle.ta_walk.specs.Inside.Parts.{PartVisited, beginning}
+use Rattle.ta_walk.proofs.Common.{arith, subst, TreeEnd, PartVisited, beginning}
 use Rattle.ta_walk.proofs.PartsMerged.{decided_part}
 use Rattle.ta_walk.proofs.merging.merge.Goals as goal
 

@@ -1,10 +1,4 @@
-use Rattle.std.proofs.Common.{ℕ, List, length, ap, arith, sym, subst}
-use Rattle.ta_simplex.specs.declared.fraction.Fraction.{Fraction}
-use Rattle.ta_dense.specs.Slack.{slack_tableau}
-use Rattle.ta_simplex.specs.LeastIndex.{OverflowsAt}
-use Rattle.ta_simplex.specs.Vertex.{IsVertex}
-use Rattle.ta_walk.specs.Visit.{IsOutOfRangeAt}
-use Rattle.ta_cursor.specs.Cursors.{here}
+use Rattle.ta_walk.proofs.Common.{ℕ, List, length, ap, arith, sym, subst, Fraction, slack_tableau, OverflowsAt, IsVertex, IsOutOfRangeAt, here}
 use Rattle.ta_walk.specs.declared.end.PlaceKind.TheVariants.{Pivot}
 use Rattle.ta_walk.proofs.Nodes.{few_variables}
 use Rattle.ta_walk.proofs.node.solve_node.Goals as goal

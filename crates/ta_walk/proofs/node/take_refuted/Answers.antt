@@ -1,6 +1,4 @@
-use Rattle.std.proofs.Common.{◌^◌, sym, subst, refl}
-use Rattle.ta_linear.specs.Leaf.{AreMultipliers, LeafOf}
-use Rattle.ta_farkas.specs.Columns.{CheckStays}
+use Rattle.ta_walk.proofs.Common.{◌^◌, sym, subst, refl, AreMultipliers, LeafOf, CheckStays}
 use Rattle.ta_walk.proofs.Nodes.{judgeable, leaf_at, leaf_out_of_range}
 use Rattle.ta_walk.proofs.node.take_refuted.Goals as goal
 

@@ -1,5 +1,4 @@
-use Rattle.std.proofs.Common.{◌≡◌, ℕ, ◌<◌, ◌^◌, length, slice_get, Some, None, sym, subst, rules}
-use Rattle.ta_walk.specs.Inside.Parts.{root_word}
+use Rattle.ta_walk.proofs.Common.{◌≡◌, ℕ, ◌<◌, ◌^◌, length, slice_get, Some, None, sym, subst, rules, root_word}
 use Rattle.ta_walk.proofs.RootsListed.{Listed, all_listed, listed_more, root_comes}
 use Rattle.ta_walk.proofs.roots.roots_of.Goals as goal
 

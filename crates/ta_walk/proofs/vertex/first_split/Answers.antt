@@ -1,7 +1,4 @@
-use Rattle.std.proofs.Common.{rules, ℤ, FitsSigned, sym, subst}
-use Rattle.std.specs.Int.{w128}
-use Rattle.std.proofs.lemmas.Int.{to_z-of_z}
-use Rattle.ta_walk.specs.Visit.{SplitsAt}
+use Rattle.ta_walk.proofs.Common.{rules, ℤ, FitsSigned, sym, subst, w128, to_z-of_z, SplitsAt}
 use Rattle.ta_walk.proofs.Vertices.{splits, whole_more}
 use Rattle.ta_walk.proofs.vertex.first_split.Goals as goal
 

@@ -1,5 +1,5 @@
-use Rattle.std.proofs.Common.{ℕ, ◌<◌, IsSomeAnd, slice_get}
-use Rattle.ta_walk.specs.Visit.{IsWhole}
+use Rattle.ta_walk.proofs.Common.{ℕ, ◌<◌, slice_get, IsWhole}
+use Rattle.std.proofs.Common.{IsSomeAnd}
 use Rattle.ta_walk.proofs.vertex.first_split.Given as goal
 
 -- the values so far are whole

@@ -1,7 +1,4 @@
-use Rattle.std.proofs.Common.{◌≡◌, arith, rules, ℤ, pos, FitsSigned, sym, subst}
-use Rattle.std.specs.Int.{w128}
-use Rattle.std.proofs.lemmas.Int.{ints, to_z-of_z}
-use Rattle.ta_walk.specs.Visit.{IsAbove}
+use Rattle.ta_walk.proofs.Common.{◌≡◌, arith, rules, ℤ, pos, FitsSigned, sym, subst, w128, ints, to_z-of_z, IsAbove}
 use Rattle.ta_walk.proofs.Vertices.{rest_whole, rest_above}
 use Rattle.ta_walk.proofs.vertex.floor_of.Goals as goal
 

@@ -1,7 +1,4 @@
-use Rattle.std.proofs.Common.{rules, ℤ, ◌+◌, List, take, FitsSigned, sym, subst}
-use Rattle.std.specs.Int.{w128}
-use Rattle.std.proofs.lemmas.Int.{to_z-of_z}
-use Rattle.ta_walk.specs.Visit.{AreNumbers}
+use Rattle.ta_walk.proofs.Common.{rules, ℤ, ◌+◌, List, take, FitsSigned, sym, subst, w128, to_z-of_z, AreNumbers}
 use Rattle.ta_walk.proofs.Vertices.{numbers_more}
 use Rattle.ta_walk.proofs.vertex.whole_values.Goals as goal
 

@@ -1,5 +1,4 @@
-use Rattle.std.proofs.Common.{take}
-use Rattle.ta_walk.specs.Visit.{AreNumbers}
+use Rattle.ta_walk.proofs.Common.{take, AreNumbers}
 use Rattle.ta_walk.proofs.vertex.whole_values.Given as goal
 
 -- the numbers so far are the values so far

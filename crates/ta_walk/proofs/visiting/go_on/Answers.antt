@@ -1,7 +1,5 @@
-use Rattle.std.proofs.Common.{◌<◌, ◌^◌, arith, refl, rules, FitsSigned, to_z-of_z}
-use Rattle.std.specs.Int.{w128}
-use Rattle.ta_cursor.specs.Cursors.{here}
-use Rattle.ta_walk.specs.Visit.{SplitVertex}
+use Rattle.ta_walk.proofs.Common.{◌<◌, ◌^◌, arith, refl, rules, FitsSigned, w128, here, SplitVertex}
+use Rattle.std.proofs.Common.{to_z-of_z}
 use Rattle.ta_walk.proofs.SplitsFit.{split_fits, split_within}
 use Rattle.ta_walk.proofs.WordSoFar.{inside_of}
 use Rattle.ta_walk.proofs.visiting.go_on.Goals as goal

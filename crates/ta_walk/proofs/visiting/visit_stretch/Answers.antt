@@ -1,12 +1,5 @@
-use Rattle.std.proofs.Common.{ℕ, ◌≡◌, ◌+◌, ◌≤◌, [], ◌∷◌, ◌++◌, ◌∙◌, reverse, refl, sym, ap, subst, arith, append_assoc, append-nil}
-use Rattle.ta_cursor.specs.Cursors.{IsShared, here, left_at}
-use Rattle.ta_cursor.specs.declared.cursor.Cursor.{Cursor}
-use Rattle.ta_linear.specs.declared.row.System.{System}
-use Rattle.ta_simplex.specs.Branch.{IsBranch}
-use Rattle.ta_walk.specs.Ends.{IsSpent, WholeWord, leaf_count}
-use Rattle.ta_walk.specs.Visit.{IsOutOfRangeAt, NodeAt}
-use Rattle.ta_walk.specs.Inside.Parts.{beginning}
-use Rattle.ta_walk.proofs.LeavesCounted.{leaves_few, leaves_more}
+use Rattle.ta_walk.proofs.Common.{ℕ, ◌≡◌, ◌+◌, ◌≤◌, [], ◌∷◌, ◌++◌, ◌∙◌, refl, sym, ap, subst, arith, append_assoc, append-nil, IsShared, here, left_at, Cursor, System, IsBranch, IsSpent, WholeWord, leaf_count, IsOutOfRangeAt, NodeAt, PartEnds, beginning}
+use Rattle.ta_walk.proofs.LeavesCounted.{leaves_below, leaves_few, leaves_more}
 use Rattle.ta_walk.proofs.SearchesMoved.{moved_out_of_range, moved_whole}
 use Rattle.ta_walk.proofs.WordSoFar.{WordSoFar, both_stand, word_at_node, word_begins, word_few, word_goes, word_refutes, word_shared, word_spent}
 use Rattle.ta_walk.proofs.visiting.visit_stretch.Goals as goal
@@ -42,11 +35,7 @@ solve_node-requires-clause-few g c κs within =
 pub leaves_with-leaves-requires : goal.leaves_with-leaves-requires
 leaves_with-leaves-requires g c =
     let l = c.loop-before in
-    let limit = c.requires.limit in
-    let counted = l.invariant.counted in
-    let done = l.invariant.walked.counted in
-    let few = leaves_few l.invariant.found in
-    omega arith
+    leaves_below l.invariant.found l.before l.leaves c.args.nodes l.invariant.counted l.invariant.walked.counted (omega arith) c.requires.limit
 
 pub returns-in-OutOfRange-clause-ends : goal.returns-in-OutOfRange-clause-ends
 returns-in-OutOfRange-clause-ends g c = λ first before has.
@@ -65,12 +54,13 @@ returns-in-Whole-clause-ends g c = λ first before has.
     let begun = left_at s c.args.cursor.now in
     let values = c.in-Whole.values in
     let within : l.before + 1 ≤ c.args.nodes = omega arith in
-    word_at_node s begun l.cursor l.before c.args.nodes l.invariant.found (WholeWord (beginning s begun) c.start_mask.result c.again.result values) l.invariant.walked
+    subst (PartEnds (beginning s begun) c.args.nodes (λ more. g.K.Keeper.keeps first l.keeper (before ++ more))) (sym c.found_at.ensures)
+    (word_at_node s begun l.cursor l.before c.args.nodes l.invariant.found (WholeWord (beginning s begun) l.cursor.start_mask l.cursor.word values) l.invariant.walked
     (record {
-      start_is = c.start_mask.ensures;
-      word_is = ap reverse (c.again.ensures ∙ c.word.ensures);
+      start_is = refl;
+      word_is = refl;
       whole = moved_whole s s.roots begun (here l.cursor) values (rw c.in-Whole.is at c.in_ok-kind.ensures.solved);
-    }) within
+    }) within)
 
 pub returns-then-not-more-clause-ends : goal.returns-then-not-more-clause-ends
 returns-then-not-more-clause-ends g c = λ first before has.

@@ -1,8 +1,4 @@
-use Rattle.std.proofs.Common.{◌≡◌, ◌++◌, List}
-use Rattle.ta_cert.specs.declared.line.Node.{Node}
-use Rattle.ta_cursor.specs.Cursors.{left_at}
-use Rattle.ta_simplex.specs.Branch.{IsBranch}
-use Rattle.ta_walk.specs.Ends.{leaf_count}
+use Rattle.ta_walk.proofs.Common.{◌≡◌, ◌++◌, List, Node, left_at, IsBranch, leaf_count}
 use Rattle.ta_walk.proofs.WordSoFar.{WordSoFar}
 use Rattle.ta_walk.proofs.visiting.visit_stretch.Given as goal
 

@@ -1,11 +1,5 @@
-use Rattle.std.proofs.Common.{ℕ, ◌+◌, ◌≤◌, [], ◌∷◌, ◌++◌, ◌∙◌, length, sym, ap, subst, arith}
-use Rattle.ta_cursor.specs.declared.cursor.Cursor.{Cursor}
-use Rattle.ta_cursor.specs.Cursors.{here}
-use Rattle.ta_linear.specs.declared.row.System.{System}
-use Rattle.ta_simplex.specs.Branch.{IsBranch}
-use Rattle.ta_walk.specs.Visit.{NodeAt}
-use Rattle.ta_walk.specs.Ends.{leaf_count}
-use Rattle.ta_walk.proofs.LeavesCounted.{leaves_few, leaves_more}
+use Rattle.ta_walk.proofs.Common.{ℕ, ◌+◌, ◌≤◌, [], ◌∷◌, ◌++◌, ◌∙◌, length, sym, ap, subst, arith, Cursor, here, System, IsBranch, NodeAt, leaf_count}
+use Rattle.ta_walk.proofs.LeavesCounted.{leaves_below, leaves_more}
 use Rattle.ta_walk.proofs.WalkSoFar.{walk_few, walk_goes, walk_refutes}
 use Rattle.ta_walk.proofs.walking.visit_tree_along.Goals as goal
 
@@ -20,11 +14,7 @@ solve_node-requires-clause-few g c κs within =
 pub leaves_with-leaves-requires : goal.leaves_with-leaves-requires
 leaves_with-leaves-requires g c =
     let l = c.loop-before in
-    let limit = c.requires.limit in
-    let counted = l.invariant.counted in
-    let done = l.invariant.walked.counted in
-    let few = leaves_few l.invariant.found in
-    omega arith
+    leaves_below l.invariant.found l.before l.leaves c.args.nodes l.invariant.counted l.invariant.walked.counted (omega arith) c.requires.limit
 
 pub returns-then-not-more : goal.returns-then-not-more
 returns-then-not-more g c =

@@ -1,7 +1,4 @@
-use Rattle.std.proofs.Common.{◌≡◌, List}
-use Rattle.ta_cert.specs.declared.line.Node.{Node}
-use Rattle.ta_simplex.specs.Branch.{IsBranch}
-use Rattle.ta_walk.specs.Ends.{leaf_count}
+use Rattle.ta_walk.proofs.Common.{◌≡◌, List, Node, IsBranch, leaf_count}
 use Rattle.ta_walk.proofs.WalkSoFar.{WalkSoFar}
 use Rattle.ta_walk.proofs.walking.visit_tree_along.Given as goal
 

@@ -1,10 +1,4 @@
-use Rattle.std.proofs.Common.{rules, ℕ, ℤ, ◌+◌, List, map, FitsSigned, sym, subst}
-use Rattle.std.specs.Int.{w128}
-use Rattle.std.proofs.lemmas.Int.{to_z-of_z}
-use Rattle.ta_base.specs.Masks.{numbers_from}
-use Rattle.ta_encode.specs.declared.meaning.Meaning.TheVariants.{Parameter}
-use Rattle.ta_witness.specs.Values.{unknown_value}
-use Rattle.ta_witness.specs.Inside.Making.{AreValues}
+use Rattle.ta_witness.proofs.Common.{rules, ℕ, ℤ, ◌+◌, List, map, FitsSigned, sym, subst, w128, to_z-of_z, numbers_from, Parameter, unknown_value, AreValues}
 use Rattle.ta_witness.proofs.Making.{values_more}
 use Rattle.ta_witness.proofs.known.parameters_of.Goals as goal
 

@@ -1,8 +1,4 @@
-use Rattle.std.proofs.Common.{map}
-use Rattle.ta_base.specs.Masks.{numbers_from}
-use Rattle.ta_encode.specs.declared.meaning.Meaning.TheVariants.{Parameter}
-use Rattle.ta_witness.specs.Values.{unknown_value}
-use Rattle.ta_witness.specs.Inside.Making.{AreValues}
+use Rattle.ta_witness.proofs.Common.{map, numbers_from, Parameter, unknown_value, AreValues}
 use Rattle.ta_witness.proofs.known.parameters_of.Given as goal
 
 -- the values of the earlier parameters

@@ -1,6 +1,4 @@
-use Rattle.std.proofs.Common.{ℕ, ◌<◌, ◌≡◌, pos}
-use Rattle.ta_encode.specs.declared.meaning.Meaning.TheVariants.{Single}
-use Rattle.ta_witness.specs.Values.{unknown_value}
+use Rattle.ta_witness.proofs.Common.{ℕ, ◌<◌, ◌≡◌, pos, Single, unknown_value}
 use Rattle.ta_witness.proofs.known.single_of.Given as goal
 
 -- no earlier rule is it

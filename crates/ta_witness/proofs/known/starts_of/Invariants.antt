@@ -1,7 +1,4 @@
-use Rattle.std.proofs.Common.{map, take}
-use Rattle.ta_encode.specs.declared.meaning.Meaning.TheVariants.{Start}
-use Rattle.ta_witness.specs.Values.{unknown_value}
-use Rattle.ta_witness.specs.Inside.Making.{AreValues}
+use Rattle.ta_witness.proofs.Common.{map, take, Start, unknown_value, AreValues}
 use Rattle.ta_witness.proofs.known.starts_of.Given as goal
 
 -- the start counts of the earlier locations

@@ -1,5 +1,4 @@
-use Rattle.std.proofs.Common.{arith, sym, ◌∙◌}
-use Rattle.std.proofs.lemmas.Int.{ints}
+use Rattle.ta_witness.proofs.Common.{arith, sym, ◌∙◌, ints}
 use Rattle.ta_witness.proofs.Making.{look_next, look_found, look_end}
 use Rattle.ta_witness.proofs.known.value_of.Goals as goal
 

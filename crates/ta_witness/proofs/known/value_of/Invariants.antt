@@ -1,5 +1,4 @@
-use Rattle.std.proofs.Common.{◌≡◌, drop}
-use Rattle.ta_witness.specs.Values.{unknown_value}
+use Rattle.ta_witness.proofs.Common.{◌≡◌, drop, unknown_value}
 use Rattle.ta_witness.proofs.known.value_of.Given as goal
 
 -- no earlier unknown stands for it

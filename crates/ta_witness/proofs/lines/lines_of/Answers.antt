@@ -1,8 +1,4 @@
-use Rattle.std.proofs.Common.{subst}
-use Rattle.std.proofs.lemmas.List.{take_all}
-use Rattle.ta_words.specs.declared.element.Element.TheVariants.{Event}
-use Rattle.ta_witness.specs.Values.{unknown_value}
-use Rattle.ta_witness.specs.Inside.Making.{AddsPieces}
+use Rattle.ta_witness.proofs.Common.{subst, take_all, Event, unknown_value, AddsPieces}
 use Rattle.ta_witness.proofs.Making.{lined_more}
 use Rattle.ta_witness.proofs.lines.lines_of.Goals as goal
 

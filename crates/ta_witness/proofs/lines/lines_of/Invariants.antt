@@ -1,6 +1,4 @@
-use Rattle.std.proofs.Common.{take}
-use Rattle.ta_witness.specs.Values.{unknown_value}
-use Rattle.ta_witness.specs.Inside.Making.{AddsPieces}
+use Rattle.ta_witness.proofs.Common.{take, unknown_value, AddsPieces}
 use Rattle.ta_witness.proofs.lines.lines_of.Given as goal
 
 -- the lines of the earlier elements' pieces

@@ -1,9 +1,4 @@
-use Rattle.std.proofs.Common.{ℕ, ◌<◌, List, length, sym, ap, subst}
-use Rattle.ta_automaton.specs.declared.rule.Rule.{Rule}
-use Rattle.ta_words.specs.declared.element.Element.{Element}
-use Rattle.ta_encode.specs.declared.meaning.Meaning.{Meaning}
-use Rattle.ta_witness.specs.Values.{unknown_value}
-use Rattle.ta_witness.specs.Inside.Making.{AddsPieceEnd, MayEnd}
+use Rattle.ta_witness.proofs.Common.{ℕ, ◌<◌, List, length, sym, ap, subst, Rule, Element, Meaning, unknown_value, AddsPieceEnd, MayEnd}
 use Rattle.ta_witness.proofs.Making.{ended_event, ended_fall}
 use Rattle.ta_witness.proofs.lines.push_end.Goals as goal
 

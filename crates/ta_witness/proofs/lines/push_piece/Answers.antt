@@ -1,11 +1,4 @@
-use Rattle.std.proofs.Common.{◌≡◌, ℕ, ℤ, List, length, map, sym, ap, ◌∙◌, subst}
-use Rattle.ta_automaton.specs.declared.rule.Rule.{Rule}
-use Rattle.ta_base.specs.Masks.{numbers_from}
-use Rattle.ta_scope.specs.Arranged.{AreRuleCounts}
-use Rattle.ta_encode.specs.declared.meaning.Meaning.{Meaning}
-use Rattle.ta_encode.specs.declared.meaning.Meaning.TheVariants.{Count}
-use Rattle.ta_witness.specs.Values.{unknown_value}
-use Rattle.ta_witness.specs.Witness.{counts_before}
+use Rattle.ta_witness.proofs.Common.{◌≡◌, ℕ, ℤ, List, length, map, sym, ap, ◌∙◌, subst, Rule, numbers_from, AreRuleCounts, Meaning, Count, unknown_value, counts_before}
 use Rattle.ta_witness.proofs.Making.{StepsPushed, counts_from, piece_added}
 use Rattle.ta_witness.proofs.lines.push_piece.Goals as goal
 

@@ -1,6 +1,4 @@
-use Rattle.std.proofs.Common.{rules, ◌<ℤ◌, ◌^◌, pos, arith, get_or, FitsSigned}
-use Rattle.std.specs.Int.{w128}
-use Rattle.std.proofs.lemmas.Int.{to_z-of_z, ints}
+use Rattle.ta_witness.proofs.Common.{rules, ◌<ℤ◌, ◌^◌, pos, arith, get_or, FitsSigned, w128, to_z-of_z, ints}
 use Rattle.ta_witness.proofs.Making.{steps_push}
 use Rattle.ta_witness.proofs.lines.push_steps.Goals as goal
 

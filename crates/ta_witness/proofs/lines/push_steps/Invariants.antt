@@ -1,6 +1,4 @@
-use Rattle.std.proofs.Common.{pos, ◌≡◌, ◌++◌, ◌<ℤ◌, ◌^◌, map, take}
-use Rattle.std.specs.List.{AllByRecursion}
-use Rattle.ta_replay.specs.Pieces.{step_line}
+use Rattle.ta_witness.proofs.Common.{pos, ◌≡◌, ◌++◌, ◌<ℤ◌, ◌^◌, map, take, AllByRecursion, step_line}
 use Rattle.ta_witness.proofs.lines.push_steps.Given as goal
 
 -- the earlier steps are added

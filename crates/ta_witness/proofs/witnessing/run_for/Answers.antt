@@ -1,7 +1,4 @@
-use Rattle.std.proofs.Common.{◌≤◌, ℤ, List, length, sym, subst}
-use Rattle.ta_words.specs.declared.element.Element.{Element}
-use Rattle.ta_witness.specs.Values.{unknown_value}
-use Rattle.ta_witness.specs.Inside.Making.{EachMayEnd, AreNaturals}
+use Rattle.ta_witness.proofs.Common.{◌≤◌, ℤ, List, length, sym, subst, Element, unknown_value, EachMayEnd, AreNaturals}
 use Rattle.ta_witness.proofs.Making.{ends_from, few_elements, known_from}
 use Rattle.ta_witness.proofs.witnessing.run_for.Goals as goal
 

@@ -1,10 +1,4 @@
-use Rattle.std.proofs.Common.{◌≡◌, inl, inr, ℕ, ◌+◌, ◌<◌, List, refl, Bool, length, reverse, slice_get, Some, arith, sym, ap, ◌∙◌, subst}
-use Rattle.std.proofs.lemmas.Option.{slice_get_read, slice_get_past}
-use Rattle.ta_base.specs.Masks.{has_bit}
-use Rattle.ta_base.proofs.Bits.{Told, none_told, not_told, one_told}
-use Rattle.ta_base.proofs.Naturals.{in_or_above}
-use Rattle.ta_automaton.specs.declared.rule.Rule.{Rule}
-use Rattle.ta_words.specs.Words.{may_fire}
+use Rattle.ta_words.proofs.Common.{◌≡◌, inl, inr, ℕ, ◌+◌, ◌<◌, List, refl, Bool, length, reverse, slice_get, Some, arith, sym, ap, ◌∙◌, subst, slice_get_read, slice_get_past, has_bit, Told, none_told, not_told, one_told, in_or_above, Rule, may_fire}
 use Rattle.ta_words.proofs.Lists.{pattern_at, of_pattern}
 use Rattle.ta_words.proofs.following.allowed_after.Goals as goal
 use Rattle.ta_words.proofs.following.allowed_after.Goals.{then-may_fire, else-may_fire}

@@ -1,6 +1,4 @@
-use Rattle.std.proofs.Common.{reverse, slice_get}
-use Rattle.ta_base.proofs.Bits.{Told}
-use Rattle.ta_words.specs.Words.{may_fire}
+use Rattle.ta_words.proofs.Common.{reverse, slice_get, Told, may_fire}
 use Rattle.ta_words.proofs.following.allowed_after.Given as goal
 
 abbrev pub invariant-loop-number : goal.invariant-loop-number

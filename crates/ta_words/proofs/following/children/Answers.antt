@@ -1,6 +1,4 @@
-use Rattle.std.proofs.Common.{◌≡◌, length, reverse, arith, sym, ap, ◌∙◌}
-use Rattle.ta_words.specs.Words.{children, is_ready, may_rise}
-use Rattle.ta_words.specs.declared.element.Element.TheVariants.{Event, Rise}
+use Rattle.ta_words.proofs.Common.{◌≡◌, length, reverse, arith, sym, ap, ◌∙◌, children, is_ready, may_rise, Event, Rise}
 use Rattle.ta_words.proofs.Lists.{pattern_at, of_pattern, events_named, passed_most, children_listed, no_children}
 use Rattle.ta_words.proofs.following.children.Goals as goal
 

@@ -1,5 +1,4 @@
-use Rattle.std.proofs.Common.{◌≡◌, ap, ◌∙◌, reverse}
-use Rattle.ta_words.specs.Words.{is_complete}
+use Rattle.ta_words.proofs.Common.{◌≡◌, ap, ◌∙◌, reverse, is_complete}
 use Rattle.ta_words.proofs.Lists.{pattern_at, of_pattern}
 use Rattle.ta_words.proofs.following.is_complete.Goals as goal
 

@@ -1,6 +1,5 @@
-use Rattle.std.proofs.Common.{◌^◌, arith, sym, subst}
+use Rattle.worked_beside.proofs.Common.{◌^◌, arith, sym, subst, AllBelow}
 use Rattle.ta_linear.specs.Terms.{IsNormal}
-use Rattle.ta_linear.specs.Rows.{AllBelow}
 use Rattle.ta_linear.proofs.TermLemmas.{IsNormal-higher}
 use Rattle.ta_dense.proofs.PushedRows.{AllBelow-push}
 use Rattle.worked_beside.proofs.towers.push_row.Goals as goal

@@ -1,5 +1,4 @@
-use Rattle.std.proofs.Common.{◌≡◌, ◌+◌, ◌*◌, length}
-use Rattle.ta_linear.specs.Rows.{AllBelow}
+use Rattle.worked_beside.proofs.Common.{◌≡◌, ◌+◌, ◌*◌, length, AllBelow}
 use Rattle.worked_beside.proofs.towers.tower.Given as goal
 
 abbrev pub invariant-loop-lower : goal.invariant-loop-lower

@@ -1,5 +1,4 @@
-use Rattle.std.proofs.Common.{arith, length-append, ◌++◌, ◌∷◌, [], refl}
-use Rattle.std.proofs.lemmas.Result.{err_from_is_err_and}
+use Rattle.ta_cert.proofs.Common.{arith, length-append, ◌++◌, ◌∷◌, [], refl, err_from_is_err_and}
 use Rattle.ta_cert.proofs.Standing.{trailing, fault_more, no_line, wrong_place, ended_line}
 use Rattle.ta_cert.proofs.reader.Reader.end_line.Goals as goal
 

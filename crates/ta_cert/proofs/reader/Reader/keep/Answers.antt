@@ -1,5 +1,4 @@
-use Rattle.std.proofs.Common.{length, ◌<◌, ◌+◌, ap, arith, false-eqb}
-use Rattle.ta_cert.specs.Streams.{line_limit}
+use Rattle.ta_cert.proofs.Common.{length, ◌<◌, ◌+◌, ap, arith, false-eqb, line_limit}
 use Rattle.ta_cert.proofs.Standing.{trailing, too_long}
 use Rattle.ta_cert.proofs.reader.Reader.keep.Goals as goal
 

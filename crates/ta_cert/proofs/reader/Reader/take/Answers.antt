@@ -1,5 +1,4 @@
-use Rattle.std.proofs.lemmas.Result.{err_from_is_err_and}
-use Rattle.ta_base.proofs.Lists.{next_shorter}
+use Rattle.ta_cert.proofs.Common.{err_from_is_err_and, next_shorter}
 use Rattle.ta_cert.proofs.Standing.{begins_taking, goes_on_taking, faults_taking, faults_behind, ends_taking}
 use Rattle.ta_cert.proofs.reader.Reader.take.Goals as goal
 

@@ -1,6 +1,4 @@
-use Rattle.std.proofs.Common.{◌++◌, ◌∷◌, [], refl, sym, subst, append_assoc, ◌∙◌}
-use Rattle.std.proofs.lemmas.Result.{err_from_is_err_and}
-use Rattle.ta_cert.specs.Steps.{IsFaultHere}
+use Rattle.ta_cert.proofs.Common.{◌++◌, ◌∷◌, [], refl, sym, subst, append_assoc, ◌∙◌, err_from_is_err_and, IsFaultHere}
 use Rattle.ta_cert.proofs.Standing.{fault_more, line_ends}
 use Rattle.ta_cert.proofs.reader.Reader.take_line.Goals as goal
 

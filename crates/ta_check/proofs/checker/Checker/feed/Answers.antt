@@ -1,6 +1,4 @@
-use Rattle.std.proofs.Common.{◌++◌, sym, ◌∙◌}
-use Rattle.std.proofs.lemmas.Bool.{false≢true}
-use Rattle.ta_check.specs.Checkers.{subject_of}
+use Rattle.ta_check.proofs.Common.{◌++◌, sym, ◌∙◌, false≢true, subject_of}
 use Rattle.ta_check.proofs.Answering.{exact_feed, never_failed, fed, still_sound, stands_somewhere}
 use Rattle.ta_check.proofs.checker.Checker.feed.Goals as goal
 

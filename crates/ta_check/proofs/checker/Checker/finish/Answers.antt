@@ -1,10 +1,5 @@
-use Rattle.std.proofs.Common.{sym, subst, Ok}
-use Rattle.std.proofs.lemmas.Result.{err_from_is_err_and}
-use Rattle.ta_claim.specs.declared.claim.Claim.{Claim}
+use Rattle.ta_check.proofs.Common.{sym, subst, Ok, err_from_is_err_and, Claim, Certificate, CertificateFor, subject_of, claiming}
 use Rattle.ta_scope.proofs.Judging.{loops_pure}
-use Rattle.ta_check.specs.Certificate.{Certificate, CertificateFor}
-use Rattle.ta_check.specs.Checkers.{subject_of}
-use Rattle.ta_check.specs.Subjects.{claiming}
 use Rattle.ta_check.proofs.Accepting.{certificate_unsolved, claims_hold}
 use Rattle.ta_check.proofs.Answering.{end_refused, exact_end, stands_somewhere}
 use Rattle.ta_check.proofs.Pieces.{end_accepts}

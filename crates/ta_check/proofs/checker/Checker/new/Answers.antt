@@ -1,6 +1,4 @@
-use Rattle.std.proofs.Common.{refl}
-use Rattle.ta_claim.specs.declared.claim.Claim.TheVariants.{Safe}
-use Rattle.ta_check.specs.Subjects.{claiming}
+use Rattle.ta_check.proofs.Common.{refl, Safe, claiming}
 use Rattle.ta_check.proofs.Accepting.{may_be_safe}
 use Rattle.ta_check.proofs.Pieces.{stands_first}
 use Rattle.ta_check.proofs.checker.Checker.new.Goals as goal

@@ -1,6 +1,4 @@
-use Rattle.std.proofs.Common.{refl}
-use Rattle.ta_claim.specs.declared.claim.Claim.TheVariants.{RestSafe}
-use Rattle.ta_check.specs.Subjects.{claiming}
+use Rattle.ta_check.proofs.Common.{refl, RestSafe, claiming}
 use Rattle.ta_check.proofs.Accepting.{may_rest}
 use Rattle.ta_check.proofs.Pieces.{stands_first}
 use Rattle.ta_check.proofs.checker.Checker.resting.Goals as goal

@@ -1,9 +1,4 @@
-use Rattle.std.proofs.Common.{◌<◌, ◌≤◌, List, length, reverse, sym, subst, refl, ◌∙◌}
-use Rattle.std.proofs.lemmas.Bool.{false≢true}
-use Rattle.ta_base.specs.Masks.{In}
-use Rattle.ta_automaton.specs.declared.pattern.Pattern.{Pattern}
-use Rattle.ta_check.specs.Subjects.{claiming}
-use Rattle.ta_check.specs.Lines.{NothingIsLeft}
+use Rattle.ta_check.proofs.Common.{◌<◌, ◌≤◌, List, length, reverse, sym, subst, refl, ◌∙◌, false≢true, In, Pattern, claiming, NothingIsLeft}
 use Rattle.ta_check.proofs.JudgingProofs.{begins, begins_none, first_of}
 use Rattle.ta_check.proofs.position.Position.begin.Goals as goal
 

@@ -1,5 +1,4 @@
-use Rattle.std.proofs.Common.{refl, sym, ◌∙◌}
-use Rattle.std.proofs.lemmas.Bool.{false≢true}
+use Rattle.ta_check.proofs.Common.{refl, sym, ◌∙◌, false≢true}
 use Rattle.ta_check.proofs.position.Position.end.Goals as goal
 
 pub returns-then-is_free-clause-taken : goal.returns-then-is_free-clause-taken

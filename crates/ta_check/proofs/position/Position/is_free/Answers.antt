@@ -1,7 +1,5 @@
-use Rattle.std.proofs.Common.{sym, ◌∙◌}
-use Rattle.std.proofs.lemmas.Bool.{false≢true, not-true}
+use Rattle.ta_check.proofs.Common.{sym, ◌∙◌, false≢true, not-true, none_of}
 use Rattle.ta_base.proofs.Booleans.{not_so}
-use Rattle.ta_base.proofs.Options.{none_of}
 use Rattle.ta_check.proofs.JudgingHeads.{free_from, free_back}
 use Rattle.ta_check.proofs.position.Position.is_free.Goals as goal
 

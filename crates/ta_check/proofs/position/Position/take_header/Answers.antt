@@ -1,6 +1,4 @@
-use Rattle.std.proofs.Common.{sym, ◌∙◌, refl}
-use Rattle.std.proofs.lemmas.Bool.{false≢true}
-use Rattle.ta_check.specs.Subjects.{claiming}
+use Rattle.ta_check.proofs.Common.{sym, ◌∙◌, refl, false≢true, claiming}
 use Rattle.ta_check.proofs.JudgingHeads.{header_taken}
 use Rattle.ta_check.proofs.position.Position.take_header.Goals as goal
 

@@ -1,13 +1,6 @@
-use Rattle.std.proofs.Common.{Ok, Err, true, false, sym, ◌∙◌, ap, subst, refl}
-use Rattle.std.proofs.lemmas.Result.{err_from_is_err_and}
+use Rattle.ta_check.proofs.Common.{Ok, Err, true, false, sym, ◌∙◌, ap, subst, refl, err_from_is_err_and, IsWord, here, Cursor, search_for, search_of_claim, LineAnswers, claiming}
 use Rattle.ta_cert.specs.declared.line.Line.TheVariants as line
 use Rattle.ta_cert.specs.declared.line.Node.TheVariants as node
-use Rattle.ta_cursor.specs.Cursors.{IsWord, here}
-use Rattle.ta_cursor.specs.declared.cursor.Cursor.{Cursor}
-use Rattle.ta_claim.specs.Claims.{search_for}
-use Rattle.ta_claim.specs.Trees.{search_of_claim}
-use Rattle.ta_check.specs.Positions.{LineAnswers}
-use Rattle.ta_check.specs.Subjects.{claiming}
 use Rattle.ta_check.proofs.JudgingNodes.{some_newest, pattern_there, tree_within, tree_word, went_on, first_within, later, leaf_refused, leaf_told, node_taken}
 use Rattle.ta_check.proofs.position.Position.take_leaf.Goals as goal
 

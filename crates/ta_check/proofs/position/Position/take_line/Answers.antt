@@ -1,6 +1,4 @@
-use Rattle.std.proofs.Common.{sym, subst}
-use Rattle.ta_check.specs.Subjects.{claiming}
-use Rattle.ta_check.specs.Positions.{LineAnswers}
+use Rattle.ta_check.proofs.Common.{sym, subst, claiming, LineAnswers}
 use Rattle.ta_check.proofs.position.Position.take_line.Goals as goal
 
 pub returns-in-Header : goal.returns-in-Header

@@ -1,9 +1,5 @@
-use Rattle.std.proofs.Common.{subst, sym, rules, FitsSigned}
-use Rattle.std.specs.Int.{w128}
-use Rattle.std.proofs.lemmas.Int.{to_z-of_z}
+use Rattle.ta_check.proofs.Common.{subst, sym, rules, FitsSigned, w128, to_z-of_z, claiming, LineAnswers}
 use Rattle.ta_cert.specs.declared.line.Line.TheVariants as line
-use Rattle.ta_check.specs.Subjects.{claiming}
-use Rattle.ta_check.specs.Positions.{LineAnswers}
 use Rattle.ta_check.proofs.position.Position.take_node.Goals as goal
 
 pub returns-in-Split : goal.returns-in-Split

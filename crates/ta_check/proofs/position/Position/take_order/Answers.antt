@@ -1,6 +1,4 @@
-use Rattle.std.proofs.Common.{refl, sym, ◌∙◌}
-use Rattle.std.proofs.lemmas.Bool.{false≢true}
-use Rattle.ta_check.specs.Subjects.{claiming}
+use Rattle.ta_check.proofs.Common.{refl, sym, ◌∙◌, false≢true, claiming}
 use Rattle.ta_check.proofs.JudgingHeads.{order_bad, order_taken}
 use Rattle.ta_check.proofs.position.Position.take_order.Goals as goal
 

@@ -1,7 +1,5 @@
-use Rattle.std.proofs.Common.{subst}
-use Rattle.ta_check.specs.Subjects.{claiming}
+use Rattle.ta_check.proofs.Common.{subst, claiming, IsOrderFault}
 use Rattle.ta_check.proofs.JudgingHeads.{shown_taken, waits_join}
-use Rattle.ta_implied.specs.Refused.{IsOrderFault}
 use Rattle.ta_check.proofs.Leaves.{pairs_rise}
 use Rattle.ta_check.proofs.position.Position.take_shown.Goals as goal
 

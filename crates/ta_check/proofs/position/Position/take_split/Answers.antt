@@ -1,13 +1,6 @@
-use Rattle.std.proofs.Common.{true, false, reverse, List, ℕ, ◌<◌, ◌≤◌, sym, ap, ◌∙◌, refl, subst, FitsSigned}
+use Rattle.ta_check.proofs.Common.{true, false, reverse, List, ℕ, ◌<◌, ◌≤◌, sym, ap, ◌∙◌, refl, subst, FitsSigned, Cursor, Comes, Element, search_of_claim, search_for, claiming, w128, to_z-of_z}
 use Rattle.ta_cert.specs.declared.line.Node.TheVariants as node
-use Rattle.ta_cursor.specs.declared.cursor.Cursor.{Cursor}
-use Rattle.ta_encode.specs.Search.{Comes, Search}
-use Rattle.ta_words.specs.declared.element.Element.{Element}
-use Rattle.ta_claim.specs.Trees.{search_of_claim}
-use Rattle.ta_claim.specs.Claims.{search_for}
-use Rattle.ta_check.specs.Subjects.{claiming}
-use Rattle.std.specs.Int.{w128}
-use Rattle.std.proofs.lemmas.Int.{to_z-of_z}
+use Rattle.ta_encode.specs.Search.{Search}
 use Rattle.ta_check.proofs.JudgingNodes.{some_newest, pattern_there, tree_within, tree_word, told_at, split_on, first_within, later, at_some_word, node_taken}
 use Rattle.ta_check.proofs.position.Position.take_split.Goals as goal
 
@@ -39,10 +32,9 @@ returns-then-unknown-unknown_count c = λ at is.
     let s = c.args.self.now in
     let subject = claiming c.args.claim c.args.file.now in
     let n = some_newest subject s at c.args.pattern c.requires.none c.requires.current is in
-    let d = s.place.cursor in
     let start = c.start_mask-start_mask.ensures ∙ ap (λ (e : Cursor). e.start_mask) c.cursor.ensures in
     let word = c.word.ensures ∙ ap (λ (e : Cursor). e.word) c.cursor-2.ensures in
-    let told = told_at (λ (q : Search). q.unknowns) _ (search_for c.args.claim c.args.file.now.automaton n.0 s.orders) c.unknown_count.result _ d.start_mask _ d.word (c.new-tree.ensures.search n.0 n.1.named) start word c.unknown_count.ensures in (
+    let told = told_at (λ (q : Search). q.unknowns) _ (search_for c.args.claim c.args.file.now.automaton n.0 s.orders) c.unknown_count.result _ s.place.cursor.start_mask _ s.place.cursor.word (c.new-tree.ensures.search n.0 n.1.named) start word c.unknown_count.ensures in (
       refl,
       record {
         unknown = c.args.unknown;
@@ -57,12 +49,11 @@ returns c = λ at is.
     let s = c.args.self.now in
     let subject = claiming c.args.claim c.args.file.now in
     let n = some_newest subject s at c.args.pattern c.requires.none c.requires.current is in
-    let d = s.place.cursor in
     let same = c.new-tree.ensures.search n.0 n.1.named in
     let search = search_for c.args.claim c.args.file.now.automaton n.0 s.orders in
     let start = c.start_mask-start_mask.ensures ∙ ap (λ (e : Cursor). e.start_mask) c.cursor.ensures in
     let word = c.word.ensures ∙ ap (λ (e : Cursor). e.word) c.cursor-2.ensures in
-    let told = told_at (λ (q : Search). q.unknowns) _ search c.unknown_count.result _ d.start_mask _ d.word same start word c.unknown_count.ensures in
+    let told = told_at (λ (q : Search). q.unknowns) _ search c.unknown_count.result _ s.place.cursor.start_mask _ s.place.cursor.word same start word c.unknown_count.ensures in
     let fits : FitsSigned w128 c.args.floor = c.ranges.floor in
     let more = simp to_z-of_z at c.in_ok-split.ensures in
     let went = split_on _ search s.place _ c.args.unknown c.args.floor (later subject s at c.args.pattern n.0 n.1) same more (first_within subject s at c.args.pattern n.0 n.1) in

@@ -1,6 +1,4 @@
-use Rattle.std.proofs.Common.{reverse}
-use Rattle.ta_words.specs.Words.{LegalWord}
-use Rattle.ta_words.proofs.Lists.{of_pattern}
+use Rattle.ta_claim.proofs.Common.{reverse, LegalWord, of_pattern}
 use Rattle.ta_cursor.specs.Cursors.{word_at}
 use Rattle.ta_claim.proofs.RestRows.{rest_legal, rest_small, rest_system}
 use Rattle.ta_claim.proofs.rest_words.RestTreeTree.encode.Goals as goal

@@ -1,6 +1,4 @@
-use Rattle.std.proofs.Common.{reverse, sym, subst, ◌∙◌}
-use Rattle.ta_cursor.specs.TreeCalls.{PushAnswers}
-use Rattle.ta_encode.specs.Search.{Comes, Search}
+use Rattle.ta_claim.proofs.Common.{reverse, sym, subst, ◌∙◌, PushAnswers, Comes, Search}
 use Rattle.ta_claim.proofs.RestRows.{rest_comes, rest_pushed, tree_search}
 use Rattle.ta_claim.proofs.rest_words.RestTreeTree.push_child.Goals as goal
 

@@ -1,7 +1,4 @@
-use Rattle.std.proofs.Common.{subst}
-use Rattle.ta_automaton.specs.declared.file.File.{File}
-use Rattle.ta_cursor.specs.TreeCalls.{IsRoot}
-use Rattle.ta_encode.specs.PatternSearch.{pattern_search}
+use Rattle.ta_claim.proofs.Common.{subst, File, IsRoot, pattern_search}
 use Rattle.ta_claim.proofs.RestRows.{rest_root}
 use Rattle.ta_claim.proofs.rest_words.RestTreeTree.root.Goals as goal
 

@@ -1,6 +1,4 @@
-use Rattle.std.proofs.Common.{reverse}
-use Rattle.ta_words.specs.Words.{LegalWord}
-use Rattle.ta_words.proofs.Lists.{of_pattern}
+use Rattle.ta_claim.proofs.Common.{reverse, LegalWord, of_pattern}
 use Rattle.ta_claim.proofs.RestRows.{rest_legal}
 use Rattle.ta_claim.proofs.rest_words.RestTreeTree.unknown_count.Goals as goal
 

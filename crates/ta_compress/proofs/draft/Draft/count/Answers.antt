@@ -1,5 +1,4 @@
-use Rattle.std.proofs.Common.{refl, sym, ◌∙◌}
-use Rattle.std.proofs.lemmas.Bool.{false≢true}
+use Rattle.ta_compress.proofs.Common.{refl, sym, ◌∙◌, false≢true}
 use Rattle.ta_compress.proofs.Counted.{goes_on, falls, rises, one_more_counts}
 use Rattle.ta_compress.proofs.draft.Draft.count.Goals as goal
 

@@ -1,13 +1,4 @@
-use Rattle.std.proofs.Common.{◌≡◌, ◌≤◌, ◌+◌, ◌++◌, ◌∷◌, [], unsigned_abs, arith, sym, ap, ◌∙◌, subst, ℤ, pos, ◌≤ℤ◌}
-use Rattle.std.proofs.lemmas.Int.{ints}
-use mir.Syntax.{w128}
-use mir.Val.{to_z, of_z}
-use Rattle.std.proofs.lemmas.Result.{on_ok_weaker}
-use Rattle.ta_base.proofs.Integers.{abs_natural}
-use Rattle.ta_replay.specs.declared.run.RunLine.{RunLine}
-use Rattle.ta_replay.specs.Shows.{factor_of}
-use Rattle.ta_compress.specs.Inside.Drafts.{DraftAt, LineKeeps, MayRepeat, Room}
-use Rattle.ta_compress.specs.Units.{unfolded}
+use Rattle.ta_compress.proofs.Common.{◌≡◌, ◌≤◌, ◌+◌, ◌++◌, ◌∷◌, [], unsigned_abs, arith, sym, ap, ◌∙◌, subst, ℤ, pos, ◌≤ℤ◌, ints, w128, to_z, of_z, on_ok_weaker, abs_natural, RunLine, factor_of, DraftAt, LineKeeps, MayRepeat, Room, unfolded}
 use Rattle.ta_compress.proofs.Counted.{mark_ready, mark_room}
 use Rattle.ta_compress.proofs.Drafting.{marked}
 use Rattle.ta_compress.proofs.draft.Draft.follow.Goals as goal

@@ -1,5 +1,4 @@
-use Rattle.std.proofs.Common.{arith}
-use Rattle.std.proofs.lemmas.Result.{err_from_is_err_and}
+use Rattle.ta_compress.proofs.Common.{arith, err_from_is_err_and}
 use Rattle.ta_compress.proofs.Counted.{going_none, going_more, going_may, going_room, going_stops, gone_room}
 use Rattle.ta_compress.proofs.draft.Draft.repeat.Goals as goal
 

@@ -1,7 +1,4 @@
-use Rattle.std.proofs.Common.{refl, sym, subst}
-use Rattle.ta_linear.specs.Values.{point_of}
-use Rattle.ta_counter.specs.declared.holding.Guards.{Guards}
-use Rattle.ta_counter.specs.Holding.{GuardsAre}
+use Rattle.ta_compress.proofs.Common.{refl, sym, subst, point_of, Guards, GuardsAre}
 use Rattle.ta_compress.proofs.Counted.{leaves_one, advances, recounted}
 use Rattle.ta_compress.proofs.draft.Draft.step.Goals as goal
 

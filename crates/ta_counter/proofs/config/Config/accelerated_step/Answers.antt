@@ -1,11 +1,4 @@
-use Rattle.std.proofs.Common.{◌<◌, ◌∙◌, sym, ap, subst, length, List, arith, FitsSigned}
-use Rattle.std.proofs.lemmas.Int.{to_z-of_z}
-use Rattle.std.proofs.lemmas.Option.{same_Some}
-use Rattle.std.proofs.lemmas.Result.{err_from_is_err_and}
-use Rattle.std.specs.Int.{w128}
-use Rattle.ta_base.proofs.Lists.{read_same}
-use Rattle.ta_automaton.specs.declared.rule.Rule.{Rule}
-use Rattle.ta_counter.specs.Steps.{StepFails, StepIsTaken}
+use Rattle.ta_counter.proofs.Common.{◌<◌, ◌∙◌, sym, ap, subst, length, List, arith, FitsSigned, to_z-of_z, same_Some, err_from_is_err_and, w128, read_same, Rule, StepFails, StepIsTaken}
 use Rattle.ta_counter.proofs.Stepping.{taken_fires, no_steps}
 use Rattle.ta_counter.proofs.config.Config.accelerated_step.Goals as goal
 

@@ -1,8 +1,4 @@
-use Rattle.std.proofs.Common.{ℤ, List, length, arith}
-use Rattle.std.proofs.lemmas.Result.{err_from_is_err_and}
-use Rattle.ta_automaton.specs.declared.automaton.Automaton.{Automaton}
-use Rattle.ta_counter.specs.Starts.{StartsAt}
-use Rattle.ta_counter.specs.Inside.Filling.{Filling}
+use Rattle.ta_counter.proofs.Common.{ℤ, List, length, arith, err_from_is_err_and, Automaton, StartsAt, Filling}
 use Rattle.ta_counter.proofs.Filling.{fill_end}
 use Rattle.ta_counter.proofs.Starting.{starts_initial, starts_of, no_start}
 use Rattle.ta_counter.proofs.config.Config.start.Goals as goal

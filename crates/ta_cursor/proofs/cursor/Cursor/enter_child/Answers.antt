@@ -1,5 +1,4 @@
-use Rattle.std.proofs.Common.{◌≡◌, ◌++◌, ◌∷◌, [], refl, sym, length, None}
-use Rattle.std.proofs.lemmas.List.{append-nil}
+use Rattle.ta_cursor.proofs.Common.{◌≡◌, ◌++◌, ◌∷◌, [], refl, sym, length, None, append-nil}
 use Rattle.ta_cursor.proofs.FramesParts.{opened_child, no_child_left}
 use Rattle.ta_cursor.proofs.cursor.Cursor.enter_child.Goals as goal
 

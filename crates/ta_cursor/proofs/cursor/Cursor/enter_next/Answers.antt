@@ -1,9 +1,4 @@
-use Rattle.std.proofs.Common.{◌≡◌, ℕ, ℤ, ◌+◌, ◌++◌, FitsSigned, arith, rules, reverse, drop, Some, subst}
-use Rattle.std.specs.Int.{w128}
-use Rattle.std.proofs.lemmas.Int.{to_z-of_z}
-use Rattle.ta_cert.specs.declared.line.Node.TheVariants.{Split}
-use Rattle.ta_encode.specs.Search.{parts}
-use Rattle.ta_cursor.specs.Cursors.{SplitFits, Within}
+use Rattle.ta_cursor.proofs.Common.{◌≡◌, ℕ, ℤ, ◌+◌, ◌++◌, FitsSigned, arith, rules, reverse, drop, Some, subst, w128, to_z-of_z, Split, parts, SplitFits, Within}
 use Rattle.ta_cursor.proofs.cursor.Cursor.enter_next.Goals as goal
 
 pub returns-in_ok-enter_side-in-Some : goal.returns-in_ok-enter_side-in-Some

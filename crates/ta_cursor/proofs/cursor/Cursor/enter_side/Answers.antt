@@ -1,8 +1,4 @@
-use Rattle.std.proofs.Common.{◌≡◌, ◌⊎◌, ◌++◌, ◌∷◌, [], inl, inr, refl, sym, arith, rules, length, FitsSigned, Some}
-use Rattle.std.specs.Int.{w128}
-use Rattle.std.proofs.lemmas.Int.{to_z-of_z}
-use Rattle.std.proofs.lemmas.List.{append-nil}
-use Rattle.ta_encode.specs.declared.meaning.Side.TheVariants.{Low, High}
+use Rattle.ta_cursor.proofs.Common.{◌≡◌, ◌⊎◌, ◌++◌, ◌∷◌, [], inl, inr, refl, sym, arith, rules, length, FitsSigned, Some, w128, to_z-of_z, append-nil, Low, High}
 use Rattle.ta_cursor.proofs.FramesParts.{opened_side}
 use Rattle.ta_cursor.proofs.cursor.Cursor.enter_side.Goals as goal
 use Rattle.ta_cursor.proofs.cursor.Cursor.enter_side.Goals.{then-number-eq0, else-number-eq0}

@@ -1,6 +1,4 @@
-use Rattle.std.proofs.Common.{sym, subst}
-use Rattle.ta_cursor.specs.declared.cursor.Cursor.{Cursor}
-use Rattle.ta_cursor.specs.Cursors.{Inside, Within, here}
+use Rattle.ta_cursor.proofs.Common.{sym, subst, Cursor, Inside, Within, here}
 use Rattle.ta_cursor.proofs.cursor.Cursor.extend.Goals as goal
 
 pub leave-requires : goal.leave-requires

@@ -1,8 +1,5 @@
-use Rattle.std.proofs.Common.{◌+◌, ◌∷◌, refl, ap, arith, length, drop, sym, subst}
+use Rattle.ta_cursor.proofs.Common.{◌+◌, ◌∷◌, refl, ap, arith, length, drop, sym, subst, parts, Cursor, Within, here, node_of}
 use Rattle.std.proofs.lemmas.Result.{err_from_is_err_and}
-use Rattle.ta_encode.specs.Search.{parts}
-use Rattle.ta_cursor.specs.declared.cursor.Cursor.{Cursor}
-use Rattle.ta_cursor.specs.Cursors.{Within, here, node_of}
 use Rattle.ta_cursor.proofs.FramesParts.{one_comes, none_comes, no_memory}
 use Rattle.ta_cursor.proofs.FramesLeft.{inside_moved, passed_over}
 use Rattle.ta_cursor.proofs.cursor.Cursor.leave.Goals as goal

@@ -1,8 +1,4 @@
-use Rattle.std.proofs.Common.{◌≡◌, ◌≤◌, ◌∙◌, List, ap, refl, sym, subst, length, take, slice_get, Some, arith}
-use Rattle.std.proofs.lemmas.Option.{slice_get_read}
-use Rattle.std.proofs.lemmas.Bool.{ltb-false}
-use Rattle.ta_base.proofs.Lists.{take_whole}
-use Rattle.ta_cursor.specs.declared.cursor.Frame.{Frame}
+use Rattle.ta_cursor.proofs.Common.{◌≡◌, ◌≤◌, ◌∙◌, List, ap, refl, sym, subst, length, take, slice_get, Some, arith, slice_get_read, ltb-false, take_whole, Frame}
 use Rattle.ta_cursor.proofs.FramesShared.{all_inside, frame_short, stands_inside}
 use Rattle.ta_cursor.proofs.cursor.Cursor.outermost.Goals as goal
 use Rattle.ta_cursor.proofs.cursor.Cursor.outermost.Goals.{in-Some, in_default}

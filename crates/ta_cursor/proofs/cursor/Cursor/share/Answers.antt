@@ -1,6 +1,4 @@
-use Rattle.std.proofs.Common.{◌+◌, ◌∙◌, ap, drop, reverse, subst, sym, take}
-use Rattle.ta_cursor.specs.declared.cursor.Cursor.{Cursor}
-use Rattle.ta_cursor.specs.Cursors.{IsBeforeWords, IsWithin, all_behind}
+use Rattle.ta_cursor.proofs.Common.{◌+◌, ◌∙◌, ap, drop, reverse, subst, sym, take, Cursor, IsBeforeWords, IsWithin, all_behind}
 use Rattle.ta_cursor.proofs.FramesShared.{shared}
 use Rattle.ta_cursor.proofs.cursor.Cursor.share.Goals as goal
 

@@ -1,9 +1,4 @@
-use Rattle.std.proofs.Common.{ℤ, ◌++◌, FitsSigned, Some, reverse, rules, subst}
-use Rattle.std.specs.Int.{w128}
-use Rattle.std.proofs.lemmas.Int.{to_z-of_z}
-use Rattle.ta_cert.specs.declared.line.Node.TheVariants.{Split}
-use Rattle.ta_encode.specs.Search.{parts}
-use Rattle.ta_cursor.specs.Cursors.{SplitFits, WentOn}
+use Rattle.ta_cursor.proofs.Common.{ℤ, ◌++◌, FitsSigned, Some, reverse, rules, subst, w128, to_z-of_z, Split, parts, SplitFits, WentOn}
 use Rattle.ta_cursor.proofs.cursor.Cursor.split.Goals as goal
 
 pub returns : goal.returns

@@ -1,7 +1,4 @@
-use Rattle.std.proofs.Common.{reverse}
-use Rattle.ta_words.specs.Words.{LegalWord}
-use Rattle.ta_words.proofs.Lists.{of_pattern}
-use Rattle.ta_cursor.specs.Cursors.{word_at}
+use Rattle.ta_cursor.proofs.Common.{reverse, LegalWord, of_pattern, word_at}
 use Rattle.ta_cursor.proofs.RowCounts.{is_small}
 use Rattle.ta_cursor.proofs.PatternWords.{comes_legal}
 use Rattle.ta_cursor.proofs.patterns.PatternTreeTree.encode.Goals as goal

@@ -1,7 +1,4 @@
-use Rattle.std.proofs.Common.{◌≡◌, reverse, true, sym, ◌∙◌}
-use Rattle.ta_base.proofs.Members.{in_at}
-use Rattle.ta_words.specs.Words.{LegalWord, children}
-use Rattle.ta_words.proofs.Lists.{of_pattern}
+use Rattle.ta_cursor.proofs.Common.{◌≡◌, reverse, true, sym, ◌∙◌, in_at, LegalWord, children, of_pattern}
 use Rattle.ta_cursor.proofs.PatternWords.{comes_legal, child_pushed}
 use Rattle.ta_cursor.proofs.patterns.PatternTreeTree.push_child.Goals as goal
 

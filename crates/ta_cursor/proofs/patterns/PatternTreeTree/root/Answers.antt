@@ -1,8 +1,5 @@
-use Rattle.std.proofs.Common.{◌≡◌, ◌<◌, ◌^◌, List, [], length, arith, sym, subst, Some, slice_get, lit<}
-use Rattle.ta_words.specs.declared.element.Element.{Element}
+use Rattle.ta_cursor.proofs.Common.{◌≡◌, ◌<◌, ◌^◌, List, [], length, arith, sym, subst, Some, slice_get, lit<, Element, word_at, all_starts}
 use Rattle.ta_cursor.proofs.PatternWords.{start_at, start_none, shifted}
-use Rattle.ta_cursor.specs.Cursors.{word_at}
-use Rattle.ta_encode.specs.PatternSearch.{all_starts}
 use Rattle.ta_cursor.proofs.patterns.PatternTreeTree.root.Goals as goal
 
 pub returns-then-number-as_slice : goal.returns-then-number-as_slice

@@ -1,6 +1,4 @@
-use Rattle.std.proofs.Common.{reverse}
-use Rattle.ta_words.specs.Words.{LegalWord}
-use Rattle.ta_words.proofs.Lists.{of_pattern}
+use Rattle.ta_cursor.proofs.Common.{reverse, LegalWord, of_pattern}
 use Rattle.ta_cursor.proofs.PatternWords.{comes_legal}
 use Rattle.ta_cursor.proofs.patterns.PatternTreeTree.unknown_count.Goals as goal
 

@@ -1,7 +1,4 @@
-use Rattle.std.proofs.Common.{◌+◌, ◌++◌, drop}
-use Rattle.ta_cert.specs.declared.line.Node.TheVariants.{Extend}
-use Rattle.ta_encode.specs.Search.{parts}
-use Rattle.ta_cursor.specs.InTrees.{here_at}
+use Rattle.ta_cursor.proofs.Common.{◌+◌, ◌++◌, drop, Extend, parts, here_at}
 use Rattle.ta_cursor.proofs.TreesLeft.{at_here, parts_first, tree_goes_on, tree_ends}
 use Rattle.ta_cursor.proofs.place.Place.extend.Goals as goal
 

@@ -1,10 +1,4 @@
-use Rattle.std.proofs.Common.{ℤ, ◌++◌, FitsSigned, refl, rules, subst}
-use Rattle.std.specs.Int.{w128}
-use Rattle.std.proofs.lemmas.Int.{to_z-of_z}
-use Rattle.ta_cert.specs.declared.line.Node.TheVariants.{Split}
-use Rattle.ta_encode.specs.Search.{parts}
-use Rattle.ta_cursor.specs.Cursors.{WentOn}
-use Rattle.ta_cursor.specs.InTrees.{here_at}
+use Rattle.ta_cursor.proofs.Common.{ℤ, ◌++◌, FitsSigned, refl, rules, subst, w128, to_z-of_z, Split, parts, WentOn, here_at}
 use Rattle.ta_cursor.proofs.TreesLeft.{at_here, sides_left}
 use Rattle.ta_cursor.proofs.place.Place.split.Goals as goal
 

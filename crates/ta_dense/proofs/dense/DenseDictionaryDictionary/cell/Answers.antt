@@ -1,15 +1,5 @@
-use Rattle.std.proofs.Common.{◌≡◌, arith, sym, ap, length, rules}
-use Rattle.std.proofs.lemmas.List.{length-map}
-use Rattle.ta_dense.specs.Tableau.{Tableau}
-use Rattle.ta_dense.specs.Rows.{row_view}
+use Rattle.ta_dense.proofs.Common.{◌≡◌, arith, sym, ap, length, rules, length-map, Tableau, row_view, pos, subst, to_z-of_z, get_or_read, All-get_or, SFits, w128, InRange}
 use Rattle.ta_dense.proofs.DenseFacts.{proper_read}
-use Rattle.std.proofs.Common.{pos, subst}
-use Rattle.std.proofs.lemmas.Int.{to_z-of_z}
-use Rattle.std.proofs.lemmas.List.{get_or_read}
-use Rattle.std.proofs.lemmas.List.Elements.{All-get_or}
-use mir.Val.{SFits}
-use mir.Syntax.{w128}
-use Rattle.ta_linear.specs.Numbers.{InRange}
 use Rattle.ta_dense.proofs.dense.DenseDictionaryDictionary.cell.Goals as goal
 
 pub index-requires-2 : goal.index-requires-2

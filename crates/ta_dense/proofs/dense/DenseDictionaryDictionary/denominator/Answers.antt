@@ -1,10 +1,4 @@
-use Rattle.std.proofs.Common.{arith, ap, length, rules}
-use Rattle.std.proofs.lemmas.Int.{to_z-of_z}
-use Rattle.std.proofs.lemmas.List.{length-map}
-use mir.Val.{SFits}
-use mir.Syntax.{w128}
-use Rattle.ta_dense.specs.Tableau.{Tableau}
-use Rattle.ta_dense.specs.Rows.{row_view}
+use Rattle.ta_dense.proofs.Common.{arith, ap, length, rules, to_z-of_z, length-map, SFits, w128, Tableau, row_view}
 use Rattle.ta_dense.proofs.DenseFacts.{proper_read}
 use Rattle.ta_dense.proofs.dense.DenseDictionaryDictionary.denominator.Goals as goal
 

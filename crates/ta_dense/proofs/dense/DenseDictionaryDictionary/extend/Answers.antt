@@ -1,12 +1,4 @@
-use Rattle.std.proofs.Common.{◌≡◌, ◌+◌, ◌-◌, ◌++◌, map, arith, sym, ◌∙◌, ap, subst, length, List, ℕ, rules}
-use Rattle.std.proofs.lemmas.List.{length-map, length-append, map-id, with_items_is}
-use Rattle.std.proofs.lemmas.List.FromFn.{length-range_with_len}
-use Rattle.std.specs.List.{range_with_len}
-use Rattle.ta_dense.specs.Tableau.{Tableau, TableauRow}
-use Rattle.ta_dense.specs.Rows.{row_view, views, AreProper}
-use Rattle.ta_dense.specs.Kept.{StayInRange}
-use Rattle.ta_dense.specs.Extending.{raised, widened}
-use Rattle.ta_dense.specs.declared.rows.DenseRow.{DenseRow}
+use Rattle.ta_dense.proofs.Common.{◌≡◌, ◌+◌, ◌-◌, ◌++◌, map, arith, sym, ◌∙◌, ap, subst, length, List, ℕ, rules, length-map, length-append, map-id, with_items_is, length-range_with_len, range_with_len, Tableau, TableauRow, row_view, views, AreProper, StayInRange, raised, widened, DenseRow}
 use Rattle.ta_dense.proofs.ExtendFacts.{length-carried, kept_more, new_rows_are, leaving_from, proper_joined}
 use Rattle.ta_dense.proofs.dense.DenseDictionaryDictionary.extend.Goals as goal
 

@@ -1,7 +1,4 @@
-use Rattle.std.proofs.Common.{◌≡◌, arith, sym, ◌∙◌, ap, ◌+◌, List, ℕ, length, subst, drop}
-use Rattle.std.proofs.lemmas.List.FromFn.{length-range_with_len}
-use Rattle.ta_dense.specs.Slack.{slack_rows}
-use Rattle.ta_dense.specs.Rows.{views, AreProper}
+use Rattle.ta_dense.proofs.Common.{◌≡◌, arith, sym, ◌∙◌, ap, ◌+◌, List, ℕ, length, subst, drop, length-range_with_len, slack_rows, views, AreProper}
 use Rattle.ta_dense.proofs.SlackRows.{slack_tableau-is}
 use Rattle.ta_dense.proofs.dense.DenseDictionaryDictionary.from_system.Goals as goal
 

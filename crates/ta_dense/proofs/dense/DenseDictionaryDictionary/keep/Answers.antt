@@ -1,8 +1,4 @@
-use Rattle.std.proofs.Common.{◌≡◌, arith, sym, ap, subst, length, rules}
-use Rattle.std.proofs.lemmas.List.{length-map}
-use Rattle.ta_dense.specs.Tableau.{Tableau}
-use Rattle.ta_dense.specs.Merge.{IsProper}
-use Rattle.ta_dense.specs.Rows.{row_view}
+use Rattle.ta_dense.proofs.Common.{◌≡◌, arith, sym, ap, subst, length, rules, length-map, Tableau, IsProper, row_view}
 use Rattle.ta_dense.proofs.DenseFacts.{proper_read}
 use Rattle.ta_dense.proofs.ProperFacts.{IsProper-self}
 use Rattle.ta_dense.proofs.ExtendFacts.{IsProper-padded}

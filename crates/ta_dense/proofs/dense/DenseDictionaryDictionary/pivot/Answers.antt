@@ -1,10 +1,5 @@
-use Rattle.std.proofs.Common.{◌<ℤ◌, arith, sym, ◌∙◌, ap, subst, List, length, rules, ℕ, pos}
-use Rattle.std.proofs.lemmas.List.{length-map, with_items_is, length-set}
+use Rattle.ta_dense.proofs.Common.{◌<ℤ◌, arith, sym, ◌∙◌, ap, subst, List, length, rules, ℕ, pos, length-map, with_items_is, length-set, Tableau, cell_of, row_of, AllMergeInRange, row_view, AreProper, DenseRow}
 use Rattle.std.specs.Vec.{with_items}
-use Rattle.ta_dense.specs.Tableau.{Tableau, cell_of, row_of}
-use Rattle.ta_dense.specs.Merge.{AllMergeInRange}
-use Rattle.ta_dense.specs.Rows.{row_view, AreProper}
-use Rattle.ta_dense.specs.declared.rows.DenseRow.{DenseRow}
 use Rattle.ta_dense.proofs.DenseFacts.{proper_after_pivot, others_of_views}
 use Rattle.ta_dense.proofs.dense.DenseDictionaryDictionary.pivot.Goals as goal
 

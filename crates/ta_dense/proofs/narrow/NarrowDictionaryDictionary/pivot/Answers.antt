@@ -1,6 +1,4 @@
-use Rattle.std.proofs.Common.{sym, subst}
-use Rattle.std.specs.Prelude.{IfOk}
-use Rattle.ta_dense.specs.Merge.{AllMergeInRange}
+use Rattle.ta_dense.proofs.Common.{sym, subst, IfOk, AllMergeInRange}
 use Rattle.ta_dense.specs.Inside.Grown.{form_tableau}
 use Rattle.ta_dense.specs.declared.narrow.Form.{Form}
 use Rattle.ta_dense.proofs.narrow.NarrowDictionaryDictionary.pivot.Goals as goal

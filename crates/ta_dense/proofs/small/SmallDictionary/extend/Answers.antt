@@ -1,12 +1,4 @@
-use Rattle.std.proofs.Common.{◌≡◌, ◌+◌, ◌-◌, ◌++◌, map, arith, sym, ◌∙◌, ap, subst, length, List, ℕ, rules}
-use Rattle.std.proofs.lemmas.List.{length-map, length-append, with_items_is}
-use Rattle.std.proofs.lemmas.List.FromFn.{length-range_with_len}
-use Rattle.std.specs.List.{range_with_len}
-use Rattle.ta_dense.specs.Tableau.{Tableau, TableauRow}
-use Rattle.ta_dense.specs.Narrow.{narrow_view, narrow_views}
-use Rattle.ta_dense.specs.Shared.{row_at_place, shared_views, AreShared}
-use Rattle.ta_dense.specs.Extending.{raised, widened}
-use Rattle.ta_dense.specs.declared.narrow_rows.NarrowRow.{NarrowRow}
+use Rattle.ta_dense.proofs.Common.{◌≡◌, ◌+◌, ◌-◌, ◌++◌, map, arith, sym, ◌∙◌, ap, subst, length, List, ℕ, rules, length-map, length-append, with_items_is, length-range_with_len, range_with_len, Tableau, TableauRow, narrow_view, narrow_views, row_at_place, shared_views, AreShared, raised, widened, NarrowRow}
 use Rattle.ta_dense.proofs.small.SmallDictionary.extend.Goals as goal
 
 pub invariant_of-result : goal.invariant_of-result

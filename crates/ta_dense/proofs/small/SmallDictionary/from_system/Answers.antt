@@ -1,10 +1,4 @@
-use Rattle.std.proofs.Common.{◌≡◌, arith, sym, ◌∙◌, ap, ◌+◌, ◌++◌, List, ℕ, length, subst, drop}
-use Rattle.std.proofs.lemmas.List.{length-map}
-use Rattle.std.proofs.lemmas.List.FromFn.{length-range_with_len}
-use Rattle.ta_dense.specs.Tableau.{TableauRow}
-use Rattle.ta_dense.specs.Slack.{slack_rows}
-use Rattle.ta_dense.specs.Narrow.{narrow_view, narrow_views}
-use Rattle.ta_dense.specs.Shared.{row_at_place, shared_views, AreShared}
+use Rattle.ta_dense.proofs.Common.{◌≡◌, arith, sym, ◌∙◌, ap, ◌+◌, ◌++◌, List, ℕ, length, subst, drop, length-map, length-range_with_len, TableauRow, slack_rows, narrow_view, narrow_views, row_at_place, shared_views, AreShared}
 use Rattle.ta_dense.proofs.SlackRows.{slack_tableau-is}
 use Rattle.ta_dense.proofs.small.SmallDictionary.from_system.Goals as goal
 

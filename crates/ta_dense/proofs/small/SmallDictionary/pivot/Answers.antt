@@ -1,8 +1,4 @@
-use Rattle.std.proofs.Common.{◌≡◌, ◌∙◌, ◌<◌, ℕ, List, length, set, ap, sym, subst, arith}
-use Rattle.std.proofs.lemmas.List.{length-map, length-set}
-use Rattle.ta_dense.specs.Tableau.{Tableau, TableauRow, pivoted_rows}
-use Rattle.ta_dense.specs.Merge.{AllMergeInRange, OthersMergeBelow}
-use Rattle.ta_dense.specs.Shared.{row_at_place, shared_at, shared_views, AreShared}
+use Rattle.ta_dense.proofs.Common.{◌≡◌, ◌∙◌, ◌<◌, ℕ, List, length, set, ap, sym, subst, arith, length-map, length-set, Tableau, TableauRow, pivoted_rows, AllMergeInRange, OthersMergeBelow, row_at_place, shared_at, shared_views, AreShared}
 use Rattle.ta_dense.proofs.SharedFacts.{shared_wide, length-pivoted}
 use Rattle.ta_dense.proofs.small.SmallDictionary.pivot.Goals as goal
 

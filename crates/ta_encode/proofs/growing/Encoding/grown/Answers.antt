@@ -1,9 +1,4 @@
-use Rattle.std.proofs.Common.{◌++◌, List, map, reverse, subst}
-use Rattle.std.proofs.lemmas.List.{append-nil}
-use Rattle.std.proofs.lemmas.Result.{IfOk-weaker}
-use Rattle.ta_words.specs.Calls.{OfPattern}
-use Rattle.ta_encode.specs.Code.{AreRowsOf, SystemOf}
-use Rattle.ta_encode.specs.System.{LinearRow, bound_row, word_rows}
+use Rattle.ta_encode.proofs.Common.{◌++◌, List, map, reverse, subst, append-nil, IfOk-weaker, OfPattern, AreRowsOf, SystemOf, LinearRow, bound_row, word_rows}
 use Rattle.ta_encode.proofs.growing.Encoding.grown.Goals as goal
 
 pub returns-clause-system : goal.returns-clause-system

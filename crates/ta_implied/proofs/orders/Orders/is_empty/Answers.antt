@@ -1,8 +1,5 @@
-use Rattle.std.proofs.Common.{◌≡◌, ◌∙◌, [], sym, ap}
-use Rattle.std.specs.Prelude.{replicate}
-use Rattle.std.proofs.lemmas.Bool.Decides.{Decides-eqb}
+use Rattle.ta_implied.proofs.Common.{◌≡◌, ◌∙◌, [], sym, ap, replicate, Decides-eqb, pairs_from}
 use Rattle.std.proofs.lemmas.Slice.Eq.{slice_eq-Decides}
-use Rattle.ta_implied.specs.Orders.{pairs_from}
 use Rattle.ta_implied.proofs.Pairs.{AreEmpty-replicate, all_empty, no_pairs}
 use Rattle.ta_implied.proofs.orders.Orders.is_empty.Goals as goal
 

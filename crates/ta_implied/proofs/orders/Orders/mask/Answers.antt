@@ -1,8 +1,4 @@
-use Rattle.std.proofs.Common.{◌∙◌, sym, ap, subst, arith}
-use Rattle.std.proofs.lemmas.Bool.{false≢true}
-use Rattle.std.proofs.lemmas.List.{get_or_past}
-use Rattle.ta_base.specs.Masks.{In, has_bit}
-use Rattle.ta_base.proofs.Bits.{has_none}
+use Rattle.ta_implied.proofs.Common.{◌∙◌, sym, ap, subst, arith, false≢true, get_or_past, In, has_bit, has_none}
 use Rattle.ta_implied.proofs.Pairs.{pair_of_bit, bit_of_pair}
 use Rattle.ta_implied.proofs.orders.Orders.mask.Goals as goal
 

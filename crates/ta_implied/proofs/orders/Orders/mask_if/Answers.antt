@@ -1,7 +1,4 @@
-use Rattle.std.proofs.Common.{◌≡◌, ◌∙◌, true, false, sym, subst}
-use Rattle.std.proofs.lemmas.Bool.{false≢true}
-use Rattle.ta_base.specs.Masks.{has_bit}
-use Rattle.ta_base.proofs.Bits.{has_none}
+use Rattle.ta_implied.proofs.Common.{◌≡◌, ◌∙◌, true, false, sym, subst, false≢true, has_bit, has_none}
 use Rattle.ta_implied.proofs.orders.Orders.mask_if.Goals as goal
 
 pub returns-then-contains : goal.returns-then-contains

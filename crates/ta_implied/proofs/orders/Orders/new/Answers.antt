@@ -1,6 +1,4 @@
-use Rattle.std.proofs.Common.{sym, subst}
-use Rattle.std.specs.Prelude.{replicate}
-use Rattle.ta_implied.specs.Orders.{HasNoCircle}
+use Rattle.ta_implied.proofs.Common.{sym, subst, replicate, HasNoCircle}
 use Rattle.ta_implied.proofs.Chains.{nothing_leads}
 use Rattle.ta_implied.proofs.Pairs.{no_pairs, empty_fit, AreEmpty-replicate}
 use Rattle.ta_implied.proofs.orders.Orders.new.Goals as goal

@@ -1,5 +1,4 @@
-use Rattle.std.proofs.Common.{refl}
-use Rattle.ta_implied.specs.Orders.{JoinsPair, MayJoin}
+use Rattle.ta_implied.proofs.Common.{refl, JoinsPair, MayJoin}
 use Rattle.ta_implied.proofs.Joining.{joined_by, joined_good}
 use Rattle.ta_implied.proofs.orders.Orders.push.Goals as goal
 

@@ -1,6 +1,4 @@
-use Rattle.std.proofs.Common.{ℕ, ◌≡◌, ◌↔◌, ◌⊎◌, ◌<◌, ◌^◌, true, subst}
-use Rattle.ta_base.specs.Masks.{has_bit}
-use Rattle.ta_implied.specs.Orders.{IsBeforeSome}
+use Rattle.ta_implied.proofs.Common.{ℕ, ◌≡◌, ◌↔◌, ◌⊎◌, ◌<◌, ◌^◌, true, subst, has_bit, IsBeforeSome}
 use Rattle.ta_implied.proofs.Gathering.{first_searched, more_searched, all_searched}
 use Rattle.ta_implied.proofs.orders.Orders.sources.Goals as goal
 

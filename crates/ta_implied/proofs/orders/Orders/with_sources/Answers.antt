@@ -1,5 +1,4 @@
-use Rattle.std.proofs.Common.{◌≡◌, arith}
-use Rattle.std.proofs.Common.{subst}
+use Rattle.std.proofs.Common.{◌≡◌, arith, subst}
 use Rattle.ta_implied.proofs.Gathering.{Gathered, none_gathered, one_gathered}
 use Rattle.ta_implied.proofs.orders.Orders.with_sources.Goals as goal
 

@@ -1,6 +1,4 @@
-use Rattle.std.proofs.Common.{rules, ◌≤◌, refl, ◌^◌, arith, FitsSigned, inr}
-use Rattle.std.proofs.lemmas.Int.{ints, to_z-of_z}
-use Rattle.std.specs.Int.{w128}
+use Rattle.ta_linear.proofs.Common.{rules, ◌≤◌, refl, ◌^◌, arith, FitsSigned, inr, ints, to_z-of_z, w128}
 use Rattle.ta_linear.proofs.TermLemmas.{merge-push, merge-skip, merge-leaves, merge-end, IsNormal-higher, IsNormal-le}
 use Rattle.ta_linear.proofs.form.Form.add.Goals as goal
 

@@ -1,6 +1,4 @@
-use Rattle.std.proofs.Common.{rules, pos, get_or, FitsSigned}
-use Rattle.std.proofs.lemmas.Int.{to_z-of_z}
-use Rattle.std.specs.Int.{w128}
+use Rattle.ta_linear.proofs.Common.{rules, pos, get_or, FitsSigned, to_z-of_z, w128}
 use Rattle.ta_linear.proofs.TermLemmas.{look-found}
 use Rattle.ta_linear.proofs.form.Form.coefficient_of.Goals as goal
 

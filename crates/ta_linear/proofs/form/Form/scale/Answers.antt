@@ -1,6 +1,4 @@
-use Rattle.std.proofs.Common.{rules, ap, ◌≤◌, ◌≢◌, ◌^◌, pos, FitsSigned, inr, of_z, get_or}
-use Rattle.std.proofs.lemmas.Int.{to_z-of_z}
-use Rattle.std.specs.Int.{w128}
+use Rattle.ta_linear.proofs.Common.{rules, ap, ◌≤◌, ◌≢◌, ◌^◌, pos, FitsSigned, inr, of_z, get_or, to_z-of_z, w128}
 use Rattle.ta_linear.proofs.TermLemmas.{scale-push-at, scale-leaves-at, scale-end, IsNormal-higher, IsNormal-le}
 use Rattle.ta_linear.proofs.form.Form.scale.Goals as goal
 

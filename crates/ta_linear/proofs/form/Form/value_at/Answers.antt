@@ -1,6 +1,4 @@
-use Rattle.std.proofs.Common.{rules, pos, get_or, FitsSigned, slice_index_or}
-use Rattle.std.proofs.lemmas.Int.{to_z-of_z}
-use Rattle.std.specs.Int.{w128}
+use Rattle.ta_linear.proofs.Common.{rules, pos, get_or, FitsSigned, slice_index_or, to_z-of_z, w128}
 use Rattle.ta_linear.proofs.SumLemmas.{sum-next, sum-place}
 use Rattle.ta_linear.proofs.form.Form.value_at.Goals as goal
 

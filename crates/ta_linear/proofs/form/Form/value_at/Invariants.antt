@@ -1,5 +1,4 @@
-use Rattle.std.proofs.Common.{drop, length}
-use Rattle.ta_linear.specs.Values.{point_of}
+use Rattle.ta_linear.proofs.Common.{drop, length, point_of}
 use Rattle.ta_linear.proofs.SumLemmas.{Summing}
 use Rattle.ta_linear.proofs.form.Form.value_at.Given as goal
 

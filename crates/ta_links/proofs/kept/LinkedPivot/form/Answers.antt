@@ -1,7 +1,4 @@
-use Rattle.std.proofs.Common.{◌≡◌, ◌∙◌, ap, sym, subst, length, get_or, ℕ, pos}
-use Rattle.std.proofs.lemmas.List.FromFn.{length-map-range_with_len}
-use Rattle.ta_linear.specs.Terms.{IsNormal, coefficient}
-use Rattle.ta_dense.specs.Kept.{KeptPivot}
+use Rattle.ta_links.proofs.Common.{◌≡◌, ◌∙◌, ap, sym, subst, length, get_or, ℕ, pos, length-map-range_with_len, IsNormal, coefficient, KeptPivot}
 use Rattle.ta_links.proofs.CarriedRows.{coefficients_at}
 use Rattle.ta_links.proofs.kept.LinkedPivot.form.Goals as goal
 

@@ -1,9 +1,4 @@
-use Rattle.std.proofs.Common.{sym, subst, rules, arith, List, ℕ, ℤ, ◌≤◌, ◌^◌}
-use Rattle.std.proofs.lemmas.Int.{to_z-of_z}
-use mir.Val.{SFits}
-use mir.Syntax.{w128}
-use Rattle.ta_linear.specs.Terms.{IsNormal}
-use Rattle.ta_linear.proofs.TermLemmas.{IsNormal-higher}
+use Rattle.ta_links.proofs.Common.{sym, subst, rules, arith, List, ℕ, ℤ, ◌≤◌, ◌^◌, to_z-of_z, SFits, w128, IsNormal, IsNormal-higher}
 use Rattle.ta_links.proofs.kept.LinkedPivot.of_row.Goals as goal
 
 pub invariant_of-result : goal.invariant_of-result

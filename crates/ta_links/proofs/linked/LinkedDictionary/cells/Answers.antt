@@ -1,5 +1,4 @@
-use Rattle.std.proofs.Common.{subst}
-use Rattle.ta_links.specs.Linked.{IsKeptInChains}
+use Rattle.ta_links.proofs.Common.{subst, IsKeptInChains}
 use Rattle.ta_links.proofs.LinkedFacts.{kept_of}
 use Rattle.ta_links.proofs.linked.LinkedDictionary.cells.Goals as goal
 

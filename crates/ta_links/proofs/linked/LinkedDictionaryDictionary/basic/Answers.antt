@@ -1,7 +1,4 @@
-use Rattle.std.proofs.Common.{◌∙◌, ap, sym, List, length, get_or, arith}
-use Rattle.ta_dense.specs.Tableau.{TableauRow}
-use Rattle.ta_links.specs.declared.row_head.RowHead.{RowHead}
-use Rattle.ta_links.specs.Linked.{no_head}
+use Rattle.ta_links.proofs.Common.{◌∙◌, ap, sym, List, length, get_or, arith, TableauRow, RowHead, no_head}
 use Rattle.ta_links.proofs.LinkedFacts.{head_is, row_below}
 use Rattle.ta_links.proofs.linked.LinkedDictionaryDictionary.basic.Goals as goal
 

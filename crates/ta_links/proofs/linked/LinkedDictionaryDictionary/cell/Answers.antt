@@ -1,7 +1,4 @@
-use Rattle.std.proofs.Common.{◌∙◌, arith, rules}
-use Rattle.std.proofs.lemmas.Int.{to_z-of_z}
-use mir.Val.{SFits}
-use mir.Syntax.{w128}
+use Rattle.ta_links.proofs.Common.{◌∙◌, arith, rules, to_z-of_z, SFits, w128}
 use Rattle.ta_links.proofs.LinkedFacts.{row_below, number_is}
 use Rattle.ta_links.proofs.linked.LinkedDictionaryDictionary.cell.Goals as goal
 

@@ -1,18 +1,9 @@
-use Rattle.std.proofs.Common.{◌∙◌, ap, sym, List, length, get_or, arith, rules}
-use Rattle.std.proofs.lemmas.Int.{to_z-of_z}
-use mir.Val.{SFits}
-use mir.Syntax.{w128}
-use Rattle.ta_dense.specs.Tableau.{TableauRow}
-use Rattle.ta_links.specs.declared.row_head.RowHead.{RowHead}
-use Rattle.ta_links.specs.Linked.{no_head}
-use Rattle.ta_links.proofs.LinkedFacts.{head_is, row_below}
+use Rattle.ta_links.proofs.Common.{◌∙◌, ap, sym, List, length, get_or, arith, rules, to_z-of_z, SFits, w128, TableauRow, RowHead, no_head}
+use Rattle.ta_links.proofs.LinkedFacts.{head_below, head_is}
 use Rattle.ta_links.proofs.linked.LinkedDictionaryDictionary.constant.Goals as goal
 
 pub head_of-requires : goal.head_of-requires
-head_of-requires c =
-    let b = row_below c.self.inside c.args.self.now c.args.row c.self.view_is c.requires in
-    let long = ap (λ (hs : List RowHead). length hs) c.deref.ensures.value in
-    omega arith
+head_of-requires c = head_below c.self.inside c.args.self.now c.args.row c.deref.result.now c.self.view_is c.requires c.deref.ensures.value
 
 pub returns-clause-value : goal.returns-clause-value
 returns-clause-value c =

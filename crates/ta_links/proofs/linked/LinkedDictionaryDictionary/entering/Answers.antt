@@ -1,15 +1,4 @@
-use Rattle.std.proofs.Common.{◌≡◌, ◌<◌, ◌∙◌, ap, sym, subst, rules, arith, length, ℕ, List}
-use Rattle.std.specs.Prelude.{MatchOption}
-use Rattle.std.proofs.lemmas.Int.{to_z-of_z}
-use mir.Val.{SFits}
-use mir.Syntax.{w128}
-use Rattle.ta_links.specs.declared.cell.Cell.{Cell}
-use Rattle.ta_links.specs.declared.way.Way.TheVariants.{Rows}
-use Rattle.ta_links.specs.Chains.{cell_at, along_rows}
-use Rattle.ta_links.specs.Entering.{EntersBelow, NoneEntersBelow}
-use Rattle.ta_links.specs.Gaps.{spot}
-use Rattle.ta_links.specs.Linked.{Linked}
-use Rattle.ta_links.specs.Values.{value_in}
+use Rattle.ta_links.proofs.Common.{◌≡◌, ◌<◌, ◌∙◌, ap, sym, subst, rules, arith, length, ℕ, List, MatchOption, to_z-of_z, SFits, w128, Cell, Rows, cell_at, along_rows, EntersBelow, NoneEntersBelow, spot, Linked, value_in}
 use Rattle.ta_links.proofs.LinkedFacts.{row_below, number_is}
 use Rattle.ta_links.proofs.Listed.{place_inside}
 use Rattle.ta_links.proofs.EnterSteps.{enters_far, enters_all}

@@ -1,10 +1,4 @@
-use Rattle.std.proofs.Common.{length, ◌-◌}
-use Rattle.std.specs.Prelude.{MatchOption}
-use Rattle.ta_links.specs.Entering.{EntersBelow, NoneEntersBelow}
-use Rattle.ta_links.specs.Chains.{along_rows}
-use Rattle.ta_links.specs.Gaps.{spot}
-use Rattle.ta_links.specs.Lines.{MayBeOn}
-use Rattle.ta_links.specs.declared.way.Way.TheVariants.{Rows}
+use Rattle.ta_links.proofs.Common.{length, ◌-◌, MatchOption, EntersBelow, NoneEntersBelow, along_rows, spot, MayBeOn, Rows}
 use Rattle.ta_links.proofs.linked.LinkedDictionaryDictionary.entering.Given as goal
 
 abbrev pub invariant-chain : goal.invariant-chain

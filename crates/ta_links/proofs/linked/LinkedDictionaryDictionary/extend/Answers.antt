@@ -1,12 +1,4 @@
-use Rattle.std.proofs.Common.{◌≡◌, ◌≤◌, ◌+◌, ◌-◌, ◌++◌, ◌∙◌, ap, sym, subst, arith, length, map, get_or, List, ℕ}
-use Rattle.std.proofs.lemmas.List.{map-id}
-use Rattle.std.specs.List.{range_with_len}
-use Rattle.ta_linear.specs.declared.row.Row.{Row}
-use Rattle.ta_dense.specs.Tableau.{Tableau}
-use Rattle.ta_dense.specs.Kept.{StayInRange}
-use Rattle.ta_dense.specs.Extending.{raised, extended, new_rows, FirstLeaving}
-use Rattle.ta_links.specs.declared.row_head.RowHead.{RowHead}
-use Rattle.ta_links.specs.Linked.{Linked, table_rows, no_head}
+use Rattle.ta_links.proofs.Common.{◌≡◌, ◌≤◌, ◌+◌, ◌-◌, ◌++◌, ◌∙◌, ap, sym, subst, arith, length, map, get_or, List, ℕ, map-id, range_with_len, Row, Tableau, StayInRange, raised, extended, new_rows, FirstLeaving, RowHead, Linked, table_rows, no_head}
 use Rattle.ta_links.proofs.LinkedFacts.{length-table_rows}
 use Rattle.ta_links.proofs.ExtendedRows.{Lengthened}
 use Rattle.ta_links.proofs.ExtendedTable.{basic_is, lengthen, room_for, extend_is, extend_within, extend_refused, names_long, taken_long, taken_proper}

@@ -1,12 +1,5 @@
-use Rattle.std.proofs.Common.{◌≡◌, arith, sym, ◌∙◌, ap, ◌+◌, suc, ◌++◌, ◌∷◌, [], List, ℕ, length, subst, rules}
-use Rattle.std.proofs.lemmas.List.FromFn.{length-range_with_len}
-use Rattle.std.specs.List.{range_with_len}
-use Rattle.ta_base.proofs.Lists.{range_more}
+use Rattle.ta_links.proofs.Common.{◌≡◌, arith, sym, ◌∙◌, ap, ◌+◌, suc, ◌++◌, ◌∷◌, [], List, ℕ, length, subst, rules, length-range_with_len, range_with_len, range_more, RowHead, table_rows, AreProperHeads, slack_heads, value_in}
 use Rattle.ta_dense.proofs.SlackRows.{slack_tableau-is}
-use Rattle.ta_links.specs.declared.row_head.RowHead.{RowHead}
-use Rattle.ta_links.specs.Linked.{table_rows, AreProperHeads}
-use Rattle.ta_links.specs.Starting.{slack_heads}
-use Rattle.ta_links.specs.Values.{value_in}
 use Rattle.ta_links.proofs.LinkedFacts.{table_is, full_live, proper_slacks, length-slack_heads}
 use Rattle.ta_links.proofs.linked.LinkedDictionaryDictionary.from_system.Goals as goal
 

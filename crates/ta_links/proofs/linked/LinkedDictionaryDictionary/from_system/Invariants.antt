@@ -1,5 +1,4 @@
-use Rattle.std.proofs.Common.{◌≡◌}
-use Rattle.std.specs.List.{range_with_len}
+use Rattle.ta_links.proofs.Common.{◌≡◌, range_with_len}
 use Rattle.ta_links.proofs.linked.LinkedDictionaryDictionary.from_system.Given as goal
 
 abbrev pub invariant-loop-unknown : goal.invariant-loop-unknown

@@ -1,9 +1,4 @@
-use Rattle.std.proofs.Common.{◌≡◌, ◌<◌, ◌+◌, ◌∙◌, ap, sym, arith, length, get_or, List, ℕ, ℤ}
-use Rattle.ta_dense.specs.Tableau.{TableauRow}
-use Rattle.ta_dense.specs.Slack.{coefficients}
-use Rattle.ta_links.specs.declared.row_head.RowHead.{RowHead}
-use Rattle.ta_links.specs.Linked.{Linked, no_head}
-use Rattle.ta_links.specs.Values.{value_in, row_values}
+use Rattle.ta_links.proofs.Common.{◌≡◌, ◌<◌, ◌+◌, ◌∙◌, ap, sym, arith, length, get_or, List, ℕ, ℤ, TableauRow, coefficients, RowHead, Linked, no_head, value_in, row_values}
 use Rattle.ta_links.proofs.LinkedFacts.{head_is, row_below, values_are}
 use Rattle.ta_links.proofs.linked.LinkedDictionaryDictionary.keep.Goals as goal
 

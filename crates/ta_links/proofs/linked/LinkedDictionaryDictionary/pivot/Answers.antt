@@ -1,7 +1,4 @@
-use Rattle.std.proofs.Common.{◌≡◌, ◌∙◌, ◌<◌, ◌<ℤ◌, ap, sym, subst, arith, rules, length, set, get_or, List, pos}
-use Rattle.std.proofs.lemmas.List.{get_or_read, length-set}
-use Rattle.ta_links.specs.declared.row_head.RowHead.{RowHead}
-use Rattle.ta_links.specs.Linked.{Linked, no_head}
+use Rattle.ta_links.proofs.Common.{◌≡◌, ◌∙◌, ◌<◌, ◌<ℤ◌, ap, sym, subst, arith, rules, length, set, get_or, List, pos, get_or_read, length-set, RowHead, Linked, no_head}
 use Rattle.ta_links.proofs.LinkedFacts.{row_below, number_is}
 use Rattle.ta_links.proofs.PivotedTable.{pivoted_tableau, pivoted_held}
 use Rattle.ta_links.proofs.linked.LinkedDictionaryDictionary.pivot.Goals as goal

@@ -1,5 +1,4 @@
-use Rattle.std.proofs.Common.{◌≡◌, ap, length, arith, rules}
-use Rattle.ta_links.specs.Linked.{Linked}
+use Rattle.ta_links.proofs.Common.{◌≡◌, ap, length, arith, rules, Linked}
 use Rattle.ta_links.proofs.LinkedFacts.{length-table_rows}
 use Rattle.ta_links.proofs.linked.LinkedDictionaryDictionary.rows.Goals as goal
 

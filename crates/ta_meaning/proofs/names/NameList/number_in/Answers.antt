@@ -1,8 +1,4 @@
-use Rattle.std.proofs.Common.{◌-◌, ◌≤◌, false, map, take, drop, sym, ap, ◌∙◌, arith, is_some}
-use Rattle.std.specs.String.{string_bytes}
-use Rattle.ta_base.proofs.ByteLists.{distinct_names}
-use Rattle.ta_base.proofs.Each.{distinct-along}
-use Rattle.ta_base.proofs.Lists.{place-along, within_part}
+use Rattle.ta_meaning.proofs.Common.{◌-◌, ◌≤◌, false, map, take, drop, sym, ap, ◌∙◌, arith, is_some, string_bytes, distinct_names, distinct-along, place-along, within_part}
 use Rattle.ta_meaning.proofs.ListedNames.{outside_part, has_name-at, has_key, key_at, has_name-along}
 use Rattle.ta_meaning.proofs.UsedNames.{unknown, wrong_kind, rightly_used}
 use Rattle.ta_meaning.proofs.names.NameList.number_in.Goals as goal

@@ -1,6 +1,5 @@
-use Rattle.std.proofs.Common.{map, Some}
+use Rattle.ta_program.proofs.Common.{map, Some, admit_meaning, admit_words}
 use Rattle.ta_program.specs.declared.admit.Admit.{Admit}
-use Rattle.ta_program.specs.Admit.{admit_meaning, admit_words}
 use Rattle.ta_program.specs.AdmitSeen.{admit_seen}
 use Rattle.ta_program.proofs.Meanings.{asked_for}
 use Rattle.ta_program.proofs.WordMeanings.{admit_decides, admit_passes}

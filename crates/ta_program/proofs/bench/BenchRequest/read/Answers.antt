@@ -1,6 +1,5 @@
-use Rattle.std.proofs.Common.{map, None}
+use Rattle.ta_program.proofs.Common.{map, None, bench_meaning, bench_words}
 use Rattle.ta_program.specs.declared.bench.Bench.{Bench}
-use Rattle.ta_program.specs.Bench.{bench_meaning, bench_words}
 use Rattle.ta_program.proofs.Meanings.{asked_for, bench_decides, bench_passes}
 use Rattle.ta_program.proofs.bench.BenchRequest.read.Goals as goal
 

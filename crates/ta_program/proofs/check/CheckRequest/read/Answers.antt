@@ -1,8 +1,5 @@
-use Rattle.std.proofs.Common.{map, Some}
+use Rattle.ta_program.proofs.Common.{map, Some, check_meaning, names_seen, two_names}
 use Rattle.ta_program.specs.declared.check.Check.{Check}
-use Rattle.ta_program.specs.Check.{check_meaning}
-use Rattle.ta_program.specs.Taken.{names_seen}
-use Rattle.ta_program.specs.Values.{two_names}
 use Rattle.ta_program.proofs.Meanings.{asked_for, check_decides, check_passes}
 use Rattle.ta_program.proofs.check.CheckRequest.read.Goals as goal
 

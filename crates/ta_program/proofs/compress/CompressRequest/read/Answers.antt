@@ -1,8 +1,5 @@
-use Rattle.std.proofs.Common.{map, Some}
+use Rattle.ta_program.proofs.Common.{map, Some, compress_meaning, names_seen, two_names}
 use Rattle.ta_program.specs.declared.compress.Compress.{Compress}
-use Rattle.ta_program.specs.Compress.{compress_meaning}
-use Rattle.ta_program.specs.Taken.{names_seen}
-use Rattle.ta_program.specs.Values.{two_names}
 use Rattle.ta_program.proofs.Meanings.{asked_for, compress_decides, compress_passes}
 use Rattle.ta_program.proofs.compress.CompressRequest.read.Goals as goal
 

@@ -1,7 +1,5 @@
-use Rattle.std.proofs.Common.{map, Some}
+use Rattle.ta_program.proofs.Common.{map, Some, export_meaning, export_words, asked_seen}
 use Rattle.ta_program.specs.declared.export.Export.{Export}
-use Rattle.ta_program.specs.Export.{export_meaning, export_words}
-use Rattle.ta_program.specs.WordSeen.{asked_seen}
 use Rattle.ta_program.proofs.Meanings.{asked_for}
 use Rattle.ta_program.proofs.WordMeanings.{export_decides, export_passes}
 use Rattle.ta_program.proofs.export.ExportRequest.read.Goals as goal

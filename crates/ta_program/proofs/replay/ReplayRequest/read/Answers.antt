@@ -1,8 +1,5 @@
-use Rattle.std.proofs.Common.{map, Some}
+use Rattle.ta_program.proofs.Common.{map, Some, replay_meaning, names_seen, two_names}
 use Rattle.ta_program.specs.declared.replay.Replay.{Replay}
-use Rattle.ta_program.specs.Replay.{replay_meaning}
-use Rattle.ta_program.specs.Taken.{names_seen}
-use Rattle.ta_program.specs.Values.{two_names}
 use Rattle.ta_program.proofs.Meanings.{asked_for, replay_decides, replay_passes}
 use Rattle.ta_program.proofs.replay.ReplayRequest.read.Goals as goal
 

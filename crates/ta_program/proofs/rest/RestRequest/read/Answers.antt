@@ -1,8 +1,5 @@
-use Rattle.std.proofs.Common.{map}
-use Rattle.ta_program.specs.Rest.{rest_meaning}
-use Rattle.ta_program.specs.RestEnds.{LegalAtRest}
+use Rattle.ta_program.proofs.Common.{map, rest_meaning, LegalAtRest, rest_words}
 use Rattle.ta_program.specs.RestSeen.{rest_seen}
-use Rattle.ta_program.specs.RestWords.{rest_words}
 use Rattle.ta_program.proofs.Meanings.{asked_where}
 use Rattle.ta_program.proofs.RestMeanings.{rest_decides, rest_passes}
 use Rattle.ta_program.proofs.rest.RestRequest.read.Goals as goal

@@ -1,9 +1,5 @@
-use Rattle.std.proofs.Common.{map}
+use Rattle.ta_program.proofs.Common.{map, rest_check_meaning, LegalAtRest, names_seen, two_names}
 use Rattle.ta_program.specs.declared.rest_check.RestCheck.{RestCheck}
-use Rattle.ta_program.specs.RestCheck.{rest_check_meaning}
-use Rattle.ta_program.specs.RestEnds.{LegalAtRest}
-use Rattle.ta_program.specs.Taken.{names_seen}
-use Rattle.ta_program.specs.Values.{two_names}
 use Rattle.ta_program.proofs.Meanings.{asked_where}
 use Rattle.ta_program.proofs.RestMeanings.{rest_check_decides, rest_check_passes}
 use Rattle.ta_program.proofs.rest_check.RestCheckRequest.read.Goals as goal

@@ -1,7 +1,4 @@
-use Rattle.std.proofs.Common.{map}
-use Rattle.ta_program.specs.Search.{LegalTemplate, search_meaning}
-use Rattle.ta_program.specs.SearchSeen.{search_seen}
-use Rattle.ta_program.specs.SearchWords.{search_words}
+use Rattle.ta_program.proofs.Common.{map, LegalTemplate, search_meaning, search_seen, search_words}
 use Rattle.ta_program.proofs.Meanings.{asked_where}
 use Rattle.ta_program.proofs.SearchMeanings.{search_decides, search_passes}
 use Rattle.ta_program.proofs.search.SearchRequest.read.Goals as goal

@@ -1,7 +1,5 @@
-use Rattle.std.proofs.Common.{map, Some}
+use Rattle.ta_program.proofs.Common.{map, Some, verify_meaning, verify_words}
 use Rattle.ta_program.specs.Asking.{verify_seen}
-use Rattle.ta_program.specs.Reporting.{verify_meaning}
-use Rattle.ta_program.specs.VerifyWords.{verify_words}
 use Rattle.ta_program.proofs.Meanings.{asked_for, verify_decides, verify_passes}
 use Rattle.ta_program.proofs.verify.VerifyRequest.read.Goals as goal
 

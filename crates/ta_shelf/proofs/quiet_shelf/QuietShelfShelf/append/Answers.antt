@@ -1,6 +1,4 @@
-use Rattle.std.proofs.Common.{◌++◌, ◌∙◌, ap}
-use Rattle.ta_shelf.specs.Files.{file_named}
-use Rattle.ta_shelf.specs.Put.{bytes_held}
+use Rattle.ta_shelf.proofs.Common.{◌++◌, ◌∙◌, ap, file_named, bytes_held}
 use Rattle.ta_shelf.proofs.WithFile.{still_distinct, with_file-named, with_file-other}
 use Rattle.ta_shelf.proofs.quiet_shelf.QuietShelfShelf.append.Goals as goal
 

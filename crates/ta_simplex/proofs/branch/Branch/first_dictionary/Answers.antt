@@ -1,7 +1,5 @@
-use Rattle.std.proofs.Common.{ℕ, map, length, arith, sym, ◌∙◌, subst}
+use Rattle.ta_simplex.proofs.Common.{ℕ, map, length, arith, sym, ◌∙◌, subst, Follows, slack_tableau}
 use Rattle.ta_simplex.proofs.BranchLemmas.{cut_last, cut_extended, cut_overflows, may_begin, are_kept}
-use Rattle.ta_simplex.specs.Follows.{Follows}
-use Rattle.ta_dense.specs.Slack.{slack_tableau}
 use Rattle.ta_simplex.proofs.branch.Branch.first_dictionary.Goals as goal
 
 pub extend-requires-clause-longer : goal.extend-requires-clause-longer

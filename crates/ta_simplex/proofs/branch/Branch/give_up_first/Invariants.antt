@@ -1,6 +1,4 @@
-use Rattle.std.proofs.Common.{List, vec_len}
-use Rattle.ta_linear.specs.declared.row.Row.{Row}
-use Rattle.ta_simplex.specs.Branch.{IsBranch}
+use Rattle.ta_simplex.proofs.Common.{List, vec_len, Row, IsBranch}
 use Rattle.ta_simplex.proofs.branch.Branch.give_up_first.Given as goal
 
 abbrev pub invariant-loop-self : goal.invariant-loop-self

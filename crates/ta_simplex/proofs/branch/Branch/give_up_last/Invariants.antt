@@ -1,5 +1,4 @@
-use Rattle.std.proofs.Common.{vec_len}
-use Rattle.ta_simplex.specs.Branch.{SharesRows}
+use Rattle.ta_simplex.proofs.Common.{vec_len, SharesRows}
 use Rattle.ta_simplex.proofs.branch.Branch.give_up_last.Given as goal
 
 abbrev pub invariant-loop-self : goal.invariant-loop-self

@@ -1,5 +1,4 @@
-use Rattle.ta_syntax.specs.Parts.{a_name}
-use Rattle.ta_syntax.specs.Inside.Reading.{is_name}
+use Rattle.ta_syntax.proofs.Common.{a_name, is_name}
 use Rattle.ta_syntax.proofs.ItemSteps.{start_by, name_begins}
 use Rattle.ta_syntax.proofs.items.SpelledItem.starts.Goals as goal
 

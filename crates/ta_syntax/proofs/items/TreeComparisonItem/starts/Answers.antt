@@ -1,5 +1,4 @@
-use Rattle.ta_syntax.specs.Inside.Parts.{comparison_part}
-use Rattle.ta_syntax.specs.Inside.Reading.{is_sum_start}
+use Rattle.ta_syntax.proofs.Common.{comparison_part, is_sum_start}
 use Rattle.ta_syntax.proofs.ItemSteps.{start_by, comparison_begins}
 use Rattle.ta_syntax.proofs.items.TreeComparisonItem.starts.Goals as goal
 

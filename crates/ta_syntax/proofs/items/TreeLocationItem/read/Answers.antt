@@ -1,5 +1,4 @@
-use Rattle.std.proofs.lemmas.Result.{err_from_is_err_and}
-use Rattle.std.proofs.Common.{refl}
+use Rattle.ta_syntax.proofs.Common.{err_from_is_err_and, refl}
 use Rattle.ta_syntax.proofs.ItemSteps.{location_unnamed, took_initial, took_location}
 use Rattle.ta_syntax.proofs.items.TreeLocationItem.read.Goals as goal
 

@@ -1,5 +1,4 @@
-use Rattle.ta_syntax.specs.Inside.Parts.{location_part}
-use Rattle.ta_syntax.specs.Inside.Reading.{is_name}
+use Rattle.ta_syntax.proofs.Common.{location_part, is_name}
 use Rattle.ta_syntax.proofs.ItemSteps.{start_by, location_begins}
 use Rattle.ta_syntax.proofs.items.TreeLocationItem.starts.Goals as goal
 

@@ -1,5 +1,4 @@
-use Rattle.std.proofs.lemmas.Result.{err_from_is_err_and}
-use Rattle.std.proofs.Common.{refl}
+use Rattle.ta_syntax.proofs.Common.{err_from_is_err_and, refl}
 use Rattle.ta_syntax.proofs.ItemSteps.{update_unnamed, update_unmarked, update_unnumbered, took_update}
 use Rattle.ta_syntax.proofs.items.TreeUpdateItem.read.Goals as goal
 

@@ -1,5 +1,4 @@
-use Rattle.ta_syntax.specs.Inside.Parts.{update_part}
-use Rattle.ta_syntax.specs.Inside.Reading.{is_name}
+use Rattle.ta_syntax.proofs.Common.{update_part, is_name}
 use Rattle.ta_syntax.proofs.ItemSteps.{start_by, update_begins}
 use Rattle.ta_syntax.proofs.items.TreeUpdateItem.starts.Goals as goal
 

@@ -1,9 +1,4 @@
-use Rattle.std.proofs.Common.{[], ◌∷◌, ◌++◌}
-use Rattle.std.specs.String.{string_bytes}
-use Rattle.ta_base.proofs.Options.{if_ok_then}
-use Rattle.ta_syntax.specs.Grammar.{sum_kinds, relation_kind}
-use Rattle.ta_syntax.specs.PlainSums.{plain_sum}
-use Rattle.ta_syntax.specs.Inside.Printed.{Prints}
+use Rattle.ta_syntax.proofs.Common.{[], ◌∷◌, ◌++◌, string_bytes, if_ok_then, sum_kinds, relation_kind, plain_sum, Prints}
 use Rattle.ta_syntax.proofs.PrintSteps.{prints_then}
 use Rattle.ta_syntax.proofs.printing.TreeComparisonPrinted.print.Goals as goal
 

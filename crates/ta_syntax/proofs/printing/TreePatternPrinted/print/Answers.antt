@@ -1,9 +1,4 @@
-use Rattle.std.proofs.Common.{[], ◌∷◌, ◌++◌, map}
-use Rattle.std.specs.String.{string_bytes}
-use Rattle.ta_base.proofs.Options.{if_ok_then}
-use Rattle.ta_syntax.specs.Grammar.{ended, each, name_kinds, comparison_kinds, event_kinds}
-use Rattle.ta_syntax.specs.PlainTrees.{plain_name, plain_comparison, plain_event}
-use Rattle.ta_syntax.specs.Inside.Printed.{Prints}
+use Rattle.ta_syntax.proofs.Common.{[], ◌∷◌, ◌++◌, map, string_bytes, if_ok_then, ended, each, name_kinds, comparison_kinds, event_kinds, plain_name, plain_comparison, plain_event, Prints}
 use Rattle.ta_syntax.specs.declared.tokens.Kind.TheVariants as kind
 use Rattle.ta_syntax.specs.declared.tokens.Mark.TheVariants as mark
 use Rattle.ta_syntax.proofs.PrintSteps.{prints_then, ended_of, each_of}

@@ -1,9 +1,4 @@
-use Rattle.std.proofs.Common.{[], ◌∷◌, ◌++◌, map}
-use Rattle.std.specs.String.{string_bytes}
-use Rattle.ta_base.proofs.Options.{if_ok_then}
-use Rattle.ta_syntax.specs.Grammar.{led, comparison_kinds, update_kinds}
-use Rattle.ta_syntax.specs.PlainTrees.{plain_comparison, plain_update}
-use Rattle.ta_syntax.specs.Inside.Printed.{Prints}
+use Rattle.ta_syntax.proofs.Common.{[], ◌∷◌, ◌++◌, map, string_bytes, if_ok_then, led, comparison_kinds, update_kinds, plain_comparison, plain_update, Prints}
 use Rattle.ta_syntax.specs.declared.tokens.Kind.TheVariants as kind
 use Rattle.ta_syntax.specs.declared.tokens.Mark.TheVariants as mark
 use Rattle.ta_syntax.proofs.PrintSteps.{prints_then, led_of}

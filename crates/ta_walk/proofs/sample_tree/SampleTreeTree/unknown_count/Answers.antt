@@ -1,5 +1,4 @@
-use Rattle.std.proofs.Common.{◌+◌, ◌<◌, ◌^◌, List, ℕ, length, arith, ap}
-use Rattle.ta_encode.proofs.Samples.{sample_count, sample_few}
+use Rattle.ta_walk.proofs.Common.{◌+◌, ◌<◌, ◌^◌, List, ℕ, length, arith, ap, sample_count, sample_few}
 use Rattle.ta_walk.proofs.sample_tree.SampleTreeTree.unknown_count.Goals as goal
 
 pub overflow_cast-result : goal.overflow_cast-result

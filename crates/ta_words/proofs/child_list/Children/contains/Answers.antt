@@ -1,7 +1,4 @@
-use Rattle.std.proofs.Common.{◌≡◌, refl, sym, subst, ◌∙◌, length, arith}
-use Rattle.std.proofs.lemmas.Bool.{false≢true}
-use Rattle.ta_base.specs.Masks.{In}
-use Rattle.ta_base.proofs.Members.{in_get_or, not_listed, not_yet}
+use Rattle.ta_words.proofs.Common.{◌≡◌, refl, sym, subst, ◌∙◌, length, arith, false≢true, In, in_get_or, not_listed, not_yet}
 use Rattle.ta_words.proofs.child_list.Children.contains.Goals as goal
 
 pub returns-then-is : goal.returns-then-is

@@ -1,5 +1,4 @@
-use Rattle.std.proofs.Common.{take}
-use Rattle.ta_base.specs.Masks.{In}
+use Rattle.ta_words.proofs.Common.{take, In}
 use Rattle.ta_words.proofs.child_list.Children.contains.Given as goal
 
 abbrev pub invariant-loop-child : goal.invariant-loop-child

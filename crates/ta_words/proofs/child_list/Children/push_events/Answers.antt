@@ -1,8 +1,4 @@
-use Rattle.std.proofs.Common.{◌≡◌, ℕ, List, length, Bool, arith, ap, ◌∙◌, subst}
-use Rattle.ta_words.specs.Seen.{IsSeen}
-use Rattle.ta_words.specs.Words.{is_ready}
-use Rattle.ta_words.specs.declared.element.Element.{Element}
-use Rattle.ta_words.specs.declared.element.Element.TheVariants.{Event}
+use Rattle.ta_words.proofs.Common.{◌≡◌, ℕ, List, length, Bool, arith, ap, ◌∙◌, subst, IsSeen, is_ready, Element, Event}
 use Rattle.ta_words.proofs.Pushes.{with_passed, none_pushed, push_passed, pass_over, ready_at, event_at}
 use Rattle.ta_words.proofs.child_list.Children.push_events.Goals as goal
 use Rattle.ta_words.proofs.child_list.Children.push_events.Goals.{then-is_ready, else-is_ready}

@@ -1,5 +1,4 @@
-use Rattle.ta_words.specs.Words.{is_ready}
-use Rattle.ta_words.specs.declared.element.Element.TheVariants.{Event}
+use Rattle.ta_words.proofs.Common.{is_ready, Event}
 use Rattle.ta_words.proofs.Pushes.{Pushed}
 use Rattle.ta_words.proofs.child_list.Children.push_events.Given as goal
 

@@ -1,7 +1,4 @@
-use Rattle.std.proofs.Common.{◌≡◌, ◌+◌, ◌-◌, ◌^◌, length, arith, ap, ◌∙◌, subst}
-use Rattle.ta_base.proofs.Naturals.{end_of_masks}
-use Rattle.ta_words.specs.Words.{is_standing}
-use Rattle.ta_words.specs.declared.element.Element.TheVariants.{Fall}
+use Rattle.ta_words.proofs.Common.{◌≡◌, ◌+◌, ◌-◌, ◌^◌, length, arith, ap, ◌∙◌, subst, end_of_masks, is_standing, Fall}
 use Rattle.ta_words.proofs.Pushes.{Pushed, with_passed, none_pushed, push_passed, pass_over}
 use Rattle.ta_words.proofs.child_list.Children.push_falls.Goals as goal
 use Rattle.ta_words.proofs.child_list.Children.push_falls.Goals.{then-is_standing, else-is_standing}

@@ -1,6 +1,4 @@
-use Rattle.std.proofs.Common.{◌-◌}
-use Rattle.ta_words.specs.Words.{is_standing}
-use Rattle.ta_words.specs.declared.element.Element.TheVariants.{Fall}
+use Rattle.ta_words.proofs.Common.{◌-◌, is_standing, Fall}
 use Rattle.ta_words.proofs.Pushes.{Pushed}
 use Rattle.ta_words.proofs.child_list.Children.push_falls.Given as goal
 

@@ -1,8 +1,4 @@
-use Rattle.std.proofs.Common.{◌≡◌, ℕ, List, length, Bool, arith, ap, ◌∙◌, subst}
-use Rattle.ta_words.specs.Seen.{IsSeen}
-use Rattle.ta_words.specs.Words.{may_rise}
-use Rattle.ta_words.specs.declared.element.Element.{Element}
-use Rattle.ta_words.specs.declared.element.Element.TheVariants.{Rise}
+use Rattle.ta_words.proofs.Common.{◌≡◌, ℕ, List, length, Bool, arith, ap, ◌∙◌, subst, IsSeen, may_rise, Element, Rise}
 use Rattle.ta_words.proofs.Pushes.{with_passed, none_pushed, push_passed, pass_over}
 use Rattle.ta_words.proofs.child_list.Children.push_rises.Goals as goal
 use Rattle.ta_words.proofs.child_list.Children.push_rises.Goals.{then-may_rise, else-may_rise}

@@ -1,5 +1,4 @@
-use Rattle.ta_words.specs.Words.{may_rise}
-use Rattle.ta_words.specs.declared.element.Element.TheVariants.{Rise}
+use Rattle.ta_words.proofs.Common.{may_rise, Rise}
 use Rattle.ta_words.proofs.Pushes.{Pushed}
 use Rattle.ta_words.proofs.child_list.Children.push_rises.Given as goal
 

@@ -1,6 +1,4 @@
-use Rattle.std.proofs.Common.{length, not, arith}
-use Rattle.ta_base.specs.Masks.{all_below, has_bit, implies}
-use Rattle.ta_words.specs.Words.{has_fallen}
+use Rattle.ta_words.proofs.Common.{length, not, arith, all_below, has_bit, implies, has_fallen}
 use Rattle.ta_words.proofs.Past.{unlocked, locked}
 use Rattle.ta_words.proofs.seen.Seen.is_unlocked.Goals as goal
 

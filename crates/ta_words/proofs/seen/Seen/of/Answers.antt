@@ -1,6 +1,4 @@
-use Rattle.std.proofs.Common.{sym, subst}
-use Rattle.ta_base.proofs.Lists.{reverse_more}
-use Rattle.ta_words.specs.Seen.{IsSeen}
+use Rattle.ta_words.proofs.Common.{sym, subst, reverse_more, IsSeen}
 use Rattle.ta_words.proofs.Past.{none_seen}
 use Rattle.ta_words.proofs.seen.Seen.of.Goals as goal
 

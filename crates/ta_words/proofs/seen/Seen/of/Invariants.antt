@@ -1,5 +1,4 @@
-use Rattle.std.proofs.Common.{take, reverse}
-use Rattle.ta_words.specs.Seen.{IsSeen}
+use Rattle.ta_words.proofs.Common.{take, reverse, IsSeen}
 use Rattle.ta_words.proofs.seen.Seen.of.Given as goal
 
 abbrev pub invariant-loop-element : goal.invariant-loop-element

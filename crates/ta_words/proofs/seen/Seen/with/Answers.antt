@@ -1,5 +1,4 @@
-use Rattle.std.proofs.Common.{ap, ◌∙◌, ◌||◌}
-use Rattle.ta_base.specs.Masks.{has_bit}
+use Rattle.ta_words.proofs.Common.{ap, ◌∙◌, ◌||◌, has_bit}
 use Rattle.ta_words.proofs.Past.{event_seen, rise_seen, fall_seen}
 use Rattle.ta_words.proofs.seen.Seen.with.Goals as goal
 

@@ -1,0 +1,77 @@
+-- The names that the proofs of this crate cite, passed on from one place. Declares nothing.
+pub use Rattle.std.proofs.Common.{Bool, Err, FitsSigned, IfErr, IfOk, IsErrOf, List, None, Ok, Option, Result, Some, [], ap, append-nil, append_assoc, arith, codes, cond, drop, false, get_or, inl, inr, is_err, length, length-drop, lit<, lit≤, map, nat_lt, neg_ℤ, of_z, pos, refl, reverse, rules, slice_get, subst, suc, sym, take, take-append-drop, to_z, true, unsigned_abs, zero, ℕ, ℤ, ◌*ℤ◌, ◌++◌, ◌+ℤ◌, ◌+◌, ◌-ℤ◌, ◌<ℤ◌, ◌<◌, ◌^◌, ◌∙◌, ◌∷◌, ◌≡◌, ◌≢◌, ◌≤ℤ◌, ◌≤◌, ◌⊎◌}
+pub use Rattle.std.proofs.lemmas.Bool.{cases_lt, false≢true, not-true}
+pub use Rattle.std.proofs.lemmas.Int.{fits_signed_from_abs, ints, to_z-of_z}
+pub use Rattle.std.proofs.lemmas.List.{reverse-append, reverse-reverse}
+pub use Rattle.std.proofs.lemmas.Option.{slice_get_cases, slice_get_within}
+pub use Rattle.std.proofs.lemmas.Result.{err_from_is_err_and}
+pub use Rattle.std.specs.Int.{w128}
+pub use Rattle.std.specs.List.{AllByRecursion}
+pub use Rattle.ta_automaton.specs.declared.automaton.Automaton.{Automaton}
+pub use Rattle.ta_automaton.specs.declared.file.File.{File}
+pub use Rattle.ta_automaton.specs.declared.pattern.Pattern.{Pattern}
+pub use Rattle.ta_base.proofs.Each.{apart_before, each_at_head, none_begun, older_new, others, still_new}
+pub use Rattle.ta_base.proofs.Lists.{first_byte, reverse_first, some_at}
+pub use Rattle.ta_base.proofs.Members.{In-left, In-right, in_append, known_first}
+pub use Rattle.ta_base.proofs.Options.{none_of, not_waiting}
+pub use Rattle.ta_base.specs.Lists.{Distinct}
+pub use Rattle.ta_base.specs.Masks.{In}
+pub use Rattle.ta_cert.proofs.Standing.{legal_last, lines_text-append}
+pub use Rattle.ta_cert.proofs.Unique.{compare, legal_forms, legal_prefix, line_unbroken, line_unique, malformed_place, malformed_stuck, malformed_trailing, reads_malformed, reads_stuck, reads_trailing, reads_unique, trailing_place, trailing_stuck}
+unfoldable pub use Rattle.ta_cert.proofs.Unique.{GoesOn, Stuck}
+pub use Rattle.ta_cert.specs.Certificates.{AreOrders, AreWritable, cert_lines, order_lines, pair_of, proof_lines, proofs_of, version_of}
+pub use Rattle.ta_cert.specs.Laws.{AreShort, IsErrOrMemory}
+pub use Rattle.ta_cert.specs.Lines.{ArePairs, IsLine, IsNode, IsVersion, cert_lines_text, has_end, line_text}
+pub use Rattle.ta_cert.specs.Streams.{AreLater, AreLines, AreNoLine, FeedLineAnswers, IsComplete, IsMalformed, IsRefusedBehind, IsTrailing, ReadsLines, StandsAt, line_limit, line_number}
+pub use Rattle.ta_cert.specs.Tree.{Tree, all_preorder}
+pub use Rattle.ta_cert.specs.declared.fault.CertFault.{CertFault}
+pub use Rattle.ta_cert.specs.declared.line.Line.{Line}
+pub use Rattle.ta_cert.specs.declared.line.Node.{Node}
+pub use Rattle.ta_cert.specs.declared.line.Order.{Order}
+pub use Rattle.ta_cert.specs.declared.reader.Reader.{Reader}
+pub use Rattle.ta_check.specs.Certificate.{AllClaimsHold, AllRestSafe, AllSafe, AllUnsolved, Certificate, CertificateFor, CertificatesShow, ClaimsHold, MayClaimAll, MayHave, PatternUnsolved, ProvesClaim, ProvesPattern, ShowsPair, proof_number}
+pub use Rattle.ta_check.specs.Checkers.{CheckerFeedAnswers, CheckerFinishAnswers, CheckerStandsFor, IsExactCheck, IsExactFeed, IsSoundChecker, StandBehind, subject_of}
+pub use Rattle.ta_check.specs.Faults.{AtSomeWord, FirstLeafFault, IsAtFault, IsFirstFaultFor, IsLastingFor, IsMisplaced, IsNoLeaf, LastingFaultsLast, LeafFails, LineAtFault, PairFails, TextAtFault}
+pub use Rattle.ta_check.specs.Inside.Leaves.{WithoutBounds, renumbered}
+pub use Rattle.ta_check.specs.Inside.Pieces.{NextTaken, StandSomewhere, TakenTo}
+pub use Rattle.ta_check.specs.Lines.{AtWord, BeginsProof, EndsCertificate, LeadThrough, Leads, MayFollow, NothingIsLeft, OpensCertificate, ShowsWaiting, Standing, Stands, TakesOrder, Waits, first_standing}
+pub use Rattle.ta_check.specs.Positions.{Between, InNewest, IsPositionAt, IsSomewhere, LeafTaken, LineAnswers, SamePairs, fault_at}
+pub use Rattle.ta_check.specs.Subjects.{HasVersion, Subject, claiming, search_at, search_in}
+pub use Rattle.ta_check.specs.declared.accepted.Accepted.{Accepted}
+pub use Rattle.ta_check.specs.declared.position.Position.{Position}
+pub use Rattle.ta_claim.specs.Claims.{MayClaim, search_for}
+pub use Rattle.ta_claim.specs.Trees.{search_of_claim}
+pub use Rattle.ta_claim.specs.declared.claim.Claim.{Claim}
+pub use Rattle.ta_claim.specs.declared.claim.Claim.TheVariants.{RestSafe, Safe}
+pub use Rattle.ta_cursor.proofs.Ranges.{check_stays, leaf_stays, stays_same}
+pub use Rattle.ta_cursor.proofs.TreesLeft.{here_first, here_is, later_words}
+pub use Rattle.ta_cursor.specs.Cursors.{IsWord, here}
+pub use Rattle.ta_cursor.specs.InTrees.{AllGoOn, AllWithin, IsAllWithin, here_at}
+pub use Rattle.ta_cursor.specs.Range.{IsJudged}
+pub use Rattle.ta_cursor.specs.declared.cursor.Cursor.{Cursor}
+pub use Rattle.ta_cursor.specs.declared.place.Place.{Place}
+pub use Rattle.ta_encode.proofs.CodeRows.{coefficient_same, constant_same, leaf_back, leaf_of, rows_count, weighted_same}
+pub use Rattle.ta_encode.proofs.Preorders.{in_order, weaker_proof}
+pub use Rattle.ta_encode.proofs.Whole.{unbounded_rows, whole_system}
+pub use Rattle.ta_encode.specs.Code.{AreRowsOf, IsRowOf, SystemAt}
+pub use Rattle.ta_encode.specs.InPreorder.{MayStand, Pending, RefutedInOrder, Search, all_starts, parts}
+pub use Rattle.ta_encode.specs.Lines.{BoundsWithin}
+pub use Rattle.ta_encode.specs.Marks.{IsEncoding}
+pub use Rattle.ta_encode.specs.Search.{Comes, bounded_rows}
+pub use Rattle.ta_encode.specs.System.{LinearRow, bound_row, word_rows}
+pub use Rattle.ta_farkas.proofs.Judging.{no_fault}
+pub use Rattle.ta_farkas.specs.Columns.{CheckStays, ColumnStays, column_sum, entry, part_in}
+pub use Rattle.ta_farkas.specs.Faults.{FineBefore, FirstMissing, IsFirstFaultOfLeaf, row_at}
+pub use Rattle.ta_farkas.specs.declared.LeafFault.{LeafFault}
+pub use Rattle.ta_farkas.specs.declared.LeafFault.TheVariants.{NotNegative, Overflow, Positive, RowNumber}
+pub use Rattle.ta_implied.proofs.Chains.{leads_along}
+pub use Rattle.ta_implied.specs.Implied.{AreCopies, Good, ImplySystem, IsCopy, IsPair, resilience_rows}
+pub use Rattle.ta_implied.specs.Orders.{IsShown, JoinsPair, MayJoin, with_pair}
+pub use Rattle.ta_implied.specs.Refused.{FailsToShow, IsOrderFault}
+pub use Rattle.ta_linear.specs.Leaf.{AreMultipliers, LeafOf, coefficient_in, constant_in}
+unfoldable pub use Rattle.ta_linear.specs.Leaf.{weighted}
+pub use Rattle.ta_linear.specs.declared.row.Row.{Row}
+pub use Rattle.ta_linear.specs.declared.row.System.{System}
+pub use Rattle.ta_rest.specs.Endings.{ComesLast, Endings, IsEnding}
+pub use Rattle.ta_rest.specs.Faults.{EndingsOf}
+pub use Rattle.ta_words.specs.declared.element.Element.{Element}

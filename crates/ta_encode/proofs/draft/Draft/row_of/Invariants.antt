@@ -1,0 +1,6 @@
+use Rattle.ta_encode.specs.Lines.{line_coefficient}
+use Rattle.ta_encode.proofs.Sparse.{Sparse}
+use Rattle.ta_encode.proofs.draft.Draft.row_of.Given as goal
+
+abbrev pub invariant-loop-unknown : goal.invariant-loop-unknown
+invariant-loop-unknown l = Sparse (line_coefficient l.automaton l.line.terms.now l.line.less_starts l.line.sense) l.meanings l.unknown l.written.items

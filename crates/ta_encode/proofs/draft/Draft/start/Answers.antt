@@ -1,0 +1,19 @@
+use Rattle.std.proofs.Common.{length, refl, arith, ap}
+use Rattle.ta_encode.proofs.Smallness.{resilience_small}
+use Rattle.ta_encode.proofs.Drafts.{start_drafted, start_few, start_small}
+use Rattle.ta_encode.proofs.draft.Draft.start.Goals as goal
+
+pub invariant_of-draft : goal.invariant_of-draft
+invariant_of-draft c =
+    let same = ap length c.in_ok-meanings.ensures in
+    let few = start_few c.args.origin.now.file.now.automaton c.args.origin.now.pattern.now in
+    record { few = omega arith }
+
+pub push_condition-requires : goal.push_condition-requires
+push_condition-requires c = record { small = resilience_small c.args.origin.now.file.now.automaton }
+
+pub push_condition-requires-2 : goal.push_condition-requires-2
+push_condition-requires-2 c = record { small = start_small c.args.origin.now.file.now c.args.origin.now.number c.args.origin.now.pattern.now c.requires.named }
+
+pub returns : goal.returns
+returns c = start_drafted c.args.origin.now refl c.in_ok-meanings.ensures c.new-rows.ensures.items c.in_ok-push_condition.ensures c.in_ok-push_processes.ensures c.in_ok-push_condition-2.ensures c.in_ok-push_start_guards.ensures

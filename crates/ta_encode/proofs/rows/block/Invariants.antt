@@ -1,0 +1,7 @@
+use Rattle.std.proofs.Common.{ℤ}
+use Rattle.ta_encode.proofs.Sparse.{Sparse}
+use Rattle.ta_encode.proofs.Blocks.{block}
+use Rattle.ta_encode.proofs.rows.block.Given as goal
+
+abbrev pub invariant-loop-unknown : goal.invariant-loop-unknown
+invariant-loop-unknown l = Sparse (λ (z : ℤ). z) (block l.from l.to l.fn.sense) l.unknown l.terms.items

@@ -1,0 +1,97 @@
+//! The unknowns and rows of a word, element by element.
+#![tactic(auto)]
+
+ghost use Rattle.std.specs.Prelude.{ℕ, ◌+◌, ◌^◌, ◌≤◌, ◌<◌, ◌∷◌, [], IfOk, OnOk, filter, length, reverse, map};
+ghost use Rattle.ta_base.specs.Masks.{has_bit, numbers_from};
+ghost use Rattle.ta_encode.specs.Inside.Draft.{AddsUnknowns, Continues, IsDraft, IsNamed};
+ghost use Rattle.ta_encode.specs.Inside.Firings.{firing};
+
+use crate::draft::Draft;
+use crate::origin::Origin;
+use crate::unknowns::{push_firings, start_meanings};
+use std::alloc::{AllocError, Global};
+use ta_base::limits::LONGEST_WORD;
+use ta_words::{Element, allowed_after, fallen_after};
+
+impl<'a> Draft<'a> {
+    /// The unknowns and rows at the start.
+    pub(crate) fn start(alloc: Global, origin: &Origin<'a>) -> Result<Draft<'a>, AllocError>
+        requires named { IsNamed origin.now }
+        ensures { IfOk result (IsDraft origin.now []) }
+    {
+        let automaton = &origin.file.automaton;
+        let meanings = start_meanings(alloc, automaton, origin.pattern)?;
+        let rows = Vec::new(alloc);
+        let mut draft = Draft {
+            alloc,
+            automaton,
+            meanings,
+            rows,
+        };
+        draft.push_condition(&automaton.resilience)?;
+        draft.push_processes()?;
+        draft.push_condition(&origin.pattern.start)?;
+        draft.push_start_guards(origin.start_mask)?;
+        Ok(draft)
+    }
+
+    /// A Count before an element for each rule in a set, or a Single.
+    fn push_firings(&mut self, allowed: u128, element: u32, single: bool) -> Result<(), AllocError>
+        requires room { length self.old.meanings.items + 128 < 2 ^ 32 }
+        ensures { OnOk result (AddsUnknowns (map (firing single element) (filter (has_bit allowed) (numbers_from 0 (length self.old.automaton.now.rules)))) self.old self.new) }
+    {
+        let rules = self.automaton.rules.as_slice().len();
+        push_firings(rules, allowed, element, single, &mut self.meanings)?;
+        Ok(())
+    }
+
+    /// The unknowns and rows of an element after others.
+    pub(crate) fn push_element(
+        &mut self,
+        origin: &Origin,
+        before: &[Element],
+        element: Element,
+    ) -> Result<(), AllocError>
+        requires named { IsNamed origin.now }
+        requires few { length before.now < LONGEST_WORD }
+        requires drafted { IsDraft origin.now (reverse before.now) self.old }
+        ensures { OnOk result (Continues origin.now (element ∷ reverse before.now) self.old self.new) }
+    {
+        let number = before.len() as u32;
+        let pattern = origin.pattern;
+        let empty = pattern.empty;
+        let allowed = allowed_after(origin.file, origin.number, origin.start_mask, before);
+        let fallen = fallen_after(origin.start_mask, before);
+        self.push_firings(allowed, number, false)?;
+        match element {
+            Element::Rise(rise) => self.push_rise(empty, fallen, rise)?,
+            Element::Event(event) => self.push_event(pattern, fallen, event)?,
+            Element::Fall(falls) => {
+                let from = self.meanings.len();
+                let after = fallen | u32::from(falls);
+                self.push_falling(empty, falls)?;
+                self.push_firings(allowed, number, true)?;
+                self.push_singles(from)?;
+                self.push_fallen(empty, falls, after)?;
+            }
+        }
+        Ok(())
+    }
+
+    /// The unknowns and rows of elements, from those at the start on.
+    pub(crate) fn push_elements(
+        &mut self,
+        origin: &Origin,
+        elements: &[Element],
+    ) -> Result<(), AllocError>
+        requires named { IsNamed origin.now }
+        requires few { length elements.now ≤ LONGEST_WORD }
+        requires drafted { IsDraft origin.now [] self.old }
+        ensures { OnOk result (IsDraft origin.now (reverse elements.now) self.new) }
+    {
+        for (number, element) in elements.iter().enumerate() {
+            self.push_element(origin, &elements[..number], *element)?;
+        }
+        Ok(())
+    }
+}

@@ -1,0 +1,116 @@
+-- The names that the proofs of this crate cite, passed on from one place. Declares nothing.
+pub use Rattle.std.proofs.Common.{Bool, Err, List, None, Ok, Option, Result, Some, [], ap, append_assoc, arith, cond, drop, false, get_or, inl, inr, length, length-append, ltb-false, ltb-true, map, min, nat_le, nat_lt, not, option_map, refl, rules, slice_get, subst, suc, sym, take, take_all, tests, true, zero, ℕ, ◌&&◌, ◌++◌, ◌+◌, ◌-◌, ◌<◌, ◌^◌, ◌∙◌, ◌∷◌, ◌≡◌, ◌≢◌, ◌≤◌, ◌⊎◌}
+pub use Rattle.std.proofs.Math.Seq.{take-append-add}
+pub use Rattle.std.proofs.lemmas.Bool.{cases_order, eqb-true, false_from_ne_true, false≢true, or_parts}
+pub use Rattle.std.proofs.lemmas.Iterator.{YieldsList-from_slice}
+pub use Rattle.std.proofs.lemmas.Iterator.Search.{any_from_yields_List}
+pub use Rattle.std.proofs.lemmas.List.{append-nil, length-drop, length-take-le, take-append-drop, take-append-le, take_more}
+pub use Rattle.std.proofs.lemmas.Option.{get_or_from_slice_get, option_and_then_some, same_Some}
+pub use Rattle.std.specs.List.{AllByRecursion, list_all, list_any}
+pub use Rattle.std.specs.Prelude.{Contains, IfOk, IsSome, codes, if◌then◌else◌, is_some, option_and_then, ◌==◌}
+pub use Rattle.std.specs.Str.{bytes_eq}
+pub use Rattle.ta_automaton.specs.declared.automaton.Automaton.{Automaton}
+pub use Rattle.ta_automaton.specs.declared.file.File.{File}
+pub use Rattle.ta_automaton.specs.declared.pattern.Pattern.{Pattern}
+pub use Rattle.ta_base.proofs.Each.{each_append, each_at, each_last}
+pub use Rattle.ta_base.proofs.Lists.{none_not_some, one_content, piece_size, same_parts}
+pub use Rattle.ta_base.specs.Masks.{has_bit, numbers_from}
+pub use Rattle.ta_cert.specs.Certificates.{pair_of, proofs_of}
+pub use Rattle.ta_cert.specs.declared.fault.CertFault.{CertFault}
+pub use Rattle.ta_check.proofs.Lasting.{lasting_faults_last, no_longer_certificate}
+pub use Rattle.ta_check.specs.Certificate.{AllClaimsHold, AllRestSafe, AllSafe, Certificate, CertificateFor, PatternSafe, RestCertificate, proof_number}
+pub use Rattle.ta_check.specs.Checkers.{CheckerFeedAnswers, CheckerFinishAnswers, CheckerStandsFor, IsExactCheck, IsExactFeed, subject_of}
+pub use Rattle.ta_check.specs.Faults.{IsFirstFaultFor, IsLastingFor}
+pub use Rattle.ta_check.specs.Subjects.{ClaimHolds, Subject, claiming}
+pub use Rattle.ta_check.specs.declared.accepted.Accepted.{Accepted}
+pub use Rattle.ta_check.specs.declared.checker.Checker.{Checker}
+pub use Rattle.ta_meaning.proofs.OneTree.{one_legal}
+pub use Rattle.ta_program.specs.Admit.{AdmitAsked, AdmitHolds, admit_meaning, admit_of, admit_words, run_meaning, values_kind, values_meaning}
+pub use Rattle.ta_program.specs.Asked.{Asked, IsAskedFor, LegalFile, Passes, PassesWhere, Runs, ask, ask_where, choose}
+pub use Rattle.ta_program.specs.Asked.Asked.{Command, NoCommand}
+pub use Rattle.ta_program.specs.Bench.{BUDGET, BenchHolds, IsBench, SaysBench, bench_meaning, bench_of, bench_status, bench_text, bench_words}
+unfoldable pub use Rattle.ta_program.specs.Bench.{family_text}
+pub use Rattle.ta_program.specs.Certified.{HindersCertificate, LongCertificate, long_line, may_put}
+pub use Rattle.ta_program.specs.Check.{CheckHolds, check_meaning, check_of, proved_meaning}
+pub use Rattle.ta_program.specs.Compress.{CompressFaultIn, CompressHolds, IsRefusedRun, IsTextFault, SaysShort, ShortOf, compress_meaning, compress_of, long_kind, of_run, short_meaning}
+pub use Rattle.ta_program.specs.Export.{ExportHolds, SaysSystem, WordHinders, export_meaning, export_of, export_words, system_meaning, word_fault_text}
+pub use Rattle.ta_program.specs.Faults.{FaultsAreNamed, HinderAlike, HinderOnce, NamesFault, OfCommand, OneFault}
+pub use Rattle.ta_program.specs.Inside.Certifying.{Certifies, SaysLong}
+pub use Rattle.ta_program.specs.Inside.Found.{EndsRefused, WordRefused}
+pub use Rattle.ta_program.specs.Inside.Judged.{Breaks, IsAllowed, IsUnproved, JudgedTo, JudgedWhole, PassesLimit, PieceFed, RefusedBy, Turn}
+pub use Rattle.ta_program.specs.Inside.Reported.{RestReported, SampleReported}
+pub use Rattle.ta_program.specs.Kinds.{IsFile, IsReplayFault, ShowsRun, certificate_kind, file_kind, run_kind}
+pub use Rattle.ta_program.specs.Laws.{FoundIsAccepted, PrintedRunsAreReplayed, SaysOrFails, WrittenAtRestIsAccepted, WrittenIsAccepted}
+pub use Rattle.ta_program.specs.Printed.{EachPrintedUnsafe, EachToldSafe, UnsafePrinted, rest_telling, verify_telling}
+pub use Rattle.ta_program.specs.Program.{Admitting, Benches, CertificateWritten, CheckProves, Completes, EndsSo, ExactlySo, Exports, KeepsFiles, PassesLegal, PrintedHolds, ReplayShows, RestProves, RestsReport, RunShortens, Searches, VerifyReports, put_by}
+pub use Rattle.ta_program.specs.Replay.{ReplayHolds, SaysShown, replay_meaning, replay_of, shown_meaning}
+pub use Rattle.ta_program.specs.Reporting.{CertificateStands, ReportHolds, Reports, report_meaning, verify_meaning}
+pub use Rattle.ta_program.specs.Requests.{request_of}
+pub use Rattle.ta_program.specs.Rest.{HindersRest, IsKnownAtRest, LongAtRest, LongRest, RestCertificateStands, RestReportHolds, RestReports, rest_meaning, rest_report_meaning}
+pub use Rattle.ta_program.specs.RestCheck.{RestCheckHolds, rest_check_meaning, rest_proved_meaning}
+pub use Rattle.ta_program.specs.RestEnds.{CycleHinders, FileEndings, IsEnds, LegalAtRest, cycle_text, ends_of, with_ends}
+pub use Rattle.ta_program.specs.RestWords.{rest_check_of, rest_form, rest_of, rest_taken, rest_words}
+pub use Rattle.ta_program.specs.Search.{Finds, HindersFound, HoldFound, IsTemplate, IsTemplateText, LegalTemplate, PutText, SearchHolds, end_number, found_files, found_meaning, found_names, leaves_unknown, put_text, search_meaning, template_kind}
+pub use Rattle.ta_program.specs.SearchSeen.{search_seen}
+pub use Rattle.ta_program.specs.SearchWords.{SearchWords, search_form, search_of, search_taken, search_words}
+pub use Rattle.ta_program.specs.Statuses.{verdicts_number}
+pub use Rattle.ta_program.specs.Taken.{names_seen}
+pub use Rattle.ta_program.specs.Values.{TwoNames, are_same, budget_of, file_name_of, filled_of, is_budget, out_of, two_names}
+pub use Rattle.ta_program.specs.VerifyWords.{VerifyWords, verify_form, verify_of, verify_taken, verify_words}
+pub use Rattle.ta_program.specs.WordAsked.{WordAsked}
+pub use Rattle.ta_program.specs.WordSeen.{asked_seen, word_seen}
+pub use Rattle.ta_program.specs.Words.{Taken, behind, behind_name, option_value, plain_of, taken_by}
+pub use Rattle.ta_program.specs.declared.limits.TheConstants.{CERTIFICATE, FILE, RUN}
+pub use Rattle.ta_replay.proofs.TextsShort.{lines_counted, run_text_short}
+pub use Rattle.ta_replay.specs.RunText.{IsRunText, run_text}
+pub use Rattle.ta_replay.specs.Shows.{IsFirstConfig, Shows, ShowsPattern, shown_of, unit_steps}
+pub use Rattle.ta_replay.specs.declared.run.Run.{Run}
+pub use Rattle.ta_report.proofs.Printed.{printed_proved, printed_rest_proved, printed_rest_safe, printed_rest_unsafe, printed_runs, runs_printed}
+pub use Rattle.ta_report.proofs.Tellings.{run_told, told_run, told_safe, told_unsafe}
+pub use Rattle.ta_report.specs.Check.{check_text, proofs_told, rest_check_text, word_told}
+pub use Rattle.ta_report.specs.Report.{VerdictFits, rest_text}
+pub use Rattle.ta_report.specs.Shown.{shown_line}
+pub use Rattle.ta_report.specs.Telling.{TellsRestUnsafe, TellsUnsafe, report_of}
+pub use Rattle.ta_report.specs.declared.verdict.ReportSample.{ReportSample}
+pub use Rattle.ta_report.specs.declared.verdict.Verdict.{Verdict}
+pub use Rattle.ta_report.specs.declared.verdict.Verdict.TheVariants.{Overflow, Safe, Spent, Unsafe}
+pub use Rattle.ta_rest.specs.Endings.{Endings, IsEnding, LastMoved, RestAdded, events_below}
+pub use Rattle.ta_rest.specs.Rest.{RestOccurs, RestSafe}
+pub use Rattle.ta_rest_verdict.specs.Certificates.{RestCertificateOf}
+pub use Rattle.ta_resting.specs.Verdicts.{AreRestVerdicts, RestUnsafeHolds, RestVerdictHolds, RestVerdictsHold}
+pub use Rattle.ta_scope.specs.LongerCycles.{FirstLongerCycle, LoopsAlone}
+pub use Rattle.ta_scope.specs.declared.scoped.ScopedFile.{ScopedFile}
+pub use Rattle.ta_search.proofs.OneFault.{no_fault, one_fault, one_template}
+pub use Rattle.ta_search.specs.Filling.{filled_text}
+pub use Rattle.ta_search.specs.Searching.{AreTried, IsSearchEnd, LastIsFound, SearchesAreDetermined}
+pub use Rattle.ta_search.specs.TemplateFaults.{FaultOf, FirstTemplateFault}
+pub use Rattle.ta_search.specs.Vectors.{each_before, hole_values, vectors}
+pub use Rattle.ta_search.specs.declared.fault.TemplateFault.{TemplateFault}
+pub use Rattle.ta_search.specs.declared.outcome.SearchEnd.{SearchEnd}
+pub use Rattle.ta_search.specs.declared.outcome.Tried.{Tried}
+pub use Rattle.ta_search.specs.declared.template.Template.{Template}
+pub use Rattle.ta_shelf.specs.Calls.{Call, Grew, PieceBy, ReadsFirst, Spells}
+pub use Rattle.ta_shelf.specs.Put.{OthersStay, Told, WhereTold}
+pub use Rattle.ta_shelf.specs.Sink.{with_text}
+pub use Rattle.ta_shell.proofs.Clauses.{answered, hindered, kept_refused, never_five}
+pub use Rattle.ta_shell.proofs.Joined.{joined_append, joined_more}
+pub use Rattle.ta_shell.proofs.Read.{after_monotone, decides, finds_memory, finds_monotone, finds_one, finds_then, finds_wrong, grew_fault, grew_found, grew_none, grew_then, is_more, no_hindrance, one_number, replies_monotone, replies_one, settles_monotone}
+pub use Rattle.ta_shell.proofs.Views.{Monotone, sub_told, whole_one}
+pub use Rattle.ta_shell.specs.Commands.{Decides, IsSo, Meaning, Says}
+pub use Rattle.ta_shell.specs.Ends.{IsAnswered, Performs, Quiet, ShelfState, SinkState, State, Tells, state}
+pub use Rattle.ta_shell.specs.Lines.{file_line, longer_than, missing, phrase_text}
+pub use Rattle.ta_shell.specs.Puts.{HoldsPut, HoldsText, KeptBut, PutsWithin, Stand, put_bytes, texts_joined}
+pub use Rattle.ta_shell.specs.Reading.{IsReading, IsUnreadable, ReadCause, SaysOfFile, UnreadBy}
+pub use Rattle.ta_shell.specs.Sights.{Begins, HasMore, View, in_files, seen, where_told}
+pub use Rattle.ta_shell.specs.Stages.{FileIsAtFault, FileMeans, Hinders, IsBroken, Kind, ReadingGoesOn, Stage, Writes, after, finds, replies, settles}
+pub use Rattle.ta_shell.specs.declared.answer.Answer.{Answer}
+pub use Rattle.ta_shell.specs.declared.answer.Put.{Put}
+pub use Rattle.ta_shell.specs.declared.answer.Refusal.{Refusal}
+pub use Rattle.ta_shell.specs.declared.answer.Refusal.TheVariants.{Memory, PutFailed, ReadFailed, Refused}
+pub use Rattle.ta_smt.proofs.FaultsOnce.{admit_faults_once, whole_faults_once, word_faults_once}
+pub use Rattle.ta_smt.proofs.WordsNamed.{legal_exists, legal_of, legal_word, whole_exact, words_exact}
+pub use Rattle.ta_smt.specs.Named.{IsWholeWordOf, IsWordOf, Spelling, WholeFaultOf, WordFaultOf}
+pub use Rattle.ta_smt.specs.declared.fault.WordFault.{WordFault}
+pub use Rattle.ta_syntax.specs.PlainTrees.{plain_tree}
+pub use Rattle.ta_verdict.specs.Certificates.{CertificateOf, SafeOne, safe_numbers, safe_ones, tree_size, with_safe}
+pub use Rattle.ta_verdict.specs.Verdicts.{AreVerdicts, IsKnown, IsSample, NoSample, SampleReal, UnsafeHolds, VerdictHolds, VerdictsHold, is_unknown, is_unsafe, place_of}

@@ -1,0 +1,34 @@
+-- The names that the proofs of this crate cite, passed on from one place. Declares nothing.
+pub use Rattle.std.proofs.Common.{Bool, List, Option, Some, [], ap, append-nil, append_assoc, arith, codes, decimal, drop, eqb, false, get_or, if◌then◌else◌, inl, inr, length, length-append, lit<, lit≤, map, option_map, pos, refl, rules, slice_get, subst, suc, sym, take, true, zero, ℕ, ℤ, ◌++◌, ◌+◌, ◌-◌, ◌<◌, ◌^◌, ◌||◌, ◌∙◌, ◌∷◌, ◌≡◌, ◌≤◌, ◌⊎◌}
+pub use Rattle.std.proofs.lemmas.List.{append_cancel_left, append_cancel_right, length-map, map-append, take-append-le, take_all, take_more}
+pub use Rattle.std.specs.Fmt.{signed_decimal}
+pub use Rattle.std.specs.Iterator.Adapters.{zip_first, zip_second}
+pub use Rattle.std.specs.List.{AllByRecursion, slice_split, take-map}
+pub use Rattle.std.specs.Prelude.{option_and_then, ◌==◌}
+pub use Rattle.std.specs.Slice.Iter.{iter_rest}
+pub use Rattle.std.specs.String.{string_bytes}
+pub use Rattle.serde_json.proofs.Views.{view-Array}
+pub use Rattle.serde_json.specs.Data.{array}
+pub use Rattle.serde_json.specs.Read.{of_items, of_json, of_members, read}
+pub use Rattle.serde_json.specs.View.{items_of, items_view, view}
+pub use Rattle.serde_json.specs.Written.{compact_text, has_float, items_have_float, items_outline, members_outline, outline}
+pub use Rattle.ta_automaton.specs.Patterns.{PatternWithin, pattern_name}
+pub use Rattle.ta_automaton.specs.declared.file.File.{File}
+pub use Rattle.ta_automaton.specs.declared.pattern.Pattern.{Pattern}
+pub use Rattle.ta_base.proofs.DecimalDigits.{between, number_clear, number_other, number_same}
+pub use Rattle.ta_base.proofs.Each.{distinct_map_at, each_at, each_front, word_avoids}
+pub use Rattle.ta_base.proofs.Lists.{apart_third, avoids-append, avoids_known, behind_line, differ, either_clear, first_byte, heads_apart, split_line}
+pub use Rattle.ta_base.specs.Bytes.{Avoids}
+pub use Rattle.ta_counter.specs.Values.{Value}
+pub use Rattle.ta_replay.proofs.Decimals.{number_avoids}
+pub use Rattle.ta_replay.proofs.OneRun.{run_clear}
+pub use Rattle.ta_replay.proofs.RunFronts.{each_run_line, run_front}
+pub use Rattle.ta_replay.specs.RunText.{lines_text, named_line, run_lines, run_text, valued_line}
+pub use Rattle.ta_report.specs.Check.{is_proved, proofs_text, proofs_told, word_told}
+pub use Rattle.ta_report.specs.Json.{JsonIsDistinct, JsonIsRead, JsonRuns, JsonSafe, JsonSays, JsonUnsafe, digits_data, json_text, report_data, sample_data, texts_data, value_data, values_data, verdict_data, verdict_member, verdicts_data}
+pub use Rattle.ta_report.specs.Report.{PlaceFits, ReportsAreDistinct, SampleFits, VerdictFits, overflow_text, place_text, rest_word, run_part, sample_line, sample_text, spent_text, told_line, told_lines, told_text, values_text, verdict_line, verdict_lines, verdict_text, word_before}
+pub use Rattle.ta_report.specs.declared.verdict.ReportKind.{ReportKind}
+pub use Rattle.ta_report.specs.declared.verdict.ReportKind.TheVariants.{Leaf, Pivot, Run}
+pub use Rattle.ta_report.specs.declared.verdict.ReportSample.{ReportSample}
+pub use Rattle.ta_report.specs.declared.verdict.Verdict.{Verdict}
+pub use Rattle.ta_report.specs.declared.verdict.Verdict.TheVariants.{Overflow, Safe, Spent, Unsafe}

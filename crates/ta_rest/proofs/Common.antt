@@ -1,0 +1,44 @@
+-- The names that the proofs of this crate cite, passed on from one place. Declares nothing.
+pub use Rattle.std.proofs.Common.{All, Bool, IsBitSet, List, None, Option, Some, [], add-mul, ap, append_assoc, arith, cond, drop, eqb, eqb-true, false, get_or, inl, inr, length, length-append, map, not, pos, refl, reverse, slice_get, subst, suc, sum, sym, take, true, zero, ℕ, ℤ, ◌&&◌, ◌*ℤ◌, ◌*◌, ◌++◌, ◌+◌, ◌-◌, ◌<◌, ◌^◌, ◌↔◌, ◌∙◌, ◌∷◌, ◌≡◌, ◌≢◌, ◌≤ℤ◌, ◌≤◌, ◌⊎◌}
+pub use Rattle.std.proofs.lemmas.Bool.{and_from, and_parts, cases_Bool, cases_lt, eq-eqb, false≢true, not-false, not-true, not_from_false, true≢false}
+pub use Rattle.std.proofs.lemmas.Bool.Decides.{eqb_tells, nat_tests}
+pub use Rattle.std.proofs.lemmas.Int.{ints}
+pub use Rattle.std.proofs.lemmas.Nat.{pow_pos}
+pub use Rattle.std.proofs.lemmas.Option.{same_Some, slice_get-get_or, slice_get_read, slice_get_within}
+pub use Rattle.std.specs.List.{AllByRecursion}
+pub use Rattle.std.specs.Prelude.{filter}
+pub use Rattle.ta_automaton.proofs.Moves.{Fits, value_at-location}
+pub use Rattle.ta_automaton.proofs.Thresholds.{from_within, to_within}
+pub use Rattle.ta_automaton.proofs.Trails.{run_length}
+pub use Rattle.ta_automaton.specs.Places.{Whole, location_place}
+pub use Rattle.ta_automaton.specs.Runs.{Config, Holds, MaskedHold, Move, Occurs, Step, Steps, Walk, value_at}
+pub use Rattle.ta_automaton.specs.declared.automaton.Automaton.{Automaton}
+pub use Rattle.ta_automaton.specs.declared.condition.Comparison.{Comparison}
+pub use Rattle.ta_automaton.specs.declared.condition.Condition.{Condition}
+pub use Rattle.ta_automaton.specs.declared.pattern.Event.{Event}
+pub use Rattle.ta_automaton.specs.declared.pattern.Pattern.{Pattern}
+pub use Rattle.ta_automaton.specs.declared.rule.Rule.{Rule}
+pub use Rattle.ta_base.proofs.Bits.{all_below-at, all_below-false, all_below-from, at_set, bit_below, bit_set, bit_true, no_bit}
+pub use Rattle.ta_base.proofs.Booleans.{implies-at, implies-from}
+pub use Rattle.ta_base.proofs.Lists.{at_most_first, get_end, push_cases, slice_get_left, some_at}
+pub use Rattle.ta_base.proofs.Members.{In-filter, cond_child, in_filter}
+pub use Rattle.ta_base.proofs.Naturals.{item_moves, not_same, times_le_left}
+pub use Rattle.ta_base.specs.Lists.{Distinct, EachFrom}
+pub use Rattle.ta_base.specs.Masks.{In, all_below, has_bit, implies, numbers_from}
+pub use Rattle.ta_encode.proofs.Moments.{AllHold-append, AllHold-left, Moment, RowFails, guards_fail, opposite_value}
+pub use Rattle.ta_encode.proofs.Safety.{SolvesAlong, extend, none_along, prefix_legal, prefix_rows, take_apart}
+pub use Rattle.ta_encode.specs.Laws.{EndsAt, RunsThrough, WordFires, position_in, steps_of}
+pub use Rattle.ta_encode.specs.System.{AllHold, LinearRow, counter_row, guard_rows, negated, opposite, row_value, word_rows}
+pub use Rattle.ta_encode.specs.Unknowns.{start_meanings}
+unfoldable pub use Rattle.ta_encode.specs.Unknowns.{meanings}
+pub use Rattle.ta_linear.specs.Values.{RowHolds, value_of}
+pub use Rattle.ta_linear.specs.declared.row.Row.{Row}
+pub use Rattle.ta_rest.specs.Endings.{ComesLast, Endings, FewEvents, IsEnding, LastMoved, RestAdded, events_below, rest_name}
+pub use Rattle.ta_rest.specs.Laws.{EndingsRestAlike, EndsOfSolutionsRest, RefutedEndingsRest, RefutedEndingsShow, RestingRunsSolve, SolutionsComeToRest, StepsOfSolutionsRest}
+pub use Rattle.ta_rest.specs.Rest.{AtRest, ComeAfterEarlier, RestOccurs}
+pub use Rattle.ta_rest.specs.RestSearch.{leads_out, must_be_left, rest_search, some_below}
+unfoldable pub use Rattle.ta_rest.specs.RestSearch.{end_rows, rest_rows}
+pub use Rattle.ta_scope.specs.LongerCycles.{LoopsAlone}
+pub use Rattle.ta_words.specs.Words.{LegalWord, follows, has_fallen, has_rise, is_complete}
+unfoldable pub use Rattle.ta_words.specs.Words.{children, has_event}
+pub use Rattle.ta_words.specs.declared.element.Element.{Element}

@@ -1,0 +1,39 @@
+-- The names that the proofs of this crate cite, passed on from one place. Declares nothing.
+pub use Rattle.std.proofs.Common.{Bool, Bor, Err, List, None, Ok, Option, Result, Some, [], ap, append-nil, append_assoc, arith, drop, false, get_or, if◌then◌else◌, inl, length, length-append, length-take-le, refl, rules, set, subst, suc, sym, take, true, zero, ℕ, ◌++◌, ◌+◌, ◌-◌, ◌<◌, ◌↔◌, ◌∙◌, ◌∷◌, ◌≡◌, ◌≢◌, ◌≤◌}
+pub use Rattle.std.proofs.Math.Seq.{take-add}
+pub use Rattle.std.proofs.lemmas.Bool.{false_from_ne_true, true≢false}
+pub use Rattle.std.proofs.lemmas.List.{drop-drop, length-drop, set-get_or, take-append-drop}
+pub use Rattle.std.proofs.lemmas.List.Kept.{AllPairs-cons}
+pub use Rattle.std.proofs.lemmas.Option.{get_or_from_slice_get, none-some}
+pub use Rattle.std.proofs.lemmas.Slice.Eq.{bytes_eq-Decides}
+pub use Rattle.std.specs.List.{All, position, position_from}
+pub use Rattle.std.specs.Option.{IfSome, is_some, option_copied, unwrap_or}
+pub use Rattle.std.specs.Str.{bytes_eq}
+pub use base.Logic.{SProp, ent}
+pub use contract.Monad.{Fun}
+pub use contract.Running.{tables}
+unfoldable pub use contract.Running.{tables_of}
+pub use denote.RattleType.{RattleType, Valss, owns}
+pub use denote.Signature.{named_lft, plain, types_at}
+pub use denote.Steps.{nothing}
+pub use denote.Triple.Clauses.{Clauses, Ended, closing}
+pub use denote.Triple.Entry.{alive}
+pub use denote.Triple.Spec.{Meets, triple_of}
+pub use denote.Triple.Table.{entered}
+pub use denote.Triple.Walked.{Goes-dropped, Stays, ends_at, says, stay_dropped, walk_Meets, walk_of}
+pub use mir.Syntax.{Fn}
+pub use mir.Val.{Val, vnil, vptr, vstruct}
+pub use prog.Memory.{Memory}
+pub use prog.Routine.{Routine}
+pub use prog.Wp.{Calls, Loops, Tables, WpFn}
+pub use seplogic.Ra.Ura.{Ura}
+pub use sound.WpLaws.{WpFn-mono}
+pub use types.ByLocal.{alloc_all, free_all, look_at, pass_all, sets}
+pub use types.Kit.{ !, Goal, Item, Step, done, feq_i, feq_l, fjoin, fpack, fsplit, keep, move, prop, qed, raw, regoal, split, step, suffices, ‵, ◌$◌, ◌∵◌, ◌⊛◌}
+pub use types.Logic.{Logic}
+pub use types.Part.{agg}
+pub use types.Run.{enter, no_more, returns}
+pub use Rattle.ta_base.proofs.Lists.{filled_more, passed_over, rest_of}
+pub use Rattle.ta_shelf.specs.Calls.{Call, ReadsOn, bytes_given, bytes_of, filled}
+pub use Rattle.ta_shelf.specs.Files.{AreDistinct, file_named, with_file}
+pub use Rattle.ta_shelf.specs.Put.{bytes_held}
