@@ -2,6 +2,7 @@
 pub mod Sums
 pub mod Fired
 pub mod Thresholds
+pub mod Numbered
 pub mod Moves
 pub mod Fire
 pub mod Trails

@@ -2,6 +2,7 @@ pub mod Names
 pub mod Forms
 pub mod Shape
 pub mod Patterns
+pub mod Numbered
 pub mod Runs
 pub mod Sums
 pub mod Places

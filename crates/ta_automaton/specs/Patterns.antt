@@ -1,7 +1,8 @@
 -- What the type of a file keeps of its patterns (this project's profile)
-use Rattle.std.specs.Prelude.{ℕ, ◌<◌, ◌≤◌, ◌^◌, List, length, map}
+use Rattle.std.specs.Prelude.{ℕ, ◌+◌, ◌<◌, ◌≤◌, ◌^◌, List, length, map}
 use Rattle.std.proofs.Props.{props}
 use Rattle.std.specs.List.{AllByRecursion, AllByRecursion-prop}
+use Rattle.ta_automaton.specs.declared.automaton.Automaton.{Automaton}
 use Rattle.ta_automaton.specs.declared.pattern.Event.{Event}
 use Rattle.ta_automaton.specs.declared.pattern.Pattern.{Pattern}
 use Rattle.ta_base.specs.Lists.{EachFrom, EachFrom-prop, Distinct, Distinct-prop}
@@ -30,9 +31,13 @@ pub record PatternWithin (places locations : ℕ) (pattern : Pattern) : Type 0 w
   pub events : EachFrom (EventWithin places) 0 pattern.events
   pub events_distinct : Distinct (map event_name pattern.events)
 
-PatternWithin-prop : (places locations : ℕ) (pattern : Pattern) → IsProp (PatternWithin places locations pattern)
+pub PatternWithin-prop : (places locations : ℕ) (pattern : Pattern) → IsProp (PatternWithin places locations pattern)
 PatternWithin-prop places locations pattern =
     hlevel (props, Name-prop pattern.name, ConditionOver-prop places pattern.start, EachFrom-prop (EventWithin places) (EventWithin-prop places) 0 pattern.events, Distinct-prop (map event_name pattern.events))
+
+-- a pattern of an automaton
+abbrev pub PatternOver : Automaton → Pattern → Type 0
+PatternOver a p = PatternWithin (length a.parameters + length a.shared + length a.locations) (length a.locations) p
 
 -- the name of a pattern
 abbrev pub pattern_name : Pattern → List ℕ

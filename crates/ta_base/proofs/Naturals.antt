@@ -99,6 +99,14 @@ power_most n h = let two : 0 < 2 = omega arith in pow-le-pow_right two h
 pub end_of_masks : (n : ℕ) → n ≤ 6 → ((1 * 2 ^ n) % 256 ≡ 2 ^ n) × ((1 * 2 ^ n) % 256 ≤ 64) × (1 ≤ (1 * 2 ^ n) % 256)
 end_of_masks n h = let e = one_shl n 8 (omega arith) in (e, omega (arith, e, power_most n h), omega (arith, e, pow_pos n))
 
+-- a power of two, as the code counts to it
+pub record Shifted (n : ℕ) : Type 0 where
+  pub is : (1 * 2 ^ n) % 2 ^ 64 ≡ 2 ^ n
+  pub most : 2 ^ n ≤ 64
+
+pub shifted : (n : ℕ) → n ≤ 6 → Shifted n
+shifted n h = record { is = one_shl n 64 (omega arith); most = power_most n h }
+
 pub cases_start : (first start : ℕ) → first ≤ start → (first ≡ start) ⊎ (first + 1 ≤ start)
 cases_start first start h = elim (eqb_tells first start) [ inl e ↦ inl e.1 | inr ne ↦ inr (let q = ne.1 in omega arith) ]
 

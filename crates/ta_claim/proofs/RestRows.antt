@@ -1,5 +1,5 @@
 -- words of rest are words under no pairs, and the rows of their ends
-use Rattle.ta_claim.proofs.Common.{◌≡◌, inl, inr, ℕ, ◌≤◌, List, [], ◌∷◌, ◌++◌, length, map, cond, Bool, true, false, not, Option, Some, None, slice_get, arith, sym, ap, ◌∙◌, subst, length-append, filter, Automaton, File, Pattern, has_bit, numbers_from, Element, LegalWord, has_rise, is_complete, same_pattern, pattern_search, Comes, Pending, IsRoot, IsSmall, PushAnswers, end_rows, must_be_left, rest_rows, rest_search}
+use Rattle.ta_claim.proofs.Common.{◌≡◌, inl, inr, ℕ, ◌≤◌, List, [], ◌∷◌, ◌++◌, length, map, cond, Bool, true, false, not, Option, Some, None, arith, sym, ap, ◌∙◌, subst, length-append, filter, Automaton, Pattern, has_bit, numbers_from, Element, LegalWord, has_rise, is_complete, pattern_search, Comes, Pending, PushAnswers, end_rows, must_be_left, rest_rows, rest_search}
 use Rattle.std.proofs.lemmas.List.{length-map}
 use Rattle.ta_base.proofs.Ranges.{count_few, filter_numbers_same}
 use Rattle.ta_linear.specs.declared.row.System.{System}
@@ -9,18 +9,12 @@ use Rattle.ta_encode.specs.Ends.{EndedSystem, ended_rows}
 use Rattle.ta_encode.specs.System.{LinearRow, bound_row, counter_row, guard_rows, negated, opposite, word_rows}
 use Rattle.ta_encode.specs.Unknowns.{meanings}
 use Rattle.ta_encode.proofs.Ended.{guards_same}
-use Rattle.ta_cursor.specs.declared.pattern_tree.PatternTree.{PatternTree}
-use Rattle.ta_cursor.specs.declared.root.Root.{Root}
-use Rattle.ta_cursor.proofs.PatternWords.{comes_legal}
-use Rattle.ta_cursor.proofs.RowCounts.{few_rows, few_unknowns, guards_few, small_of}
+use Rattle.ta_automaton.specs.Patterns.{PatternOver}
+use Rattle.ta_cursor.proofs.RowCounts.{few_rows, guards_few}
+use Rattle.ta_claim.proofs.PatternWords.{comes_legal}
 use Rattle.ta_claim.specs.RestEnds.{IsRestEnd}
 
--- the search of rest begins with the same words
-pub rest_root : (a : Automaton) (p q : Pattern) (pairs : List (ℕ × ℕ)) (number : ℕ) (root : Option Root) → IsRoot (pattern_search a q pairs) number root → IsRoot (rest_search a p) number root
-rest_root a p q pairs number None h = h
-rest_root a p q pairs number (Some root) h = record { is = h.is; small = h.small }
-
--- it comes to the same words
+-- the search of rest comes to the words of the pattern under no pairs
 pub rest_comes : (a : Automaton) (p : Pattern) (start : ℕ) (past : List Element) → Comes (rest_search a p) start past → Comes (pattern_search a p []) start past
 rest_comes a p start [] c = c
 rest_comes a p start (e ∷ past) (inl b) = inl b
@@ -34,13 +28,6 @@ rest_pushed a p start old new number true h = record { element = h.element; foll
 -- a word to which it comes is legal
 pub rest_legal : (a : Automaton) (p : Pattern) (start : ℕ) (past : List Element) → Comes (rest_search a p) start past → LegalWord a p start past
 rest_legal a p start past c = (comes_legal a p [] start past (rest_comes a p start past c)).legal
-
--- what the tree of a pattern's words under no pairs says of them
-pub tree_search : (t : PatternTree) (file : File) (number : ℕ) (p : Pattern) → t.file.now ≡ file → t.orders.now ≡ [] → slice_get file.patterns number ≡ Some t.pattern.now → slice_get file.patterns number ≡ Some p → pattern_search t.file.now.automaton t.pattern.now t.orders.now ≡ pattern_search file.automaton p []
-tree_search t file number p f o at named =
-    ap (λ (g : File). pattern_search g.automaton t.pattern.now t.orders.now) f
-    ∙ ap (λ (q : Pattern). pattern_search file.automaton q t.orders.now) (same_pattern file number t.pattern.now p at named)
-    ∙ ap (λ (ps : List (ℕ × ℕ)). pattern_search file.automaton p ps) o
 
 -- the rows that are asked for at a word's end are those of rest
 ended_are : (a : Automaton) (p : Pattern) (start : ℕ) (past : List Element) (end : Option WordEnd) → IsRestEnd a p start past end → ended_rows a (meanings a p start past) end ≡ cond (is_complete p past) (end_rows a p start past) []
@@ -86,13 +73,8 @@ either_few true rows h = h
 either_few false rows h = omega arith
 
 -- its rows, but for the bounds
-pub rest_few : (file : File) (number : ℕ) (p : Pattern) (start : ℕ) (past : List Element) → slice_get file.patterns number ≡ Some p → LegalWord file.automaton p start past → length (rest_rows file.automaton p start past) ≤ 2640
+pub rest_few : (a : Automaton) (p : Pattern) (start : ℕ) (past : List Element) → PatternOver a p → LegalWord a p start past → length (rest_rows a p start past) ≤ 2640
 unfolding rest_rows
-rest_few file number p start past at legal =
-    let a = file.automaton in
+rest_few a p start past over legal =
     let ends = cond (is_complete p past) (end_rows a p start past) [] in
-    omega (arith, length-append (word_rows a p start past) ends, few_rows file number p start past at legal, either_few (is_complete p past) (end_rows a p start past) (end_few a p start past))
-
--- the unknowns and the rows of its system
-pub rest_small : (file : File) (number : ℕ) (p : Pattern) (w : Pending) (s : System) → slice_get file.patterns number ≡ Some p → LegalWord file.automaton p w.start w.past → SystemAt (rest_search file.automaton p) w s → IsSmall w.bounds s
-rest_small file number p w s at legal is = small_of (rest_search file.automaton p) w s (few_unknowns file number p w.start w.past at legal) (rest_few file number p w.start w.past at legal) is
+    omega (arith, length-append (word_rows a p start past) ends, few_rows a p start past over legal, either_few (is_complete p past) (end_rows a p start past) (end_few a p start past))

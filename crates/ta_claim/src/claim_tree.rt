@@ -1,14 +1,17 @@
 //! The tree of a claim on a pattern.
 #![tactic(auto)]
 
-use crate::rest_tree::RestTree;
-use ta_cursor::PatternTree;
+use crate::claim::Claim;
+use ta_implied::Orders;
+use ta_words::Task;
 
-/// The words that are refuted for a claim on a pattern, and their systems.
+/// The words that are refuted for a claim on a pattern, and their systems: the pattern's words under
+/// pairs of rise guards, or its words of rest, which are under none.
 #[derive(Clone, Copy)]
-pub enum ClaimTree<'a> {
-    /// The pattern is safe.
-    Safe(PatternTree<'a>),
-    /// It is safe at rest.
-    RestSafe(RestTree<'a>),
+pub struct ClaimTree<'a> {
+    pub(crate) claim: Claim,
+    /// The pattern's number, from 0, in its file.
+    pub number: u32,
+    pub(crate) task: Task<'a>,
+    pub(crate) orders: &'a Orders,
 }

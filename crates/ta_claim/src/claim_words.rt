@@ -1,35 +1,70 @@
 //! The words of a claim on a pattern.
 #![tactic(auto)]
 
-ghost use Rattle.std.specs.Prelude.{◌≡◌, ◌<◌, ◌↔◌, length};
-ghost use Rattle.ta_words.specs.Calls.{OfPattern};
-ghost use Rattle.ta_encode.specs.Marks.{IsEncoding};
-ghost use Rattle.ta_encode.specs.declared.growing.Encoding.{Encoding};
+ghost use Rattle.std.specs.Prelude.{◌≡◌, ◌<◌, ◌↔◌, IfOk, length, reverse};
+ghost use Rattle.ta_automaton.specs.Numbered.{OfPattern};
 ghost use Rattle.ta_claim.specs.Claims.{search_for};
 ghost use Rattle.ta_claim.specs.Trees.{IsKeptFor, search_of_claim};
+ghost use Rattle.ta_cursor.specs.Cursors.{word_at};
+ghost use Rattle.ta_encode.specs.Code.{SystemAt};
+ghost use Rattle.ta_encode.specs.Lines.{BoundsWithin};
+ghost use Rattle.ta_encode.specs.Marks.{IsEncoding, SameRows};
+ghost use Rattle.ta_encode.specs.Unknowns.{meanings};
+ghost use Rattle.ta_encode.specs.declared.growing.Encoding.{Encoding};
+ghost use Rattle.ta_words.specs.Words.{LegalWord};
 
+use crate::children::push_child;
 use crate::claim::Claim;
 use crate::claim_tree::ClaimTree;
-use crate::rest_tree::RestTree;
+use crate::rest_end::rest_end;
 use std::alloc::{AllocError, Global};
 use ta_automaton::File;
-use ta_cursor::{PatternTree, Root, Tree, Written};
-use ta_encode::{Bound, Encoding};
+use ta_cursor::{Root, Tree, Written};
+use ta_encode::{Bound, Encoding, Grown, unknown_count};
 use ta_implied::Orders;
 use ta_linear::System;
-use ta_words::Word;
+use ta_words::{Task, Word, is_complete};
 
 impl<'a> ClaimTree<'a> {
     /// The tree of a claim on the pattern of this number, from 0, under pairs of rise guards. Words of
     /// rest are under no pairs.
     pub fn new(claim: Claim, file: &'a File, number: u32, orders: &'a Orders) -> ClaimTree<'a>
         requires { number < length file.now.patterns }
+        ensures number { result.number ≡ number }
         ensures search { OfPattern file.now number (λ p. search_of_claim result ≡ search_for claim file.now.automaton p orders.now) }
         ensures kept { OfPattern file.now number (λ p. (kept : Encoding) → IsKeptFor result kept ↔ IsEncoding file.now.automaton p kept) }
     {
-        match claim {
-            Claim::Safe => ClaimTree::Safe(PatternTree::new(file, number, orders)),
-            Claim::RestSafe => ClaimTree::RestSafe(RestTree::new(file, number)),
+        let task = Task::of(file, number);
+        ClaimTree {
+            claim,
+            number,
+            task,
+            orders,
+        }
+    }
+
+    /// The system of a word, with what the claim asks of its end.
+    fn grown(
+        &self,
+        alloc: Global,
+        start_mask: u8,
+        word: &Word,
+        bounds: &[Bound],
+        kept: Encoding,
+    ) -> Result<Grown, AllocError>
+        requires legal { LegalWord self.now.task.automaton.now self.now.task.pattern.now start_mask (reverse word.now) }
+        requires bounds { BoundsWithin (length (meanings self.now.task.automaton.now self.now.task.pattern.now start_mask (reverse word.now))) bounds.now }
+        requires kept { IsKeptFor self.now kept }
+        ensures kept { IfOk result (λ grown. IsKeptFor self.now grown.encoding) }
+        ensures system { IfOk result (λ grown. SystemAt (search_of_claim self.now) (word_at start_mask word.now bounds.now) grown.encoding.system) }
+        ensures same { IfOk result (λ grown. SameRows kept.system.rows grown.same grown.encoding.system.rows) }
+    {
+        match self.claim {
+            Claim::Safe => kept.grown(alloc, self.task, start_mask, word, bounds),
+            Claim::RestSafe => {
+                let end = rest_end(self.task, start_mask, word);
+                kept.grown_to(alloc, self.task, start_mask, word, end, bounds)
+            }
         }
     }
 }
@@ -46,31 +81,30 @@ impl<'a> Tree for ClaimTree<'a> {
     ghost system_of = { λ kept. kept.system };
 
     fn root(&self, number: usize) -> Option<Root> {
-        match self {
-            ClaimTree::Safe(tree) => tree.root(number),
-            ClaimTree::RestSafe(tree) => tree.root(number),
+        if number < 1 << self.task.automaton.fall.as_slice().len() {
+            Some(Root {
+                start_mask: number as u8,
+                word: Word::new(),
+            })
+        } else {
+            None
         }
     }
 
     fn push_child(&self, start_mask: u8, word: &mut Word, number: usize) -> bool {
-        match self {
-            ClaimTree::Safe(tree) => tree.push_child(start_mask, word, number),
-            ClaimTree::RestSafe(tree) => tree.push_child(start_mask, word, number),
+        match self.claim {
+            Claim::Safe => push_child(self.task, start_mask, self.orders, word, number),
+            Claim::RestSafe => push_child(self.task, start_mask, &Orders::new(), word, number),
         }
     }
 
     fn is_complete(&self, start_mask: u8, word: &Word) -> bool {
-        match self {
-            ClaimTree::Safe(tree) => tree.is_complete(start_mask, word),
-            ClaimTree::RestSafe(tree) => tree.is_complete(start_mask, word),
-        }
+        let _start_mask = start_mask;
+        is_complete(self.task, word)
     }
 
     fn unknown_count(&self, start_mask: u8, word: &Word) -> u32 {
-        match self {
-            ClaimTree::Safe(tree) => tree.unknown_count(start_mask, word),
-            ClaimTree::RestSafe(tree) => tree.unknown_count(start_mask, word),
-        }
+        unknown_count(self.task, start_mask, word)
     }
 
     fn nothing(&self, alloc: Global) -> Encoding {
@@ -85,10 +119,11 @@ impl<'a> Tree for ClaimTree<'a> {
         bounds: &[Bound],
         kept: Encoding,
     ) -> Result<Written<Encoding>, AllocError> {
-        match self {
-            ClaimTree::Safe(tree) => tree.encode(alloc, start_mask, word, bounds, kept),
-            ClaimTree::RestSafe(tree) => tree.encode(alloc, start_mask, word, bounds, kept),
-        }
+        let Grown { encoding, same } = self.grown(alloc, start_mask, word, bounds, kept)?;
+        Ok(Written {
+            kept: encoding,
+            same,
+        })
     }
 
     fn system<'k>(&self, kept: &'k Encoding) -> &'k System {

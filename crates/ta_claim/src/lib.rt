@@ -2,15 +2,13 @@
 //! the trees of these words.
 #![tactic(auto)]
 
+mod children;
 mod claim;
 mod claim_tree;
 mod claim_words;
 mod laws;
 mod rest_end;
-mod rest_tree;
-mod rest_words;
 
 pub use claim::Claim;
 pub use claim_tree::ClaimTree;
 pub use laws::proofs_show_claims;
-pub use rest_tree::RestTree;

@@ -1,38 +1,35 @@
 //! What is asked of the end of a word of rest.
 #![tactic(auto)]
 
-ghost use Rattle.std.specs.Prelude.{ℕ, ◌≡◌, ◌<◌, ◌||◌, Some, length, reverse, slice_get};
+ghost use Rattle.std.specs.Prelude.{ℕ, ◌≡◌, ◌||◌, Some, length, reverse, slice_get};
 ghost use Rattle.ta_base.specs.Masks.{has_bit};
 ghost use Rattle.ta_automaton.specs.Shape.{RuleWithin};
 ghost use Rattle.ta_rest.specs.RestSearch.{leads_out, some_below};
-ghost use Rattle.ta_words.specs.Calls.{OfPattern};
 ghost use Rattle.ta_claim.specs.RestEnds.{IsEndOf, IsRestEnd};
 
-use ta_automaton::{Automaton, File, Pattern, Rule};
+use ta_automaton::{Automaton, Rule};
 use ta_encode::WordEnd;
-use ta_words::{Element, Word, is_complete, is_unlocked, risen_after};
+use ta_words::{Element, Task, Word, is_complete, is_unlocked, risen_after};
 
 /// What is asked of a word's end where the word is complete: the rise guards that aren't in it fail,
 /// and nobody is in a location out of which a rule could lead.
-pub(crate) fn rest_end(file: &File, number: u32, start_mask: u8, word: &Word) -> Option<WordEnd>
-    requires { number < length file.now.patterns }
-    ensures { OfPattern file.now number (λ p. IsRestEnd file.now.automaton p start_mask (reverse word.now) result) }
+pub(crate) fn rest_end(task: Task<'_>, start_mask: u8, word: &Word) -> Option<WordEnd>
+    ensures { IsRestEnd task.entry.automaton.now task.entry.pattern.now start_mask (reverse word.now) result }
 {
-    if !is_complete(file, number, word) {
+    if !is_complete(task, word) {
         return None;
     }
-    let pattern = &file.patterns.as_slice()[number as usize];
-    Some(end_of(&file.automaton, pattern, start_mask, word.elements()))
+    Some(end_of(task, start_mask, word.elements()))
 }
 
 /// What is asked at the end of a complete word of these elements.
-fn end_of(automaton: &Automaton, pattern: &Pattern, start_mask: u8, elements: &[Element]) -> WordEnd
-    ensures { IsEndOf automaton.now pattern.now start_mask (reverse elements.now) result }
+fn end_of(task: Task<'_>, start_mask: u8, elements: &[Element]) -> WordEnd
+    ensures { IsEndOf task.entry.automaton.now task.entry.pattern.now start_mask (reverse elements.now) result }
 {
-    let left = left_after(automaton, start_mask, elements);
+    let left = left_after(task.automaton, start_mask, elements);
     WordEnd {
         failing: !risen_after(elements),
-        inhabited: !(!pattern.empty & left),
+        inhabited: !(!task.pattern.empty & left),
     }
 }
 

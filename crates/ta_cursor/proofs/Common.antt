@@ -1,35 +1,32 @@
 -- The names that the proofs of this crate cite, passed on from one place. Declares nothing.
-pub use Rattle.std.proofs.Common.{Bool, Err, FitsSigned, IfOk, List, None, Ok, Option, Result, Some, [], ap, append_assoc, arith, cond, drop, false, inl, inr, length, length-append, lit<, map, nat_lt, not, pos, refl, reverse, rules, slice_get, subst, suc, sym, take, true, zero, ℕ, ℤ, ◌%◌, ◌*ℤ◌, ◌*◌, ◌++◌, ◌+ℤ◌, ◌+◌, ◌-◌, ◌<◌, ◌^◌, ◌∙◌, ◌∷◌, ◌≡◌, ◌≤◌, ◌⊎◌}
+pub use Rattle.std.proofs.Common.{Bool, Err, FitsSigned, IfOk, List, None, Ok, Option, Result, Some, [], ap, append_assoc, arith, cond, drop, false, inl, inr, length, length-append, map, nat_lt, not, pos, refl, reverse, rules, slice_get, subst, suc, sym, take, true, ℕ, ℤ, ◌*ℤ◌, ◌*◌, ◌++◌, ◌+ℤ◌, ◌+◌, ◌<◌, ◌^◌, ◌∙◌, ◌∷◌, ◌≡◌, ◌≤◌, ◌⊎◌}
 pub use Rattle.std.proofs.lemmas.Bool.{cases_lt, ltb-false}
 pub use Rattle.std.proofs.lemmas.Int.{ints, to_z-of_z}
 pub use Rattle.std.proofs.lemmas.List.{append-nil, length-map, length-take-le, reverse-append, take-append-drop}
-pub use Rattle.std.proofs.lemmas.Option.{slice_get-map, slice_get_read, slice_get_within}
+pub use Rattle.std.proofs.lemmas.Option.{slice_get-map, slice_get_read}
 pub use Rattle.std.specs.Int.{w128}
-pub use Rattle.std.specs.Prelude.{filter, if◌then◌else◌, ◌==◌}
+pub use Rattle.std.specs.Prelude.{filter, ◌==◌}
 pub use Rattle.std.specs.declared.alloc.AllocError.{AllocError}
 pub use Rattle.ta_automaton.specs.declared.automaton.Automaton.{Automaton}
-pub use Rattle.ta_automaton.specs.declared.file.File.{File}
 pub use Rattle.ta_automaton.specs.declared.pattern.Pattern.{Pattern}
 pub use Rattle.ta_base.proofs.Lists.{all_taken, fewer_alike, longer_by, next_dropped, none_dropped, take_begins, take_take, take_whole}
 pub use Rattle.ta_base.proofs.Members.{in_at}
-pub use Rattle.ta_base.proofs.Ranges.{count_few, numbers_end, slice_numbers}
-pub use Rattle.ta_base.specs.Masks.{In, has_bit, numbers_from}
+pub use Rattle.ta_base.proofs.Ranges.{count_few}
+pub use Rattle.ta_base.specs.Masks.{has_bit, numbers_from}
 pub use Rattle.ta_cert.specs.declared.line.Node.TheVariants.{Extend, Split}
 pub use Rattle.ta_cursor.specs.Cursors.{BeginsWithin, FrameFits, FramesFit, GoesOn, Inside, IsAtRoot, IsBeforeWords, IsShared, IsWithin, IsWord, SplitFits, WentOn, Within, all_behind, behind, here, left_at, node_of, word_at, word_of}
 pub use Rattle.ta_cursor.specs.InTrees.{AllGoOn, AllWithin, here_at}
-pub use Rattle.ta_cursor.specs.TreeCalls.{IsPushed, IsRoot, IsSmall, PushAnswers}
+pub use Rattle.ta_cursor.specs.TreeCalls.{IsRoot, IsSmall}
 pub use Rattle.ta_cursor.specs.declared.cursor.Cursor.{Cursor}
 pub use Rattle.ta_cursor.specs.declared.cursor.Frame.{Frame}
 pub use Rattle.ta_encode.proofs.CodeRows.{coefficient_same, constant_same, rows_count}
 pub use Rattle.ta_encode.specs.Code.{SystemAt}
-pub use Rattle.ta_encode.specs.PatternSearch.{all_starts, empty_word, pattern_search}
 pub use Rattle.ta_encode.specs.Search.{BeginsAtWord, Comes, Pending, Search, bound_at, bounded, bounded_rows, longer, parts}
 pub use Rattle.ta_encode.specs.declared.meaning.Bound.{Bound}
 pub use Rattle.ta_encode.specs.declared.meaning.Side.TheVariants.{High, Low}
 pub use Rattle.ta_linear.specs.declared.row.System.{System}
-pub use Rattle.ta_words.proofs.Counts.{event_new, fall_new, in_children, legal_length, rise_new, under_none}
-pub use Rattle.ta_words.proofs.Lists.{events_named, of_pattern, passed_length}
-pub use Rattle.ta_words.specs.Words.{LegalUnder, LegalWord, allowed_rules, is_complete, is_ready, is_standing, may_rise}
-unfoldable pub use Rattle.ta_words.specs.Words.{children, has_event, has_fallen, has_rise}
+pub use Rattle.ta_words.proofs.Counts.{event_new, fall_new, in_children, legal_length, rise_new}
+pub use Rattle.ta_words.specs.Words.{LegalWord, allowed_rules, is_ready, is_standing}
+unfoldable pub use Rattle.ta_words.specs.Words.{has_event, has_fallen, has_rise}
 pub use Rattle.ta_words.specs.declared.element.Element.{Element}
 pub use Rattle.ta_words.specs.declared.element.Element.TheVariants.{Event, Fall, Rise}

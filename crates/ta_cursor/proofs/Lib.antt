@@ -1,7 +1,6 @@
 -- lemmas for the crates above
 pub mod Beginning
 pub mod Ranges
-pub mod PatternWords
 pub mod RowCounts
 pub mod FramesKept
 pub mod FramesParts

@@ -1,7 +1,8 @@
 -- a legal word has few unknowns, and its system few variables
-use Rattle.ta_cursor.proofs.Common.{◌≡◌, inl, inr, ℕ, suc, ◌+◌, ◌*◌, ◌<◌, ◌≤◌, ◌^◌, List, [], ◌∷◌, ◌++◌, length, map, cond, Bool, true, false, not, slice_get, Option, None, Some, arith, ap, length-append, filter, ◌==◌, length-map, count_few, System, has_bit, numbers_from, Automaton, File, Pattern, Element, Event, Rise, Fall, LegalWord, allowed_rules, has_event, has_rise, has_fallen, is_ready, is_standing, in_children, event_new, rise_new, fall_new, legal_length, events_named, SystemAt, Pending, Search, pattern_search, rows_count, IsSmall}
+use Rattle.ta_cursor.proofs.Common.{◌≡◌, inl, inr, ℕ, suc, ◌+◌, ◌*◌, ◌<◌, ◌≤◌, ◌^◌, List, [], ◌∷◌, ◌++◌, length, map, cond, Bool, true, false, not, slice_get, Option, None, Some, arith, ap, length-append, filter, ◌==◌, length-map, count_few, System, has_bit, numbers_from, Automaton, Pattern, Element, Event, Rise, Fall, LegalWord, allowed_rules, has_event, has_rise, has_fallen, is_ready, is_standing, in_children, event_new, rise_new, fall_new, legal_length, SystemAt, Pending, Search, rows_count, IsSmall}
 use Rattle.ta_base.proofs.Naturals.{count, count_most}
 use Rattle.ta_linear.specs.declared.row.Row.{Row}
+use Rattle.ta_automaton.specs.Patterns.{PatternOver}
 use Rattle.ta_automaton.specs.declared.condition.Comparison.{Comparison}
 use Rattle.ta_automaton.specs.declared.pattern.Event.{Event as PatternEvent}
 use Rattle.ta_encode.specs.declared.meaning.Meaning.{Meaning}
@@ -169,14 +170,12 @@ unknowns_few a p start (e ∷ past) legal =
     ]
 
 -- at most 16 parameters and 32 start counts; 8 events and 16 rise guards, with 128 unknowns each; 6 fall guards, with 256 each
-pub few_unknowns : (file : File) (number : ℕ) (p : Pattern) (start : ℕ) (past : List Element) → slice_get file.patterns number ≡ Some p → LegalWord file.automaton p start past → length (meanings file.automaton p start past) ≤ 4656
-few_unknowns file number p start past at legal =
-    let a = file.automaton in
-    let limit = (events_named file number p at).limit in
+pub few_unknowns : (a : Automaton) (p : Pattern) (start : ℕ) (past : List Element) → PatternOver a p → LegalWord a p start past → length (meanings a p start past) ≤ 4656
+few_unknowns a p start past over legal =
     omega (
       arith,
       unknowns_few a p start past legal,
-      limit,
+      over.events_limit,
       a.shape.limits.rise_limit,
       a.shape.limits.fall_limit,
       count_most (has_event past) (length p.events),
@@ -184,13 +183,9 @@ few_unknowns file number p start past at legal =
       count_most (has_fallen start past) (length a.fall),
     )
 
--- a legal word of a file's pattern has at most 30 elements
-short : (file : File) (number : ℕ) (p : Pattern) (start : ℕ) (past : List Element) → slice_get file.patterns number ≡ Some p → LegalWord file.automaton p start past → length past ≤ 30
-short file number p start past at legal = legal_length file.automaton p start past (events_named file number p at).limit legal
-
--- its rows, but for the bounds
-pub few_rows : (file : File) (number : ℕ) (p : Pattern) (start : ℕ) (past : List Element) → slice_get file.patterns number ≡ Some p → LegalWord file.automaton p start past → length (word_rows file.automaton p start past) ≤ 2592
-few_rows file number p start past at legal = omega (arith, word_few file.automaton p start past, short file number p start past at legal)
+-- the rows of a legal word, which has at most 30 elements, but for the bounds
+pub few_rows : (a : Automaton) (p : Pattern) (start : ℕ) (past : List Element) → PatternOver a p → LegalWord a p start past → length (word_rows a p start past) ≤ 2592
+few_rows a p start past over legal = omega (arith, word_few a p start past, legal_length a p start past over.events_limit legal)
 
 -- the unknowns and the rows of a word's system
 pub small_of : (s : Search) (w : Pending) (system : System) → s.unknowns w.start w.past ≤ 4656 → length (s.rows w.start w.past) ≤ 2640 → SystemAt s w system → IsSmall w.bounds system
@@ -198,8 +193,3 @@ small_of s w system unknowns few is =
     let words = s.rows w.start w.past in
     let bounds = map bound_row w.bounds in
     omega (arith, is.unknowns, unknowns, rows_count (words ++ bounds) system.rows is.rows, length-append words bounds, length-map w.bounds bound_row, few)
-
-pub is_small : (file : File) (number : ℕ) (p : Pattern) (w : Pending) (s : System) → slice_get file.patterns number ≡ Some p → LegalWord file.automaton p w.start w.past → SystemAt (pattern_search file.automaton p []) w s → IsSmall w.bounds s
-is_small file number p w s at legal is =
-    let rows = few_rows file number p w.start w.past at legal in
-    small_of (pattern_search file.automaton p []) w s (few_unknowns file number p w.start w.past at legal) (omega arith) is

@@ -2,12 +2,9 @@
 //! that are open; and what a tree of words is.
 #![tactic(auto)]
 
-mod children;
 mod cursor;
 mod frames;
 mod laws;
-mod pattern_tree;
-mod patterns;
 mod place;
 mod places;
 mod root;
@@ -16,7 +13,6 @@ mod tree;
 
 pub use cursor::{Cursor, Frame};
 pub use laws::begins_within;
-pub use pattern_tree::PatternTree;
 pub use place::Place;
 pub use root::Root;
 pub use tree::{Tree, Written};

@@ -17,8 +17,8 @@ fn scaled(p: i128, a: i128) -> Option<i128>
     if p == 1 { Some(a) } else { multiply(p, a) }
 }
 
-// `p * a - q * c`, where each part is in range.
-pub(crate) fn combined(p: i128, a: i128, q: i128, c: i128) -> Option<i128>
+/// `p * a - q * c`, where each part is in range.
+pub fn combined(p: i128, a: i128, q: i128, c: i128) -> Option<i128>
     requires { InRange a }
     ensures { SomeIff result (CombinesInRange p a q c) (p *ℤ a -ℤ q *ℤ c) }
 {

@@ -100,16 +100,12 @@ impl Dictionary for DenseDictionary {
         self.rows.len() as u32
     }
 
-    fn columns(&self) -> u32 {
-        self.non_basic.len() as u32
-    }
-
     fn basic(&self, row: u32) -> u32 {
         self.rows[row as usize].basic
     }
 
-    fn non_basic(&self, column: u32) -> u32 {
-        self.non_basic[column as usize]
+    fn non_basic_variables(&self) -> &[u32] {
+        &self.non_basic
     }
 
     fn denominator(&self, row: u32) -> i128 {
@@ -133,19 +129,6 @@ impl Dictionary for DenseDictionary {
 
     fn is_wide(&self) -> bool {
         true
-    }
-
-    fn entering(&self, row: u32) -> Option<u32> {
-        let mut least = None;
-        for column in 0..self.columns() {
-            if self.cell(row, column) > 0 {
-                least = match least {
-                    Some(best) if self.non_basic(best) < self.non_basic(column) => Some(best),
-                    _ => Some(column),
-                };
-            }
-        }
-        least
     }
 
     fn keep(&self, alloc: Global, row: u32, column: u32) -> Result<DensePivot, AllocError> {

@@ -60,15 +60,26 @@ pub trait Dictionary: Sized + Drop + Send {
         ensures { result ≡ length (tableau self.now).rows };
 
     fn columns(&self) -> u32
-        ensures { result ≡ length (tableau self.now).non_basic };
+        ensures { result ≡ length (tableau self.now).non_basic }
+    {
+        self.non_basic_variables().len() as u32
+    }
 
     fn basic(&self, row: u32) -> u32
         requires { row < length (tableau self.now).rows }
         ensures { result ≡ basic_of (tableau self.now) row };
 
+    /// The variable of each column.
+    fn non_basic_variables(&self) -> &[u32]
+        ensures value { result.now ≡ (tableau self.now).non_basic }
+        ensures fits { length (tableau self.now).non_basic < 2 ^ 32 };
+
     fn non_basic(&self, column: u32) -> u32
         requires { column < length (tableau self.now).non_basic }
-        ensures { result ≡ non_basic_of (tableau self.now) column };
+        ensures { result ≡ non_basic_of (tableau self.now) column }
+    {
+        self.non_basic_variables()[column as usize]
+    }
 
     fn denominator(&self, row: u32) -> i128
         requires { row < length (tableau self.now).rows }
@@ -114,7 +125,19 @@ pub trait Dictionary: Sized + Drop + Send {
     fn entering(&self, row: u32) -> Option<u32>
         requires { row < length (tableau self.now).rows }
         ensures found { IfSome result (Enters (tableau self.now) row) }
-        ensures none { IfNone result (NoneEnters (tableau self.now) row) };
+        ensures none { IfNone result (NoneEnters (tableau self.now) row) }
+    {
+        let mut least = None;
+        for column in 0..self.columns() {
+            if self.cell(row, column) > 0 {
+                least = match least {
+                    Some(best) if self.non_basic(best) < self.non_basic(column) => Some(best),
+                    _ => Some(column),
+                };
+            }
+        }
+        least
+    }
 
     /// The pivot in the row and the column, as it is kept before it is made.
     fn keep(&self, alloc: Global, row: u32, column: u32) -> Result<Self::Kept, AllocError>

@@ -18,6 +18,7 @@ mod shared;
 mod small;
 mod small_pivot;
 
+pub use cells::combined;
 pub use dense::DenseDictionary;
 pub use dictionary::{Dictionary, ExtendFault, PivotFault};
 pub use extending::{padded_items, raised_columns, raised_variable};

@@ -141,13 +141,6 @@ impl Dictionary for NarrowDictionary {
         }
     }
 
-    fn columns(&self) -> u32 {
-        match &self.form {
-            Form::Narrow(d) => d.columns(),
-            Form::Wide(d) => d.columns(),
-        }
-    }
-
     fn basic(&self, row: u32) -> u32 {
         match &self.form {
             Form::Narrow(d) => d.basic(row),
@@ -155,10 +148,10 @@ impl Dictionary for NarrowDictionary {
         }
     }
 
-    fn non_basic(&self, column: u32) -> u32 {
+    fn non_basic_variables(&self) -> &[u32] {
         match &self.form {
-            Form::Narrow(d) => d.non_basic(column),
-            Form::Wide(d) => d.non_basic(column),
+            Form::Narrow(d) => d.non_basic_variables(),
+            Form::Wide(d) => d.non_basic_variables(),
         }
     }
 
@@ -192,20 +185,6 @@ impl Dictionary for NarrowDictionary {
 
     fn is_wide(&self) -> bool {
         matches!(&self.form, Form::Wide(_))
-    }
-
-    fn leaving(&self) -> Option<u32> {
-        match &self.form {
-            Form::Narrow(d) => d.leaving(),
-            Form::Wide(d) => d.leaving(),
-        }
-    }
-
-    fn entering(&self, row: u32) -> Option<u32> {
-        match &self.form {
-            Form::Narrow(d) => d.entering(row),
-            Form::Wide(d) => d.entering(row),
-        }
     }
 
     fn keep(&self, alloc: Global, row: u32, column: u32) -> Result<NarrowPivot, AllocError> {

@@ -69,14 +69,7 @@ pub(crate) fn greatest_of(start: u32, cells: &[i32]) -> u32
 pub(crate) fn gcd_narrow(a: u32, b: u32) -> u32
     ensures { IsGcd a b result }
 {
-    let mut x = a;
-    let mut y = b;
-    while y != 0 {
-        let rest = x % y;
-        x = y;
-        y = rest;
-    }
-    x
+    if b == 0 { a } else { gcd_narrow(b, a % b) }
 }
 
 // The greatest common divisor of a divisor and a number, which is often 1.

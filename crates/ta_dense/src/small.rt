@@ -1,10 +1,8 @@
 //! A dictionary whose numbers fit 32 bits.
 
-ghost use Rattle.std.specs.Prelude.{◌≡◌, ◌<◌, ◌≤◌, ◌-◌, ◌++◌, replicate, ◌^◌, pos, ◌<ℤ◌, length, unsigned_abs, IfOk, IfErr, IfSome, IfNone};
-ghost use Rattle.ta_dense.specs.Tableau.{basic_of, cell_of, non_basic_of, pivoted, row_of};
+ghost use Rattle.std.specs.Prelude.{◌≡◌, ◌<◌, ◌≤◌, ◌-◌, ◌++◌, replicate, ◌^◌, pos, ◌<ℤ◌, length, unsigned_abs, IfOk, IfErr, IfSome};
+ghost use Rattle.ta_dense.specs.Tableau.{basic_of, cell_of, pivoted, row_of};
 ghost use Rattle.ta_dense.specs.Merge.{IsProper, AllMergeInRange};
-ghost use Rattle.ta_dense.specs.Entering.{Enters, NoneEnters};
-ghost use Rattle.ta_dense.specs.Leaving.{Leaves, NoneLeaves};
 ghost use Rattle.ta_dense.specs.Slack.{slack_tableau, variables};
 ghost use Rattle.ta_dense.specs.Kept.{AreKept, StayInRange, pivot_in};
 ghost use Rattle.ta_dense.specs.Extending.{MayBegin, extended, new_rows};
@@ -159,7 +157,15 @@ impl SmallDictionary {
         self.rows.places.len() as u32
     }
 
-    pub(crate) fn columns(&self) -> u32
+    /// The variable of each column.
+    pub(crate) fn non_basic_variables(&self) -> &[u32]
+        ensures value { result.now ≡ self.now.non_basic }
+        ensures fits { length self.now.non_basic < 2 ^ 32 }
+    {
+        &self.non_basic
+    }
+
+    fn columns(&self) -> u32
         ensures { result ≡ length self.now.non_basic }
     {
         self.non_basic.len() as u32
@@ -193,13 +199,6 @@ impl SmallDictionary {
         place_of(&self.rows.places, row as usize).basic
     }
 
-    pub(crate) fn non_basic(&self, column: u32) -> u32
-        requires { column < length self.now.non_basic }
-        ensures { result ≡ non_basic_of self.now column }
-    {
-        self.non_basic[column as usize]
-    }
-
     pub(crate) fn denominator(&self, row: u32) -> i32
         requires { row < length self.now.rows }
         ensures value { result ≡ (row_of self.now row).denominator }
@@ -221,39 +220,6 @@ impl SmallDictionary {
         ensures { result ≡ cell_of (row_of self.now row) column }
     {
         self.row_at(row).cells[column as usize]
-    }
-
-    pub(crate) fn leaving(&self) -> Option<u32>
-        ensures found { IfSome result (Leaves self.now) }
-        ensures none { IfNone result (NoneLeaves self.now) }
-    {
-        let mut least = None;
-        for row in 0..self.rows() {
-            if self.constant(row) < 0 {
-                least = match least {
-                    Some(best) if self.basic(best) < self.basic(row) => Some(best),
-                    _ => Some(row),
-                };
-            }
-        }
-        least
-    }
-
-    pub(crate) fn entering(&self, row: u32) -> Option<u32>
-        requires { row < length self.now.rows }
-        ensures found { IfSome result (Enters self.now row) }
-        ensures none { IfNone result (NoneEnters self.now row) }
-    {
-        let mut least = None;
-        for column in 0..self.columns() {
-            if self.cell(row, column) > 0 {
-                least = match least {
-                    Some(best) if self.non_basic(best) < self.non_basic(column) => Some(best),
-                    _ => Some(column),
-                };
-            }
-        }
-        least
     }
 
     pub(crate) fn keep(

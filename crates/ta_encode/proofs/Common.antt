@@ -50,7 +50,7 @@ pub use Rattle.ta_encode.specs.Inside.Lines.{AddsRows, AreWritten, IsBehind, Sma
 pub use Rattle.ta_encode.specs.Inside.Rules.{AreOfRules}
 pub use Rattle.ta_encode.specs.Laws.{EndsAt, FiresBefore, FiresFall, GoesForward, IsOne, IsReordered, ProofsLeaveNoSolution, ProofsShowSafety, ReorderedTo, RunsReorder, RunsReorderTo, RunsThrough, SolutionsBecomeRuns, StepsOfSolutionsRun, WordFires, position_in, start_values, steps_of, values_of_prefix}
 pub use Rattle.ta_encode.specs.Lines.{BoundWithin, BoundsWithin, SmallTerms, coefficient_in_sense, line_coefficient, line_row}
-pub use Rattle.ta_encode.specs.Marks.{AreMarks, IsEncoding, IsPart, MarkHolds, SameRows, mark_at, no_mark}
+pub use Rattle.ta_encode.specs.Marks.{AreMarks, IsPart, MarkHolds, SameRows, mark_at, no_mark}
 pub use Rattle.ta_encode.specs.Named.{AreThere, NamesRows, row_number_at, row_numbered, rows_named}
 pub use Rattle.ta_encode.specs.PatternSearch.{empty_word, pattern_search}
 pub use Rattle.ta_encode.specs.Refutes.{IsLeaf, LeafOfRows, LeafTest, ProofBy, ProofOf, RefuteAll, RefuteEach, linear_coefficient_in, linear_constant_in}
@@ -78,8 +78,6 @@ pub use Rattle.ta_linear.specs.declared.form.Form.{Form}
 pub use Rattle.ta_linear.specs.declared.row.Row.{Row}
 pub use Rattle.ta_linear.specs.declared.row.System.{System}
 pub use Rattle.ta_words.proofs.Counts.{legal_length}
-pub use Rattle.ta_words.proofs.Lists.{events_named, of_pattern, pattern_at, same_pattern}
-pub use Rattle.ta_words.specs.Calls.{OfPattern}
 pub use Rattle.ta_words.specs.Words.{LegalUnder, LegalWord, follows, is_complete, is_due, is_ready, is_standing, may_fire, may_rise}
 unfoldable pub use Rattle.ta_words.specs.Words.{allowed_rules, children, has_event, has_fallen, has_rise}
 pub use Rattle.ta_words.specs.declared.element.Element.{Element}

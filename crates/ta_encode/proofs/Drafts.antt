@@ -1,7 +1,8 @@
 -- the unknowns and rows of a word, element by element
-use Rattle.ta_encode.proofs.Common.{Bool, ◌≡◌, ℕ, pos, negsuc, ◌+◌, ◌-◌, ◌*◌, ◌≤◌, ◌-ℤ◌, List, [], ◌∷◌, ◌++◌, length, map, reverse, not, ◌||◌, bit_or, slice_get, Some, arith, sym, ap, ◌∙◌, refl, subst, append_assoc, length-append, filter, ◌==◌, map-append, length-map, length-reverse, has_or, each_from_at, filter_same, filter_shorter, map_constant, map_twice, length_numbers, rises_length, AllBelow, Row, IsNormal-higher, has_bit, numbers_from, Automaton, File, Pattern, pattern_within, Element, Event, Rise, Fall, LegalWord, may_fire, allowed_rules, has_fallen, legal_length, events_named, Meaning, Count, Single, Start, Parameter, meanings, start_meanings, start_locations, counts_after, singles_after, LinearRow, opposite, negated, singles_row, start_rows, event_rows, guard_rows, standing_rows, rise_rows, happening_rows, fall_rows, word_rows, condition_rows, processes_row, start_guard_rows, AreWritten, IsBehind, SmallCondition, SmallEvents, block_row, counters_outside, firing, Adds, AddsUnknowns, Continues, IsDraft, Draft, Origin, Plain, Opposite}
+use Rattle.ta_encode.proofs.Common.{Bool, ◌≡◌, ℕ, pos, negsuc, ◌+◌, ◌-◌, ◌*◌, ◌≤◌, ◌-ℤ◌, List, [], ◌∷◌, ◌++◌, length, map, reverse, not, ◌||◌, bit_or, slice_get, arith, sym, ap, ◌∙◌, refl, subst, append_assoc, length-append, filter, ◌==◌, map-append, length-map, length-reverse, has_or, each_from_at, filter_same, filter_shorter, map_constant, map_twice, length_numbers, rises_length, AllBelow, Row, IsNormal-higher, has_bit, numbers_from, Automaton, Pattern, Element, Event, Rise, Fall, LegalWord, may_fire, allowed_rules, has_fallen, legal_length, Meaning, Count, Single, Start, Parameter, meanings, start_meanings, start_locations, counts_after, singles_after, LinearRow, opposite, negated, singles_row, start_rows, event_rows, guard_rows, standing_rows, rise_rows, happening_rows, fall_rows, word_rows, condition_rows, processes_row, start_guard_rows, AreWritten, IsBehind, SmallCondition, SmallEvents, block_row, counters_outside, firing, Adds, AddsUnknowns, Continues, IsDraft, Draft, Origin, Plain, Opposite}
 use Rattle.ta_base.proofs.Lists.{longer}
-use Rattle.ta_automaton.specs.Patterns.{EventWithin}
+use Rattle.ta_automaton.specs.Patterns.{EventWithin, PatternOver}
+use Rattle.ta_words.specs.declared.task.Task.{Task}
 use Rattle.ta_encode.proofs.Adding.{adds_at, adds_behind, adds_both, behind_join, guards_same, nothing_written}
 use Rattle.ta_encode.proofs.Smallness.{small_condition, places_most}
 
@@ -13,15 +14,15 @@ widen : (ls : List LinearRow) (n m : ℕ) (rows : List Row) → n ≤ m → AreW
 widen ls n m rows h w = record { rows_of = w.rows_of; below = below_more n m rows h w.below }
 
 -- the firings of a mask of allowed rules
-pub fired_after : (single : Bool) (o : Origin) (before : List Element) (allowed : ℕ) {draft grown : Draft} → ((r : ℕ) → has_bit allowed r ≡ may_fire o.file.now.automaton o.pattern.now o.start_mask (reverse before) (slice_get o.file.now.automaton.rules r)) → draft.automaton.now ≡ o.file.now.automaton
+pub fired_after : (single : Bool) (o : Origin) (before : List Element) (allowed : ℕ) {draft grown : Draft} → ((r : ℕ) → has_bit allowed r ≡ may_fire o.task.automaton.now o.task.pattern.now o.start_mask (reverse before) (slice_get o.task.automaton.now.rules r)) → draft.automaton.now ≡ o.task.automaton.now
     → AddsUnknowns (map (firing single (length before)) (filter (has_bit allowed) (numbers_from 0 (length draft.automaton.now.rules)))) draft grown
-    → AddsUnknowns (map (firing single (length (reverse before))) (allowed_rules o.file.now.automaton o.pattern.now o.start_mask (reverse before))) draft grown
+    → AddsUnknowns (map (firing single (length (reverse before))) (allowed_rules o.task.automaton.now o.task.pattern.now o.start_mask (reverse before))) draft grown
 unfolding allowed_rules
 fired_after single o before allowed {draft = draft} {grown = grown} may e added =
-    let a = o.file.now.automaton in
+    let a = o.task.automaton.now in
     let same = ap (λ (b : Automaton). map (firing single (length before)) (filter (has_bit allowed) (numbers_from 0 (length b.rules)))) e
-    ∙ ap (map (firing single (length before))) (filter_same (has_bit allowed) (λ r. may_fire a o.pattern.now o.start_mask (reverse before) (slice_get a.rules r)) (numbers_from 0 (length a.rules)) may)
-    ∙ ap (λ n. map (firing single n) (allowed_rules a o.pattern.now o.start_mask (reverse before))) (sym (length-reverse before)) in
+    ∙ ap (map (firing single (length before))) (filter_same (has_bit allowed) (λ r. may_fire a o.task.pattern.now o.start_mask (reverse before) (slice_get a.rules r)) (numbers_from 0 (length a.rules)) may)
+    ∙ ap (λ n. map (firing single n) (allowed_rules a o.task.pattern.now o.start_mask (reverse before))) (sym (length-reverse before)) in
     subst (λ (ms : List Meaning). AddsUnknowns ms draft grown) same added
 
 allowed_few : (a : Automaton) (p : Pattern) (start : ℕ) (past : List Element) → length (allowed_rules a p start past) ≤ 128
@@ -59,22 +60,19 @@ meanings_few a p start (Fall m ∷ past) =
     omega (arith, length-append (meanings a p start past ++ counts_after a p start past) (singles_after a p start past), length-append (meanings a p start past) (counts_after a p start past), counts_few a p start past, singles_few a p start past, meanings_few a p start past)
 
 pub draft_few : (o : Origin) (past : List Element) (draft : Draft) → IsDraft o past draft → length draft.meanings.items ≤ 48 + 256 * length past
-draft_few o past draft d = omega (arith, ap length d.is.unknowns_are, meanings_few o.file.now.automaton o.pattern.now o.start_mask past)
+draft_few o past draft d = omega (arith, ap length d.is.unknowns_are, meanings_few o.task.automaton.now o.task.pattern.now o.start_mask past)
 
-pub word_few : (file : File) (k : ℕ) (p : Pattern) (start : ℕ) (elements word : List Element) → slice_get file.patterns k ≡ Some p → LegalWord file.automaton p start (reverse word) → elements ≡ word → length elements ≤ 30
-word_few file k p start elements word at legal same = omega (arith, ap length same, length-reverse word, legal_length file.automaton p start (reverse word) (events_named file k p at).limit legal)
+pub word_few : (t : Task) (start : ℕ) (elements word : List Element) → LegalWord t.automaton.now t.pattern.now start (reverse word) → elements ≡ word → length elements ≤ 30
+word_few t start elements word legal same = omega (arith, ap length same, length-reverse word, legal_length t.automaton.now t.pattern.now start (reverse word) t.over.events_limit legal)
 
--- the conditions of a file's pattern have small numbers
-pub start_small : (file : File) (k : ℕ) (p : Pattern) → slice_get file.patterns k ≡ Some p → SmallCondition p.start
-start_small file k p at =
-    let a = file.automaton in
-    small_condition (length a.parameters + length a.shared + length a.locations) p.start (places_most a) (pattern_within file k p at).start
+-- the conditions of a pattern have small numbers
+pub start_small : (a : Automaton) (p : Pattern) → PatternOver a p → SmallCondition p.start
+start_small a p over = small_condition (length a.parameters + length a.shared + length a.locations) p.start (places_most a) over.start
 
-pub events_small : (file : File) (k : ℕ) (p : Pattern) → slice_get file.patterns k ≡ Some p → SmallEvents p
-events_small file k p at =
-    let a = file.automaton in
+pub events_small : (a : Automaton) (p : Pattern) → PatternOver a p → SmallEvents p
+events_small a p over =
     let places = length a.parameters + length a.shared + length a.locations in
-    record { small = λ e event here. small_condition places event.condition (places_most a) (each_from_at (EventWithin places) 0 p.events e event (pattern_within file k p at).events here).condition }
+    record { small = λ e event here. small_condition places event.condition (places_most a) (each_from_at (EventWithin places) 0 p.events e event over.events here).condition }
 
 standing_is : (a : Automaton) (start : ℕ) (past : List Element) (ms : List Meaning) (fallen : ℕ) → ((j : ℕ) → has_bit fallen j ≡ has_fallen start past j) → guard_rows a ms (λ j. not (has_bit fallen j)) 0 a.fall ≡ standing_rows a start past ms
 standing_is a start past ms fallen h =
@@ -82,10 +80,10 @@ standing_is a start past ms fallen h =
     guards_same a ms (λ j. not (has_bit fallen j)) (λ j. not (has_fallen start past j)) 0 6 a.fall (λ j b. ap not (h j)) few
 
 -- rows that make a word's, behind some of them
-adds_drafted : (o : Origin) (past : List Element) (done : List LinearRow) {f : Automaton → List Meaning → List LinearRow} {before after : Draft} → before.automaton.now ≡ o.file.now.automaton → before.meanings.items ≡ meanings o.file.now.automaton o.pattern.now o.start_mask past → AreWritten done (length before.meanings.items) before.rows.items
-    → done ++ f o.file.now.automaton (meanings o.file.now.automaton o.pattern.now o.start_mask past) ≡ word_rows o.file.now.automaton o.pattern.now o.start_mask past → Adds f before after → IsDraft o past after
+adds_drafted : (o : Origin) (past : List Element) (done : List LinearRow) {f : Automaton → List Meaning → List LinearRow} {before after : Draft} → before.automaton.now ≡ o.task.automaton.now → before.meanings.items ≡ meanings o.task.automaton.now o.task.pattern.now o.start_mask past → AreWritten done (length before.meanings.items) before.rows.items
+    → done ++ f o.task.automaton.now (meanings o.task.automaton.now o.task.pattern.now o.start_mask past) ≡ word_rows o.task.automaton.now o.task.pattern.now o.start_mask past → Adds f before after → IsDraft o past after
 adds_drafted o past done {after = after} e g w same h =
-    let all = adds_behind o.file.now.automaton (meanings o.file.now.automaton o.pattern.now o.start_mask past) done e g w h in
+    let all = adds_behind o.task.automaton.now (meanings o.task.automaton.now o.task.pattern.now o.start_mask past) done e g w h in
     record { automaton_is = h.automaton ∙ e; is = record { unknowns_are = all.0; rows_are = subst (λ (ls : List LinearRow). AreWritten ls (length after.meanings.items) after.rows.items) same all.1 } }
 
 -- rows stay written where unknowns come behind
@@ -94,34 +92,34 @@ written_on {more = more} {before = before} {grown = grown} ls h w =
     subst (AreWritten ls (length grown.meanings.items)) (sym h.rows) (widen ls (length before.meanings.items) (length grown.meanings.items) before.rows.items (longer before.meanings.items more grown.meanings.items h.unknowns) w)
 
 -- an element whose only unknowns are its Counts
-step_drafted : (o : Origin) (past : List Element) (element : Element) {f : Automaton → List Meaning → List LinearRow} {before grown after : Draft} → IsDraft o past before → AddsUnknowns (counts_after o.file.now.automaton o.pattern.now o.start_mask past) before grown
-    → meanings o.file.now.automaton o.pattern.now o.start_mask past ++ counts_after o.file.now.automaton o.pattern.now o.start_mask past ≡ meanings o.file.now.automaton o.pattern.now o.start_mask (element ∷ past)
-    → word_rows o.file.now.automaton o.pattern.now o.start_mask past ++ f o.file.now.automaton (meanings o.file.now.automaton o.pattern.now o.start_mask (element ∷ past)) ≡ word_rows o.file.now.automaton o.pattern.now o.start_mask (element ∷ past)
+step_drafted : (o : Origin) (past : List Element) (element : Element) {f : Automaton → List Meaning → List LinearRow} {before grown after : Draft} → IsDraft o past before → AddsUnknowns (counts_after o.task.automaton.now o.task.pattern.now o.start_mask past) before grown
+    → meanings o.task.automaton.now o.task.pattern.now o.start_mask past ++ counts_after o.task.automaton.now o.task.pattern.now o.start_mask past ≡ meanings o.task.automaton.now o.task.pattern.now o.start_mask (element ∷ past)
+    → word_rows o.task.automaton.now o.task.pattern.now o.start_mask past ++ f o.task.automaton.now (meanings o.task.automaton.now o.task.pattern.now o.start_mask (element ∷ past)) ≡ word_rows o.task.automaton.now o.task.pattern.now o.start_mask (element ∷ past)
     → Adds f grown after → Continues o (element ∷ past) before after
 step_drafted o past element {after = after} d h unknowns same added =
-    let a = o.file.now.automaton in
-    let counts = counts_after a o.pattern.now o.start_mask past in
+    let a = o.task.automaton.now in
+    let counts = counts_after a o.task.pattern.now o.start_mask past in
     record {
-      drafted = adds_drafted o (element ∷ past) (word_rows a o.pattern.now o.start_mask past) (h.automaton ∙ d.automaton_is) (h.unknowns ∙ ap (λ xs. xs ++ counts) d.is.unknowns_are ∙ unknowns) (written_on _ h d.is.rows_are) same added;
+      drafted = adds_drafted o (element ∷ past) (word_rows a o.task.pattern.now o.start_mask past) (h.automaton ∙ d.automaton_is) (h.unknowns ∙ ap (λ xs. xs ++ counts) d.is.unknowns_are ∙ unknowns) (written_on _ h d.is.rows_are) same added;
       unknowns = record { more = counts; is = added.unknowns ∙ h.unknowns };
       rows = subst (λ (rs : List Row). IsBehind rs after.rows.items) h.rows added.rows.behind;
     }
 
-pub rise_drafted : (o : Origin) (past : List Element) (i fallen : ℕ) {before grown after : Draft} → IsDraft o past before → AddsUnknowns (counts_after o.file.now.automaton o.pattern.now o.start_mask past) before grown → ((j : ℕ) → has_bit fallen j ≡ has_fallen o.start_mask past j)
-    → Adds (λ a ms. counters_outside a ms o.pattern.now.empty ++ (guard_rows a ms (λ k. k == i) 0 a.rise ++ guard_rows a ms (λ j. not (has_bit fallen j)) 0 a.fall)) grown after → Continues o (Rise i ∷ past) before after
+pub rise_drafted : (o : Origin) (past : List Element) (i fallen : ℕ) {before grown after : Draft} → IsDraft o past before → AddsUnknowns (counts_after o.task.automaton.now o.task.pattern.now o.start_mask past) before grown → ((j : ℕ) → has_bit fallen j ≡ has_fallen o.start_mask past j)
+    → Adds (λ a ms. counters_outside a ms o.task.pattern.now.empty ++ (guard_rows a ms (λ k. k == i) 0 a.rise ++ guard_rows a ms (λ j. not (has_bit fallen j)) 0 a.fall)) grown after → Continues o (Rise i ∷ past) before after
 unfolding meanings word_rows rise_rows
 rise_drafted o past i fallen d h stand added =
-    let a = o.file.now.automaton in
-    let ns = meanings a o.pattern.now o.start_mask (Rise i ∷ past) in
-    step_drafted o past (Rise i) d h refl (ap (λ rs. word_rows a o.pattern.now o.start_mask past ++ (counters_outside a ns o.pattern.now.empty ++ (guard_rows a ns (λ k. k == i) 0 a.rise ++ rs))) (standing_is a o.start_mask past ns fallen stand)) added
+    let a = o.task.automaton.now in
+    let ns = meanings a o.task.pattern.now o.start_mask (Rise i ∷ past) in
+    step_drafted o past (Rise i) d h refl (ap (λ rs. word_rows a o.task.pattern.now o.start_mask past ++ (counters_outside a ns o.task.pattern.now.empty ++ (guard_rows a ns (λ k. k == i) 0 a.rise ++ rs))) (standing_is a o.start_mask past ns fallen stand)) added
 
-pub event_drafted : (o : Origin) (past : List Element) (x fallen : ℕ) {before grown after : Draft} → IsDraft o past before → AddsUnknowns (counts_after o.file.now.automaton o.pattern.now o.start_mask past) before grown → ((j : ℕ) → has_bit fallen j ≡ has_fallen o.start_mask past j)
-    → Adds (λ a ms. counters_outside a ms o.pattern.now.empty ++ (event_rows a ms (slice_get o.pattern.now.events x) ++ guard_rows a ms (λ j. not (has_bit fallen j)) 0 a.fall)) grown after → Continues o (Event x ∷ past) before after
+pub event_drafted : (o : Origin) (past : List Element) (x fallen : ℕ) {before grown after : Draft} → IsDraft o past before → AddsUnknowns (counts_after o.task.automaton.now o.task.pattern.now o.start_mask past) before grown → ((j : ℕ) → has_bit fallen j ≡ has_fallen o.start_mask past j)
+    → Adds (λ a ms. counters_outside a ms o.task.pattern.now.empty ++ (event_rows a ms (slice_get o.task.pattern.now.events x) ++ guard_rows a ms (λ j. not (has_bit fallen j)) 0 a.fall)) grown after → Continues o (Event x ∷ past) before after
 unfolding meanings word_rows happening_rows
 event_drafted o past x fallen d h stand added =
-    let a = o.file.now.automaton in
-    let ns = meanings a o.pattern.now o.start_mask (Event x ∷ past) in
-    step_drafted o past (Event x) d h refl (ap (λ rs. word_rows a o.pattern.now o.start_mask past ++ (counters_outside a ns o.pattern.now.empty ++ (event_rows a ns (slice_get o.pattern.now.events x) ++ rs))) (standing_is a o.start_mask past ns fallen stand)) added
+    let a = o.task.automaton.now in
+    let ns = meanings a o.task.pattern.now o.start_mask (Event x ∷ past) in
+    step_drafted o past (Event x) d h refl (ap (λ rs. word_rows a o.task.pattern.now o.start_mask past ++ (counters_outside a ns o.task.pattern.now.empty ++ (event_rows a ns (slice_get o.task.pattern.now.events x) ++ rs))) (standing_is a o.start_mask past ns fallen stand)) added
 
 -- the two rows of Singles
 singles_block : (before : List Meaning) (rules : List ℕ) (from to : ℕ) → from ≡ length before → to ≡ from + length rules → block_row (negsuc 0) from to Plain ≡ singles_row before rules
@@ -140,16 +138,16 @@ opposite_block before rules from to e f =
     map-append (λ c. pos 0 -ℤ c) (map (λ m. pos 0) before) (map (λ r. pos 1) rules) ∙ ap (λ cs. cs ++ map (λ c. pos 0 -ℤ c) (map (λ r. pos 1) rules)) (map_twice (λ c. pos 0 -ℤ c) (λ m. pos 0) before) ∙ ap (λ cs. map (λ m. pos 0) before ++ cs) (map_twice (λ c. pos 0 -ℤ c) (λ r. pos 1) rules) in
     ap (λ cs. record { constant = pos 1; coefficients = cs }) (ap (λ cs. cs ++ map (λ k. negsuc 0) (numbers_from from (to - from))) first ∙ ap (λ cs. map (λ m. pos 0) before ++ cs) second ∙ sym turned_parts)
 
-pub fall_drafted : (o : Origin) (past : List Element) (falls fallen from : ℕ) {before grown fell more block after : Draft} → IsDraft o past before → AddsUnknowns (counts_after o.file.now.automaton o.pattern.now o.start_mask past) before grown → AddsUnknowns (singles_after o.file.now.automaton o.pattern.now o.start_mask past) fell more
+pub fall_drafted : (o : Origin) (past : List Element) (falls fallen from : ℕ) {before grown fell more block after : Draft} → IsDraft o past before → AddsUnknowns (counts_after o.task.automaton.now o.task.pattern.now o.start_mask past) before grown → AddsUnknowns (singles_after o.task.automaton.now o.task.pattern.now o.start_mask past) fell more
     → ((j : ℕ) → has_bit fallen j ≡ has_fallen o.start_mask (Fall falls ∷ past) j) → from ≡ length grown.meanings.items
-    → Adds (λ a ms. counters_outside a ms o.pattern.now.empty ++ guard_rows a ms (has_bit falls) 0 a.fall) grown fell
+    → Adds (λ a ms. counters_outside a ms o.task.pattern.now.empty ++ guard_rows a ms (has_bit falls) 0 a.fall) grown fell
     → Adds (λ a ms. block_row (negsuc 0) from (length ms) Plain ∷ block_row (pos 1) from (length ms) Opposite ∷ []) more block
-    → Adds (λ a ms. counters_outside a ms o.pattern.now.empty ++ (map negated (guard_rows a ms (has_bit falls) 0 a.fall) ++ guard_rows a ms (λ j. not (has_bit fallen j)) 0 a.fall)) block after
+    → Adds (λ a ms. counters_outside a ms o.task.pattern.now.empty ++ (map negated (guard_rows a ms (has_bit falls) 0 a.fall) ++ guard_rows a ms (λ j. not (has_bit fallen j)) 0 a.fall)) block after
     → Continues o (Fall falls ∷ past) before after
 unfolding meanings word_rows fall_rows
 fall_drafted o past falls fallen from {before = before} {grown = grown} {fell = fell} {more = more} {block = block} {after = after} d h g stand e one two three =
-    let a = o.file.now.automaton in
-    let p = o.pattern.now in
+    let a = o.task.automaton.now in
+    let p = o.task.pattern.now in
     let start = o.start_mask in
     let rules = allowed_rules a p start past in
     let ns = meanings a p start past ++ counts_after a p start past in
@@ -181,10 +179,10 @@ fall_drafted o past falls fallen from {before = before} {grown = grown} {fell = 
       rows = behind_join before.rows.items fell.rows.items after.rows.items (subst (λ (rs : List Row). IsBehind rs fell.rows.items) h.rows one.rows.behind) (subst (λ (rs : List Row). IsBehind rs after.rows.items) g.rows last.rows.behind);
     }
 
-pub start_drafted : (o : Origin) {zeroth first second third fourth : Draft} → zeroth.automaton.now ≡ o.file.now.automaton → zeroth.meanings.items ≡ start_meanings o.file.now.automaton o.pattern.now → zeroth.rows.items ≡ []
-    → Adds (λ a ms. condition_rows a ms o.file.now.automaton.resilience.comparisons) zeroth first
+pub start_drafted : (o : Origin) {zeroth first second third fourth : Draft} → zeroth.automaton.now ≡ o.task.automaton.now → zeroth.meanings.items ≡ start_meanings o.task.automaton.now o.task.pattern.now → zeroth.rows.items ≡ []
+    → Adds (λ a ms. condition_rows a ms o.task.automaton.now.resilience.comparisons) zeroth first
     → Adds (λ a ms. processes_row a ms ∷ opposite (processes_row a ms) ∷ []) first second
-    → Adds (λ a ms. condition_rows a ms o.pattern.now.start.comparisons) second third
+    → Adds (λ a ms. condition_rows a ms o.task.pattern.now.start.comparisons) second third
     → Adds (λ a ms. start_guard_rows a ms o.start_mask 0 a.fall) third fourth
     → IsDraft o [] fourth
 unfolding meanings word_rows start_rows

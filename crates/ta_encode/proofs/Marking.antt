@@ -120,11 +120,11 @@ marks_first a p start elements ms rows none marks mark empty e f g d =
     marks_push a p start elements ms ms rows rows [] marks mark record { holds = λ i h. absurd (omega arith); rise = λ i j low h. absurd (omega arith) } (behind_none ms) (behind_none rows) (e ∙ ap (λ (xs : List Mark). xs ++ mark ∷ []) empty) f g d
 
 -- what stays of a word before
-pub part_kept : (o : Origin) (drafted elements : List Element) (ms : List Meaning) (rows : List Row) (marks : List Mark) (part : Part) → AreMarks o.file.now.automaton o.pattern.now o.start_mask drafted ms rows marks → part.from < length marks → part.from ≤ length elements → take part.from drafted ≡ take part.from elements →
-    part.draft.automaton.now ≡ o.file.now.automaton → part.marks.items ≡ take (part.from + 1) marks → part.draft.meanings.items ≡ take (mark_at marks part.from).unknowns ms → part.draft.rows.items ≡ take (mark_at marks part.from).rows rows → part.same ≡ length part.draft.rows.items → IsPart o elements rows part
+pub part_kept : (o : Origin) (drafted elements : List Element) (ms : List Meaning) (rows : List Row) (marks : List Mark) (part : Part) → AreMarks o.task.automaton.now o.task.pattern.now o.start_mask drafted ms rows marks → part.from < length marks → part.from ≤ length elements → take part.from drafted ≡ take part.from elements →
+    part.draft.automaton.now ≡ o.task.automaton.now → part.marks.items ≡ take (part.from + 1) marks → part.draft.meanings.items ≡ take (mark_at marks part.from).unknowns ms → part.draft.rows.items ≡ take (mark_at marks part.from).rows rows → part.same ≡ length part.draft.rows.items → IsPart o elements rows part
 part_kept o drafted elements ms rows marks part are h k e automaton marks_are ms_are rows_are same =
-    let a = o.file.now.automaton in
-    let p = o.pattern.now in
+    let a = o.task.automaton.now in
+    let p = o.task.pattern.now in
     let start = o.start_mask in
     let shared = part.from in
     let kept = part.draft in

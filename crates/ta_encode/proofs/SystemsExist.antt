@@ -1,5 +1,5 @@
 -- The numbers of a word's rows are in range, so each word has a system.
-use Rattle.ta_encode.proofs.Common.{◌≡◌, ◌≢◌, ⊎_elim, ℕ, zero, suc, ℤ, pos, negsuc, ◌+◌, ◌-◌, ◌*◌, ◌^◌, ◌<◌, ◌≤◌, ◌+ℤ◌, ◌-ℤ◌, ◌*ℤ◌, ◌≤ℤ◌, ◌<ℤ◌, unsigned_abs, Bool, true, false, not, eqb, cond, List, [], ◌∷◌, ◌++◌, length, length-append, map, get_or, slice_get, Option, Some, None, arith, refl, sym, ap, subst, ◌∙◌, AllByRecursion, ◌==◌, if◌then◌else◌, nat_lt, ints, length-map, coefficients_turned, each_append, each_cond, each_map_all, each_turned, each_weaker, abs_minus, abs_product, abs_sum, choose_small, less_small, zero_or_not, InRange, AllBelow, coefficient, IsNormal, terms_value, Form, Row, System, IsNormal-higher, IsNormal-lower, coefficient-below, Automaton, Comparison, File, Pattern, Rule, has_bit, numbers_from, one_if, location_place, shared_change, rule_change, rule_within, Element, Event, Rise, Fall, allowed_rules, has_fallen, IsRowOf, AreRowsOf, SystemAt, BoundsWithin, pattern_search, sample_meanings, sample_rows, sample_search, Pending, Search, bounded_rows, Meaning, Parameter, Start, Count, Single, place_coefficient, start_meanings, meanings, counts_after, singles_after, LinearRow, Bound, Side, Low, High, bound_row, only_at, side_row, opposite, negated, form_row, counter_row, counter_rows, condition_rows, guard_rows, start_guard_rows, start_coefficient, processes_row, singles_row, event_rows, standing_rows, start_rows, rise_rows, happening_rows, fall_rows, word_rows, SmallForm, SmallRows, SmallCondition, SmallEvents}
+use Rattle.ta_encode.proofs.Common.{◌≡◌, ◌≢◌, ⊎_elim, ℕ, zero, suc, ℤ, pos, negsuc, ◌+◌, ◌-◌, ◌*◌, ◌^◌, ◌<◌, ◌≤◌, ◌+ℤ◌, ◌-ℤ◌, ◌*ℤ◌, ◌≤ℤ◌, ◌<ℤ◌, unsigned_abs, Bool, true, false, not, eqb, cond, List, [], ◌∷◌, ◌++◌, length, length-append, map, get_or, slice_get, Option, Some, None, arith, refl, sym, ap, subst, ◌∙◌, AllByRecursion, ◌==◌, if◌then◌else◌, nat_lt, ints, length-map, coefficients_turned, each_append, each_cond, each_map_all, each_turned, each_weaker, abs_minus, abs_product, abs_sum, choose_small, less_small, zero_or_not, InRange, AllBelow, coefficient, IsNormal, terms_value, Form, Row, System, IsNormal-higher, IsNormal-lower, coefficient-below, Automaton, Comparison, File, Pattern, Rule, has_bit, numbers_from, one_if, location_place, shared_change, rule_change, rule_within, pattern_within, Element, Event, Rise, Fall, allowed_rules, has_fallen, IsRowOf, AreRowsOf, SystemAt, BoundsWithin, pattern_search, sample_meanings, sample_rows, sample_search, Pending, Search, bounded_rows, Meaning, Parameter, Start, Count, Single, place_coefficient, start_meanings, meanings, counts_after, singles_after, LinearRow, Bound, Side, Low, High, bound_row, only_at, side_row, opposite, negated, form_row, counter_row, counter_rows, condition_rows, guard_rows, start_guard_rows, start_coefficient, processes_row, singles_row, event_rows, standing_rows, start_rows, rise_rows, happening_rows, fall_rows, word_rows, SmallForm, SmallRows, SmallCondition, SmallEvents}
 use Rattle.std.specs.List.{filter}
 use Rattle.ta_automaton.specs.declared.pattern.Event.{Event as PatternEvent}
 use Rattle.ta_encode.proofs.Changes.{small_updates, one_if-small}
@@ -341,8 +341,8 @@ system_exists s w few mild bounds =
 pub word_system : (file : File) (number : ℕ) (p : Pattern) (pairs : List (ℕ × ℕ)) (w : Pending) → slice_get file.patterns number ≡ Some p → length (meanings file.automaton p w.start w.past) ≤ 2 ^ 32 → BoundsWithin (length (meanings file.automaton p w.start w.past)) w.bounds → (system : System) × SystemAt (pattern_search file.automaton p pairs) w system
 word_system file number p pairs w at few bounds =
     let a = file.automaton in
-    let start = small_at_start file number p at in
-    system_exists (pattern_search a p pairs) w few (word_mild a p start (events_small file number p at) w.start w.past) bounds
+    let over = pattern_within file number p at in
+    system_exists (pattern_search a p pairs) w few (word_mild a p (small_at_start a p over) (events_small a p over) w.start w.past) bounds
 
 -- and so has each word of the search for a sample
 pub sample_system : (a : Automaton) (w : Pending) → BoundsWithin (length (sample_meanings a)) w.bounds → (system : System) × SystemAt (sample_search a) w system

@@ -38,7 +38,7 @@ IsEncoding a p e = AreMarks a p e.start_mask e.elements.items e.meanings.items e
 pub record IsPart (o : Origin) (elements : List Element) (before : List Row) (part : Part) : Type 0 where
   pub within : part.from ≤ length elements
   pub marked : length part.marks.items ≡ part.from + 1
-  pub marks : AreMarks o.file.now.automaton o.pattern.now o.start_mask elements part.draft.meanings.items part.draft.rows.items part.marks.items
+  pub marks : AreMarks o.task.automaton.now o.task.pattern.now o.start_mask elements part.draft.meanings.items part.draft.rows.items part.marks.items
   pub drafted : IsDraft o (reverse (take part.from elements)) part.draft
   pub same : part.same ≤ length part.draft.rows.items
   pub rows_are : take part.same before ≡ take part.same part.draft.rows.items

@@ -1,26 +1,23 @@
 //! How many unknowns a word has.
 #![tactic(auto)]
 
-ghost use Rattle.std.specs.Prelude.{ℕ, ◌+◌, ◌≡◌, ◌≤◌, ◌<◌, ◌∷◌, filter, length, not, reverse};
+ghost use Rattle.std.specs.Prelude.{ℕ, ◌+◌, ◌≡◌, ◌≤◌, ◌∷◌, filter, length, not, reverse};
 ghost use Rattle.ta_base.specs.Masks.{has_bit, numbers_from};
-ghost use Rattle.ta_words.specs.Calls.{OfPattern};
 ghost use Rattle.ta_words.specs.Words.{LegalWord};
 ghost use Rattle.ta_encode.specs.Unknowns.{meanings, start_meanings};
 
-use ta_automaton::{Automaton, File, Pattern};
-use ta_words::{Element, Word, allowed_after};
+use ta_automaton::{Automaton, Pattern};
+use ta_words::{Element, Task, Word, allowed_after};
 
 /// How many unknowns the system of a word has. It takes no memory.
-pub fn unknown_count(file: &File, pattern: u32, start_mask: u8, word: &Word) -> u32
-    requires exists { pattern < length file.now.patterns }
-    requires legal { OfPattern file.now pattern (λ p. LegalWord file.now.automaton p start_mask (reverse word.now)) }
-    ensures { OfPattern file.now pattern (λ p. result ≡ length (meanings file.now.automaton p start_mask (reverse word.now))) }
+pub fn unknown_count(task: Task<'_>, start_mask: u8, word: &Word) -> u32
+    requires { LegalWord task.automaton.now task.pattern.now start_mask (reverse word.now) }
+    ensures { result ≡ length (meanings task.entry.automaton.now task.entry.pattern.now start_mask (reverse word.now)) }
 {
-    let item = &file.patterns.as_slice()[pattern as usize];
     let elements = word.elements();
-    let mut count = start_count(&file.automaton, item);
+    let mut count = start_count(task.automaton, task.pattern);
     for (number, element) in elements.iter().enumerate() {
-        count += element_count(file, pattern, start_mask, &elements[..number], *element);
+        count += element_count(task, start_mask, &elements[..number], *element);
     }
     count
 }
@@ -40,19 +37,12 @@ fn start_count(automaton: &Automaton, pattern: &Pattern) -> u32
 }
 
 /// How many unknowns an element adds.
-fn element_count(
-    file: &File,
-    pattern: u32,
-    start_mask: u8,
-    before: &[Element],
-    element: Element,
-) -> u32
-    requires { pattern < length file.now.patterns }
-    ensures value { OfPattern file.now pattern (λ p. length (meanings file.now.automaton p start_mask (element ∷ reverse before.now)) ≡ length (meanings file.now.automaton p start_mask (reverse before.now)) + result) }
+fn element_count(task: Task<'_>, start_mask: u8, before: &[Element], element: Element) -> u32
+    ensures value { length (meanings task.entry.automaton.now task.entry.pattern.now start_mask (element ∷ reverse before.now)) ≡ length (meanings task.entry.automaton.now task.entry.pattern.now start_mask (reverse before.now)) + result }
     ensures few { result ≤ 256 }
 {
-    let rules = file.automaton.rules.as_slice().len();
-    let allowed = firing_count(rules, allowed_after(file, pattern, start_mask, before));
+    let rules = task.automaton.rules.as_slice().len();
+    let allowed = firing_count(rules, allowed_after(task, start_mask, before));
     match element {
         Element::Event(_) => allowed,
         Element::Rise(_) => allowed,

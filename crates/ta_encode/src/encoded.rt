@@ -1,8 +1,7 @@
 //! Systems of words.
 #![tactic(auto)]
 
-ghost use Rattle.std.specs.Prelude.{◌≡◌, ◌<◌, IfOk, length, reverse};
-ghost use Rattle.ta_words.specs.Calls.{OfPattern};
+ghost use Rattle.std.specs.Prelude.{◌≡◌, IfOk, length, reverse};
 ghost use Rattle.ta_words.specs.Words.{LegalWord};
 ghost use Rattle.ta_encode.specs.Code.{SystemOf};
 ghost use Rattle.ta_encode.specs.Inside.Draft.{AreEncoded, HasWritten};
@@ -14,10 +13,9 @@ use crate::meaning::{Bound, Meaning};
 use crate::origin::Origin;
 use crate::rows::push_bounds;
 use std::alloc::{AllocError, Global};
-use ta_automaton::File;
 use ta_base::List;
 use ta_linear::System;
-use ta_words::Word;
+use ta_words::{Task, Word};
 
 /// The system of a word, and what its unknowns mean.
 #[derive(Drop)]
@@ -39,25 +37,17 @@ pub struct Solution {
 /// files no number leaves the range.
 pub fn encode(
     alloc: Global,
-    file: &File,
-    pattern: u32,
+    task: Task<'_>,
     start_mask: u8,
     word: &Word,
     bounds: &[Bound],
 ) -> Result<Encoded, AllocError>
-    requires exists { pattern < length file.now.patterns }
-    requires legal { OfPattern file.now pattern (λ p. LegalWord file.now.automaton p start_mask (reverse word.now)) }
-    requires bounds { OfPattern file.now pattern (λ p. BoundsWithin (length (meanings file.now.automaton p start_mask (reverse word.now))) bounds.now) }
-    ensures system { IfOk result (λ encoded. OfPattern file.now pattern (λ p. SystemOf file.now.automaton p start_mask (reverse word.now) bounds.now encoded.system)) }
-    ensures meanings { IfOk result (λ encoded. OfPattern file.now pattern (λ p. encoded.meanings ≡ meanings file.now.automaton p start_mask (reverse word.now))) }
+    requires legal { LegalWord task.automaton.now task.pattern.now start_mask (reverse word.now) }
+    requires bounds { BoundsWithin (length (meanings task.automaton.now task.pattern.now start_mask (reverse word.now))) bounds.now }
+    ensures system { IfOk result (λ encoded. SystemOf task.entry.automaton.now task.entry.pattern.now start_mask (reverse word.now) bounds.now encoded.system) }
+    ensures meanings { IfOk result (λ encoded. encoded.meanings ≡ meanings task.entry.automaton.now task.entry.pattern.now start_mask (reverse word.now)) }
 {
-    let item = &file.patterns.as_slice()[pattern as usize];
-    let origin = Origin {
-        file,
-        number: pattern,
-        pattern: item,
-        start_mask,
-    };
+    let origin = Origin { task, start_mask };
     let mut draft = Draft::start(alloc, &origin)?;
     draft.push_elements(&origin, word.elements())?;
     let encoded = draft.encoded(bounds)?;

@@ -2,11 +2,10 @@
 #![tactic(auto)]
 
 ghost use Rattle.std.specs.Prelude.{ℕ, ◌+◌, ◌-◌, ◌^◌, ◌<◌, ◌≤◌, ◌≡◌, ◌↔◌, [], List, IfOk, IsTrue, OnOk, length, reverse, take};
-ghost use Rattle.ta_words.specs.Calls.{OfPattern};
 ghost use Rattle.ta_words.specs.Words.{LegalWord};
 ghost use Rattle.ta_encode.specs.Code.{SystemOf};
 ghost use Rattle.ta_encode.specs.Ends.{EndedSystem};
-ghost use Rattle.ta_encode.specs.Inside.Draft.{IsDraft, IsNamed};
+ghost use Rattle.ta_encode.specs.Inside.Draft.{IsDraft};
 ghost use Rattle.ta_encode.specs.Lines.{BoundsWithin};
 ghost use Rattle.ta_encode.specs.Inside.Lines.{IsBehind};
 ghost use Rattle.ta_encode.specs.Unknowns.{meanings};
@@ -22,11 +21,10 @@ use crate::ending::WordEnd;
 use crate::meaning::{Bound, Meaning};
 use crate::origin::Origin;
 use std::alloc::{AllocError, Global};
-use ta_automaton::File;
 use ta_base::List;
 use ta_base::limits::LONGEST_WORD;
 use ta_linear::{Row, System};
-use ta_words::{Element, Word};
+use ta_words::{Element, Task, Word};
 
 /// How many unknowns and rows there are after some of a word's elements.
 #[derive(Clone, Copy)]
@@ -87,13 +85,12 @@ fn push_from(
     marks: &mut Vec<Mark>,
     draft: &mut Draft,
 ) -> Result<(), AllocError>
-    requires named { IsNamed origin.now }
     requires few { length elements.now ≤ LONGEST_WORD }
     requires from { from ≤ length elements.now }
     requires marked { length marks.old.items ≡ from + 1 }
-    requires marks { AreMarks origin.now.file.now.automaton origin.now.pattern.now origin.now.start_mask elements.now draft.old.meanings.items draft.old.rows.items marks.old.items }
+    requires marks { AreMarks origin.now.task.automaton.now origin.now.task.pattern.now origin.now.start_mask elements.now draft.old.meanings.items draft.old.rows.items marks.old.items }
     requires drafted { IsDraft origin.now (reverse (take from elements.now)) draft.old }
-    ensures marks { OnOk result (AreMarks origin.now.file.now.automaton origin.now.pattern.now origin.now.start_mask elements.now draft.new.meanings.items draft.new.rows.items marks.new.items) }
+    ensures marks { OnOk result (AreMarks origin.now.task.automaton.now origin.now.task.pattern.now origin.now.start_mask elements.now draft.new.meanings.items draft.new.rows.items marks.new.items) }
     ensures drafted { OnOk result (IsDraft origin.now (reverse elements.now) draft.new) }
     ensures rows { OnOk result (IsBehind draft.old.rows.items draft.new.rows.items) }
 {
@@ -124,7 +121,6 @@ pub struct Grown {
 
 /// What is written at the start.
 fn begin<'a>(alloc: Global, origin: &Origin<'a>) -> Result<Part<'a>, AllocError>
-    requires { IsNamed origin.now }
     ensures { IfOk result (λ part. (elements : List Element) (before : List Row) → IsPart origin.now elements before part) }
 {
     let draft = Draft::start(alloc, origin)?;
@@ -167,9 +163,8 @@ fn part_of<'a>(
     elements: &[Element],
     encoding: Encoding,
 ) -> Result<Part<'a>, AllocError>
-    requires named { IsNamed origin.now }
     requires few { length elements.now ≤ LONGEST_WORD }
-    requires encoding { IsEncoding origin.now.file.now.automaton origin.now.pattern.now encoding }
+    requires encoding { IsEncoding origin.now.task.automaton.now origin.now.task.pattern.now encoding }
     ensures { IfOk result (IsPart origin.now elements.now encoding.system.rows) }
 {
     let Encoding {
@@ -186,7 +181,7 @@ fn part_of<'a>(
         let same = rows.len();
         let draft = Draft {
             alloc,
-            automaton: &origin.file.automaton,
+            automaton: origin.task.automaton,
             meanings,
             rows,
         };
@@ -208,12 +203,11 @@ fn finish(
     bounds: &[Bound],
     part: Part,
 ) -> Result<Grown, AllocError>
-    requires named { IsNamed origin.now }
     requires few { length elements.now ≤ LONGEST_WORD }
-    requires bounds { BoundsWithin (length (meanings origin.now.file.now.automaton origin.now.pattern.now origin.now.start_mask (reverse elements.now))) bounds.now }
+    requires bounds { BoundsWithin (length (meanings origin.now.task.automaton.now origin.now.task.pattern.now origin.now.start_mask (reverse elements.now))) bounds.now }
     requires part { IsPart origin.now elements.now part.draft.rows.items part }
-    ensures encoding { IfOk result (λ grown. IsEncoding origin.now.file.now.automaton origin.now.pattern.now grown.encoding) }
-    ensures system { IfOk result (λ grown. EndedSystem origin.now.file.now.automaton origin.now.pattern.now origin.now.start_mask (reverse elements.now) end bounds.now grown.encoding.system) }
+    ensures encoding { IfOk result (λ grown. IsEncoding origin.now.task.automaton.now origin.now.task.pattern.now grown.encoding) }
+    ensures system { IfOk result (λ grown. EndedSystem origin.now.task.automaton.now origin.now.task.pattern.now origin.now.start_mask (reverse elements.now) end bounds.now grown.encoding.system) }
     ensures same { IfOk result (λ grown. (grown.same ≡ part.entry.same) × IsBehind part.entry.draft.rows.items grown.encoding.system.rows) }
 {
     let Part {
@@ -258,21 +252,19 @@ impl Encoding {
     pub fn grown(
         self,
         alloc: Global,
-        file: &File,
-        pattern: u32,
+        task: Task<'_>,
         start_mask: u8,
         word: &Word,
         bounds: &[Bound],
     ) -> Result<Grown, AllocError>
-        requires exists { pattern < length file.now.patterns }
-        requires legal { OfPattern file.now pattern (λ p. LegalWord file.now.automaton p start_mask (reverse word.now)) }
-        requires bounds { OfPattern file.now pattern (λ p. BoundsWithin (length (meanings file.now.automaton p start_mask (reverse word.now))) bounds.now) }
-        requires encoding { OfPattern file.now pattern (λ p. IsEncoding file.now.automaton p self) }
-        ensures encoding { IfOk result (λ grown. OfPattern file.now pattern (λ p. IsEncoding file.now.automaton p grown.encoding)) }
-        ensures system { IfOk result (λ grown. OfPattern file.now pattern (λ p. SystemOf file.now.automaton p start_mask (reverse word.now) bounds.now grown.encoding.system)) }
+        requires legal { LegalWord task.automaton.now task.pattern.now start_mask (reverse word.now) }
+        requires bounds { BoundsWithin (length (meanings task.automaton.now task.pattern.now start_mask (reverse word.now))) bounds.now }
+        requires encoding { IsEncoding task.automaton.now task.pattern.now self }
+        ensures encoding { IfOk result (λ grown. IsEncoding task.entry.automaton.now task.entry.pattern.now grown.encoding) }
+        ensures system { IfOk result (λ grown. SystemOf task.entry.automaton.now task.entry.pattern.now start_mask (reverse word.now) bounds.now grown.encoding.system) }
         ensures same { IfOk result (λ grown. SameRows self.system.rows grown.same grown.encoding.system.rows) }
     {
-        self.grown_to(alloc, file, pattern, start_mask, word, None, bounds)
+        self.grown_to(alloc, task, start_mask, word, None, bounds)
     }
 
     /// As `grown`, with rows of the word's end, where anything is asked of it, between those of the
@@ -280,28 +272,20 @@ impl Encoding {
     pub fn grown_to(
         self,
         alloc: Global,
-        file: &File,
-        pattern: u32,
+        task: Task<'_>,
         start_mask: u8,
         word: &Word,
         end: Option<WordEnd>,
         bounds: &[Bound],
     ) -> Result<Grown, AllocError>
-        requires exists { pattern < length file.now.patterns }
-        requires legal { OfPattern file.now pattern (λ p. LegalWord file.now.automaton p start_mask (reverse word.now)) }
-        requires bounds { OfPattern file.now pattern (λ p. BoundsWithin (length (meanings file.now.automaton p start_mask (reverse word.now))) bounds.now) }
-        requires encoding { OfPattern file.now pattern (λ p. IsEncoding file.now.automaton p self) }
-        ensures encoding { IfOk result (λ grown. OfPattern file.now pattern (λ p. IsEncoding file.now.automaton p grown.encoding)) }
-        ensures system { IfOk result (λ grown. OfPattern file.now pattern (λ p. EndedSystem file.now.automaton p start_mask (reverse word.now) end bounds.now grown.encoding.system)) }
+        requires legal { LegalWord task.automaton.now task.pattern.now start_mask (reverse word.now) }
+        requires bounds { BoundsWithin (length (meanings task.automaton.now task.pattern.now start_mask (reverse word.now))) bounds.now }
+        requires encoding { IsEncoding task.automaton.now task.pattern.now self }
+        ensures encoding { IfOk result (λ grown. IsEncoding task.entry.automaton.now task.entry.pattern.now grown.encoding) }
+        ensures system { IfOk result (λ grown. EndedSystem task.entry.automaton.now task.entry.pattern.now start_mask (reverse word.now) end bounds.now grown.encoding.system) }
         ensures same { IfOk result (λ grown. SameRows self.system.rows grown.same grown.encoding.system.rows) }
     {
-        let item = &file.patterns.as_slice()[pattern as usize];
-        let origin = Origin {
-            file,
-            number: pattern,
-            pattern: item,
-            start_mask,
-        };
+        let origin = Origin { task, start_mask };
         let elements = word.elements();
         let part = part_of(alloc, &origin, elements, self)?;
         let grown = finish(&origin, elements, end, bounds, part)?;

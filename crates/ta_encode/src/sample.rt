@@ -24,13 +24,7 @@ pub fn encode_sample(alloc: Global, file: &File, bounds: &[Bound]) -> Result<Enc
 {
     let automaton = &file.automaton;
     let meanings = sample_meanings(alloc, automaton)?;
-    let rows = Vec::new(alloc);
-    let mut draft = Draft {
-        alloc,
-        automaton,
-        meanings,
-        rows,
-    };
+    let mut draft = Draft::of(alloc, automaton, meanings);
     draft.push_condition(&automaton.resilience)?;
     draft.push_processes()?;
     let encoded = draft.encoded(bounds)?;

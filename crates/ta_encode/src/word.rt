@@ -3,7 +3,7 @@
 
 ghost use Rattle.std.specs.Prelude.{ℕ, ◌+◌, ◌^◌, ◌≤◌, ◌<◌, ◌∷◌, [], IfOk, OnOk, filter, length, reverse, map};
 ghost use Rattle.ta_base.specs.Masks.{has_bit, numbers_from};
-ghost use Rattle.ta_encode.specs.Inside.Draft.{AddsUnknowns, Continues, IsDraft, IsNamed};
+ghost use Rattle.ta_encode.specs.Inside.Draft.{AddsUnknowns, Continues, IsDraft};
 ghost use Rattle.ta_encode.specs.Inside.Firings.{firing};
 
 use crate::draft::Draft;
@@ -16,21 +16,15 @@ use ta_words::{Element, allowed_after, fallen_after};
 impl<'a> Draft<'a> {
     /// The unknowns and rows at the start.
     pub(crate) fn start(alloc: Global, origin: &Origin<'a>) -> Result<Draft<'a>, AllocError>
-        requires named { IsNamed origin.now }
         ensures { IfOk result (IsDraft origin.now []) }
     {
-        let automaton = &origin.file.automaton;
-        let meanings = start_meanings(alloc, automaton, origin.pattern)?;
-        let rows = Vec::new(alloc);
-        let mut draft = Draft {
-            alloc,
-            automaton,
-            meanings,
-            rows,
-        };
+        let automaton = origin.task.automaton;
+        let pattern = origin.task.pattern;
+        let meanings = start_meanings(alloc, automaton, pattern)?;
+        let mut draft = Draft::of(alloc, automaton, meanings);
         draft.push_condition(&automaton.resilience)?;
         draft.push_processes()?;
-        draft.push_condition(&origin.pattern.start)?;
+        draft.push_condition(&pattern.start)?;
         draft.push_start_guards(origin.start_mask)?;
         Ok(draft)
     }
@@ -52,15 +46,14 @@ impl<'a> Draft<'a> {
         before: &[Element],
         element: Element,
     ) -> Result<(), AllocError>
-        requires named { IsNamed origin.now }
         requires few { length before.now < LONGEST_WORD }
         requires drafted { IsDraft origin.now (reverse before.now) self.old }
         ensures { OnOk result (Continues origin.now (element ∷ reverse before.now) self.old self.new) }
     {
         let number = before.len() as u32;
-        let pattern = origin.pattern;
+        let pattern = origin.task.pattern;
         let empty = pattern.empty;
-        let allowed = allowed_after(origin.file, origin.number, origin.start_mask, before);
+        let allowed = allowed_after(origin.task, origin.start_mask, before);
         let fallen = fallen_after(origin.start_mask, before);
         self.push_firings(allowed, number, false)?;
         match element {
@@ -84,7 +77,6 @@ impl<'a> Draft<'a> {
         origin: &Origin,
         elements: &[Element],
     ) -> Result<(), AllocError>
-        requires named { IsNamed origin.now }
         requires few { length elements.now ≤ LONGEST_WORD }
         requires drafted { IsDraft origin.now [] self.old }
         ensures { OnOk result (IsDraft origin.now (reverse elements.now) self.new) }

@@ -12,7 +12,7 @@ pub use mir.Val.{SFits, of_z, to_z}
 pub use Rattle.ta_base.proofs.Integers.{div-one, minus_one_negates, negated, no_times, pos_out, product_positive, unsigned_abs-neg, zero_from_bits, zero_minus, zero_or_not}
 pub use Rattle.ta_base.proofs.Lists.{at_drop, range_more}
 pub use Rattle.ta_base.proofs.Naturals.{at_or_not, equal_or_not, some_or_not}
-pub use Rattle.ta_base.proofs.Options.{SomeIff-same, none_or_some, not_both, same_index, some_below}
+pub use Rattle.ta_base.proofs.Options.{none_or_some, not_both, same_index, some_below}
 pub use Rattle.ta_dense.proofs.ProperFacts.{Factored, IsProper-merged, IsProper-turned, factored, in_range-div, merged-zero, merged_from}
 pub use Rattle.ta_dense.proofs.ReduceFacts.{divisor_positive, fits_minus}
 pub use Rattle.ta_dense.proofs.RowFacts.{record_same}

@@ -167,16 +167,12 @@ impl Dictionary for LinkedDictionary {
         self.rows.len() as u32
     }
 
-    fn columns(&self) -> u32 {
-        self.non_basic.len() as u32
-    }
-
     fn basic(&self, row: u32) -> u32 {
         head_of(&self.rows, row).basic
     }
 
-    fn non_basic(&self, column: u32) -> u32 {
-        self.non_basic[column as usize]
+    fn non_basic_variables(&self) -> &[u32] {
+        &self.non_basic
     }
 
     fn denominator(&self, row: u32) -> i128 {

@@ -1,9 +1,7 @@
 //! Rows that are merged with a chosen one.
 
-ghost use Rattle.std.specs.Prelude.{◌≡◌, ◌≢◌, ◌<◌, ◌≤◌, ◌+◌, ◌^◌, ℕ, pos, ◌*ℤ◌, ◌-ℤ◌, ◌<ℤ◌, int_div, length, IfOk, IfSome, IfNone};
-ghost use Rattle.std.specs.Option.{SomeIff};
+ghost use Rattle.std.specs.Prelude.{◌≡◌, ◌≢◌, ◌<◌, ◌≤◌, ◌+◌, ◌^◌, ℕ, pos, ◌<ℤ◌, int_div, length, IfOk, IfSome, IfNone};
 ghost use Rattle.ta_linear.specs.Numbers.{InRange};
-ghost use Rattle.ta_dense.specs.Merge.{CombinesInRange};
 ghost use Rattle.ta_links.specs.Chains.{along_rows};
 ghost use Rattle.ta_links.specs.Values.{value_in, filled_places};
 ghost use Rattle.ta_links.specs.Gaps.{AreSound, IsSought, MayBefore};
@@ -14,16 +12,8 @@ use crate::putting::put;
 use crate::reading::number_behind;
 use crate::seeking::seek_in_row;
 use std::alloc::AllocError;
-use ta_linear::{gcd_natural, minus, multiply};
-
-// `p * a - q * c`, where each part is in range.
-pub(crate) fn combined(p: i128, a: i128, q: i128, c: i128) -> Option<i128>
-    ensures { SomeIff result (CombinesInRange p a q c) (p *ℤ a -ℤ q *ℤ c) }
-{
-    let left = multiply(p, a)?;
-    let right = multiply(q, c)?;
-    minus(left, right)
-}
+use ta_dense::combined;
+use ta_linear::gcd_natural;
 
 /// The last cells before a place in the row that is merged and in the chosen one.
 #[derive(Clone, Copy)]

@@ -1,6 +1,7 @@
 //! Rows that are merged with a chosen one, head and cells.
 
 ghost use Rattle.std.specs.Prelude.{◌≡◌, ◌≢◌, ◌<◌, pos, set, true, false, ◌<ℤ◌, length, IfOk, IfSome, IfNone};
+ghost use Rattle.ta_linear.specs.Numbers.{InRange};
 ghost use Rattle.ta_dense.specs.Merge.{MergesInRange};
 ghost use Rattle.ta_links.specs.Values.{value_in};
 ghost use Rattle.ta_links.specs.Gaps.{AreSound};
@@ -8,15 +9,16 @@ ghost use Rattle.ta_links.specs.Linked.{AreProperHeads};
 ghost use Rattle.ta_links.specs.Merging.{MayMerge, HeadsMerge, MergedHead, RowMerged, row_in};
 
 use crate::linked_cells::LinkedCells;
-use crate::merging::{combined, divisor_of_merged, quotient, write_merged};
+use crate::merging::{divisor_of_merged, quotient, write_merged};
 use crate::reading::{head_of, number};
 use crate::row_head::RowHead;
 use std::alloc::AllocError;
-use ta_dense::factors;
+use ta_dense::{combined, factors};
 use ta_linear::{gcd_natural, multiply};
 
 // The merged denominator and constant, and what the column gets.
 fn merged_head(p: i128, q: i128, head: RowHead, chosen: RowHead) -> Option<(i128, i128, i128)>
+    requires { InRange head.constant }
     ensures some { IfSome result (MergedHead p q head chosen) }
     ensures none { IfNone result (¬ (HeadsMerge p q head chosen)) }
 {

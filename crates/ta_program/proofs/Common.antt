@@ -35,7 +35,7 @@ pub use Rattle.ta_program.specs.Check.{CheckHolds, check_meaning, check_of, prov
 pub use Rattle.ta_program.specs.Compress.{CompressFaultIn, CompressHolds, IsRefusedRun, IsTextFault, SaysShort, ShortOf, compress_meaning, compress_of, long_kind, of_run, short_meaning}
 pub use Rattle.ta_program.specs.Export.{ExportHolds, SaysSystem, WordHinders, export_meaning, export_of, export_words, system_meaning, word_fault_text}
 pub use Rattle.ta_program.specs.Faults.{FaultsAreNamed, HinderAlike, HinderOnce, NamesFault, OfCommand, OneFault}
-pub use Rattle.ta_program.specs.Inside.Certifying.{Certifies, SaysLong}
+pub use Rattle.ta_program.specs.Inside.Certifying.{Certifies, ReportsAndPuts, SaysLong}
 pub use Rattle.ta_program.specs.Inside.Found.{EndsRefused, WordRefused}
 pub use Rattle.ta_program.specs.Inside.Judged.{Breaks, IsAllowed, IsUnproved, JudgedTo, JudgedWhole, PassesLimit, PieceFed, RefusedBy, Turn}
 pub use Rattle.ta_program.specs.Inside.Reported.{RestReported, SampleReported}
@@ -77,7 +77,7 @@ pub use Rattle.ta_report.specs.declared.verdict.Verdict.TheVariants.{Overflow, S
 pub use Rattle.ta_rest.specs.Endings.{Endings, IsEnding, LastMoved, RestAdded, events_below}
 pub use Rattle.ta_rest.specs.Rest.{RestOccurs, RestSafe}
 pub use Rattle.ta_rest_verdict.specs.Certificates.{RestCertificateOf}
-pub use Rattle.ta_resting.specs.Verdicts.{AreRestVerdicts, RestUnsafeHolds, RestVerdictHolds, RestVerdictsHold}
+pub use Rattle.ta_rest_verdict.specs.Verdicts.{AreRestVerdicts, RestUnsafeHolds, RestVerdictHolds, RestVerdictsHold}
 pub use Rattle.ta_scope.specs.LongerCycles.{FirstLongerCycle, LoopsAlone}
 pub use Rattle.ta_scope.specs.declared.scoped.ScopedFile.{ScopedFile}
 pub use Rattle.ta_search.proofs.OneFault.{no_fault, one_fault, one_template}

@@ -1,7 +1,7 @@
 -- what `rest` and `rest-check` say grows with what is seen, and told files leave one number
 use Rattle.ta_program.proofs.Common.{◌≡◌, ◌∙◌, ℕ, List, [], length, Option, None, Some, refl, sym, ap, subst, inl, inr, arith, IsSome, cases_order, Automaton, File, FirstLongerCycle, claiming, one_legal, rest_check_text, Verdict, RestCertificateOf, Told, Decides, IsSo, Meaning, put_bytes, in_files, Answer, Writes, finds, replies, after_monotone, finds_monotone, finds_one, no_hindrance, one_number, replies_monotone, replies_one, settles_monotone, Monotone, whole_one, PassesWhere, may_put, certificate_kind, file_kind, HindersRest, LongRest, RestReports, rest_meaning, rest_report_meaning, rest_check_meaning, rest_proved_meaning, CycleHinders, FileEndings, IsEnds, LegalAtRest, with_ends, verdicts_number}
 use Rattle.ta_claim.specs.declared.claim.Claim.TheVariants.{RestSafe}
-use Rattle.ta_resting.proofs.VerdictsOnce.{verdicts_once}
+use Rattle.ta_rest_verdict.proofs.VerdictsOnce.{verdicts_once}
 use Rattle.ta_rest_verdict.proofs.CertificatesOnce.{rest_certificates_once}
 use Rattle.ta_program.proofs.EndsOnce.{ends_once}
 use Rattle.ta_program.proofs.Meanings.{file_decides, second_passes}

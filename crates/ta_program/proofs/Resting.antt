@@ -1,13 +1,13 @@
 -- what the commands on runs that come to rest make of FILE's endings
-use Rattle.ta_program.proofs.Common.{◌≡◌, ◌∙◌, ◌+◌, ◌≤◌, ℕ, true, List, [], ◌∷◌, ◌++◌, Option, None, Some, Result, Ok, Err, refl, sym, ap, subst, arith, length, list_any, Automaton, File, Pattern, RestCertificate, proofs_told, rest_check_text, word_told, rest_text, ReportSample, Verdict, Endings, AreRestVerdicts, RestCertificateOf, Told, Answer, Refusal, Refused, ReadFailed, PutFailed, Memory, Meaning, Says, PutsWithin, ReadCause, finds, finds_memory, finds_wrong, safe_numbers, IsSample, NoSample, SampleReal, place_of, Certifies, EndsRefused, RestReported, rest_report_meaning, CycleHinders, FileEndings, IsEnds, ends_of, verdicts_number}
+use Rattle.ta_program.proofs.Common.{◌≡◌, ◌∙◌, ◌+◌, ◌≤◌, ℕ, true, List, [], ◌∷◌, ◌++◌, Option, None, Some, Result, Ok, Err, refl, sym, ap, subst, arith, length, Automaton, File, Pattern, RestCertificate, proofs_told, rest_check_text, word_told, rest_text, ReportSample, Verdict, Endings, AreRestVerdicts, RestCertificateOf, Told, Answer, Refusal, Refused, ReadFailed, PutFailed, Memory, Meaning, Says, PutsWithin, ReadCause, finds, finds_memory, finds_wrong, safe_numbers, IsSample, NoSample, SampleReal, place_of, Certifies, EndsRefused, ReportsAndPuts, RestReported, RestReports, HindersRest, rest_report_meaning, CycleHinders, FileEndings, IsEnds, ends_of, verdicts_number}
 use Rattle.std.proofs.Common.{codes}
 use Rattle.ta_report.specs.declared.verdict.ReportSample.TheVariants as sample
 use Rattle.ta_rest.specs.Faults.{EndingsOf}
 use Rattle.ta_rest.specs.declared.rest_file.RestFile.{RestFile}
-use Rattle.ta_resting.proofs.TextsAlike.{texts_alike}
+use Rattle.ta_rest_verdict.proofs.TextsAlike.{texts_alike}
 use Rattle.ta_walk.specs.Samples.{IsSampleEnd}
 use Rattle.ta_walk.specs.declared.end.SampleEnd.TheVariants as samples
-use Rattle.ta_program.proofs.Certifying.{low_by, puts_within}
+use Rattle.ta_program.proofs.Certifying.{few_by, settled}
 
 -- a file without endings is told of, and nothing more is read
 pub ends_refused : (name : List ℕ) (file : File) (puts : List (List ℕ)) (rest : FileEndings → Meaning) (files : Option Told) (refusal : Refusal) → EndsRefused name file refusal → Says (finds (IsEnds file) (CycleHinders name file) puts rest) files (Err refusal) []
@@ -51,14 +51,11 @@ module _ (rest : RestFile) (file : File) (ends : EndingsOf file rest.ending.file
   text_own : report ≡ rest_text file reported.sample vs
   text_own = reported.written ∙ texts_alike file rest.ending.file rest.added ends reported.sample vs are.fit
 
-  low : number ≤ 2
-  low = subst (λ (n : ℕ). n ≤ 2) (sym numbered) (low_by (list_any _ vs) (list_any _ vs))
-
   pub plain_says : (answer : Answer) → answer.number ≡ number → answer.text ≡ report → answer.puts ≡ [] → Says (rest_report_meaning budget None file (ends_of rest)) files (Ok answer) []
   plain_says answer same written none = record {
     opened = refl;
     judges = record {
-      low = subst (λ (n : ℕ). n ≤ 2) (sym same) low;
+      low = few_by vs answer.number (same ∙ numbered);
       holds = record {
         sample = reported.sample;
         is_sample = sample_own file rest.ending.file budget reported.sample ends.automaton reported.is_sample;
@@ -73,44 +70,25 @@ module _ (rest : RestFile) (file : File) (ends : EndingsOf file rest.ending.file
   }
 
   module _ (out text : List ℕ) (certificate : RestCertificateOf rest.ending.file budget vs text) (accepted : RestCertificate rest.ending.file text (safe_numbers rest.ending.file vs)) where
-    pub certified_says : (result : Result Answer Refusal) → Certifies number report out text result → Says (rest_report_meaning budget (Some out) file (ends_of rest)) files result []
-    certified_says (Ok answer) c = record {
-      opened = refl;
-      judges = record {
-        low = subst (λ (n : ℕ). n ≤ 2) (sym c.numbered) low;
-        holds = record {
-          sample = reported.sample;
-          is_sample = sample_own file rest.ending.file budget reported.sample ends.automaton reported.is_sample;
-          verdicts = vs;
-          are = are;
-          numbered = c.numbered ∙ numbered;
-          written = c.written ∙ text_own;
-          puts = record {
-            put = c.put;
-            only = c.only;
-            named = c.named;
-            certificate = subst (RestCertificateOf rest.ending.file budget vs) (sym c.holds) certificate;
-            within = (let few = c.within in let same = c.holds in omega (arith, ap length same));
-            accepted = subst (λ (t : List ℕ). RestCertificate rest.ending.file t (safe_numbers rest.ending.file vs)) (sym c.holds) accepted;
-          };
-        };
-        within = puts_within out c.put answer.puts c.only c.named;
+    reports : (answer : Answer) → ReportsAndPuts number report out text answer → RestReports file (ends_of rest) budget (Some out) answer
+    reports answer c = record {
+      sample = reported.sample;
+      is_sample = sample_own file rest.ending.file budget reported.sample ends.automaton reported.is_sample;
+      verdicts = vs;
+      are = are;
+      numbered = c.numbered ∙ numbered;
+      written = c.written ∙ text_own;
+      puts = record {
+        put = c.put;
+        only = c.only;
+        named = c.named;
+        certificate = subst (RestCertificateOf rest.ending.file budget vs) (sym c.holds) certificate;
+        within = (let few = c.within in let same = c.holds in omega (arith, ap length same));
+        accepted = subst (λ (t : List ℕ). RestCertificate rest.ending.file t (safe_numbers rest.ending.file vs)) (sym c.holds) accepted;
       };
     }
-    certified_says (Err (Refused n who why)) c =
-        let four = c.0 in
-        record {
-          opened = refl;
-          judges = (
-            omega (arith, four),
-            omega (arith, four),
-            record {
-              numbered = c.0;
-              said = c.1;
-              long = record { verdicts = vs; are = are; text = text; certificate = certificate; longer = c.2 };
-            },
-          );
-        }
-    certified_says (Err (ReadFailed who)) c = absurd c
-    certified_says (Err (PutFailed who)) c = absurd c
-    certified_says (Err Memory) c = record { opened = refl; judges = tt }
+
+    pub certified_says : (result : Result Answer Refusal) → Certifies number report out text result → Says (rest_report_meaning budget (Some out) file (ends_of rest)) files result []
+    certified_says =
+        settled (RestReports file (ends_of rest) budget (Some out)) (HindersRest file (ends_of rest) budget (Some out)) number report out text (few_by vs number numbered) reports
+        (λ n line same said longer. record { numbered = same; said = said; long = record { verdicts = vs; are = are; text = text; certificate = certificate; longer = longer } }) files

@@ -6,7 +6,7 @@ use Rattle.ta_check.specs.Certificate.{RestCertificate}
 use Rattle.ta_report.specs.declared.verdict.ReportSample.{ReportSample}
 use Rattle.ta_report.specs.declared.verdict.Verdict.{Verdict}
 use Rattle.ta_report.specs.Report.{rest_text}
-use Rattle.ta_resting.specs.Verdicts.{AreRestVerdicts, RestVerdictHolds}
+use Rattle.ta_rest_verdict.specs.Verdicts.{AreRestVerdicts, RestVerdictHolds}
 use Rattle.ta_rest_verdict.specs.Certificates.{RestCertificateOf}
 use Rattle.ta_shelf.specs.Put.{Told, WhereTold}
 use Rattle.ta_shelf.specs.Sink.{with_text}

@@ -72,16 +72,10 @@ impl<'a> Command for Admit<'a> {
 fn read_admit<'a>(words: &[&'a str]) -> Option<Admit<'a>>
     ensures { option_map (λ command. admit_seen command.asked command.values.now) result ≡ admit_words (map (λ w. w.now) words.now) }
 {
-    let Some(taken) = take_words(5, &[], words) else {
-        return None;
-    };
-    let Some(asked) = asked_of(&taken) else {
-        return None;
-    };
-    match file_name_of(taken.plain(4)) {
-        Some(values) => Some(Admit { asked, values }),
-        None => None,
-    }
+    let taken = take_words(5, &[], words)?;
+    let asked = asked_of(&taken)?;
+    let values = file_name_of(taken.plain(4))?;
+    Some(Admit { asked, values })
 }
 
 /// Reads a file, looks for its word, reads values, and answers the text of their run.

@@ -67,13 +67,9 @@ impl Command for Bench {
 fn read_bench(words: &[&str]) -> Option<Bench>
     ensures { option_map (λ command. command.k) result ≡ bench_words (map (λ w. w.now) words.now) }
 {
-    let Some(taken) = take_words(1, &[], words) else {
-        return None;
-    };
-    match family_number(taken.plain(0)) {
-        Some(k) => Some(Bench { k }),
-        None => None,
-    }
+    let taken = take_words(1, &[], words)?;
+    let k = family_number(taken.plain(0))?;
+    Some(Bench { k })
 }
 
 /// The number that a word is: `1` to `7`.

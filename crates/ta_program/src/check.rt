@@ -1,7 +1,7 @@
 //! The command `check`.
 #![tactic(auto)]
 
-ghost use Rattle.std.specs.Prelude.{ℕ, ◌≡◌, ◌≤◌, List, [], length, Option, map, option_map};
+ghost use Rattle.std.specs.Prelude.{ℕ, ◌≡◌, ◌≤◌, List, [], length, Option};
 ghost use Rattle.ta_check.specs.Checkers.{IsSoundChecker, CheckerStandsFor, subject_of};
 ghost use Rattle.ta_report.specs.Check.{check_text};
 ghost use Rattle.ta_shelf.specs.Calls.{Call, Grew};
@@ -9,18 +9,14 @@ ghost use Rattle.ta_shelf.specs.Put.{Told};
 ghost use Rattle.ta_shell.specs.Commands.{Says};
 ghost use Rattle.ta_shell.specs.Reading.{ReadCause};
 ghost use Rattle.ta_shell.specs.Stages.{Stage, Writes, replies};
-ghost use Rattle.ta_program.specs.Check.{check_meaning, proved_meaning};
+ghost use Rattle.ta_program.specs.Check.{proved_meaning};
 ghost use Rattle.ta_program.specs.Inside.Judged.{JudgingGives, JudgedTo, PieceFed, RefusedBy, Turn};
 ghost use Rattle.ta_program.specs.Kinds.{certificate_kind};
-ghost use Rattle.ta_program.specs.Taken.{names_seen};
-ghost use Rattle.ta_program.specs.Values.{two_names};
 
 use crate::limits::CERTIFICATE;
 use crate::reading::read_legal;
-use crate::request::Request;
-use crate::values::{TwoNames, two_names};
+use crate::two_files::OfTwoFiles;
 use std::alloc::{AllocError, Global};
-use std::thread::Threads;
 use ta_automaton::File;
 use ta_base::Text;
 use ta_cert::CertFault;
@@ -28,68 +24,37 @@ use ta_check::{Accepted, Checker};
 use ta_report::{cert_fault_phrase, check_text};
 use ta_scope::ScopedFile;
 use ta_shelf::{Shelf, read_piece};
-use ta_shell::{Answer, Command, Refusal, too_long, unread};
+use ta_shell::{Answer, Refusal, too_long, unread};
 
 /// How many bytes of a certificate are read at once.
 const PIECE: usize = 65_536;
 
-/// What `check` is asked for.
+/// Reads a file, then a certificate, and says which patterns are proved.
 #[derive(Drop)]
-pub(crate) struct Check<'a> {
-    names: TwoNames<'a>,
-}
+pub(crate) struct Check;
 
-impl<'a> Request<'a> for Check<'a> {
-    ghost use Rattle.ta_program.specs.Check.{check_asked};
-
-    ghost asked = { check_asked };
-
-    fn read(words: &[&'a str]) -> Option<Check<'a>> {
-        read_check(words)
-    }
-}
-
-impl<'a> Command for Check<'a> {
+impl OfTwoFiles for Check {
+    ghost use Rattle.std.specs.Prelude.{Some};
+    ghost use Rattle.ta_program.specs.Asked.{LegalFile};
     ghost use Rattle.ta_program.specs.Check.{check_meaning};
 
-    ghost meaning = { λ command. check_meaning command.names.file.now command.names.other.now };
+    ghost legal = { λ name told. LegalFile told (Some name) };
 
-    fn judge<R: Threads + Sync, S: Shelf>(
-        &self,
-        rt: &R,
+    ghost stated = { check_meaning };
+
+    fn judge_files<'a, S: Shelf>(
         alloc: Global,
         shelf: &mut S,
-    ) -> Result<Answer, Refusal<'_>> {
-        let _ = rt;
-        judge_check(alloc, shelf, self.names.file, self.names.other)
+        file: &'a str,
+        other: &'a str,
+    ) -> Result<Answer, Refusal<'a>> {
+        match read_legal(alloc, shelf, file) {
+            Ok(scoped) => judge_certificate(alloc, shelf, &scoped, other),
+            Err(refusal) => Err(refusal),
+        }
     }
-}
 
-/// Reads the words of `check`.
-fn read_check<'a>(words: &[&'a str]) -> Option<Check<'a>>
-    ensures { option_map (λ command. names_seen command.names) result ≡ two_names (map (λ w. w.now) words.now) }
-{
-    match two_names(words) {
-        Some(names) => Some(Check { names }),
-        None => None,
-    }
-}
-
-/// Reads a file, then a certificate, and says which patterns are proved.
-fn judge_check<'a, S: Shelf>(
-    alloc: Global,
-    shelf: &mut S,
-    file: &'a str,
-    certificate: &'a str,
-) -> Result<Answer, Refusal<'a>>
-    ensures says { Grew (Says (check_meaning file.now certificate.now) (S.files shelf.old) result) (S.calls shelf.old) (S.calls shelf.new) }
-    ensures cause { ReadCause result (S.faults shelf.old) (S.faults shelf.new) }
-    ensures kept { S.files shelf.new ≡ S.files shelf.old }
-{
-    match read_legal(alloc, shelf, file) {
-        Ok(scoped) => judge_certificate(alloc, shelf, &scoped, certificate),
-        Err(refusal) => Err(refusal),
-    }
+    fn is_determined() {}
 }
 
 /// Reads a certificate of a file, and says which patterns are proved.

@@ -1,7 +1,7 @@
 //! The command `compress`.
 #![tactic(auto)]
 
-ghost use Rattle.std.specs.Prelude.{◌≡◌, ◌≢◌, ◌++◌, [], codes, decimal, unsigned_abs, IfOk, IfErr, Option, map, option_map};
+ghost use Rattle.std.specs.Prelude.{◌≡◌, ◌≢◌, ◌++◌, [], codes, decimal, unsigned_abs, IfOk, IfErr, Option};
 ghost use Rattle.ta_compress.specs.declared.fault.CompressFault.TheVariants as fault;
 ghost use Rattle.ta_replay.specs.declared.run.Run.{Run};
 ghost use Rattle.ta_replay.specs.Fits.{Fits};
@@ -12,16 +12,12 @@ ghost use Rattle.ta_shell.specs.Commands.{Says};
 ghost use Rattle.ta_shell.specs.Lines.{phrase_text};
 ghost use Rattle.ta_shell.specs.Reading.{ReadCause};
 ghost use Rattle.ta_shell.specs.Stages.{Stage, replies};
-ghost use Rattle.ta_program.specs.Compress.{CompressFaultIn, Compresses, SaysShort, ShortOf, compress_fault_text, compress_meaning, long_kind, of_run, short_meaning};
-ghost use Rattle.ta_program.specs.Taken.{names_seen};
-ghost use Rattle.ta_program.specs.Values.{two_names};
+ghost use Rattle.ta_program.specs.Compress.{CompressFaultIn, Compresses, SaysShort, ShortOf, compress_fault_text, long_kind, of_run, short_meaning};
 
 use crate::limits::RUN;
 use crate::reading::read_legal;
-use crate::request::Request;
-use crate::values::{TwoNames, two_names};
+use crate::two_files::OfTwoFiles;
 use std::alloc::{AllocError, Global};
-use std::thread::Threads;
 use ta_automaton::File;
 use ta_base::Text;
 use ta_compress::{CompressFault, compress};
@@ -29,65 +25,34 @@ use ta_replay::{Run, RunFault, print_run, read_run};
 use ta_report::run_fault_phrase;
 use ta_scope::ScopedFile;
 use ta_shelf::Shelf;
-use ta_shell::{Answer, Command, Phrase, Refusal, read_text};
-
-/// What `compress` is asked for.
-#[derive(Drop)]
-pub(crate) struct Compress<'a> {
-    names: TwoNames<'a>,
-}
-
-impl<'a> Request<'a> for Compress<'a> {
-    ghost use Rattle.ta_program.specs.Compress.{compress_asked};
-
-    ghost asked = { compress_asked };
-
-    fn read(words: &[&'a str]) -> Option<Compress<'a>> {
-        read_compress(words)
-    }
-}
-
-impl<'a> Command for Compress<'a> {
-    ghost use Rattle.ta_program.specs.Compress.{compress_meaning};
-
-    ghost meaning = { λ command. compress_meaning command.names.file.now command.names.other.now };
-
-    fn judge<R: Threads + Sync, S: Shelf>(
-        &self,
-        rt: &R,
-        alloc: Global,
-        shelf: &mut S,
-    ) -> Result<Answer, Refusal<'_>> {
-        let _ = rt;
-        judge_compress(alloc, shelf, self.names.file, self.names.other)
-    }
-}
-
-/// Reads the words of `compress`.
-fn read_compress<'a>(words: &[&'a str]) -> Option<Compress<'a>>
-    ensures { option_map (λ command. names_seen command.names) result ≡ two_names (map (λ w. w.now) words.now) }
-{
-    match two_names(words) {
-        Some(names) => Some(Compress { names }),
-        None => None,
-    }
-}
+use ta_shell::{Answer, Phrase, Refusal, read_text};
 
 /// Reads a file, then a run, and answers the text of the compressed run.
-fn judge_compress<'a, S: Shelf>(
-    alloc: Global,
-    shelf: &mut S,
-    file: &'a str,
-    run: &'a str,
-) -> Result<Answer, Refusal<'a>>
-    ensures says { Grew (Says (compress_meaning file.now run.now) (S.files shelf.old) result) (S.calls shelf.old) (S.calls shelf.new) }
-    ensures cause { ReadCause result (S.faults shelf.old) (S.faults shelf.new) }
-    ensures kept { S.files shelf.new ≡ S.files shelf.old }
-{
-    match read_legal(alloc, shelf, file) {
-        Ok(scoped) => judge_long(alloc, shelf, &scoped, run),
-        Err(refusal) => Err(refusal),
+#[derive(Drop)]
+pub(crate) struct Compress;
+
+impl OfTwoFiles for Compress {
+    ghost use Rattle.std.specs.Prelude.{Some};
+    ghost use Rattle.ta_program.specs.Asked.{LegalFile};
+    ghost use Rattle.ta_program.specs.Compress.{compress_meaning};
+
+    ghost legal = { λ name told. LegalFile told (Some name) };
+
+    ghost stated = { compress_meaning };
+
+    fn judge_files<'a, S: Shelf>(
+        alloc: Global,
+        shelf: &mut S,
+        file: &'a str,
+        other: &'a str,
+    ) -> Result<Answer, Refusal<'a>> {
+        match read_legal(alloc, shelf, file) {
+            Ok(scoped) => judge_long(alloc, shelf, &scoped, other),
+            Err(refusal) => Err(refusal),
+        }
     }
+
+    fn is_determined() {}
 }
 
 /// Reads a run of a file, and answers the text of the compressed run.

@@ -61,13 +61,9 @@ impl<'a> Command for Export<'a> {
 fn read_export<'a>(words: &[&'a str]) -> Option<Export<'a>>
     ensures { option_map (λ command. asked_seen command.asked) result ≡ export_words (map (λ w. w.now) words.now) }
 {
-    let Some(taken) = take_words(4, &[], words) else {
-        return None;
-    };
-    match asked_of(&taken) {
-        Some(asked) => Some(Export { asked }),
-        None => None,
-    }
+    let taken = take_words(4, &[], words)?;
+    let asked = asked_of(&taken)?;
+    Some(Export { asked })
 }
 
 /// Reads a file, and answers the text of the system of its word.

@@ -20,6 +20,7 @@ mod rest_check;
 mod running;
 mod search;
 mod spelled;
+mod two_files;
 mod values;
 mod verify;
 mod word_asked;

@@ -1,7 +1,7 @@
 //! The command `replay`.
 #![tactic(auto)]
 
-ghost use Rattle.std.specs.Prelude.{◌≡◌, ◌≢◌, [], IfOk, IfErr, Option, map, option_map};
+ghost use Rattle.std.specs.Prelude.{◌≡◌, ◌≢◌, [], IfOk, IfErr, Option};
 ghost use Rattle.ta_replay.specs.declared.fault.RunFault.TheVariants as fault;
 ghost use Rattle.ta_replay.specs.Fits.{Fits};
 ghost use Rattle.ta_replay.specs.Shows.{shown_of};
@@ -11,80 +11,45 @@ ghost use Rattle.ta_shell.specs.Commands.{Says};
 ghost use Rattle.ta_shell.specs.Reading.{ReadCause};
 ghost use Rattle.ta_shell.specs.Stages.{Stage, replies};
 ghost use Rattle.ta_program.specs.Kinds.{RunFaultIn, ShowsRun, run_kind};
-ghost use Rattle.ta_program.specs.Replay.{SaysShown, replay_meaning, shown_meaning};
-ghost use Rattle.ta_program.specs.Taken.{names_seen};
-ghost use Rattle.ta_program.specs.Values.{two_names};
+ghost use Rattle.ta_program.specs.Replay.{SaysShown, shown_meaning};
 
 use crate::limits::RUN;
 use crate::reading::read_legal;
-use crate::request::Request;
-use crate::values::{TwoNames, two_names};
+use crate::two_files::OfTwoFiles;
 use std::alloc::{AllocError, Global};
-use std::thread::Threads;
 use ta_automaton::File;
 use ta_base::Text;
 use ta_replay::{Run, RunFault, Shown, read_run, replay};
 use ta_report::{run_fault_phrase, shown_line};
 use ta_shelf::Shelf;
-use ta_shell::{Answer, Command, Refusal, read_text};
-
-/// What `replay` is asked for.
-#[derive(Drop)]
-pub(crate) struct Replay<'a> {
-    names: TwoNames<'a>,
-}
-
-impl<'a> Request<'a> for Replay<'a> {
-    ghost use Rattle.ta_program.specs.Replay.{replay_asked};
-
-    ghost asked = { replay_asked };
-
-    fn read(words: &[&'a str]) -> Option<Replay<'a>> {
-        read_replay(words)
-    }
-}
-
-impl<'a> Command for Replay<'a> {
-    ghost use Rattle.ta_program.specs.Replay.{replay_meaning};
-
-    ghost meaning = { λ command. replay_meaning command.names.file.now command.names.other.now };
-
-    fn judge<R: Threads + Sync, S: Shelf>(
-        &self,
-        rt: &R,
-        alloc: Global,
-        shelf: &mut S,
-    ) -> Result<Answer, Refusal<'_>> {
-        let _ = rt;
-        judge_replay(alloc, shelf, self.names.file, self.names.other)
-    }
-}
-
-/// Reads the words of `replay`.
-fn read_replay<'a>(words: &[&'a str]) -> Option<Replay<'a>>
-    ensures { option_map (λ command. names_seen command.names) result ≡ two_names (map (λ w. w.now) words.now) }
-{
-    match two_names(words) {
-        Some(names) => Some(Replay { names }),
-        None => None,
-    }
-}
+use ta_shell::{Answer, Refusal, read_text};
 
 /// Reads a file, then a run, and says that the run shows its pattern.
-fn judge_replay<'a, S: Shelf>(
-    alloc: Global,
-    shelf: &mut S,
-    file: &'a str,
-    run: &'a str,
-) -> Result<Answer, Refusal<'a>>
-    ensures says { Grew (Says (replay_meaning file.now run.now) (S.files shelf.old) result) (S.calls shelf.old) (S.calls shelf.new) }
-    ensures cause { ReadCause result (S.faults shelf.old) (S.faults shelf.new) }
-    ensures kept { S.files shelf.new ≡ S.files shelf.old }
-{
-    match read_legal(alloc, shelf, file) {
-        Ok(scoped) => judge_run(alloc, shelf, scoped.file(), run),
-        Err(refusal) => Err(refusal),
+#[derive(Drop)]
+pub(crate) struct Replay;
+
+impl OfTwoFiles for Replay {
+    ghost use Rattle.std.specs.Prelude.{Some};
+    ghost use Rattle.ta_program.specs.Asked.{LegalFile};
+    ghost use Rattle.ta_program.specs.Replay.{replay_meaning};
+
+    ghost legal = { λ name told. LegalFile told (Some name) };
+
+    ghost stated = { replay_meaning };
+
+    fn judge_files<'a, S: Shelf>(
+        alloc: Global,
+        shelf: &mut S,
+        file: &'a str,
+        other: &'a str,
+    ) -> Result<Answer, Refusal<'a>> {
+        match read_legal(alloc, shelf, file) {
+            Ok(scoped) => judge_run(alloc, shelf, scoped.file(), other),
+            Err(refusal) => Err(refusal),
+        }
     }
+
+    fn is_determined() {}
 }
 
 /// Reads a run of a file, and says that it shows its pattern.

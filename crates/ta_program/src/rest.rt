@@ -26,12 +26,12 @@ use crate::reading::read_legal;
 use crate::request::Request;
 use crate::values::{budget_of, file_name_of, out_of};
 use crate::verify::number_of;
-use crate::words::{OptionWord, Taken, take_words};
+use crate::words::{CERTIFICATE_OPTION, NODES_OPTION, Taken, take_words};
 use std::alloc::{AllocError, Global};
 use std::thread::Threads;
 use ta_automaton::File;
 use ta_base::Text;
-use ta_report::{Verdict, rest_text};
+use ta_report::{Said, Verdict, rest_text};
 use ta_rest::RestFile;
 use ta_rest_verdict::judge_rest;
 use ta_scope::ScopedFile;
@@ -69,8 +69,7 @@ impl<'a> Command for Rest<'a> {
         alloc: Global,
         shelf: &mut S,
     ) -> Result<Answer, Refusal<'_>> {
-        let _ = rt;
-        judge_file(alloc, shelf, self.file, &self.budget, self.out)
+        judge_file(rt, alloc, shelf, self.file, &self.budget, self.out)
     }
 }
 
@@ -78,46 +77,29 @@ impl<'a> Command for Rest<'a> {
 fn read_rest<'a>(words: &[&'a str]) -> Option<Rest<'a>>
     ensures { option_map rest_seen result ≡ rest_words (map (λ w. w.now) words.now) }
 {
-    let options = [
-        OptionWord {
-            word: "--nodes",
-            valued: true,
-        },
-        OptionWord {
-            word: "--certificate",
-            valued: true,
-        },
-    ];
-    match take_words(1, &options, words) {
-        Some(taken) => rest_taken(taken),
-        None => None,
-    }
+    let options = [NODES_OPTION, CERTIFICATE_OPTION];
+    rest_taken(take_words(1, &options, words)?)
 }
 
 /// What is asked for by what was taken of the words.
 fn rest_taken(taken: Taken<'_>) -> Option<Rest<'_>>
     ensures { option_map rest_seen result ≡ rest_taken (taken_of taken.entry) }
 {
-    let Some(file) = file_name_of(taken.plain(0)) else {
-        return None;
-    };
-    let Some(nodes) = budget_of(taken.value(0)) else {
-        return None;
-    };
-    match out_of(file, taken.value(1)) {
-        Some(out) => Some(Rest {
-            file,
-            budget: Budget { nodes },
-            out,
-        }),
-        None => None,
-    }
+    let file = file_name_of(taken.plain(0))?;
+    let nodes = budget_of(taken.value(0))?;
+    let out = out_of(file, taken.value(1))?;
+    Some(Rest {
+        file,
+        budget: Budget { nodes },
+        out,
+    })
 }
 
 /// Reads a file, gives a sample of its parameters and says of each of its patterns whether a run in
 /// which it occurs comes to rest, and puts the certificate of those that are safe in the file OUT,
 /// where that is asked for.
-fn judge_file<'a, S: Shelf>(
+fn judge_file<'a, R: Threads + Sync, S: Shelf>(
+    rt: &R,
     alloc: Global,
     shelf: &mut S,
     file: &'a str,
@@ -129,13 +111,14 @@ fn judge_file<'a, S: Shelf>(
     ensures kept { S.files shelf.new ≡ S.files shelf.old }
 {
     match read_legal(alloc, shelf, file) {
-        Ok(scoped) => answer_scoped(alloc, file, scoped, budget, out),
+        Ok(scoped) => answer_scoped(rt, alloc, file, scoped, budget, out),
         Err(refusal) => Err(refusal),
     }
 }
 
 /// The answer of a file of a name, unless a rule lies on a longer cycle.
-fn answer_scoped<'a>(
+fn answer_scoped<'a, R: Threads + Sync>(
+    rt: &R,
     alloc: Global,
     name: &'a str,
     scoped: ScopedFile,
@@ -146,14 +129,15 @@ fn answer_scoped<'a>(
     ensures cause { ReadCause result 0 0 }
 {
     match find_ends(alloc, name, scoped) {
-        Ok(rest) => answer_rest(alloc, &rest, budget, out),
+        Ok(rest) => answer_rest(rt, alloc, &rest, budget, out),
         Err(refusal) => Err(refusal),
     }
 }
 
 /// The answer with a sample of the parameters and a verdict on each pattern of a file, and the
 /// certificate that is asked for.
-fn answer_rest<'a>(
+fn answer_rest<'a, R: Threads + Sync>(
+    rt: &R,
     alloc: Global,
     rest: &RestFile,
     budget: &Budget,
@@ -162,7 +146,7 @@ fn answer_rest<'a>(
     ensures says { (files : Option Told) (file : File) → EndingsOf file rest.now.ending.file rest.now.added → Says (rest_report_meaning budget.now.nodes (option_map (λ w. w.now) out.entry) file (ends_of rest.now)) files result [] }
     ensures cause { ReadCause result 0 0 }
 {
-    let Ok(judged) = judge_rest(alloc, rest, budget.nodes, out.is_some()) else {
+    let Ok(judged) = judge_rest(rt, alloc, rest, budget.nodes, out.is_some()) else {
         return Err(Refusal::Memory);
     };
     let Judged {
@@ -191,6 +175,11 @@ fn report(
     ensures { IfOk result (RestReported ending.now budget.now.nodes verdicts.now) }
 {
     let sample = sample_of(alloc, ending, budget.nodes)?;
-    let lines = rest_text(alloc, ending, &sample, verdicts)?;
+    let said = Said {
+        file: ending,
+        sample: &sample,
+        verdicts,
+    };
+    let lines = rest_text(alloc, &said)?;
     Ok(Text::from_string(lines.into_string()))
 }

@@ -1,7 +1,7 @@
 //! The command `rest-check`.
 #![tactic(auto)]
 
-ghost use Rattle.std.specs.Prelude.{◌≡◌, [], Option, map, option_map};
+ghost use Rattle.std.specs.Prelude.{◌≡◌, [], Option};
 ghost use Rattle.ta_automaton.specs.declared.file.File.{File};
 ghost use Rattle.ta_report.specs.Check.{rest_check_text};
 ghost use Rattle.ta_rest.specs.Faults.{EndingsOf};
@@ -10,18 +10,14 @@ ghost use Rattle.ta_shelf.specs.Put.{Told};
 ghost use Rattle.ta_shell.specs.Commands.{Says};
 ghost use Rattle.ta_shell.specs.Reading.{ReadCause};
 ghost use Rattle.ta_shell.specs.Stages.{Writes, finds, replies};
-ghost use Rattle.ta_program.specs.RestCheck.{rest_check_meaning, rest_proved_meaning};
+ghost use Rattle.ta_program.specs.RestCheck.{rest_proved_meaning};
 ghost use Rattle.ta_program.specs.RestEnds.{CycleHinders, IsEnds, ends_of};
-ghost use Rattle.ta_program.specs.Taken.{names_seen};
-ghost use Rattle.ta_program.specs.Values.{two_names};
 
 use crate::check::read_certificate;
 use crate::ends::find_ends;
 use crate::reading::read_legal;
-use crate::request::Request;
-use crate::values::{TwoNames, two_names};
+use crate::two_files::OfTwoFiles;
 use std::alloc::{AllocError, Global};
-use std::thread::Threads;
 use ta_automaton::File as FileOf;
 use ta_base::Text;
 use ta_check::Checker;
@@ -29,65 +25,33 @@ use ta_report::rest_check_text;
 use ta_rest::RestFile;
 use ta_scope::ScopedFile;
 use ta_shelf::Shelf;
-use ta_shell::{Answer, Command, Refusal};
-
-/// What `rest-check` is asked for.
-#[derive(Drop)]
-pub(crate) struct RestCheck<'a> {
-    names: TwoNames<'a>,
-}
-
-impl<'a> Request<'a> for RestCheck<'a> {
-    ghost use Rattle.ta_program.specs.RestCheck.{rest_check_asked};
-
-    ghost asked = { rest_check_asked };
-
-    fn read(words: &[&'a str]) -> Option<RestCheck<'a>> {
-        read_rest_check(words)
-    }
-}
-
-impl<'a> Command for RestCheck<'a> {
-    ghost use Rattle.ta_program.specs.RestCheck.{rest_check_meaning};
-
-    ghost meaning = { λ command. rest_check_meaning command.names.file.now command.names.other.now };
-
-    fn judge<R: Threads + Sync, S: Shelf>(
-        &self,
-        rt: &R,
-        alloc: Global,
-        shelf: &mut S,
-    ) -> Result<Answer, Refusal<'_>> {
-        let _ = rt;
-        judge_files(alloc, shelf, self.names.file, self.names.other)
-    }
-}
-
-/// Reads the words of `rest-check`.
-fn read_rest_check<'a>(words: &[&'a str]) -> Option<RestCheck<'a>>
-    ensures { option_map (λ command. names_seen command.names) result ≡ two_names (map (λ w. w.now) words.now) }
-{
-    match two_names(words) {
-        Some(names) => Some(RestCheck { names }),
-        None => None,
-    }
-}
+use ta_shell::{Answer, Refusal};
 
 /// Reads a file, then a certificate for its endings, and says which patterns are proved.
-fn judge_files<'a, S: Shelf>(
-    alloc: Global,
-    shelf: &mut S,
-    file: &'a str,
-    certificate: &'a str,
-) -> Result<Answer, Refusal<'a>>
-    ensures says { Grew (Says (rest_check_meaning file.now certificate.now) (S.files shelf.old) result) (S.calls shelf.old) (S.calls shelf.new) }
-    ensures cause { ReadCause result (S.faults shelf.old) (S.faults shelf.new) }
-    ensures kept { S.files shelf.new ≡ S.files shelf.old }
-{
-    match read_legal(alloc, shelf, file) {
-        Ok(scoped) => judge_scoped(alloc, shelf, file, scoped, certificate),
-        Err(refusal) => Err(refusal),
+#[derive(Drop)]
+pub(crate) struct RestCheck;
+
+impl OfTwoFiles for RestCheck {
+    ghost use Rattle.ta_program.specs.RestCheck.{rest_check_meaning};
+    ghost use Rattle.ta_program.specs.RestEnds.{LegalAtRest};
+
+    ghost legal = { LegalAtRest };
+
+    ghost stated = { rest_check_meaning };
+
+    fn judge_files<'a, S: Shelf>(
+        alloc: Global,
+        shelf: &mut S,
+        file: &'a str,
+        other: &'a str,
+    ) -> Result<Answer, Refusal<'a>> {
+        match read_legal(alloc, shelf, file) {
+            Ok(scoped) => judge_scoped(alloc, shelf, file, scoped, other),
+            Err(refusal) => Err(refusal),
+        }
     }
+
+    fn is_determined() {}
 }
 
 /// Reads a certificate for the endings of a file of a name, unless a rule lies on a longer cycle.

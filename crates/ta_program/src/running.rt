@@ -18,6 +18,7 @@ use crate::request::Request;
 use crate::rest::Rest;
 use crate::rest_check::RestCheck;
 use crate::search::Search;
+use crate::two_files::TwoFiles;
 use crate::verify::Verify;
 use std::alloc::Global;
 use std::thread::Threads;
@@ -96,12 +97,16 @@ fn obey<R: Threads + Sync, S: Shelf, O: Sink, E: Sink>(
     match *name {
         "admit" => attempt::<Admit<'_>, R, S, O, E>(rt, alloc, words, shelf, out, err),
         "bench" => attempt::<Bench, R, S, O, E>(rt, alloc, words, shelf, out, err),
-        "check" => attempt::<Check<'_>, R, S, O, E>(rt, alloc, words, shelf, out, err),
-        "compress" => attempt::<Compress<'_>, R, S, O, E>(rt, alloc, words, shelf, out, err),
+        "check" => attempt::<TwoFiles<'_, Check>, R, S, O, E>(rt, alloc, words, shelf, out, err),
+        "compress" => attempt::<TwoFiles<'_, Compress>, R, S, O, E>(
+            rt, alloc, words, shelf, out, err,
+        ),
         "export" => attempt::<Export<'_>, R, S, O, E>(rt, alloc, words, shelf, out, err),
-        "replay" => attempt::<Replay<'_>, R, S, O, E>(rt, alloc, words, shelf, out, err),
+        "replay" => attempt::<TwoFiles<'_, Replay>, R, S, O, E>(rt, alloc, words, shelf, out, err),
         "rest" => attempt::<Rest<'_>, R, S, O, E>(rt, alloc, words, shelf, out, err),
-        "rest-check" => attempt::<RestCheck<'_>, R, S, O, E>(rt, alloc, words, shelf, out, err),
+        "rest-check" => attempt::<TwoFiles<'_, RestCheck>, R, S, O, E>(
+            rt, alloc, words, shelf, out, err,
+        ),
         "search" => attempt::<Search<'_>, R, S, O, E>(rt, alloc, words, shelf, out, err),
         "verify" => attempt::<Verify<'_>, R, S, O, E>(rt, alloc, words, shelf, out, err),
         _ => refuse(err),

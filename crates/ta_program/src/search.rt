@@ -24,7 +24,7 @@ use crate::certified::{are_within, long_certificate, put_of};
 use crate::limits::{CERTIFICATE, FILE};
 use crate::request::Request;
 use crate::values::{budget_of, file_name_of, filled_of, out_of};
-use crate::words::{OptionWord, Taken, take_words};
+use crate::words::{CERTIFICATE_OPTION, NODES_OPTION, OptionWord, Taken, take_words};
 use std::alloc::{AllocError, Global};
 use std::thread::Threads;
 use ta_base::limits::FILE_BYTES;
@@ -78,47 +78,30 @@ fn read_search<'a>(words: &[&'a str]) -> Option<Search<'a>>
     ensures { option_map search_seen result ≡ search_words (map (λ w. w.now) words.now) }
 {
     let options = [
-        OptionWord {
-            word: "--nodes",
-            valued: true,
-        },
-        OptionWord {
-            word: "--certificate",
-            valued: true,
-        },
+        NODES_OPTION,
+        CERTIFICATE_OPTION,
         OptionWord {
             word: "--filled",
             valued: true,
         },
     ];
-    match take_words(1, &options, words) {
-        Some(taken) => search_taken(taken),
-        None => None,
-    }
+    search_taken(take_words(1, &options, words)?)
 }
 
 /// What is asked for by what was taken of the words.
 fn search_taken(taken: Taken<'_>) -> Option<Search<'_>>
     ensures { option_map search_seen result ≡ search_taken (taken_of taken.entry) }
 {
-    let Some(file) = file_name_of(taken.plain(0)) else {
-        return None;
-    };
-    let Some(nodes) = budget_of(taken.value(0)) else {
-        return None;
-    };
-    let Some(out) = out_of(file, taken.value(1)) else {
-        return None;
-    };
-    match filled_of(file, out, taken.value(2)) {
-        Some(filled) => Some(Search {
-            file,
-            budget: Budget { nodes },
-            out,
-            filled,
-        }),
-        None => None,
-    }
+    let file = file_name_of(taken.plain(0))?;
+    let nodes = budget_of(taken.value(0))?;
+    let out = out_of(file, taken.value(1))?;
+    let filled = filled_of(file, out, taken.value(2))?;
+    Some(Search {
+        file,
+        budget: Budget { nodes },
+        out,
+        filled,
+    })
 }
 
 /// Reads a template, tries values in its holes, and puts what was found in the files that are asked

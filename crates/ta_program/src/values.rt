@@ -21,16 +21,10 @@ pub(crate) struct TwoNames<'a> {
 pub(crate) fn two_names<'a>(words: &[&'a str]) -> Option<TwoNames<'a>>
     ensures { option_map names_seen result ≡ two_names (map (λ w. w.now) words.now) }
 {
-    let Some(taken) = take_words(2, &[], words) else {
-        return None;
-    };
-    let Some(file) = file_name_of(taken.plain(0)) else {
-        return None;
-    };
-    match file_name_of(taken.plain(1)) {
-        Some(other) => Some(TwoNames { file, other }),
-        None => None,
-    }
+    let taken = take_words(2, &[], words)?;
+    let file = file_name_of(taken.plain(0))?;
+    let other = file_name_of(taken.plain(1))?;
+    Some(TwoNames { file, other })
 }
 
 /// The name of a file, which isn't empty.

@@ -19,12 +19,12 @@ use crate::certified::answer_certified;
 use crate::reading::read_legal;
 use crate::request::Request;
 use crate::values::{budget_of, file_name_of, out_of};
-use crate::words::{OptionWord, Taken, take_words};
+use crate::words::{CERTIFICATE_OPTION, NODES_OPTION, OptionWord, Taken, take_words};
 use std::alloc::{AllocError, Global};
 use std::thread::Threads;
 use ta_automaton::File;
 use ta_base::Text;
-use ta_report::{Verdict, report_json, report_text};
+use ta_report::{Said, Verdict, report_json, report_text};
 use ta_scope::ScopedFile;
 use ta_shelf::Shelf;
 use ta_shell::{Answer, Command, Refusal};
@@ -78,44 +78,29 @@ fn read_verify<'a>(words: &[&'a str]) -> Option<Verify<'a>>
     ensures { option_map verify_seen result ≡ verify_words (map (λ w. w.now) words.now) }
 {
     let options = [
-        OptionWord {
-            word: "--nodes",
-            valued: true,
-        },
-        OptionWord {
-            word: "--certificate",
-            valued: true,
-        },
+        NODES_OPTION,
+        CERTIFICATE_OPTION,
         OptionWord {
             word: "--json",
             valued: false,
         },
     ];
-    match take_words(1, &options, words) {
-        Some(taken) => verify_taken(taken),
-        None => None,
-    }
+    verify_taken(take_words(1, &options, words)?)
 }
 
 /// What is asked for by what was taken of the words.
 fn verify_taken(taken: Taken<'_>) -> Option<Verify<'_>>
     ensures { option_map verify_seen result ≡ verify_taken (taken_of taken.entry) }
 {
-    let Some(file) = file_name_of(taken.plain(0)) else {
-        return None;
-    };
-    let Some(nodes) = budget_of(taken.value(0)) else {
-        return None;
-    };
-    match out_of(file, taken.value(1)) {
-        Some(out) => Some(Verify {
-            file,
-            budget: Budget { nodes },
-            out,
-            json: taken.value(2).is_some(),
-        }),
-        None => None,
-    }
+    let file = file_name_of(taken.plain(0))?;
+    let nodes = budget_of(taken.value(0))?;
+    let out = out_of(file, taken.value(1))?;
+    Some(Verify {
+        file,
+        budget: Budget { nodes },
+        out,
+        json: taken.value(2).is_some(),
+    })
 }
 
 /// Reads a file, gives a sample of its parameters and a verdict on each of its patterns, and puts the certificate of those that are
@@ -180,11 +165,16 @@ fn report(
     ensures { IfOk result (SampleReported json file.now budget.now.nodes verdicts.now) }
 {
     let sample = sample_of(alloc, file, budget.nodes)?;
+    let said = Said {
+        file,
+        sample: &sample,
+        verdicts,
+    };
     if json {
-        let line = report_json(alloc, file, &sample, verdicts)?;
+        let line = report_json(alloc, &said)?;
         Ok(Text::from_string(line.into_string()))
     } else {
-        let lines = report_text(alloc, file, &sample, verdicts)?;
+        let lines = report_text(alloc, &said)?;
         Ok(Text::from_string(lines.into_string()))
     }
 }

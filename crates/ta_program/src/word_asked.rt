@@ -26,15 +26,9 @@ use ta_smt::{
 pub(crate) fn asked_of<'a>(taken: &Taken<'a>) -> Option<WordAsked<'a>>
     ensures { option_map asked_seen result ≡ asked_of (taken_of taken.now) }
 {
-    let Some(file) = file_name_of(taken.plain(0)) else {
-        return None;
-    };
-    let Some(pattern) = pattern_of(taken.plain(1)) else {
-        return None;
-    };
-    let Some(start) = start_of(taken.plain(2)) else {
-        return None;
-    };
+    let file = file_name_of(taken.plain(0))?;
+    let pattern = pattern_of(taken.plain(1))?;
+    let start = start_of(taken.plain(2))?;
     let elements = taken.plain(3);
     if !are_elements(elements) {
         return None;

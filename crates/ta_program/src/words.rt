@@ -12,6 +12,18 @@ pub(crate) struct OptionWord<'a> {
     pub valued: bool,
 }
 
+/// How many nodes may be visited.
+pub(crate) const NODES_OPTION: OptionWord<'static> = OptionWord {
+    word: "--nodes",
+    valued: true,
+};
+
+/// The name of the file for the certificate.
+pub(crate) const CERTIFICATE_OPTION: OptionWord<'static> = OptionWord {
+    word: "--certificate",
+    valued: true,
+};
+
 /// What the words of a form give: at most five plain words, and at most four options.
 pub(crate) fn take_words<'a>(
     plain: usize,
@@ -22,10 +34,9 @@ pub(crate) fn take_words<'a>(
     requires options { length options.now ≤ 4 }
     ensures { option_map taken_of result ≡ taken_by (form_of plain options.now) (map (λ w. w.now) words.now) }
 {
-    match Taken::nothing().with_all(plain, options, words) {
-        Some(taken) => taken.whole(plain),
-        None => None,
-    }
+    Taken::nothing()
+        .with_all(plain, options, words)?
+        .whole(plain)
 }
 
 /// What was taken of the words so far: plain words, of which there are so many, the values of the
@@ -183,10 +194,9 @@ impl<'a> Taken<'a> {
         ensures { option_map taken_of result ≡ take_all (form_of plain options.now) (taken_of self.entry) (map (λ w. w.now) words.now) }
     {
         match words.split_first() {
-            Some((word, rest)) => match self.with(plain, options, word) {
-                Some(more) => more.with_all(plain, options, rest),
-                None => None,
-            },
+            Some((word, rest)) => self
+                .with(plain, options, word)?
+                .with_all(plain, options, rest),
             None => Some(self),
         }
     }
@@ -231,10 +241,7 @@ fn behind<'a>(text: &str, word: &'a str) -> Option<&'a str>
 fn value_behind<'a>(option: &str, word: &'a str) -> Option<&'a str>
     ensures { option_map (λ w. w.now) result ≡ option_and_then (behind (codes "=")) (behind option.now word.now) }
 {
-    match behind(option, word) {
-        Some(rest) => behind("=", rest),
-        None => None,
-    }
+    behind("=", behind(option, word)?)
 }
 
 /// Whether a word begins with `-` and is longer than that.

@@ -11,6 +11,7 @@ ghost use Rattle.ta_report.specs.Json.{digits_data, json_text, place_members, re
 ghost use Rattle.ta_report.specs.Report.{SampleFits, VerdictFits, place_text};
 ghost use Rattle.ta_report.specs.declared.verdict.Verdict.TheVariants.{Overflow, Safe, Spent, Unsafe};
 
+use crate::said::Said;
 use crate::verdict::{ReportKind, ReportSample, Verdict};
 use serde_json::{Value, json};
 use std::alloc::{AllocError, Global};
@@ -21,38 +22,28 @@ use ta_replay::{Run, print_run};
 /// The report of a sample of the parameters and of one verdict for each pattern, in the order of the
 /// file, as the compact text of one JSON object and a line feed. All numbers are strings of decimal
 /// digits, and a run is the list of its lines.
-pub fn report_json(
-    alloc: Global,
-    file: &File,
-    sample: &ReportSample,
-    verdicts: &[Verdict],
-) -> Result<Text, AllocError>
-    requires sample { SampleFits file.now sample.now }
-    requires all { length verdicts.now ≡ length file.now.patterns }
-    requires fit { AllByRecursion (VerdictFits file.now) verdicts.now }
-    ensures { IfOk result (λ text. text ≡ json_text file.now sample.now verdicts.now) }
+pub fn report_json(alloc: Global, said: &Said<'_>) -> Result<Text, AllocError>
+    requires sample { SampleFits said.now.file.now said.now.sample.now }
+    requires all { length said.now.verdicts.now ≡ length said.now.file.now.patterns }
+    requires fit { AllByRecursion (VerdictFits said.now.file.now) said.now.verdicts.now }
+    ensures { IfOk result (λ text. text ≡ json_text said.now.file.now said.now.sample.now said.now.verdicts.now) }
 {
-    let report = report_value(alloc, file, sample, verdicts)?;
+    let report = report_value(alloc, said)?;
     let mut text = report.to_string(alloc)?;
     text.push_str("\n")?;
     Ok(Text::from_string(text))
 }
 
 /// The report as a value.
-fn report_value(
-    alloc: Global,
-    file: &File,
-    sample: &ReportSample,
-    verdicts: &[Verdict],
-) -> Result<Value, AllocError>
-    requires sample { SampleFits file.now sample.now }
-    requires all { length verdicts.now ≡ length file.now.patterns }
-    requires fit { AllByRecursion (VerdictFits file.now) verdicts.now }
-    ensures { IfOk result (λ value. view value ≡ report_data file.now sample.now verdicts.now) }
+fn report_value(alloc: Global, said: &Said<'_>) -> Result<Value, AllocError>
+    requires sample { SampleFits said.now.file.now said.now.sample.now }
+    requires all { length said.now.verdicts.now ≡ length said.now.file.now.patterns }
+    requires fit { AllByRecursion (VerdictFits said.now.file.now) said.now.verdicts.now }
+    ensures { IfOk result (λ value. view value ≡ report_data said.now.file.now said.now.sample.now said.now.verdicts.now) }
 {
-    let parameters = sample_value(alloc, file, sample)?;
-    let patterns = verdict_values(alloc, file, verdicts)?;
-    let automaton = file.automaton.name.as_str();
+    let parameters = sample_value(alloc, said.file, said.sample)?;
+    let patterns = verdict_values(alloc, said.file, said.verdicts)?;
+    let automaton = said.file.automaton.name.as_str();
     json!(in alloc; {
         "automaton": automaton,
         "parameters": parameters,

@@ -6,6 +6,7 @@ ghost use Rattle.std.specs.List.{AllByRecursion};
 ghost use Rattle.ta_counter.specs.Values.{Value};
 ghost use Rattle.ta_report.specs.Report.{SampleFits, VerdictFits, report_text, rest_text, run_part, sample_line, told_text, values_text, word_before};
 
+use crate::said::Said;
 use crate::verdict::{ReportSample, Verdict};
 use std::alloc::{AllocError, Global};
 use ta_automaton::File;
@@ -14,54 +15,38 @@ use ta_replay::print_run;
 
 /// The report of a sample of the parameters, in a line, and of one verdict for each pattern, in the
 /// order of the file: a line, and behind it the text of the run where there is one.
-pub fn report_text(
-    alloc: Global,
-    file: &File,
-    sample: &ReportSample,
-    verdicts: &[Verdict],
-) -> Result<Text, AllocError>
-    requires sample { SampleFits file.now sample.now }
-    requires all { length verdicts.now ≡ length file.now.patterns }
-    requires fit { AllByRecursion (VerdictFits file.now) verdicts.now }
-    ensures { IfOk result (λ text. text ≡ report_text file.now sample.now verdicts.now) }
+pub fn report_text(alloc: Global, said: &Said<'_>) -> Result<Text, AllocError>
+    requires sample { SampleFits said.now.file.now said.now.sample.now }
+    requires all { length said.now.verdicts.now ≡ length said.now.file.now.patterns }
+    requires fit { AllByRecursion (VerdictFits said.now.file.now) said.now.verdicts.now }
+    ensures { IfOk result (λ text. text ≡ report_text said.now.file.now said.now.sample.now said.now.verdicts.now) }
 {
-    told_text(alloc, false, file, sample, verdicts)
+    told_text(alloc, false, said)
 }
 
 /// The report of `rest`: as `report_text`, with `rest safe` and `rest unsafe` in place of `safe` and
 /// `unsafe`.
-pub fn rest_text(
-    alloc: Global,
-    file: &File,
-    sample: &ReportSample,
-    verdicts: &[Verdict],
-) -> Result<Text, AllocError>
-    requires sample { SampleFits file.now sample.now }
-    requires all { length verdicts.now ≡ length file.now.patterns }
-    requires fit { AllByRecursion (VerdictFits file.now) verdicts.now }
-    ensures { IfOk result (λ text. text ≡ rest_text file.now sample.now verdicts.now) }
+pub fn rest_text(alloc: Global, said: &Said<'_>) -> Result<Text, AllocError>
+    requires sample { SampleFits said.now.file.now said.now.sample.now }
+    requires all { length said.now.verdicts.now ≡ length said.now.file.now.patterns }
+    requires fit { AllByRecursion (VerdictFits said.now.file.now) said.now.verdicts.now }
+    ensures { IfOk result (λ text. text ≡ rest_text said.now.file.now said.now.sample.now said.now.verdicts.now) }
 {
-    told_text(alloc, true, file, sample, verdicts)
+    told_text(alloc, true, said)
 }
 
 /// The report, or that of `rest`.
-fn told_text(
-    alloc: Global,
-    rest: bool,
-    file: &File,
-    sample: &ReportSample,
-    verdicts: &[Verdict],
-) -> Result<Text, AllocError>
-    requires sample { SampleFits file.now sample.now }
-    requires fit { AllByRecursion (VerdictFits file.now) verdicts.now }
-    ensures { IfOk result (λ text. text ≡ told_text rest file.now sample.now verdicts.now) }
+fn told_text(alloc: Global, rest: bool, said: &Said<'_>) -> Result<Text, AllocError>
+    requires sample { SampleFits said.now.file.now said.now.sample.now }
+    requires fit { AllByRecursion (VerdictFits said.now.file.now) said.now.verdicts.now }
+    ensures { IfOk result (λ text. text ≡ told_text rest said.now.file.now said.now.sample.now said.now.verdicts.now) }
 {
-    let mut text = format!(in alloc; "automaton {}\n", file.automaton.name.as_str())?;
-    write_sample(&mut text, file, sample)?;
-    for (pattern, verdict) in file.patterns.as_slice().iter().zip(verdicts) {
+    let mut text = format!(in alloc; "automaton {}\n", said.file.automaton.name.as_str())?;
+    write_sample(&mut text, said.file, said.sample)?;
+    for (pattern, verdict) in said.file.patterns.as_slice().iter().zip(said.verdicts) {
         let word = word_before(rest, verdict);
         write!(text, "pattern {}: {word}{verdict}\n", pattern.name.as_str())?;
-        write_run(alloc, &mut text, file, verdict)?;
+        write_run(alloc, &mut text, said.file, verdict)?;
     }
     Ok(Text::from_string(text))
 }

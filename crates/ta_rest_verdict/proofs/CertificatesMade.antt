@@ -6,13 +6,14 @@ use Rattle.ta_check.specs.Certificate.{RestCertificate}
 use Rattle.ta_check.specs.Subjects.{claiming}
 use Rattle.ta_claim.specs.declared.claim.Claim.TheVariants.{RestSafe}
 use Rattle.ta_rest.proofs.Resting.{no_pairs_good}
-use Rattle.ta_resting.proofs.RestsVisited.{proof_made}
+use Rattle.ta_automaton.proofs.Thresholds.{pattern_within}
+use Rattle.ta_walk.proofs.ProofsMade.{proof_made}
 use Rattle.ta_verdict.proofs.CertificatesMade.{Judgeable, all_short, cert_written, made, ones_distinct, safe_named}
 
 -- the nodes of such a tree
 judgeable : (ending : File) (budget : ℕ) → budget ≤ 1000000000 → (number : ℕ) (p : Pattern) → slice_get ending.patterns number ≡ Some p → (nodes : List Node) (count : ℕ) → rest_tree ending budget p nodes count → Judgeable (rest_search ending.automaton p) nodes
 judgeable ending budget within number p at nodes count tree =
-    let proof = proof_made ending number p at budget within nodes count tree in
+    let proof = proof_made RestSafe ending.automaton p [] (pattern_within ending number p at) budget within nodes count tree in
     record { refutes = proof.refutes; writable = proof.writable; short = proof.short }
 
 pub rest_accepted : (ending : File) (budget : ℕ) → budget ≤ 1000000000 → (vs : List Verdict) (text : List ℕ) → RestCertificateOf ending budget vs text → RestCertificate ending text (safe_numbers ending vs)

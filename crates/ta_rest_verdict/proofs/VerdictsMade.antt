@@ -4,7 +4,7 @@ use Rattle.std.proofs.lemmas.List.{length-take-le}
 use Rattle.std.specs.List.{AllByRecursion}
 use Rattle.ta_base.proofs.Each.{each_push}
 use Rattle.ta_base.proofs.Lists.{some_at, take_next}
-use Rattle.ta_words.specs.Calls.{OfPattern}
+use Rattle.ta_automaton.specs.Numbered.{OfPattern}
 use Rattle.ta_report.specs.Report.{VerdictFits}
 use Rattle.ta_rest.specs.Faults.{EndingsOf}
 use Rattle.ta_rest.specs.declared.rest_file.RestFile.{RestFile}

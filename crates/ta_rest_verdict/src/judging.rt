@@ -5,27 +5,28 @@ ghost use Rattle.std.specs.Prelude.{ℕ, ◌≡◌, ◌<◌, ◌≤◌, [], IfOk
 ghost use Rattle.std.specs.List.{AllByRecursion};
 ghost use Rattle.ta_check.specs.Certificate.{RestCertificate};
 ghost use Rattle.ta_report.specs.Report.{VerdictFits};
-ghost use Rattle.ta_resting.specs.Verdicts.{OwnVerdict};
 ghost use Rattle.ta_shell.specs.Puts.{texts_joined};
-ghost use Rattle.ta_words.specs.Calls.{OfPattern};
+ghost use Rattle.ta_automaton.specs.Numbered.{OfPattern};
 ghost use Rattle.ta_verdict.specs.Certificates.{safe_numbers, safe_ones};
 ghost use Rattle.ta_verdict.specs.Drafts.{AddsTree, HasProofs, HasTrees};
 ghost use Rattle.ta_rest_verdict.specs.Certificates.{RestCertificateOf, rest_tree};
-ghost use Rattle.ta_rest_verdict.specs.Verdicts.{OwnVerdicts};
+ghost use Rattle.ta_rest_verdict.specs.Verdicts.{OwnVerdict, OwnVerdicts};
 
+use crate::verdict::rest_verdict;
 use std::alloc::{AllocError, Global};
+use std::thread::Threads;
 use ta_base::List;
 use ta_base::limits::MOST_NODES;
 use ta_cert::Line;
 use ta_dense::NarrowDictionary;
 use ta_report::Verdict;
 use ta_rest::RestFile;
-use ta_resting::rest_verdict;
 use ta_verdict::{Draft, Judged, is_safe};
 
 /// Gives a verdict on each pattern of a file whose runs are to come to rest, and the certificate of
 /// those that are safe, where one is wanted. At most so many nodes are visited for each pattern.
-pub fn judge_rest(
+pub fn judge_rest<R: Threads + Sync>(
+    rt: &R,
     alloc: Global,
     rest: &RestFile,
     nodes: u64,
@@ -41,7 +42,7 @@ pub fn judge_rest(
     ensures unwanted { wanted ≡ false → IfOk result (λ judged. judged.certificate ≡ []) }
 {
     let mut draft = Draft::certificate(alloc, wanted, &[])?;
-    let verdicts = verdicts_on(alloc, rest, nodes, &mut draft)?;
+    let verdicts = verdicts_on(rt, alloc, rest, nodes, &mut draft)?;
     let certificate = draft.end(alloc)?;
     Ok(Judged {
         verdicts: List::from_vec(verdicts),
@@ -51,7 +52,8 @@ pub fn judge_rest(
 
 /// A verdict on each pattern of a file, in order. The trees of those that are safe are added to a
 /// draft.
-fn verdicts_on(
+fn verdicts_on<R: Threads + Sync>(
+    rt: &R,
     alloc: Global,
     rest: &RestFile,
     nodes: u64,
@@ -67,13 +69,14 @@ fn verdicts_on(
     let count = rest.ending.file.patterns.as_slice().len() as u32;
     let mut verdicts = Vec::new(alloc);
     for pattern in 0..count {
-        verdicts.push(next_verdict(alloc, rest, pattern, nodes, draft)?)?;
+        verdicts.push(next_verdict(rt, alloc, rest, pattern, nodes, draft)?)?;
     }
     Ok(verdicts)
 }
 
 /// The verdict on the pattern of a number, whose tree is added to a draft where it is safe.
-fn next_verdict(
+fn next_verdict<R: Threads + Sync>(
+    rt: &R,
     alloc: Global,
     rest: &RestFile,
     pattern: u32,
@@ -88,7 +91,9 @@ fn next_verdict(
     ensures wanted { IfOk result (λ verdict. draft.new.wanted ≡ draft.old.wanted) }
 {
     let mut proof = Draft::begin(alloc, draft.wanted, &Line::Pattern(pattern))?;
-    let verdict = rest_verdict::<NarrowDictionary, Draft>(alloc, rest, pattern, nodes, &mut proof)?;
+    let verdict = rest_verdict::<NarrowDictionary, Draft, R>(
+        rt, alloc, rest, pattern, nodes, &mut proof,
+    )?;
     if !is_safe(&verdict) {
         return Ok(verdict);
     }

@@ -4,6 +4,11 @@
 
 mod judging;
 mod laws;
+mod verdict;
 
 pub use judging::judge_rest;
-pub use laws::rest_certificates_are_determined;
+pub use laws::{
+    rest_certificates_are_determined, rest_texts_are_alike, rest_verdicts_are_determined,
+    rests_are_solved,
+};
+pub use verdict::rest_verdict;

@@ -6,7 +6,7 @@ use Rattle.ta_meaning.specs.FirstFault.{FirstFault}
 use Rattle.ta_report.specs.declared.verdict.ReportSample.TheVariants as sample
 use Rattle.ta_syntax.specs.declared.fault.FileFault.TheVariants as fault
 use Rattle.ta_verdict.proofs.VerdictsMade.{as_many}
-use Rattle.ta_words.specs.Calls.{OfPattern}
+use Rattle.ta_automaton.specs.Numbered.{OfPattern}
 
 -- a fault that isn't want of memory refuses a text
 pub refused_by : (bytes : List ℕ) (e : FileFault) → length bytes ≤ 1048576 → (e ≡ fault.Memory) ⊎ FirstFault bytes e → e ≢ fault.Memory → IsRefusedFilling bytes e

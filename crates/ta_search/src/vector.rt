@@ -10,7 +10,7 @@ ghost use Rattle.ta_search.specs.Holes.{HoleInRange, vector_count};
 ghost use Rattle.ta_search.specs.Inside.Trying.{IsOfPattern, vector_at};
 ghost use Rattle.ta_search.specs.Outcomes.{IsSampled, OutcomeHolds, is_safe, safe_before};
 ghost use Rattle.ta_search.specs.Searching.{IsTried, is_found};
-ghost use Rattle.ta_words.specs.Calls.{OfPattern};
+ghost use Rattle.ta_automaton.specs.Numbered.{OfPattern};
 
 use crate::certificate::CertificateText;
 use crate::filling::fill;

@@ -6,6 +6,7 @@ pub use Rattle.std.proofs.lemmas.List.{drop-drop, length-drop, set-get_or, take-
 pub use Rattle.std.proofs.lemmas.List.Kept.{AllPairs-cons}
 pub use Rattle.std.proofs.lemmas.Option.{get_or_from_slice_get, none-some}
 pub use Rattle.std.proofs.lemmas.Slice.Eq.{bytes_eq-Decides}
+pub use Rattle.std.proofs.raw_atomic.Walks.{proved}
 pub use Rattle.std.specs.List.{All, position, position_from}
 pub use Rattle.std.specs.Option.{IfSome, is_some, option_copied, unwrap_or}
 pub use Rattle.std.specs.Str.{bytes_eq}

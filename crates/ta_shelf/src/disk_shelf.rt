@@ -7,7 +7,7 @@ ghost use Rattle.ta_shelf.specs.Put.{PutFailsOnlyFaulted};
 ghost use Rattle.ta_shelf.specs.Shelf.{FailsOnlyFaulted};
 
 use crate::fault::{PutFault, ShelfFault};
-use crate::log::{Entry, Log};
+use crate::log::Log;
 use crate::shelf::Shelf;
 use std::alloc::AllocGlobal;
 use std::fs::OpenOptions;
@@ -158,12 +158,7 @@ impl<R: Files + AllocGlobal + Clone + Drop> Shelf for DiskShelf<R> {
             Ok(count) => Ok(count),
             Err(error) => Err(self.refusal(error)),
         };
-        self.log = self.log.then(&Entry {
-            name,
-            at,
-            buffer: buf,
-            answer,
-        });
+        self.log.add(name, at, buf, answer);
         answer
     }
 

@@ -46,4 +46,20 @@ impl Log {
     {
         Log {}
     }
+
+    /// Logs a call, from its parts.
+    pub fn add(&mut self, name: &str, at: u64, buffer: &[u8], answer: Result<usize, ShelfFault>)
+        ensures { self.new.calls ≡ self.old.calls ++ (record {
+          name = name.now;
+          at = at;
+          gave = filled buffer.now answer;
+        }) ∷ [] }
+    {
+        *self = self.then(&Entry {
+            name,
+            at,
+            buffer,
+            answer,
+        });
+    }
 }

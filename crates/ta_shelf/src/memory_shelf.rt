@@ -10,7 +10,6 @@ ghost use Rattle.ta_shelf.specs.Shelf.{ReadsAt, CountsFaults, FailsExactly};
 
 use crate::failing::Failing;
 use crate::fault::{PutFault, ShelfFault};
-use crate::log::Entry;
 use crate::quiet_shelf::QuietShelf;
 use crate::shelf::Shelf;
 use std::alloc::AllocError;
@@ -66,12 +65,7 @@ impl Shelf for MemoryShelf {
     {
         if self.failing.fails_next() {
             let answer = Err(ShelfFault::Failed);
-            self.shelf.log_call(&Entry {
-                name,
-                at,
-                buffer: buf,
-                answer,
-            });
+            self.shelf.log.add(name, at, buf, answer);
             return answer;
         }
         self.shelf.read_at(name, at, buf)

@@ -9,7 +9,7 @@ ghost use Rattle.ta_shelf.specs.Shelf.{ReadsAt, FailsOnlyFaulted, NeverFails};
 
 use crate::fault::{PutFault, ShelfFault};
 use crate::files::{append_file, create_file, find_file};
-use crate::log::{Entry, Log};
+use crate::log::Log;
 use crate::shelf::Shelf;
 use std::alloc::AllocError;
 use ta_base::{List, Text};
@@ -19,7 +19,7 @@ use ta_base::{List, Text};
 #[derive(Drop)]
 pub struct QuietShelf {
     files: List<(Text, List<u8>)>,
-    log: Log,
+    pub(crate) log: Log,
     pub ghost distinct: { AreDistinct files },
 }
 
@@ -35,18 +35,6 @@ impl QuietShelf {
             files,
             log: Log::new(),
         })
-    }
-
-    /// Logs a call.
-    pub(crate) fn log_call(&mut self, entry: &Entry<'_>)
-        ensures log { self.new.log.calls ≡ self.old.log.calls ++ (record {
-          name = entry.now.name.now;
-          at = entry.now.at;
-          gave = filled entry.now.buffer.now entry.now.answer;
-        }) ∷ [] }
-        ensures files { self.new.files ≡ self.old.files }
-    {
-        self.log = self.log.then(entry);
     }
 }
 
@@ -72,12 +60,7 @@ impl Shelf for QuietShelf {
             Some(bytes) => Ok(copy_from(bytes.as_slice(), at, buf)),
             None => Err(ShelfFault::Missing),
         };
-        self.log_call(&Entry {
-            name,
-            at,
-            buffer: buf,
-            answer,
-        });
+        self.log.add(name, at, buf, answer);
         answer
     }
 

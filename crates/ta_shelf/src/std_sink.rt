@@ -7,7 +7,7 @@ ghost use Rattle.ta_shelf.specs.Calls.{bytes_given};
 ghost use Rattle.ta_shelf.specs.Sink.{Adds, FailsOnlyFaulted, StallsOnlyStalled};
 
 use crate::fault::Failed;
-use crate::log::{Entry, Log};
+use crate::log::Log;
 use crate::sink::Sink;
 use crate::stalls::stalls_after;
 use std::io::Write;
@@ -56,12 +56,7 @@ impl<W: Write + Drop> Sink for StdSink<W> {
         match self.writer.write(bytes) {
             Ok(count) => {
                 self.stalls = stalls_after(self.stalls, count, bytes);
-                self.log = self.log.then(&Entry {
-                    name: "",
-                    at: 0,
-                    buffer: bytes,
-                    answer: Ok(count),
-                });
+                self.log.add("", 0, bytes, Ok(count));
                 Ok(count)
             }
             Err(_) => {

@@ -1,7 +1,9 @@
 -- Values that are admitted, and why values aren't.
-use Rattle.ta_smt.proofs.Common.{◌≡◌, ◌≢◌, ℕ, zero, suc, ◌<◌, ◌≤◌, ◌^◌, ℤ, pos, Bool, true, false, List, [], ◌∷◌, length, map, reverse, slice_get, get_or, unsigned_abs, Some, arith, refl, sym, ap, subst, ◌∙◌, length-append, All, AllByRecursion, slice_index, false≢true, length-map, all_at, PassedTo, some_at, same_pattern, AllBelow, StaysInRange, RowHolds, Solves, point_of, Row, System, File, Pattern, RowFails, RowOutOfRange, RowPasses, RowsOver, Value, Element, OfPattern, LegalWord, is_complete, AreRowsOf, SystemOf, pattern_search, LinearRow, bound_row, system_rows, word_rows, rows_count, solution_back, unbounded, AdmitFault, AdmitFaultOf, Admits, AdmitsAreExact, AskedWord, IsCompleteWord, IsIncomplete, SystemStays, SystemAsked, asked, IsValuesText, BadRow, CheckFault, IsChecked, PassesCheck, RowFault, RowStops, RunFault, IsRunOfValues, WordFault, LineFault}
+use Rattle.ta_smt.proofs.Common.{◌≡◌, ◌≢◌, ℕ, zero, suc, ◌≤◌, ◌^◌, ℤ, pos, Bool, true, false, List, [], ◌∷◌, length, map, reverse, slice_get, get_or, unsigned_abs, Some, arith, refl, sym, ap, subst, ◌∙◌, length-append, All, AllByRecursion, slice_index, false≢true, length-map, all_at, PassedTo, same_pattern, AllBelow, StaysInRange, RowHolds, Solves, point_of, Row, System, File, Pattern, RowFails, RowOutOfRange, RowPasses, RowsOver, Value, Element, LegalWord, is_complete, AreRowsOf, SystemOf, pattern_search, LinearRow, bound_row, system_rows, word_rows, rows_count, solution_back, unbounded, AdmitFault, AdmitFaultOf, Admits, AdmitsAreExact, AskedWord, IsCompleteWord, IsIncomplete, SystemStays, SystemAsked, asked, IsValuesText, BadRow, CheckFault, IsChecked, PassesCheck, RowFault, RowStops, RunFault, IsRunOfValues, WordFault, LineFault}
 use Rattle.ta_encode.specs.Search.{Pending}
 use Rattle.ta_encode.proofs.CodeRows.{solution_of as solves_of}
+use Rattle.ta_automaton.specs.declared.automaton.Automaton.{Automaton}
+use Rattle.ta_words.specs.declared.task.Task.{Task}
 use Rattle.ta_cursor.proofs.RowCounts.{few_rows}
 use Rattle.ta_replay.specs.declared.run.Run.{Run}
 use Rattle.ta_replay.specs.Replays.{ReplayStays}
@@ -155,17 +157,17 @@ rows_over n [] below = tt
 rows_over n (r ∷ rs) below = (below.0, rows_over n rs below.1)
 
 -- the system of a word has few rows
-pub few_in_word : (file : File) (number start : ℕ) (elements : List Element) (s : System) → number < length file.patterns → OfPattern file number (λ p. LegalWord file.automaton p start (reverse elements)) → OfPattern file number (λ p. SystemOf file.automaton p start (reverse elements) [] s) → length s.rows ≤ 2 ^ 32
-few_in_word file number start elements s exists legal is =
-    let p = some_at file.patterns number exists in
-    let a = file.automaton in
-    let rows = rows_count (system_rows a p.0 start (reverse elements) []) s.rows (is p.0 p.1).rows in
-    let words = length-append (word_rows a p.0 start (reverse elements)) (map bound_row []) in
-    let few = few_rows file number p.0 start (reverse elements) p.1 (legal p.0 p.1) in
+pub few_in_word : (t : Task) (start : ℕ) (elements : List Element) (s : System) → LegalWord t.automaton.now t.pattern.now start (reverse elements) → SystemOf t.automaton.now t.pattern.now start (reverse elements) [] s → length s.rows ≤ 2 ^ 32
+few_in_word t start elements s legal is =
+    let a = t.automaton.now in
+    let p = t.pattern.now in
+    let rows = rows_count (system_rows a p start (reverse elements) []) s.rows is.rows in
+    let words = length-append (word_rows a p start (reverse elements)) (map bound_row []) in
+    let few = few_rows a p start (reverse elements) t.over legal in
     omega arith
 
-pub system_asked : (file : File) (number start : ℕ) (elements : List Element) (s : System) → number < length file.patterns → OfPattern file number (λ p. SystemOf file.automaton p start (reverse elements) [] s) → SystemAsked file (asked number start elements) s
-system_asked file number start elements s exists is = let p = some_at file.patterns number exists in record { pattern = p.0; named = p.1; is = is p.0 p.1 }
+pub system_asked : (file : File) (number start : ℕ) (elements : List Element) (s : System) (t : Task) → t.automaton.now ≡ file.automaton → slice_get file.patterns number ≡ Some t.pattern.now → SystemOf t.automaton.now t.pattern.now start (reverse elements) [] s → SystemAsked file (asked number start elements) s
+system_asked file number start elements s t same named is = record { pattern = t.pattern.now; named = named; is = subst (λ (a : Automaton). SystemOf a t.pattern.now start (reverse elements) [] s) same is }
 
 pub word_stops : (file : File) (word : AskedWord) (values : List ℤ) (s : System) (found : AdmitFault) → SystemAsked file word s → CheckFault s values found → WordFault file word values found
 word_stops file word values s fault.Memory is bad = tt
@@ -177,8 +179,8 @@ word_stops file word values s (fault.Line n) is bad = absurd bad
 word_stops file word values s fault.Run is bad = absurd bad
 
 -- whether a word is complete
-pub complete_is : (file : File) (word : AskedWord) (r : Bool) → word.pattern < length file.patterns → OfPattern file word.pattern (λ p. r ≡ is_complete p (reverse word.elements)) → r ≡ true → IsCompleteWord file word
-complete_is file word r exists told is = let p = some_at file.patterns word.pattern exists in record { pattern = p.0; named = p.1; complete = sym (told p.0 p.1) ∙ is }
+pub complete_is : (file : File) (word : AskedWord) (t : Task) (r : Bool) → slice_get file.patterns word.pattern ≡ Some t.pattern.now → r ≡ is_complete t.pattern.now (reverse word.elements) → r ≡ true → IsCompleteWord file word
+complete_is file word t r named told is = record { pattern = t.pattern.now; named = named; complete = sym told ∙ is }
 
-pub incomplete_is : (file : File) (word : AskedWord) (r : Bool) → word.pattern < length file.patterns → OfPattern file word.pattern (λ p. r ≡ is_complete p (reverse word.elements)) → r ≡ false → IsIncomplete file word
-incomplete_is file word r exists told is = let p = some_at file.patterns word.pattern exists in record { pattern = p.0; named = p.1; incomplete = sym (told p.0 p.1) ∙ is }
+pub incomplete_is : (file : File) (word : AskedWord) (t : Task) (r : Bool) → slice_get file.patterns word.pattern ≡ Some t.pattern.now → r ≡ is_complete t.pattern.now (reverse word.elements) → r ≡ false → IsIncomplete file word
+incomplete_is file word t r named told is = record { pattern = t.pattern.now; named = named; incomplete = sym told ∙ is }

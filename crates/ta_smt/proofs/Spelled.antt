@@ -1,20 +1,19 @@
 -- Elements that make a word, one by one.
-use Rattle.ta_smt.proofs.Common.{◌≡◌, ◌<◌, ◌≤◌, ℕ, zero, suc, ◌+◌, Bool, false, List, [], ◌∷◌, length, reverse, take, slice_get, get_or, Some, arith, inl, inr, refl, sym, ap, subst, ◌∙◌, ◌↔◌, IsTrue, cases_order, false≢true, length-reverse, take-take, slice_get-get_or, front_get, some_at, take_next, File, Pattern, In, Element, OfPattern, LegalWord, children, events_named, FirstStranger}
+use Rattle.ta_smt.proofs.Common.{◌≡◌, ◌<◌, ◌≤◌, ℕ, zero, suc, ◌+◌, Bool, false, List, [], ◌∷◌, length, reverse, take, slice_get, get_or, Some, arith, inl, inr, refl, sym, ap, subst, ◌∙◌, ◌↔◌, IsTrue, cases_order, false≢true, take-take, slice_get-get_or, front_get, take_next, Pattern, In, Element, LegalWord, children, FirstStranger}
 use Rattle.ta_automaton.specs.declared.automaton.Automaton.{Automaton}
-use Rattle.ta_words.proofs.Counts.{legal_length}
 use Rattle.ta_encode.proofs.InOrder.{past_push, prefix_is_legal}
 
 -- a legal word so far
-pub record Spells (file : File) (number start : ℕ) (elements : List Element) (i : ℕ) (word : List Element) : Type 0 where
+pub record Spells (a : Automaton) (p : Pattern) (start : ℕ) (elements : List Element) (i : ℕ) (word : List Element) : Type 0 where
   pub so_far : word ≡ take i elements
-  pub legal : OfPattern file number (λ p. LegalWord file.automaton p start (reverse word))
+  pub legal : LegalWord a p start (reverse word)
 
-pub stranger : (file : File) (number start : ℕ) (elements word : List Element) (i : ℕ) (element : Element) → Spells file number start elements i word → slice_get elements i ≡ Some element → OfPattern file number (λ p. In element (children file.automaton p [] start (reverse word)) → ⊥) → OfPattern file number (λ p. FirstStranger file.automaton p start elements i)
-stranger file number start elements word i element spells at none p named = record {
-  legal = subst (λ w. LegalWord file.automaton p start (reverse w)) spells.so_far (spells.legal p named);
+stranger : (a : Automaton) (p : Pattern) (start : ℕ) (elements word : List Element) (i : ℕ) (element : Element) → Spells a p start elements i word → slice_get elements i ≡ Some element → ¬ In element (children a p [] start (reverse word)) → FirstStranger a p start elements i
+stranger a p start elements word i element spells at none = record {
+  legal = subst (λ w. LegalWord a p start (reverse w)) spells.so_far spells.legal;
   element = element;
   at = at;
-  stranger = λ child. none p named (subst (λ w. In element (children file.automaton p [] start (reverse w))) (sym spells.so_far) child);
+  stranger = λ child. none (subst (λ w. In element (children a p [] start (reverse w))) (sym spells.so_far) child);
 }
 
 -- a legal word has no stranger
@@ -40,22 +39,15 @@ stranger_once a p start elements j k first other = elim (cases_order j k) [
   | inr apart ↦ elim apart [ inl less ↦ absurd (no_earlier a p start elements j k first other less) | inr more ↦ absurd (no_earlier a p start elements k j other first more) ]
 ]
 
--- a legal word is short
-pub short_word : (file : File) (number start : ℕ) (word : List Element) → number < length file.patterns → OfPattern file number (λ p. LegalWord file.automaton p start (reverse word)) → length word ≤ 30
-short_word file number start word exists legal =
-    let p = some_at file.patterns number exists in
-    let few = legal_length file.automaton p.0 start (reverse word) (events_named file number p.0 p.1).limit (legal p.0 p.1) in
-    omega (arith, length-reverse word)
-
 -- as many elements as were taken
-pub spelled_length : (file : File) (number start : ℕ) (elements : List Element) (i : ℕ) (word : List Element) → i ≤ length elements → Spells file number start elements i word → length word ≡ i
-spelled_length file number start elements i word within spells = ap length spells.so_far ∙ taken elements i within
+pub spelled_length : (a : Automaton) (p : Pattern) (start : ℕ) (elements : List Element) (i : ℕ) (word : List Element) → i ≤ length elements → Spells a p start elements i word → length word ≡ i
+spelled_length a p start elements i word within spells = ap length spells.so_far ∙ taken elements i within
   where
     taken : (xs : List Element) (i : ℕ) → i ≤ length xs → length (take i xs) ≡ i
     taken xs zero within = refl
     taken [] (suc i) within = absurd (omega arith)
     taken (x ∷ xs) (suc i) within = ap suc (taken xs i (omega arith))
 
-pub stranger_found : (file : File) (number start : ℕ) (elements word : List Element) (i : ℕ) (d : Element) (r : Bool) → Spells file number start elements i word → i < length elements → OfPattern file number (λ p. IsTrue r ↔ In (get_or elements i d) (children file.automaton p [] start (reverse word))) → r ≡ false → OfPattern file number (λ p. FirstStranger file.automaton p start elements i)
-stranger_found file number start elements word i d r spells within told is =
-    stranger file number start elements word i (get_or elements i d) spells (slice_get-get_or elements i d within) (λ p named child. false≢true (sym is ∙ (told p named).1 child))
+pub stranger_found : (a : Automaton) (p : Pattern) (start : ℕ) (elements word : List Element) (i : ℕ) (d : Element) (r : Bool) → Spells a p start elements i word → i < length elements → IsTrue r ↔ In (get_or elements i d) (children a p [] start (reverse word)) → r ≡ false → FirstStranger a p start elements i
+stranger_found a p start elements word i d r spells within told is =
+    stranger a p start elements word i (get_or elements i d) spells (slice_get-get_or elements i d within) (λ child. false≢true (sym is ∙ told.1 child))

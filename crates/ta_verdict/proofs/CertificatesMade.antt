@@ -1,5 +1,5 @@
 -- the text of the trees of safe patterns is a certificate that a judge accepts
-use Rattle.ta_verdict.proofs.Common.{◌≡◌, ◌∙◌, ℕ, ◌+◌, ◌<◌, ◌≤◌, ◌^◌, suc, List, [], ◌∷◌, ◌++◌, length, map, Option, Some, None, slice_get, refl, sym, ap, subst, append_assoc, arith, codes, decimal, lit≤, lit<, AllByRecursion, slice_get_within, File, Pattern, LoopsPure, AreWritable, cert_lines, cert_text, head_text, order_lines, pair_of, proof_lines, proof_of, proofs_of, proofs_text, version_of, IsNode, line_text, Node, Order, Proof, RefutedInOrder, Verdict, refuted_safe, orders_once, orders_sound, IsShort, TreeIs, FoundOrders, pattern_search, AreTrees, AreTreesOf, CertificateOf, SafeOne, safe_numbers, safe_ones, tree_size, tree_under, with_safe, ended_line}
+use Rattle.ta_verdict.proofs.Common.{◌≡◌, ◌∙◌, ℕ, ◌+◌, ◌<◌, ◌≤◌, ◌^◌, suc, List, [], ◌∷◌, ◌++◌, length, map, Option, Some, None, slice_get, refl, sym, ap, subst, append_assoc, arith, codes, decimal, lit≤, lit<, AllByRecursion, slice_get_within, File, Pattern, LoopsPure, AreWritable, cert_lines, cert_text, head_text, order_lines, pair_of, proof_lines, proof_of, proofs_of, proofs_text, version_of, IsNode, line_text, Node, Order, Proof, RefutedInOrder, Verdict, refuted_hold, orders_once, orders_sound, IsShort, TreeIs, FoundOrders, pattern_search, AreTrees, AreTreesOf, CertificateOf, SafeOne, safe_numbers, safe_ones, tree_size, tree_under, with_safe, ended_line}
 use Rattle.ta_base.proofs.DecimalDigits.{row_short}
 use Rattle.ta_base.proofs.Each.{above_apart, all_of, weaker}
 use Rattle.ta_base.specs.Lists.{Distinct}
@@ -120,7 +120,7 @@ judgeable_under file orders found budget loops within number p at nodes count is
     let pairs = map pair_of orders in
     let same_orders = orders_once file.automaton is.orders orders is.found found in
     let tree = subst (λ (os : List Order). TreeIs (pattern_search file.automaton p (map pair_of os)) budget nodes count) same_orders is.holds in
-    let proof = (refuted_safe file number p at loops pairs (orders_sound file.automaton orders found).good budget within nodes count tree).0 in
+    let proof = (refuted_hold Safe file number p at tt loops pairs (orders_sound file.automaton orders found).good budget within nodes count tree).0 in
     record { refutes = proof.refutes; writable = proof.writable; short = proof.short }
 
 -- the numbers of those of a file that are safe are distinct and name their patterns

@@ -15,7 +15,7 @@ one_tree file budget one p q h k =
     let numbers : p.pattern ≡ q.pattern = h.numbered ∙ sym k.numbered in
     let orders = orders_once file.automaton h.is.orders k.is.orders h.is.found k.is.found in
     let first = subst (λ (os : List Order). TreeIs (pattern_search file.automaton one.pattern (map pair_of os)) budget p.nodes one.nodes) orders h.is.holds in
-    let nodes : p.nodes ≡ q.nodes = ap tree_of (ends_once file.automaton one.pattern (map pair_of k.is.orders) one.number budget (walk.Refuted p.nodes one.nodes) (walk.Refuted q.nodes one.nodes) first k.is.holds) in
+    let nodes : p.nodes ≡ q.nodes = ap tree_of (ends_once (pattern_search file.automaton one.pattern (map pair_of k.is.orders)) one.number budget (walk.Refuted p.nodes one.nodes) (walk.Refuted q.nodes one.nodes) first k.is.holds) in
     λ i. record { pattern = numbers i; nodes = nodes i }
 
 trees_once : (file : File) (budget : ℕ) (ones : List SafeOne) (ps qs : List Proof) → AreTrees file budget ones ps → AreTrees file budget ones qs → ps ≡ qs

@@ -25,10 +25,10 @@ pub use Rattle.ta_verdict.specs.Verdicts.{HoldsUnder, IsOutOfRangeIn, IsSample, 
 pub use Rattle.ta_walk.proofs.DeterminedEnds.{ends_once}
 pub use Rattle.ta_walk.proofs.OrdersOnce.{orders_once}
 pub use Rattle.ta_walk.proofs.OrdersSound.{orders_sound}
-pub use Rattle.ta_walk.proofs.ProofsMade.{refuted_safe}
+pub use Rattle.ta_walk.proofs.ProofsMade.{refuted_hold}
 pub use Rattle.ta_walk.specs.Ends.{IsShort, IsSpent, IsWalkEnd, NodeOf, SolutionAt, TreeIs, leaf_count}
 pub use Rattle.ta_walk.specs.FoundOrders.{FoundOrders}
 pub use Rattle.ta_walk.specs.declared.end.PlaceKind.{PlaceKind}
 pub use Rattle.ta_walk.specs.declared.end.WalkEnd.{WalkEnd}
 pub use Rattle.ta_witness.specs.Witness.{IsSolution, WitnessOf, WitnessOutOfRange}
-pub use Rattle.ta_words.specs.Calls.{OfPattern}
+pub use Rattle.ta_automaton.specs.Numbered.{OfPattern}

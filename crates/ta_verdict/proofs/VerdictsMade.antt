@@ -1,12 +1,17 @@
 -- what is known of verdicts as they are made and counted
-use Rattle.ta_verdict.proofs.Common.{◌≡◌, ℕ, suc, ◌+◌, ◌<◌, ◌≤◌, List, [], ◌∷◌, ◌++◌, length, map, reverse, take, arith, refl, sym, ap, subst, ◌∙◌, Some, slice_get, get_or, length-take-le, take_more, get_or_from_slice_get, AllByRecursion, some_at, File, Pattern, LoopsPure, pair_of, Node, Order, OfPattern, Pending, Solution, PlaceKind, IsSpent, NodeOf, SolutionAt, TreeIs, leaf_count, FoundOrders, orders_sound, refuted_safe, ReportKind, Verdict, IsSolution, pattern_search, IsOutOfRangeIn, SafeHolds, SpentHolds, UnderOrders, VerdictHolds, VerdictsHold, place_of}
+use Rattle.ta_verdict.proofs.Common.{◌≡◌, ℕ, suc, ◌+◌, ◌<◌, ◌≤◌, List, [], ◌∷◌, ◌++◌, length, map, reverse, take, arith, refl, sym, ap, subst, ◌∙◌, Some, slice_get, get_or, length-take-le, take_more, get_or_from_slice_get, AllByRecursion, some_at, File, Pattern, LoopsPure, pair_of, Node, Order, OfPattern, Pending, Solution, PlaceKind, IsSpent, NodeOf, SolutionAt, TreeIs, leaf_count, FoundOrders, orders_sound, refuted_hold, ReportKind, Verdict, IsSolution, pattern_search, IsOutOfRangeIn, SafeHolds, SpentHolds, UnderOrders, VerdictHolds, VerdictsHold, place_of}
+use Rattle.std.proofs.Common.{Err, IfOk, Ok, Result}
+use Rattle.std.specs.declared.alloc.AllocError.{AllocError}
 use Rattle.ta_implied.specs.Implied.{Good}
+use Rattle.ta_claim.specs.declared.claim.Claim.TheVariants.{Safe as ClaimSafe}
 use Rattle.ta_words.proofs.Counts.{legal_under}
 use Rattle.ta_walk.specs.Visit.{IsOutOfRangeAt}
 use Rattle.ta_walk.proofs.SpentSplits.{spent_split}
 use Rattle.ta_walk.proofs.WordsSolved.{found_solved}
 use Rattle.ta_report.specs.declared.verdict.ReportKind.TheVariants as kind
+use Rattle.ta_report.specs.declared.verdict.Verdict.TheVariants.{Overflow}
 use Rattle.ta_report.specs.Report.{VerdictFits}
+use Rattle.ta_witness.specs.Witness.{WitnessOutOfRange}
 
 -- a fact under the pairs of the orders that are found
 pub under : (file : File) (fact : List (ℕ × ℕ) → Type 0) (orders : List Order) (pairs : List (ℕ × ℕ)) → FoundOrders file.automaton orders → pairs ≡ map pair_of orders → fact pairs → UnderOrders file fact
@@ -17,14 +22,14 @@ pub safe_holds : (file : File) (number : ℕ) (p : Pattern) → slice_get file.p
 safe_holds file number p at loops orders pairs found same budget within tree nodes leaves is counted =
     let good = subst (Good file.automaton) (sym same) (orders_sound file.automaton orders found).good in
     under file (λ ps. SafeHolds file ps p budget nodes leaves) orders pairs found same
-    (record { safe = (refuted_safe file number p at loops pairs good budget within tree nodes is).1; tree = tree; is = is; counted = counted })
+    (record { safe = (refuted_hold ClaimSafe file number p at tt loops pairs good budget within tree nodes is).1; tree = tree; is = is; counted = counted })
 
 -- a budget that is spent
 pub spent_holds : (file : File) (pairs : List (ℕ × ℕ)) (p : Pattern) (budget nodes : ℕ) → IsSpent (pattern_search file.automaton p pairs) budget nodes → SpentHolds file pairs p budget nodes
 spent_holds file pairs p budget nodes spent = record { is = spent; split = λ most. spent_split file.automaton p pairs budget nodes most spent }
 
 -- what a walk finds is a solution
-pub solution_is : (file : File) (number : ℕ) (p : Pattern) → slice_get file.patterns number ≡ Some p → (pairs : List (ℕ × ℕ)) (budget nodes : ℕ) (solution : Solution) → NodeOf (pattern_search file.automaton p pairs) budget nodes (SolutionAt file.automaton p pairs number solution) → IsSolution file solution
+pub solution_is : (file : File) (number : ℕ) (p : Pattern) → slice_get file.patterns number ≡ Some p → (pairs : List (ℕ × ℕ)) (budget nodes : ℕ) (solution : Solution) → NodeOf (pattern_search file.automaton p pairs) budget nodes (SolutionAt (pattern_search file.automaton p pairs) number solution) → IsSolution file solution
 solution_is file number p at pairs budget nodes solution found =
     let solved = found_solved file.automaton p pairs number budget nodes solution found in
     record {
@@ -39,7 +44,7 @@ solution_is file number p at pairs budget nodes solution found =
       };
     }
 
-pub solution_found : (file : File) (number : ℕ) → number < length file.patterns → (pairs : List (ℕ × ℕ)) (budget nodes : ℕ) (solution : Solution) → OfPattern file number (λ p. NodeOf (pattern_search file.automaton p pairs) budget nodes (SolutionAt file.automaton p pairs number solution)) → IsSolution file solution
+pub solution_found : (file : File) (number : ℕ) → number < length file.patterns → (pairs : List (ℕ × ℕ)) (budget nodes : ℕ) (solution : Solution) → OfPattern file number (λ p. NodeOf (pattern_search file.automaton p pairs) budget nodes (SolutionAt (pattern_search file.automaton p pairs) number solution)) → IsSolution file solution
 solution_found file number within pairs budget nodes solution found =
     let at = some_at file.patterns number within in
     solution_is file number at.0 at.1 pairs budget nodes solution (found at.0 at.1)
@@ -58,6 +63,19 @@ out_of_range_in file pairs number p k kind.Run w same leaves = absurd (subst (Is
 pub overflow_holds : (file : File) (pairs : List (ℕ × ℕ)) (number : ℕ) (p : Pattern) (budget node : ℕ) (k : PlaceKind) (r : ReportKind) → place_of r ≡ k → NodeOf (pattern_search file.automaton p pairs) budget node (λ w. IsOutOfRangeAt (pattern_search file.automaton p pairs) w k) → NodeOf (pattern_search file.automaton p pairs) budget node (IsOutOfRangeIn file pairs number p r)
 overflow_holds file pairs number p budget node k r same found =
     of_node file p pairs budget node (λ w. IsOutOfRangeAt (pattern_search file.automaton p pairs) w k) (IsOutOfRangeIn file pairs number p r) (λ w. out_of_range_in file pairs number p k r w same) found
+
+-- the solution of the first whole node has a run whose replay leaves the range
+pub run_leaves : (file : File) (orders : List Order) (budget number : ℕ) (p : Pattern) (node : ℕ) (solution : Solution) → FoundOrders file.automaton orders → NodeOf (pattern_search file.automaton p (map pair_of orders)) budget node (SolutionAt (pattern_search file.automaton p (map pair_of orders)) number solution) → WitnessOutOfRange file solution → VerdictHolds file budget number p (Overflow node kind.Run)
+run_leaves file orders budget number p node solution found at leaves = record {
+  orders = orders;
+  found = found;
+  holds = of_node file p (map pair_of orders) budget node (SolutionAt (pattern_search file.automaton p (map pair_of orders)) number solution) (IsOutOfRangeIn file (map pair_of orders) number p kind.Run) (λ w whole. record { solution = solution; whole = whole; run = leaves }) at;
+}
+
+-- what is said of each pattern of a number is said of the verdict on it
+pub said_of : (file : File) (number : ℕ) (r : Result Verdict AllocError) (P : Pattern → Verdict → Type 0) → OfPattern file number (λ p. IfOk r (P p)) → IfOk r (λ v. OfPattern file number (λ p. P p v))
+said_of file number (Ok v) P h = h
+said_of file number (Err e) P h = tt
 
 -- one more verdict at the end
 holds_more : (file : File) (budget number : ℕ) (ps : List Pattern) (vs : List Verdict) (p : Pattern) (v : Verdict) → VerdictsHold file budget number ps vs → VerdictHolds file budget (number + length ps) p v → VerdictsHold file budget number (ps ++ p ∷ []) (vs ++ v ∷ [])

@@ -1,5 +1,5 @@
 -- a pattern of a file has one verdict for one budget
-use Rattle.ta_verdict.proofs.Common.{◌≡◌, ◌⊎◌, inl, inr, ◌+◌, ℕ, suc, List, [], ◌∷◌, Some, slice_get, map, refl, sym, ap, subst, ◌∙◌, arith, File, Pattern, Solution, PlaceKind, WalkEnd, IsWalkEnd, leaf_count, ends_once, Verdict, IsSolution, WitnessOutOfRange, WitnessOf, pair_of, Order, orders_once, HoldsUnder, VerdictHolds, VerdictsAreDetermined, VerdictsHold}
+use Rattle.ta_verdict.proofs.Common.{◌≡◌, ◌⊎◌, inl, inr, ◌+◌, ℕ, suc, List, [], ◌∷◌, Some, slice_get, map, refl, sym, ap, subst, ◌∙◌, arith, File, Pattern, Solution, PlaceKind, WalkEnd, IsWalkEnd, leaf_count, pattern_search, ends_once, Verdict, IsSolution, WitnessOutOfRange, WitnessOf, pair_of, Order, orders_once, HoldsUnder, VerdictHolds, VerdictsAreDetermined, VerdictsHold}
 use Rattle.ta_replay.specs.declared.run.Run.{Run}
 use Rattle.ta_replay.specs.Replays.{ReplayStays}
 use Rattle.ta_walk.specs.declared.end.PlaceKind.TheVariants as place
@@ -9,19 +9,20 @@ use Rattle.ta_report.specs.declared.verdict.Verdict.TheVariants.{Safe, Unsafe, S
 use Rattle.ta_witness.proofs.WitnessOnce.{one_witness}
 use Rattle.ta_verdict.proofs.VerdictsMade.{solution_is}
 
--- the run of a solution is that of a verdict, in which a replay stays in range, or it leaves the range
+-- the run of a solution is that of a verdict, in which a replay stays in range
 record ShownBy (file : File) (count : ℕ) (solution : Solution) (v : Verdict) : Type 0 where
   run : Run
   says : v ≡ Unsafe count run
   is : WitnessOf file solution run
   stays : ReplayStays file run
 
-record LeftBy (file : File) (count : ℕ) (solution : Solution) (v : Verdict) : Type 0 where
-  says : v ≡ Overflow count kind.Run
-  leaves : WitnessOutOfRange file solution
+-- or a number of the replay of its run leaves the range
+pub record LeftBy (file : File) (count : ℕ) (solution : Solution) (v : Verdict) : Type 0 where
+  pub says : v ≡ Overflow count kind.Run
+  pub leaves : WitnessOutOfRange file solution
 
 -- the verdict where a walk says that a number leaves the range
-abbrev SaysPlace : ℕ → PlaceKind → Verdict → Type 0
+abbrev pub SaysPlace : ℕ → PlaceKind → Verdict → Type 0
 SaysPlace node (place.Pivot pivot) v = v ≡ Overflow node (kind.Pivot pivot)
 SaysPlace node place.Leaf v = v ≡ Overflow node kind.Leaf
 SaysPlace node place.Run v = ⊥
@@ -36,7 +37,7 @@ Gives file (walk.Overflow node k) v = SaysPlace node k v
 -- the walk of a pattern ends as a verdict says
 record EndOf (file : File) (pairs : List (ℕ × ℕ)) (budget number : ℕ) (p : Pattern) (v : Verdict) : Type 0 where
   end : WalkEnd
-  is : IsWalkEnd file.automaton p pairs number budget end
+  is : IsWalkEnd (pattern_search file.automaton p pairs) number budget end
   gives : Gives file end v
 
 end_of : (file : File) (pairs : List (ℕ × ℕ)) (budget number : ℕ) (p : Pattern) (v : Verdict) → HoldsUnder file pairs budget number p v → EndOf file pairs budget number p v
@@ -62,12 +63,12 @@ never_both file count solution v w is a b =
     let leaves = b.leaves in
     leaves.leaves (subst (ReplayStays file) (one_witness file solution a.run leaves.run is a.is leaves.is) a.stays)
 
-place_once : (node : ℕ) (k : PlaceKind) (v w : Verdict) → SaysPlace node k v → SaysPlace node k w → v ≡ w
+pub place_once : (node : ℕ) (k : PlaceKind) (v w : Verdict) → SaysPlace node k v → SaysPlace node k w → v ≡ w
 place_once node (place.Pivot pivot) v w a b = a ∙ sym b
 place_once node place.Leaf v w a b = a ∙ sym b
 place_once node place.Run v w a b = absurd a
 
-gives_once : (file : File) (p : Pattern) (pairs : List (ℕ × ℕ)) (number budget : ℕ) (e : WalkEnd) (v w : Verdict) → slice_get file.patterns number ≡ Some p → IsWalkEnd file.automaton p pairs number budget e → Gives file e v → Gives file e w → v ≡ w
+gives_once : (file : File) (p : Pattern) (pairs : List (ℕ × ℕ)) (number budget : ℕ) (e : WalkEnd) (v w : Verdict) → slice_get file.patterns number ≡ Some p → IsWalkEnd (pattern_search file.automaton p pairs) number budget e → Gives file e v → Gives file e w → v ≡ w
 gives_once file p pairs number budget (walk.Refuted nodes count) v w at is a b = a ∙ sym b
 gives_once file p pairs number budget (walk.Found count solution) v w at is (inl a) (inl b) = shown_once file count solution v w (solution_is file number p at pairs budget count solution is) a b
 gives_once file p pairs number budget (walk.Found count solution) v w at is (inl a) (inr b) = absurd (never_both file count solution v w (solution_is file number p at pairs budget count solution is) a b)
@@ -83,11 +84,11 @@ verdict_once file budget number p v w at h k =
     let first = subst (λ (os : List Order). HoldsUnder file (map pair_of os) budget number p v) orders h.holds in
     let a = end_of file pairs budget number p v first in
     let b = end_of file pairs budget number p w k.holds in
-    let ends = ends_once file.automaton p pairs number budget a.end b.end a.is b.is in
+    let ends = ends_once (pattern_search file.automaton p pairs) number budget a.end b.end a.is b.is in
     gives_once file p pairs number budget b.end v w at b.is (subst (λ (e : WalkEnd). Gives file e v) ends a.gives) b.gives
 
 -- patterns are those of a file from a number on
-abbrev From : File → ℕ → List Pattern → Type 0
+abbrev pub From : File → ℕ → List Pattern → Type 0
 From file number ps = (k : ℕ) (p : Pattern) → slice_get ps k ≡ Some p → slice_get file.patterns (number + k) ≡ Some p
 
 verdicts_same : (file : File) (budget number : ℕ) (ps : List Pattern) (vs ws : List Verdict) → From file number ps → VerdictsHold file budget number ps vs → VerdictsHold file budget number ps ws → vs ≡ ws

@@ -55,7 +55,7 @@ pub record SafeHolds (file : File) (pairs : List (ℕ × ℕ)) (p : Pattern) (bu
 -- is the run of the first whole node, which is the node of this number, within the budget
 pub record UnsafeHolds (file : File) (pairs : List (ℕ × ℕ)) (number : ℕ) (p : Pattern) (budget nodes : ℕ) (run : Run) : Type 0 where
   pub solution : Solution
-  pub node : NodeOf (pattern_search file.automaton p pairs) budget nodes (SolutionAt file.automaton p pairs number solution)
+  pub node : NodeOf (pattern_search file.automaton p pairs) budget nodes (SolutionAt (pattern_search file.automaton p pairs) number solution)
   pub is : WitnessOf file solution run
   pub shows : Shows file run
   pub stays : ReplayStays file run
@@ -70,7 +70,7 @@ pub record SpentHolds (file : File) (pairs : List (ℕ × ℕ)) (p : Pattern) (b
 -- the word is that of a whole node, and a number of the replay of its run leaves the range
 pub record RunOutOfRange (file : File) (pairs : List (ℕ × ℕ)) (number : ℕ) (p : Pattern) (w : Pending) : Type 0 where
   pub solution : Solution
-  pub whole : SolutionAt file.automaton p pairs number solution w
+  pub whole : SolutionAt (pattern_search file.automaton p pairs) number solution w
   pub run : WitnessOutOfRange file solution
 
 -- where a number of a node leaves the range: in a pivot, in the check of the leaf that it is, or in the replay of its run
@@ -108,7 +108,7 @@ pub record IsSample (file : File) (budget : ℕ) (s : ReportSample) : Type 0 whe
 abbrev pub SamplesAreDetermined : Type 0
 SamplesAreDetermined = (file : File) (budget : ℕ) (s t : ReportSample) → IsSample file budget s → IsSample file budget t → s ≡ t
 
--- a verdict on the pattern of a number holds under pairs of guards, for a budget of nodes. AllByRecursion node before the one that is named was
+-- a verdict on the pattern of a number holds under pairs of guards, for a budget of nodes. Each node before the one that is named was
 -- a leaf, an extension or a split, and no number of it left the range
 abbrev pub HoldsUnder : File → List (ℕ × ℕ) → ℕ → ℕ → Pattern → Verdict → Type 0
 HoldsUnder file pairs budget number p (Safe nodes leaves) = SafeHolds file pairs p budget nodes leaves

@@ -12,25 +12,26 @@ ghost use Rattle.ta_shell.specs.Puts.{texts_joined};
 ghost use Rattle.ta_walk.specs.Ends.{NodeOf, SolutionAt};
 ghost use Rattle.ta_walk.specs.FoundOrders.{FoundOrders};
 ghost use Rattle.ta_witness.specs.Witness.{IsSolution};
-ghost use Rattle.ta_words.specs.Calls.{OfPattern};
+ghost use Rattle.ta_automaton.specs.Numbered.{OfPattern};
 ghost use Rattle.ta_verdict.specs.Certificates.{CertificateOf, safe_numbers, safe_ones, tree_size, tree_under};
 ghost use Rattle.ta_verdict.specs.Drafts.{AddsTree, DraftHasTree, HasProofs, HasTrees};
 ghost use Rattle.ta_verdict.specs.Verdicts.{AreVerdicts, VerdictHolds};
 
 use crate::draft::Draft;
 use crate::sampling::report_kind;
-use crate::saying::is_safe;
+use crate::saying::{is_safe, unwitnessed};
 use std::alloc::{AllocError, Global};
 use std::thread::Threads;
 use ta_base::limits::MOST_NODES;
 use ta_base::{List, Text};
 use ta_cert::Line;
+use ta_claim::{Claim, ClaimTree};
 use ta_dense::NarrowDictionary;
 use ta_encode::Solution;
-use ta_report::{ReportKind, Verdict};
+use ta_report::Verdict;
 use ta_scope::ScopedFile;
 use ta_walk::{OrdersFound, VisitEnd, find_orders, visit};
-use ta_witness::{WitnessFault, witness};
+use ta_witness::witness;
 
 /// What is said of the patterns of a file, within a budget of nodes for each.
 #[derive(Drop)]
@@ -143,15 +144,8 @@ fn verdict_on<R: Threads + Sync>(
     ensures fits { IfOk result (VerdictFits scoped.now.file) }
     ensures drafted { IfOk result (λ verdict. OfPattern scoped.now.file pattern (λ p. DraftHasTree (tree_under scoped.now.file nodes) p verdict draft.old draft.new)) }
 {
-    match visit::<NarrowDictionary, Draft, R>(
-        rt,
-        alloc,
-        scoped,
-        pattern,
-        &found.orders,
-        nodes,
-        draft,
-    )? {
+    let tree = ClaimTree::new(Claim::Safe, &scoped.file, pattern, &found.orders);
+    match visit::<NarrowDictionary, Draft, R>(rt, alloc, &tree, nodes, draft)? {
         VisitEnd::Refuted { count, leaves } => Ok(Verdict::Safe {
             nodes: count,
             leaves,
@@ -174,16 +168,12 @@ fn verdict_of(
     solution: &Solution,
 ) -> Result<Verdict, AllocError>
     requires { IsSolution scoped.now.file solution.now }
-    ensures holds { (orders : List Order) (budget number : ℕ) (p : Pattern) → FoundOrders scoped.now.file.automaton orders → NodeOf (pattern_search scoped.now.file.automaton p (map pair_of orders)) budget node (SolutionAt scoped.now.file.automaton p (map pair_of orders) number solution.now) → IfOk result (λ verdict. VerdictHolds scoped.now.file budget number p verdict) }
+    ensures holds { (orders : List Order) (budget number : ℕ) (p : Pattern) → FoundOrders scoped.now.file.automaton orders → NodeOf (pattern_search scoped.now.file.automaton p (map pair_of orders)) budget node (SolutionAt (pattern_search scoped.now.file.automaton p (map pair_of orders)) number solution.now) → IfOk result (λ verdict. VerdictHolds scoped.now.file budget number p verdict) }
     ensures no_tree { IfOk result (λ verdict. tree_size verdict ≡ None) }
     ensures fits { IfOk result (VerdictFits scoped.now.file) }
 {
     match witness(alloc, scoped, solution) {
         Ok(run) => Ok(Verdict::Unsafe { nodes: node, run }),
-        Err(WitnessFault::Overflow) => Ok(Verdict::Overflow {
-            node,
-            kind: ReportKind::Run,
-        }),
-        Err(WitnessFault::Memory) => Err(AllocError),
+        Err(fault) => unwitnessed(node, fault),
     }
 }

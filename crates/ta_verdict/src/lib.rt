@@ -12,5 +12,5 @@ mod saying;
 pub use draft::Draft;
 pub use judging::{Judged, judge_file};
 pub use laws::{certificates_are_determined, verdicts_are_determined};
-pub use sampling::sample_of;
-pub use saying::{is_safe, is_unknown, is_unsafe};
+pub use sampling::{report_kind, sample_of};
+pub use saying::{is_safe, is_unknown, is_unsafe, unwitnessed};

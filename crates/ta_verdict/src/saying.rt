@@ -1,11 +1,16 @@
 //! What a verdict says of a pattern.
 #![tactic(auto)]
 
-ghost use Rattle.std.specs.Prelude.{◌≡◌, is_some};
+ghost use Rattle.std.specs.Prelude.{◌≡◌, IfOk, is_some};
+ghost use Rattle.ta_report.specs.declared.verdict.ReportKind.TheVariants.{Run};
+ghost use Rattle.ta_report.specs.declared.verdict.Verdict.TheVariants.{Overflow};
 ghost use Rattle.ta_verdict.specs.Certificates.{tree_size};
 ghost use Rattle.ta_verdict.specs.Verdicts.{is_unknown, is_unsafe};
+ghost use Rattle.ta_witness.specs.declared.fault.WitnessFault.TheVariants as why;
 
-use ta_report::Verdict;
+use std::alloc::AllocError;
+use ta_report::{ReportKind, Verdict};
+use ta_witness::WitnessFault;
 
 /// Whether a verdict says that a pattern is safe.
 pub fn is_safe(verdict: &Verdict) -> bool
@@ -26,4 +31,18 @@ pub fn is_unknown(verdict: &Verdict) -> bool
     ensures { result ≡ is_unknown verdict.now }
 {
     matches!(verdict, Verdict::Spent { .. } | Verdict::Overflow { .. })
+}
+
+/// The verdict where the node of a number is the first whole one and its solution has no run: a number
+/// of the run's replay left the range.
+pub fn unwitnessed(node: u64, fault: WitnessFault) -> Result<Verdict, AllocError>
+    ensures { IfOk result (λ verdict. (fault ≡ why.Overflow) × (verdict ≡ Overflow node Run)) }
+{
+    match fault {
+        WitnessFault::Overflow => Ok(Verdict::Overflow {
+            node,
+            kind: ReportKind::Run,
+        }),
+        WitnessFault::Memory => Err(AllocError),
+    }
 }

@@ -1,8 +1,8 @@
 -- The names that the proofs of this crate cite, passed on from one place. Declares nothing.
 pub use Rattle.std.proofs.Common.{Bool, FitsSigned, IfOk, List, None, Ok, Option, Some, [], ap, append-nil, append_assoc, arith, codes, cond, decimal, drop, false, get_or, inl, inr, length, length-append, lit<, map, nat_lt, negsuc, pos, refl, reverse, rules, slice_get, subst, suc, sym, take, true, zero, ℕ, ℤ, ◌*ℤ◌, ◌*◌, ◌++◌, ◌+ℤ◌, ◌+◌, ◌-◌, ◌<ℤ◌, ◌<◌, ◌^◌, ◌∙◌, ◌∷◌, ◌≡◌, ◌≤ℤ◌, ◌≤◌, ◌⊎◌}
 pub use Rattle.std.proofs.Math.IntN.{*ℤ_comm}
-pub use Rattle.std.proofs.lemmas.Bool.{cases_eq, cases_order, true≢false}
 pub use Rattle.std.proofs.lemmas.Bool.Decides.{nat_tests}
+pub use Rattle.std.proofs.lemmas.Bool.{cases_eq, cases_order, true≢false}
 pub use Rattle.std.proofs.lemmas.Int.{by_lt_z, ints, to_z-of_z}
 pub use Rattle.std.proofs.lemmas.List.{length-map, map-append, reverse-reverse, take-append-drop, take_more}
 pub use Rattle.std.specs.Int.{int_div_euclid, int_rem_euclid, w128}
@@ -23,17 +23,18 @@ pub use Rattle.ta_cert.specs.Certificates.{IsOrder, order_lines, pair_of}
 pub use Rattle.ta_cert.specs.Lines.{ArePairs, IsMultiplierPair, IsNode, IsSplit, line_text, pair_text, pairs_text, split_text}
 pub use Rattle.ta_cert.specs.declared.line.Node.{Node}
 pub use Rattle.ta_cert.specs.declared.line.Order.{Order}
+pub use Rattle.ta_claim.proofs.PatternWords.{comes_legal}
+pub use Rattle.ta_claim.specs.Trees.{search_of_claim}
 pub use Rattle.ta_cursor.proofs.Beginning.{at_word, comes_first}
-pub use Rattle.ta_cursor.proofs.PatternWords.{comes_legal}
 pub use Rattle.ta_cursor.proofs.Ranges.{check_stays, leaf_stays, stays_same}
-pub use Rattle.ta_cursor.proofs.RowCounts.{condition_few, few_unknowns, is_small}
+pub use Rattle.ta_cursor.proofs.RowCounts.{condition_few, few_unknowns}
 pub use Rattle.ta_cursor.specs.Cursors.{GoesOn, Inside, IsAtRoot, IsShared, Within, here, left_at}
 pub use Rattle.ta_cursor.specs.InTrees.{AllGoOn, AllWithin, here_at}
 pub use Rattle.ta_cursor.specs.Range.{IsJudged, LeafStays}
 pub use Rattle.ta_cursor.specs.TreeCalls.{IsSmall, RootIs}
 pub use Rattle.ta_cursor.specs.declared.cursor.Cursor.{Cursor}
-pub use Rattle.ta_dense.specs.Slack.{variables}
 unfoldable pub use Rattle.ta_dense.specs.Slack.{slack_tableau}
+pub use Rattle.ta_dense.specs.Slack.{variables}
 pub use Rattle.ta_dense.specs.Tableau.{Tableau, basic_of, cell_of, non_basic_of, row_of}
 pub use Rattle.ta_encode.proofs.CodeRows.{leaf_of, rows_count, solution_of, unbounded}
 pub use Rattle.ta_encode.proofs.Samples.{none_starts, sample_count, sample_few, samples_start}
@@ -65,9 +66,9 @@ pub use Rattle.ta_simplex.specs.Refuted.{GivesMultipliers, IsRefuted}
 pub use Rattle.ta_simplex.specs.Vertex.{IsVertex}
 pub use Rattle.ta_simplex.specs.declared.fraction.Fraction.{Fraction}
 pub use Rattle.ta_walk.specs.Answers.{HasEnding, HasSystems, SearchesHaveEnds, WalksHaveEnds, WordsHaveSystems}
-pub use Rattle.ta_walk.specs.Ends.{Ending, EndingsAreDetermined, FoundWordsAreSolved, HasFewPairs, IsProof, IsShort, IsSpent, IsTreeEnd, IsUnbounded, IsVisitEnding, IsVisited, IsWalkEnd, Left, NodeOf, RefutedPatternsAreSafe, SolutionAt, Solved, Stopped, TreeIs, TreeKept, WalksAreDetermined, Whole, WholeNodesSolve, WholeWord, leaf_count}
+pub use Rattle.ta_walk.specs.Ends.{Ending, EndingsAreDetermined, FoundWordsAreSolved, HasFewPairs, IsProof, IsShort, IsSpent, IsTreeEnd, IsUnbounded, IsVisitEnding, IsVisited, IsWalkEnd, Left, NodeOf, RefutedClaimsHold, SolutionAt, Solved, Stopped, TreeIs, TreeKept, WalksAreDetermined, Whole, WholeNodesSolve, WholeWord, leaf_count}
 pub use Rattle.ta_walk.specs.FoundOrders.{AreSoundOrders, FoundAfter, FoundBefore, FoundOrdersAreDetermined, FoundOrdersAreSound, IsTaken, RefutedPair, TryAnswers}
-pub use Rattle.ta_walk.specs.Inside.Parts.{ComesTo, HasFewBounds, HasFewLeft, IsLaterKeeper, IsNotRefuted, IsWholeEnd, LeadsToBoth, PartEnds, PartVisited, SharesBudget, beginning, behind, root_word, search_of_tree}
+pub use Rattle.ta_walk.specs.Inside.Parts.{ComesTo, HasFewBounds, HasFewLeft, IsLaterKeeper, IsNotRefuted, IsWholeEnd, LeadsToBoth, PartEnds, PartVisited, SharesBudget, beginning, behind, root_word}
 pub use Rattle.ta_walk.specs.Inside.Sought.{ComesFirst, GuardTried, MasksAgree, PairTried}
 pub use Rattle.ta_walk.specs.Samples.{IsSampleEnd, SampleAt, SampleEndsAreDetermined, SampleFound, SampleRefuted, SamplesAreReal}
 pub use Rattle.ta_walk.specs.Splits.{HasAtMost, HasSplit, SpentNeedsSplits, WasSplit}

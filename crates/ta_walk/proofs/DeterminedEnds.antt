@@ -1,5 +1,5 @@
 -- a search has one end, and so has a walk
-use Rattle.ta_walk.proofs.Common.{cases_order, reverse-reverse, ◌≡◌, inl, inr, ℕ, ◌<◌, List, ℤ, length, reverse, arith, refl, sym, ap, ◌∙◌, subst, Node, Element, PlaceKind, NodeAt, WholeAt, IsOutOfRangeAt, TreeIs, NodeOf, SolutionAt, IsSpent, Ending, Whole, Solved, Stopped, Left, IsVisitEnding, EndingsAreDetermined, IsWalkEnd, WalksAreDetermined, Automaton, Pattern, Pending, Search, pattern_search, WalkEnd}
+use Rattle.ta_walk.proofs.Common.{cases_order, reverse-reverse, ◌≡◌, inl, inr, ℕ, ◌<◌, List, ℤ, length, reverse, arith, refl, sym, ap, ◌∙◌, subst, Node, Element, PlaceKind, NodeAt, WholeAt, IsOutOfRangeAt, TreeIs, NodeOf, SolutionAt, IsSpent, Ending, Whole, Solved, Stopped, Left, IsVisitEnding, EndingsAreDetermined, IsWalkEnd, WalksAreDetermined, Pending, Search, WalkEnd}
 use Rattle.ta_walk.proofs.DeterminedNodes.{whole_once, whole_is_no_node, leaving_is_no_node, leaving_is_not_whole, leaving_once}
 use Rattle.ta_walk.proofs.DeterminedVisits.{tree_once, word_of_tree, word_once, node_at_word}
 use Rattle.ta_encode.specs.declared.encoded.Solution.{Solution}
@@ -103,30 +103,30 @@ node_with s budget number F G n holds = record { before = n.before; number_is = 
 pub word_same : (xs ys zs : List Element) → reverse xs ≡ zs → reverse ys ≡ zs → xs ≡ ys
 word_same xs ys zs is are = sym (reverse-reverse xs) ∙ ap reverse (is ∙ sym are) ∙ reverse-reverse ys
 
--- what a walk ended at, as an end of the search of its pattern
-abbrev ending_of : (a : Automaton) (p : Pattern) (pairs : List (ℕ × ℕ)) (number budget : ℕ) (e : WalkEnd) → IsWalkEnd a p pairs number budget e → Ending
-ending_of a p pairs number budget (Refuted ns c) h = Whole ns c
-ending_of a p pairs number budget (Found i x) h = Solved i h.word x.values
-ending_of a p pairs number budget (Spent c) h = Stopped c
-ending_of a p pairs number budget (Overflow i k) h = Left i k
+-- what a walk ended at, as an end of its search
+abbrev ending_of : (s : Search) (number budget : ℕ) (e : WalkEnd) → IsWalkEnd s number budget e → Ending
+ending_of s number budget (Refuted ns c) h = Whole ns c
+ending_of s number budget (Found i x) h = Solved i h.word x.values
+ending_of s number budget (Spent c) h = Stopped c
+ending_of s number budget (Overflow i k) h = Left i k
 
-is_ending : (a : Automaton) (p : Pattern) (pairs : List (ℕ × ℕ)) (number budget : ℕ) (e : WalkEnd) (h : IsWalkEnd a p pairs number budget e) → IsVisitEnding (pattern_search a p pairs) budget (ending_of a p pairs number budget e h)
-is_ending a p pairs number budget (Refuted ns c) h = h
-is_ending a p pairs number budget (Found i x) h = node_with (pattern_search a p pairs) budget i (SolutionAt a p pairs number x) (IsWhole (pattern_search a p pairs) h.word x.values) h (refl, h.holds.whole)
-is_ending a p pairs number budget (Spent c) h = h
-is_ending a p pairs number budget (Overflow i k) h = h
+is_ending : (s : Search) (number budget : ℕ) (e : WalkEnd) (h : IsWalkEnd s number budget e) → IsVisitEnding s budget (ending_of s number budget e h)
+is_ending s number budget (Refuted ns c) h = h
+is_ending s number budget (Found i x) h = node_with s budget i (SolutionAt s number x) (IsWhole s h.word x.values) h (refl, h.holds.whole)
+is_ending s number budget (Spent c) h = h
+is_ending s number budget (Overflow i k) h = h
 
-solution_once : (a : Automaton) (p : Pattern) (pairs : List (ℕ × ℕ)) (number : ℕ) (x y : Solution) (w v : Pending) → w ≡ v → x.values ≡ y.values → SolutionAt a p pairs number x w → SolutionAt a p pairs number y v → x ≡ y
-solution_once a p pairs number x y w v same values h g =
+solution_once : (s : Search) (number : ℕ) (x y : Solution) (w v : Pending) → w ≡ v → x.values ≡ y.values → SolutionAt s number x w → SolutionAt s number y v → x ≡ y
+solution_once s number x y w v same values h g =
     let patterns = h.pattern ∙ sym g.pattern in
     let starts = h.start ∙ ap (λ (u : Pending). u.start) same ∙ sym g.start in
     let words = word_same x.word y.word v.past (h.word ∙ ap (λ (u : Pending). u.past) same) g.word in
     λ i. record { pattern = patterns i; start_mask = starts i; word = words i; values = values i }
 
 pub ends_once : WalksAreDetermined
-ends_once a p pairs number budget e f h g = from e f h g (endings_once (pattern_search a p pairs) budget (ending_of a p pairs number budget e h) (ending_of a p pairs number budget f g) (is_ending a p pairs number budget e h) (is_ending a p pairs number budget f g))
+ends_once s number budget e f h g = from e f h g (endings_once s budget (ending_of s number budget e h) (ending_of s number budget f g) (is_ending s number budget e h) (is_ending s number budget f g))
   where
-    from : (e f : WalkEnd) (h : IsWalkEnd a p pairs number budget e) (g : IsWalkEnd a p pairs number budget f) → ending_of a p pairs number budget e h ≡ ending_of a p pairs number budget f g → e ≡ f
+    from : (e f : WalkEnd) (h : IsWalkEnd s number budget e) (g : IsWalkEnd s number budget f) → ending_of s number budget e h ≡ ending_of s number budget f g → e ≡ f
     from (Refuted ns c) (Refuted ms d) h g same = cc
     from (Refuted ns c) (Found j y) h g same = absurd (cc)
     from (Refuted ns c) (Spent d) h g same = absurd (cc)
@@ -136,7 +136,7 @@ ends_once a p pairs number budget e f h g = from e f h g (endings_once (pattern_
         let counts : i ≡ j = cc in
         let words : h.word ≡ g.word = cc in
         let values : x.values ≡ y.values = cc in
-        let solutions = solution_once a p pairs number x y h.word g.word words values h.holds g.holds in
+        let solutions = solution_once s number x y h.word g.word words values h.holds g.holds in
         cc
     from (Found i x) (Spent d) h g same = absurd (cc)
     from (Found i x) (Overflow j l) h g same = absurd (cc)

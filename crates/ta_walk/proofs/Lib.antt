@@ -1,6 +1,7 @@
 -- lemmas for the crates above
 pub mod WordsSolved
 pub mod ProofsMade
+pub mod ClaimsVisited
 pub mod NodesShort
 pub mod DeterminedEnds
 pub mod WordsVisited

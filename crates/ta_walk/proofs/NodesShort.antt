@@ -1,7 +1,11 @@
 -- the nodes of a walk are short
-use Rattle.ta_walk.proofs.Common.{◌≡◌, ℕ, ◌+◌, ◌*◌, ◌<◌, ◌≤◌, ◌^◌, ℤ, List, [], ◌∷◌, ◌++◌, length, slice_get, Some, arith, length-append, codes, decimal, lit<, ints, AllByRecursion, row_short, number_short, Pattern, File, LegalWord, Node, pair_text, pairs_text, split_text, IsMultiplierPair, ArePairs, IsSplit, IsNode, few_multipliers, NodeAt, Visits, HasFewPairs, IsShort, Pending, parts, pattern_search, comes_legal, few_unknowns}
+use Rattle.ta_walk.proofs.Common.{ℕ, ◌+◌, ◌*◌, ◌<◌, ◌≤◌, ◌^◌, ℤ, List, [], ◌∷◌, ◌++◌, length, arith, length-append, codes, decimal, lit<, ints, AllByRecursion, row_short, number_short, Automaton, Pattern, LegalWord, Node, pair_text, pairs_text, split_text, IsMultiplierPair, ArePairs, IsSplit, IsNode, few_multipliers, NodeAt, Visits, HasFewPairs, IsShort, Pending, parts, few_unknowns}
 use Rattle.std.specs.Fmt.{signed_decimal}
 use Rattle.ta_cert.specs.declared.line.Node.TheVariants as node
+use Rattle.ta_automaton.specs.Patterns.{PatternOver}
+use Rattle.ta_claim.proofs.ClaimWords.{claim_legal, claim_unknowns}
+use Rattle.ta_claim.specs.Claims.{search_for}
+use Rattle.ta_claim.specs.declared.claim.Claim.{Claim}
 use Rattle.ta_walk.proofs.WordsVisited.{Waits, next_wait}
 
 -- a pair has at most 51 bytes
@@ -32,19 +36,19 @@ pub nodes_short : (ns : List Node) → AllByRecursion IsNode ns → AllByRecursi
 nodes_short [] are few = tt
 nodes_short (n ∷ ns) are few = (node_short n are.0 few.0, nodes_short ns are.1 few.1)
 
--- a node that stands at a legal word of a file's pattern has few pairs
-node_few : (file : File) (number : ℕ) (p : Pattern) (pairs : List (ℕ × ℕ)) (w : Pending) (n : Node) → slice_get file.patterns number ≡ Some p → LegalWord file.automaton p w.start w.past → NodeAt (pattern_search file.automaton p pairs) w n → HasFewPairs n
-node_few file number p pairs w (node.Leaf ts) at legal stands =
+-- a node that stands at a legal word of a claim has few pairs
+node_few : (claim : Claim) (a : Automaton) (p : Pattern) (pairs : List (ℕ × ℕ)) (w : Pending) (n : Node) → PatternOver a p → LegalWord a p w.start w.past → NodeAt (search_for claim a p pairs) w n → HasFewPairs n
+node_few claim a p pairs w (node.Leaf ts) over legal stands =
     let s = stands.refuted.system in
     let unknowns = stands.refuted.is.unknowns in
-    omega (arith, few_multipliers s ts stands.refuted.holds, few_unknowns file number p w.start w.past at legal)
-node_few file number p pairs w node.Extend at legal stands = tt
-node_few file number p pairs w (node.Split unknown floor) at legal stands = tt
+    omega (arith, few_multipliers s ts stands.refuted.holds, few_unknowns a p w.start w.past over legal, claim_unknowns claim a p pairs w.start w.past)
+node_few claim a p pairs w node.Extend over legal stands = tt
+node_few claim a p pairs w (node.Split unknown floor) over legal stands = tt
 
 -- each node that is visited has few pairs
-pub nodes_few : (file : File) (number : ℕ) (p : Pattern) (pairs : List (ℕ × ℕ)) → slice_get file.patterns number ≡ Some p → (most : ℕ) (ws : List Pending) (ns : List Node) (rest : List Pending) → AllByRecursion (Waits (pattern_search file.automaton p pairs) most) ws → Visits (pattern_search file.automaton p pairs) ws ns rest → AllByRecursion HasFewPairs ns
-nodes_few file number p pairs at most ws [] rest all v = tt
-nodes_few file number p pairs at most [] (n ∷ ns) rest all v = absurd v
-nodes_few file number p pairs at most (w ∷ ws) (n ∷ ns) rest all v =
-    let s = pattern_search file.automaton p pairs in
-    (node_few file number p pairs w n at (comes_legal file.automaton p pairs w.start w.past all.0.comes).legal v.0, nodes_few file number p pairs at (most + 1) (parts s w n ++ ws) ns rest (next_wait s most w ws n all) v.1)
+pub nodes_few : (claim : Claim) (a : Automaton) (p : Pattern) (pairs : List (ℕ × ℕ)) → PatternOver a p → (most : ℕ) (ws : List Pending) (ns : List Node) (rest : List Pending) → AllByRecursion (Waits (search_for claim a p pairs) most) ws → Visits (search_for claim a p pairs) ws ns rest → AllByRecursion HasFewPairs ns
+nodes_few claim a p pairs over most ws [] rest all v = tt
+nodes_few claim a p pairs over most [] (n ∷ ns) rest all v = absurd v
+nodes_few claim a p pairs over most (w ∷ ws) (n ∷ ns) rest all v =
+    let s = search_for claim a p pairs in
+    (node_few claim a p pairs w n over (claim_legal claim a p pairs w.start w.past all.0.comes) v.0, nodes_few claim a p pairs over (most + 1) (parts s w n ++ ws) ns rest (next_wait s most w ws n all) v.1)

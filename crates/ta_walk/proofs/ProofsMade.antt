@@ -9,10 +9,15 @@
 -- visited refute what has been left out. When no word is left, they refute all, in the order in which the judge reads.
 -- Words have at most as many bounds as nodes have been visited, so a budget below 2 ^ 32 keeps each number of a node in
 -- its range and each line short; and the walk ends, since each node takes one from the budget.
-use Rattle.ta_walk.proofs.Common.{◌≡◌, ℕ, ◌+◌, ◌≤◌, List, [], ◌∷◌, ◌++◌, length, Some, slice_get, arith, sym, AllByRecursion, File, Node, IsNode, leaf_of, NodeAt, Visits, IsProof, RefutedPatternsAreSafe, TreeIs, Pattern, Pending, Search, parts, all_starts, pattern_search, IsJudged, comes_legal, is_small}
+use Rattle.ta_walk.proofs.Common.{ℕ, ◌+◌, ◌≤◌, List, [], ◌∷◌, ◌++◌, length, arith, sym, AllByRecursion, Node, IsNode, leaf_of, NodeAt, Visits, IsProof, RefutedClaimsHold, Automaton, TreeIs, Pattern, Pending, Search, parts, IsJudged}
 use Rattle.ta_cert.specs.declared.line.Node.TheVariants as node
 use Rattle.ta_encode.proofs.Preorders.{in_order, weaker_proof}
-use Rattle.ta_encode.proofs.Theorems.{safety}
+use Rattle.ta_claim.proofs.ClaimsShown.{proofs_show}
+use Rattle.ta_claim.proofs.ClaimWords.{claim_legal, claim_small}
+use Rattle.ta_claim.specs.Claims.{search_for}
+use Rattle.ta_claim.specs.declared.claim.Claim.{Claim}
+use Rattle.ta_automaton.proofs.Thresholds.{pattern_within}
+use Rattle.ta_automaton.specs.Patterns.{PatternOver}
 use Rattle.ta_walk.proofs.WordsVisited.{Waits, starts_wait, next_wait}
 use Rattle.ta_walk.proofs.NodesWritten.{node_written}
 use Rattle.ta_walk.proofs.SplitsFit.{split_within}
@@ -33,32 +38,32 @@ refuted_in_order s [] (n ∷ ns) v = absurd v
 refuted_in_order s (w ∷ ws) (n ∷ ns) v = (may_stand s w n v.0, refuted_in_order s (parts s w n ++ ws) ns v.1)
 
 -- each node that is visited within the budget can be written
-nodes_written : (file : File) (number : ℕ) (p : Pattern) (pairs : List (ℕ × ℕ)) → slice_get file.patterns number ≡ Some p → (most : ℕ) (ws : List Pending) (ns : List Node) (rest : List Pending) → most + length ns ≤ 1000000000 → AllByRecursion (Waits (pattern_search file.automaton p pairs) most) ws → Visits (pattern_search file.automaton p pairs) ws ns rest → AllByRecursion IsNode ns
-nodes_written file number p pairs at most ws [] rest budget all v = tt
-nodes_written file number p pairs at most [] (n ∷ ns) rest budget all v = absurd v
-nodes_written file number p pairs at most (w ∷ ws) (n ∷ ns) rest budget all v =
-    let s = pattern_search file.automaton p pairs in
+nodes_written : (claim : Claim) (a : Automaton) (p : Pattern) (pairs : List (ℕ × ℕ)) → PatternOver a p → (most : ℕ) (ws : List Pending) (ns : List Node) (rest : List Pending) → most + length ns ≤ 1000000000 → AllByRecursion (Waits (search_for claim a p pairs) most) ws → Visits (search_for claim a p pairs) ws ns rest → AllByRecursion IsNode ns
+nodes_written claim a p pairs over most ws [] rest budget all v = tt
+nodes_written claim a p pairs over most [] (n ∷ ns) rest budget all v = absurd v
+nodes_written claim a p pairs over most (w ∷ ws) (n ∷ ns) rest budget all v =
+    let s = search_for claim a p pairs in
     let waits = all.0 in
     let few : length w.bounds ≤ 1000000000 = (let k = waits.few in omega arith) in
-    let legal = (comes_legal file.automaton p pairs w.start w.past waits.comes).legal in (
-      node_written s w n (λ z is. few_variables w z few (is_small file number p w z at legal (record { unknowns = is.unknowns; rows = is.rows }))) v.0,
-      nodes_written file number p pairs at (most + 1) (parts s w n ++ ws) ns rest (omega arith) (next_wait s most w ws n all) v.1,
+    let legal = claim_legal claim a p pairs w.start w.past waits.comes in (
+      node_written s w n (λ z is. few_variables w z few (claim_small claim a p pairs w z over legal is)) v.0,
+      nodes_written claim a p pairs over (most + 1) (parts s w n ++ ws) ns rest (omega arith) (next_wait s most w ws n all) v.1,
     )
 
 -- the nodes of a whole tree are a proof that a judge accepts
-pub proof_made : (file : File) (number : ℕ) (p : Pattern) (pairs : List (ℕ × ℕ)) → slice_get file.patterns number ≡ Some p → (budget : ℕ) → budget ≤ 1000000000 → (nodes : List Node) (count : ℕ) → TreeIs (pattern_search file.automaton p pairs) budget nodes count → IsProof file.automaton p pairs nodes
-proof_made file number p pairs at budget within nodes count tree =
-    let a = file.automaton in
-    let s = pattern_search a p pairs in
+pub proof_made : (claim : Claim) (a : Automaton) (p : Pattern) (pairs : List (ℕ × ℕ)) → PatternOver a p → (budget : ℕ) → budget ≤ 1000000000 → (nodes : List Node) (count : ℕ) → TreeIs (search_for claim a p pairs) budget nodes count → IsProof (search_for claim a p pairs) nodes
+proof_made claim a p pairs over budget within nodes count tree =
+    let s = search_for claim a p pairs in
     let counted = tree.counted in
     let inside = tree.within in
-    let writable = nodes_written file number p pairs at 0 (all_starts a) nodes [] (omega arith) (starts_wait a p pairs) tree.visits in
-    let few = nodes_few file number p pairs at 0 (all_starts a) nodes [] (starts_wait a p pairs) tree.visits in
+    let starts = starts_wait claim a p pairs in
+    let writable = nodes_written claim a p pairs over 0 s.roots nodes [] (omega arith) starts tree.visits in
+    let few = nodes_few claim a p pairs over 0 s.roots nodes [] starts tree.visits in
     record { refutes = refuted_in_order s s.roots nodes tree.visits; writable = writable; few = few; short = nodes_short nodes writable few }
 
-pub refuted_safe : RefutedPatternsAreSafe
-refuted_safe file number p at loops pairs good budget within nodes count tree =
-    let s = pattern_search file.automaton p pairs in
-    let proof = proof_made file number p pairs at budget within nodes count tree in
+pub refuted_hold : RefutedClaimsHold
+refuted_hold claim file number p at may loops pairs good budget within nodes count tree =
+    let s = search_for claim file.automaton p pairs in
+    let proof = proof_made claim file.automaton p pairs (pattern_within file number p at) budget within nodes count tree in
     let trees = (in_order IsJudged s nodes).0 proof.refutes in
-    (proof, safety file number p at loops pairs good trees.0 (weaker_proof (IsJudged s) (IsLeaf s) (λ w ts judged. judged.leaf) s trees.0 trees.1))
+    (proof, proofs_show claim file number p at may loops pairs good trees.0 (weaker_proof (IsJudged s) (IsLeaf s) (λ w ts judged. judged.leaf) s trees.0 trees.1))

@@ -1,7 +1,7 @@
 -- a budget that is large enough for the words is spent only where a node was split
 use Rattle.ta_walk.proofs.Common.{◌≡◌, inl, inr, ℕ, zero, suc, ◌+◌, ◌<◌, ◌≤◌, ◌^◌, Bool, List, [], ◌∷◌, ◌++◌, length, map, slice_get, Some, arith, refl, sym, ap, ◌∙◌, subst, length-map, AllByRecursion, each_from_in, each_in, no_more, In-left, In-map, In-right, in_map, In-numbers, in_numbers, Automaton, File, Pattern, Distinct, In, numbers_from, Node, Element, LegalUnder, children, all_starts, empty_word, pattern_search, Comes, Pending, Search, parts, LinearRow, comes_legal, IsSpent, IsVisited, HasAtMost, HasSplit, SpentNeedsSplits, WasSplit, Visits}
 use Rattle.ta_words.proofs.Counts.{legal_length, legal_under}
-use Rattle.ta_words.proofs.Lists.{events_named}
+use Rattle.ta_automaton.proofs.Thresholds.{pattern_within}
 use Rattle.ta_walk.proofs.ChildrenOnce.{children_once}
 use Rattle.ta_walk.proofs.DeterminedVisits.{word_once}
 use Rattle.ta_walk.proofs.SubtreesApart.{AllApart, Branches, IsPlain, UnderSome, mark, marks, not_again, parts_apart, split_or_plain, under_before, under_here, under_start}
@@ -183,7 +183,7 @@ words_number file number p at pairs =
         words = words_within a p pairs 30;
         short = omega arith;
         each = λ start past below legal.
-            in_within a p pairs 30 start past below (legal_length a p start past (events_named file number p at).limit (legal_under a p pairs start past legal)) legal;
+            in_within a p pairs 30 start past below (legal_length a p start past (pattern_within file number p at).events_limit (legal_under a p pairs start past legal)) legal;
       },
     )
 

@@ -1,5 +1,6 @@
 -- the values of a whole node solve its word
 use Rattle.ta_walk.proofs.Common.{◌≡◌, ℕ, zero, suc, ◌<◌, ◌^◌, ℤ, pos, negsuc, ◌*ℤ◌, ◌≤ℤ◌, List, [], ◌∷◌, map, length, reverse, slice_get, arith, refl, sym, ap, ◌∙◌, subst, IsSomeAnd, slice_index, ints, *ℤ_comm, ge-zero_of_mul, Element, LegalUnder, is_complete, SolvesWord, solution_of, unbounded, Fraction, whole_vertex_solves, pattern_search, comes_legal, IsWholeNumber, AreNumbers, FoundWordsAreSolved, WholeNodesSolve}
+use Rattle.ta_claim.specs.declared.claim.Claim.TheVariants.{Safe}
 use Rattle.ta_walk.proofs.WordsVisited.{starts_wait, left_wait}
 
 -- natural numbers that are the values
@@ -51,7 +52,7 @@ pub found_solved : FoundWordsAreSolved
 found_solved a p pairs number budget count solution found =
     let s = pattern_search a p pairs in
     let w = found.word in
-    let waits = (left_wait s 0 s.roots found.visited.nodes (w ∷ found.visited.words) (starts_wait a p pairs) found.visited.visits).0 in
+    let waits = (left_wait s 0 s.roots found.visited.nodes (w ∷ found.visited.words) (starts_wait Safe a p pairs) found.visited.visits).0 in
     let legal = comes_legal a p pairs w.start w.past waits.comes in
     let at = found.holds in
     let solved = whole_solves s w solution.values at.whole in

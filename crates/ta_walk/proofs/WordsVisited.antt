@@ -1,6 +1,9 @@
 -- what is known of each word that a visit leaves
-use Rattle.ta_walk.proofs.Common.{◌≡◌, inl, inr, ℕ, zero, suc, ◌+◌, ◌≤◌, ◌^◌, List, [], ◌∷◌, ◌++◌, map, length, length-append, arith, refl, sym, ap, subst, AllByRecursion, each_append, Automaton, Pattern, In, numbers_from, Node, Element, Bound, Low, High, Visits, Pending, Search, Comes, bound_at, bounded, longer, parts, all_starts, empty_word, pattern_search, comes_first, IsUnbounded}
+use Rattle.ta_walk.proofs.Common.{◌≡◌, inl, inr, ℕ, zero, suc, ◌+◌, ◌≤◌, ◌^◌, List, [], ◌∷◌, ◌++◌, map, length, length-append, arith, refl, sym, ap, subst, AllByRecursion, each_append, Automaton, Pattern, In, numbers_from, Node, Element, Bound, Low, High, Visits, Pending, Search, Comes, bound_at, bounded, longer, parts, all_starts, empty_word, comes_first, IsUnbounded}
 use Rattle.ta_cert.specs.declared.line.Node.TheVariants as node
+use Rattle.ta_claim.proofs.ClaimWords.{claim_roots}
+use Rattle.ta_claim.specs.Claims.{search_for}
+use Rattle.ta_claim.specs.declared.claim.Claim.{Claim}
 
 -- a word to which the search comes, with so many bounds at most
 pub record Waits (s : Search) (most : ℕ) (w : Pending) : Type 0 where
@@ -49,9 +52,12 @@ numbers_unbounded k (suc n) = (refl, numbers_unbounded (k + 1) n)
 pub starts_unbounded : (a : Automaton) → AllByRecursion IsUnbounded (all_starts a)
 starts_unbounded a = numbers_unbounded 0 (2 ^ length a.fall)
 
--- the start sets' words
-pub starts_wait : (a : Automaton) (p : Pattern) (pairs : List (ℕ × ℕ)) → AllByRecursion (Waits (pattern_search a p pairs) 0) (all_starts a)
-starts_wait a p pairs = roots_wait (pattern_search a p pairs) (starts_unbounded a)
+-- nor have those of a claim's search
+pub claim_unbounded : (claim : Claim) (a : Automaton) (p : Pattern) (pairs : List (ℕ × ℕ)) → AllByRecursion IsUnbounded (search_for claim a p pairs).roots
+claim_unbounded claim a p pairs = subst (AllByRecursion IsUnbounded) (sym (claim_roots claim a p pairs)) (starts_unbounded a)
+
+pub starts_wait : (claim : Claim) (a : Automaton) (p : Pattern) (pairs : List (ℕ × ℕ)) → AllByRecursion (Waits (search_for claim a p pairs) 0) (search_for claim a p pairs).roots
+starts_wait claim a p pairs = roots_wait (search_for claim a p pairs) (claim_unbounded claim a p pairs)
 
 -- the words that are left after nodes
 pub left_wait : (s : Search) (most : ℕ) (ws : List Pending) (ns : List Node) (rest : List Pending) → AllByRecursion (Waits s most) ws → Visits s ws ns rest → AllByRecursion (Waits s (most + length ns)) rest

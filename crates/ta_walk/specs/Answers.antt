@@ -35,5 +35,5 @@ pub record WordsHaveSystems : Type 0 where
 
 -- so under any pairs the walk of each pattern ends within each budget, and so does the search for a sample
 pub record WalksHaveEnds : Type 0 where
-  pub walks : (file : File) (number : ℕ) (p : Pattern) → slice_get file.patterns number ≡ Some p → (pairs : List (ℕ × ℕ)) (budget : ℕ) → ¬ ((e : WalkEnd) × IsWalkEnd file.automaton p pairs number budget e) → ⊥
+  pub walks : (file : File) (number : ℕ) (p : Pattern) → slice_get file.patterns number ≡ Some p → (pairs : List (ℕ × ℕ)) (budget : ℕ) → ¬ ((e : WalkEnd) × IsWalkEnd (pattern_search file.automaton p pairs) number budget e) → ⊥
   pub samples : (a : Automaton) (budget : ℕ) → ¬ ((e : SampleEnd) × IsSampleEnd a budget e) → ⊥

@@ -5,7 +5,7 @@ use Rattle.ta_base.specs.declared.limits.TheConstants.{MOST_NODES, MOST_UNKNOWNS
 use Rattle.ta_automaton.specs.declared.automaton.Automaton.{Automaton}
 use Rattle.ta_automaton.specs.declared.pattern.Pattern.{Pattern}
 use Rattle.ta_automaton.specs.declared.file.File.{File}
-use Rattle.ta_automaton.specs.Runs.{LoopsPure, Safe}
+use Rattle.ta_automaton.specs.Runs.{LoopsPure}
 use Rattle.ta_cert.specs.declared.line.Node.{Node}
 use Rattle.ta_implied.specs.Implied.{Good}
 use Rattle.ta_cert.specs.declared.line.Node.TheVariants.{Extend, Split, Leaf}
@@ -18,6 +18,8 @@ use Rattle.ta_encode.specs.Laws.{SolvedUnder}
 use Rattle.ta_encode.specs.Search.{Search, SolvesAt}
 use Rattle.ta_encode.specs.PatternSearch.{pattern_search}
 use Rattle.ta_cursor.specs.Range.{IsJudged}
+use Rattle.ta_claim.specs.Claims.{MayClaim, claimed, search_for}
+use Rattle.ta_claim.specs.declared.claim.Claim.{Claim}
 use Rattle.ta_walk.specs.declared.end.PlaceKind.{PlaceKind}
 use Rattle.ta_walk.specs.declared.end.TreeEnd.{TreeEnd}
 use Rattle.ta_walk.specs.declared.end.TreeEnd.TheVariants as tree
@@ -89,19 +91,19 @@ EndingsAreDetermined = (s : Search) (budget : ℕ) (e f : Ending) → IsVisitEnd
 abbrev pub WholeNodesSolve : Type 0
 WholeNodesSolve = (s : Search) (w : Pending) (numbers : List ℤ) → WholeAt s w numbers → (values : List ℕ) × (numbers ≡ map pos values) × SolvesAt s w values
 
--- a solution at a word: its values are those of a whole node
-pub record SolutionAt (a : Automaton) (p : Pattern) (pairs : List (ℕ × ℕ)) (number : ℕ) (solution : Solution) (w : Pending) : Type 0 where
+-- a solution at a word of a search, for the pattern of a number: its values are those of a whole node
+pub record SolutionAt (s : Search) (number : ℕ) (solution : Solution) (w : Pending) : Type 0 where
   pub pattern : solution.pattern ≡ number
   pub start : solution.start_mask ≡ w.start
   pub word : reverse solution.word ≡ w.past
-  pub whole : WholeAt (pattern_search a p pairs) w solution.values
+  pub whole : WholeAt s w solution.values
 
--- how the walk of the pattern of a number under pairs of rise guards ends within a budget
-abbrev pub IsWalkEnd : Automaton → Pattern → List (ℕ × ℕ) → ℕ → ℕ → WalkEnd → Type 0
-IsWalkEnd a p pairs number budget (Refuted nodes count) = TreeIs (pattern_search a p pairs) budget nodes count
-IsWalkEnd a p pairs number budget (Found count solution) = NodeOf (pattern_search a p pairs) budget count (SolutionAt a p pairs number solution)
-IsWalkEnd a p pairs number budget (Spent count) = IsSpent (pattern_search a p pairs) budget count
-IsWalkEnd a p pairs number budget (Overflow node kind) = NodeOf (pattern_search a p pairs) budget node (λ w. IsOutOfRangeAt (pattern_search a p pairs) w kind)
+-- how the walk of a search whose words are those of the pattern of a number ends within a budget
+abbrev pub IsWalkEnd : Search → ℕ → ℕ → WalkEnd → Type 0
+IsWalkEnd s number budget (Refuted nodes count) = TreeIs s budget nodes count
+IsWalkEnd s number budget (Found count solution) = NodeOf s budget count (SolutionAt s number solution)
+IsWalkEnd s number budget (Spent count) = IsSpent s budget count
+IsWalkEnd s number budget (Overflow node kind) = NodeOf s budget node (λ w. IsOutOfRangeAt s w kind)
 
 -- how many of some nodes are leaves
 abbrev pub leaf_count : List Node → ℕ
@@ -131,15 +133,15 @@ IsTreeEnd s budget Keeps (tree.Spent count) = IsSpent s budget count
 IsTreeEnd s budget Keeps (tree.Overflow node kind) = NodeOf s budget node (λ w. IsOutOfRangeAt s w kind)
 
 -- the same of a pattern's tree: a walk ends so
-abbrev pub IsVisitEnd : Automaton → Pattern → List (ℕ × ℕ) → ℕ → ℕ → (List Node → Type 0) → VisitEnd → Type 0
-IsVisitEnd a p pairs number budget Keeps (visit.Refuted count leaves) = TreeKept (pattern_search a p pairs) budget Keeps count leaves
-IsVisitEnd a p pairs number budget Keeps (visit.Found count solution) = IsWalkEnd a p pairs number budget (Found count solution)
-IsVisitEnd a p pairs number budget Keeps (visit.Spent count) = IsWalkEnd a p pairs number budget (Spent count)
-IsVisitEnd a p pairs number budget Keeps (visit.Overflow node kind) = IsWalkEnd a p pairs number budget (Overflow node kind)
+abbrev pub IsVisitEnd : Search → ℕ → ℕ → (List Node → Type 0) → VisitEnd → Type 0
+IsVisitEnd s number budget Keeps (visit.Refuted count leaves) = TreeKept s budget Keeps count leaves
+IsVisitEnd s number budget Keeps (visit.Found count solution) = IsWalkEnd s number budget (Found count solution)
+IsVisitEnd s number budget Keeps (visit.Spent count) = IsWalkEnd s number budget (Spent count)
+IsVisitEnd s number budget Keeps (visit.Overflow node kind) = IsWalkEnd s number budget (Overflow node kind)
 
 -- a walk has one end
 abbrev pub WalksAreDetermined : Type 0
-WalksAreDetermined = (a : Automaton) (p : Pattern) (pairs : List (ℕ × ℕ)) (number budget : ℕ) (e f : WalkEnd) → IsWalkEnd a p pairs number budget e → IsWalkEnd a p pairs number budget f → e ≡ f
+WalksAreDetermined = (s : Search) (number budget : ℕ) (e f : WalkEnd) → IsWalkEnd s number budget e → IsWalkEnd s number budget f → e ≡ f
 
 -- a leaf has at most 4,657 multipliers
 abbrev pub HasFewPairs : Node → Type 0
@@ -151,24 +153,24 @@ HasFewPairs (Split unknown floor) = Unit {0}
 abbrev pub IsShort : Node → Type 0
 IsShort n = length (node_text n) ≤ line_limit
 
--- the nodes of a walk that refutes a pattern are a proof of it that a judge accepts, and each of them can be written in a line
-pub record IsProof (a : Automaton) (p : Pattern) (pairs : List (ℕ × ℕ)) (nodes : List Node) : Type 0 where
-  pub refutes : RefutedInOrder (pattern_search a p pairs) (IsJudged (pattern_search a p pairs)) (pattern_search a p pairs).roots nodes
+-- nodes that are a proof which a judge accepts, and each of which can be written in a line
+pub record IsProof (s : Search) (nodes : List Node) : Type 0 where
+  pub refutes : RefutedInOrder s (IsJudged s) s.roots nodes
   pub writable : AllByRecursion IsNode nodes
   pub few : AllByRecursion HasFewPairs nodes
   pub short : AllByRecursion IsShort nodes
 
--- then the pattern is safe, whichever good pairs of guards ordered its words
-abbrev pub RefutedPatternsAreSafe : Type 0
-RefutedPatternsAreSafe =
-    (file : File) (number : ℕ) (p : Pattern) → slice_get file.patterns number ≡ Some p → LoopsPure file.automaton
+-- the nodes of a whole tree of a claim are such a proof, and the pattern is what is claimed, whichever good pairs of guards ordered its words
+abbrev pub RefutedClaimsHold : Type 0
+RefutedClaimsHold =
+    (claim : Claim) (file : File) (number : ℕ) (p : Pattern) → slice_get file.patterns number ≡ Some p → MayClaim claim p → LoopsPure file.automaton
     → (pairs : List (ℕ × ℕ)) → Good file.automaton pairs
     → (budget : ℕ) → budget ≤ MOST_NODES
-    → (nodes : List Node) (count : ℕ) → TreeIs (pattern_search file.automaton p pairs) budget nodes count
-    → IsProof file.automaton p pairs nodes × Safe file.automaton p
+    → (nodes : List Node) (count : ℕ) → TreeIs (search_for claim file.automaton p pairs) budget nodes count
+    → IsProof (search_for claim file.automaton p pairs) nodes × claimed claim file.automaton p
 
 -- what a walk finds is a complete word that is legal under the pairs, with natural values that solve its system
 abbrev pub FoundWordsAreSolved : Type 0
 FoundWordsAreSolved =
-    (a : Automaton) (p : Pattern) (pairs : List (ℕ × ℕ)) (number budget count : ℕ) (solution : Solution) → NodeOf (pattern_search a p pairs) budget count (SolutionAt a p pairs number solution)
+    (a : Automaton) (p : Pattern) (pairs : List (ℕ × ℕ)) (number budget count : ℕ) (solution : Solution) → NodeOf (pattern_search a p pairs) budget count (SolutionAt (pattern_search a p pairs) number solution)
     → (values : List ℕ) × (solution.values ≡ map pos values) × (solution.start_mask < 2 ^ length a.fall) × SolvedUnder a p pairs solution.start_mask solution.word values

@@ -1,10 +1,10 @@
 //! The walk of a pattern whose parts are visited beside each other.
 #![tactic(auto)]
 
-ghost use Rattle.std.specs.Prelude.{◌<◌, ◌≤◌, ◌≡◌, [], IfNone, IfOk, IfSome, is_some, length, true, false};
-ghost use Rattle.ta_words.specs.Calls.{OfPattern};
+ghost use Rattle.std.specs.Prelude.{◌≤◌, ◌≡◌, [], IfNone, IfOk, IfSome, is_some, true, false};
+ghost use Rattle.ta_claim.specs.Trees.{search_of_claim};
 ghost use Rattle.ta_walk.specs.Ends.{IsWalkEnd, IsTreeEnd, IsVisitEnd};
-ghost use Rattle.ta_walk.specs.Inside.Parts.{IsSmallEnd, IsWholeEnd, search_of_tree};
+ghost use Rattle.ta_walk.specs.Inside.Parts.{IsSmallEnd, IsWholeEnd};
 
 use crate::end::{TreeEnd, VisitEnd, WalkEnd};
 use crate::forking::visit_list;
@@ -16,14 +16,12 @@ use std::alloc::{AllocError, Global};
 use std::thread::{Threads, available_parallelism};
 use ta_base::List;
 use ta_base::limits::MOST_NODES;
-use ta_cursor::PatternTree;
+use ta_claim::ClaimTree;
 use ta_dense::Dictionary;
 use ta_encode::Solution;
-use ta_implied::Orders;
-use ta_scope::ScopedFile;
 
-/// Visits the tree of a pattern under pairs of rise guards, at most so many nodes of it. Each start set begins with the empty
-/// word. A node whose system is refuted is a leaf. At a vertex the word goes on to its children;
+/// Visits the tree of a claim on a pattern, at most so many nodes of it. Each start set begins with the
+/// empty word. A node whose system is refuted is a leaf. At a vertex the word goes on to its children;
 /// where it is complete, the least unknown that isn't whole is split. The visit ends where no word
 /// is left, at the first whole node, at the first number that leaves 128 bits, or where the budget
 /// is spent.
@@ -33,41 +31,31 @@ use ta_scope::ScopedFile;
 pub fn walk<D: Dictionary, R: Threads + Sync>(
     rt: &R,
     alloc: Global,
-    scoped: &ScopedFile,
-    pattern: u32,
-    orders: &Orders,
+    tree: &ClaimTree<'_>,
     nodes: u64,
 ) -> Result<WalkEnd, AllocError>
-    requires exists { pattern < length scoped.now.file.patterns }
-    requires some { 0 < nodes }
-    requires limit { nodes ≤ MOST_NODES }
-    ensures { IfOk result (λ end. OfPattern scoped.now.file pattern (λ p. IsWalkEnd scoped.now.file.automaton p orders.now pattern nodes end)) }
+    requires { nodes ≤ MOST_NODES }
+    ensures { IfOk result (IsWalkEnd (search_of_claim tree.now) tree.now.number nodes) }
 {
-    walk_gated::<D, R, Idle>(rt, alloc, scoped, pattern, orders, nodes, &Idle {})
+    walk_gated::<D, R, Idle>(rt, alloc, tree, nodes, &Idle {})
 }
 
-/// Visits the tree of a pattern as `walk` does. Each half of a fork goes through the gate before its
+/// Visits the tree of a claim as `walk` does. Each half of a fork goes through the gate before its
 /// first node.
 pub fn walk_gated<D: Dictionary, R: Threads + Sync, G: Gate>(
     rt: &R,
     alloc: Global,
-    scoped: &ScopedFile,
-    pattern: u32,
-    orders: &Orders,
+    tree: &ClaimTree<'_>,
     nodes: u64,
     gate: &G,
 ) -> Result<WalkEnd, AllocError>
-    requires exists { pattern < length scoped.now.file.patterns }
-    requires some { 0 < nodes }
-    requires limit { nodes ≤ MOST_NODES }
-    ensures { IfOk result (λ end. OfPattern scoped.now.file pattern (λ p. IsWalkEnd scoped.now.file.automaton p orders.now pattern nodes end)) }
+    requires { nodes ≤ MOST_NODES }
+    ensures { IfOk result (IsWalkEnd (search_of_claim tree.now) tree.now.number nodes) }
 {
     let mut kept = Nodes {
         items: Vec::new(alloc),
     };
-    match visit_gated::<D, Nodes, R, G>(
-        rt, alloc, scoped, pattern, orders, nodes, &mut kept, gate,
-    )? {
+    match visit_gated::<D, Nodes, R, G>(rt, alloc, tree, nodes, &mut kept, gate)? {
         VisitEnd::Refuted { count, .. } => Ok(WalkEnd::Refuted {
             nodes: List::from_vec(kept.items),
             count,
@@ -78,45 +66,36 @@ pub fn walk_gated<D: Dictionary, R: Threads + Sync, G: Gate>(
     }
 }
 
-/// Visits the tree of a pattern as `walk` does, and hands the nodes on in order: no node stays in
+/// Visits the tree of a claim as `walk` does, and hands the nodes on in order: no node stays in
 /// memory but those that the keepers of the parts keep.
 pub fn visit<D: Dictionary, K: PartKeeper, R: Threads + Sync>(
     rt: &R,
     alloc: Global,
-    scoped: &ScopedFile,
-    pattern: u32,
-    orders: &Orders,
+    tree: &ClaimTree<'_>,
     nodes: u64,
     keeper: &mut K,
 ) -> Result<VisitEnd, AllocError>
-    requires exists { pattern < length scoped.now.file.patterns }
-    requires some { 0 < nodes }
     requires limit { nodes ≤ MOST_NODES }
     requires keeps { K.keeps keeper.old keeper.old [] }
-    ensures { IfOk result (λ end. OfPattern scoped.now.file pattern (λ p. IsVisitEnd scoped.now.file.automaton p orders.now pattern nodes (K.keeps keeper.old keeper.new) end)) }
+    ensures { IfOk result (IsVisitEnd (search_of_claim tree.now) tree.now.number nodes (K.keeps keeper.old keeper.new)) }
 {
-    visit_gated::<D, K, R, Idle>(rt, alloc, scoped, pattern, orders, nodes, keeper, &Idle {})
+    visit_gated::<D, K, R, Idle>(rt, alloc, tree, nodes, keeper, &Idle {})
 }
 
-/// Visits the tree of a pattern as `visit` does, through a gate.
+/// Visits the tree of a claim as `visit` does, through a gate.
 fn visit_gated<D: Dictionary, K: PartKeeper, R: Threads + Sync, G: Gate>(
     rt: &R,
     alloc: Global,
-    scoped: &ScopedFile,
-    pattern: u32,
-    orders: &Orders,
+    tree: &ClaimTree<'_>,
     nodes: u64,
     keeper: &mut K,
     gate: &G,
 ) -> Result<VisitEnd, AllocError>
-    requires exists { pattern < length scoped.now.file.patterns }
-    requires some { 0 < nodes }
     requires limit { nodes ≤ MOST_NODES }
     requires keeps { K.keeps keeper.old keeper.old [] }
-    ensures { IfOk result (λ end. OfPattern scoped.now.file pattern (λ p. IsVisitEnd scoped.now.file.automaton p orders.now pattern nodes (K.keeps keeper.old keeper.new) end)) }
+    ensures { IfOk result (IsVisitEnd (search_of_claim tree.now) tree.now.number nodes (K.keeps keeper.old keeper.new)) }
 {
-    let tree = PatternTree::new(&scoped.file, pattern, orders);
-    match fork_tree::<D, K, R, G>(rt, alloc, &tree, nodes, gate, keeper)? {
+    match fork_tree::<D, K, R, G>(rt, alloc, tree, nodes, gate, keeper)? {
         TreeEnd::Refuted { count, leaves } => Ok(VisitEnd::Refuted { count, leaves }),
         TreeEnd::Found {
             count,
@@ -126,7 +105,7 @@ fn visit_gated<D: Dictionary, K: PartKeeper, R: Threads + Sync, G: Gate>(
         } => Ok(VisitEnd::Found {
             count,
             solution: Solution {
-                pattern,
+                pattern: tree.number,
                 start_mask,
                 word,
                 values,
@@ -143,14 +122,14 @@ fn visit_gated<D: Dictionary, K: PartKeeper, R: Threads + Sync, G: Gate>(
 fn fork_tree<D: Dictionary, K: PartKeeper, R: Threads + Sync, G: Gate>(
     rt: &R,
     alloc: Global,
-    tree: &PatternTree<'_>,
+    tree: &ClaimTree<'_>,
     nodes: u64,
     gate: &G,
     keeper: &mut K,
 ) -> Result<TreeEnd, AllocError>
     requires limit { nodes ≤ MOST_NODES }
     requires keeps { K.keeps keeper.old keeper.old [] }
-    ensures { IfOk result (IsTreeEnd (search_of_tree tree.now) nodes (K.keeps keeper.old keeper.new)) }
+    ensures { IfOk result (IsTreeEnd (search_of_claim tree.now) nodes (K.keeps keeper.old keeper.new)) }
 {
     let hasty = visit_parts::<D, K, R, G>(rt, alloc, tree, nodes, gate, false, keeper)?;
     if let Some(end) = hasty {
@@ -168,7 +147,7 @@ fn fork_tree<D: Dictionary, K: PartKeeper, R: Threads + Sync, G: Gate>(
 fn visit_parts<D: Dictionary, K: PartKeeper, R: Threads + Sync, G: Gate>(
     rt: &R,
     alloc: Global,
-    tree: &PatternTree<'_>,
+    tree: &ClaimTree<'_>,
     nodes: u64,
     gate: &G,
     patient: bool,
@@ -176,7 +155,7 @@ fn visit_parts<D: Dictionary, K: PartKeeper, R: Threads + Sync, G: Gate>(
 ) -> Result<Option<TreeEnd>, AllocError>
     requires limit { nodes ≤ MOST_NODES }
     requires keeps { K.keeps keeper.old keeper.old [] }
-    ensures ends { IfOk result (λ end. IfSome end (IsTreeEnd (search_of_tree tree.now) nodes (K.keeps keeper.old keeper.new))) }
+    ensures ends { IfOk result (λ end. IfSome end (IsTreeEnd (search_of_claim tree.now) nodes (K.keeps keeper.old keeper.new))) }
     ensures patient { patient ≡ true → IfOk result (λ end. is_some end ≡ true) }
     ensures kept { IfOk result (λ end. is_some end ≡ false → keeper.new ≡ keeper.old) }
 {

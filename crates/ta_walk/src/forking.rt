@@ -4,10 +4,10 @@
 ghost use Rattle.std.specs.Prelude.{◌+◌, ◌-◌, ◌<◌, ◌≤◌, ◌^◌, ◌≡◌, ◌++◌, [], ◌∷◌, IfOk, map, true, vec_len};
 ghost use Rattle.std.specs.List.{AllByRecursion};
 ghost use denote.Param.Send.{IsSend, IsSync};
+ghost use Rattle.ta_claim.specs.Trees.{IsKeptFor, search_of_claim};
 ghost use Rattle.ta_cursor.specs.Cursors.{left_at};
-ghost use Rattle.ta_encode.specs.Marks.{IsEncoding};
 ghost use Rattle.ta_simplex.specs.Branch.{IsBranch};
-ghost use Rattle.ta_walk.specs.Inside.Parts.{IsLaterKeeper, ComesTo, IsSmallEnd, IsWholeEnd, PartVisited, HasFewLeft, beginning, root_word, search_of_tree};
+ghost use Rattle.ta_walk.specs.Inside.Parts.{IsLaterKeeper, ComesTo, IsSmallEnd, IsWholeEnd, PartVisited, HasFewLeft, beginning, root_word};
 
 use crate::end::TreeEnd;
 use crate::gate::Gate;
@@ -19,7 +19,8 @@ use std::alloc::{AllocError, Global};
 use std::sync::atomic::AtomicU64;
 use std::thread::{Threads, join};
 use ta_base::limits::MOST_NODES;
-use ta_cursor::{Cursor, PatternTree, Root, Tree};
+use ta_claim::ClaimTree;
+use ta_cursor::{Cursor, Root, Tree};
 use ta_dense::Dictionary;
 use ta_encode::Encoding;
 use ta_simplex::Branch;
@@ -30,17 +31,17 @@ use ta_simplex::Branch;
 pub(crate) fn visit_list<D: Dictionary, K: PartKeeper, R: Threads + Sync, G: Gate>(
     rt: &R,
     alloc: Global,
-    tree: &PatternTree<'_>,
+    tree: &ClaimTree<'_>,
     gate: &G,
     watch: Watch<'_>,
     words: Vec<Root>,
     nodes: u64,
     keeper: K,
 ) -> Result<Part<K>, AllocError>
-    requires come { AllByRecursion (ComesTo (search_of_tree tree.now)) words.items }
+    requires come { AllByRecursion (ComesTo (search_of_claim tree.now)) words.items }
     requires few { vec_len words ≤ 2 ^ 31 }
     requires limit { nodes ≤ MOST_NODES }
-    ensures visited { IfOk result (λ part. PartVisited K.keeps (beginning (search_of_tree tree.now) (map root_word words.items)) nodes keeper part.keeper part.end) }
+    ensures visited { IfOk result (λ part. PartVisited K.keeps (beginning (search_of_claim tree.now) (map root_word words.items)) nodes keeper part.keeper part.end) }
     ensures small { IfOk result (λ part. IsSmallEnd nodes part.end) }
     ensures patient { watch.entry.patient ≡ true → IfOk result (λ part. IsWholeEnd nodes part.end) }
 {
@@ -69,7 +70,7 @@ pub(crate) fn visit_list<D: Dictionary, K: PartKeeper, R: Threads + Sync, G: Gat
 fn visit_halves<D: Dictionary, K: PartKeeper, R: Threads + Sync, G: Gate>(
     rt: &R,
     alloc: Global,
-    tree: &PatternTree<'_>,
+    tree: &ClaimTree<'_>,
     gate: &G,
     watch: Watch<'_>,
     words: Vec<Root>,
@@ -77,12 +78,12 @@ fn visit_halves<D: Dictionary, K: PartKeeper, R: Threads + Sync, G: Gate>(
     nodes: u64,
     keeper: K,
 ) -> Result<Part<K>, AllocError>
-    requires first { AllByRecursion (ComesTo (search_of_tree tree.now)) words.items }
-    requires second { AllByRecursion (ComesTo (search_of_tree tree.now)) others.items }
+    requires first { AllByRecursion (ComesTo (search_of_claim tree.now)) words.items }
+    requires second { AllByRecursion (ComesTo (search_of_claim tree.now)) others.items }
     requires some { (0 < vec_len words) × (0 < vec_len others) }
     requires few { vec_len words + vec_len others ≤ 2 ^ 31 }
     requires limit { nodes ≤ MOST_NODES }
-    ensures visited { IfOk result (λ part. PartVisited K.keeps (beginning (search_of_tree tree.now) (map root_word words.items ++ map root_word others.items)) nodes keeper part.keeper part.end) }
+    ensures visited { IfOk result (λ part. PartVisited K.keeps (beginning (search_of_claim tree.now) (map root_word words.items ++ map root_word others.items)) nodes keeper part.keeper part.end) }
     ensures small { IfOk result (λ part. IsSmallEnd nodes part.end) }
     ensures patient { watch.entry.patient ≡ true → IfOk result (λ part. IsWholeEnd nodes part.end) }
 {
@@ -108,7 +109,7 @@ fn visit_halves<D: Dictionary, K: PartKeeper, R: Threads + Sync, G: Gate>(
 fn visit_beside<D: Dictionary, K: PartKeeper, R: Threads + Sync, G: Gate>(
     rt: &R,
     alloc: Global,
-    tree: &PatternTree<'_>,
+    tree: &ClaimTree<'_>,
     gate: &G,
     watch: Watch<'_>,
     words: Vec<Root>,
@@ -117,13 +118,13 @@ fn visit_beside<D: Dictionary, K: PartKeeper, R: Threads + Sync, G: Gate>(
     late: K,
     nodes: u64,
 ) -> Result<Part<K>, AllocError>
-    requires first { AllByRecursion (ComesTo (search_of_tree tree.now)) words.items }
-    requires second { AllByRecursion (ComesTo (search_of_tree tree.now)) others.items }
+    requires first { AllByRecursion (ComesTo (search_of_claim tree.now)) words.items }
+    requires second { AllByRecursion (ComesTo (search_of_claim tree.now)) others.items }
     requires some { (0 < vec_len words) × (0 < vec_len others) }
     requires few { vec_len words + vec_len others ≤ 2 ^ 31 }
     requires limit { nodes ≤ MOST_NODES }
     requires fresh { IsLaterKeeper K.begins K.keeps keeper late }
-    ensures visited { IfOk result (λ part. PartVisited K.keeps (beginning (search_of_tree tree.now) (map root_word words.items ++ map root_word others.items)) nodes keeper part.keeper part.end) }
+    ensures visited { IfOk result (λ part. PartVisited K.keeps (beginning (search_of_claim tree.now) (map root_word words.items ++ map root_word others.items)) nodes keeper part.keeper part.end) }
     ensures small { IfOk result (λ part. IsSmallEnd nodes part.end) }
     ensures patient { watch.entry.patient ≡ true → IfOk result (λ part. IsWholeEnd nodes part.end) }
 {
@@ -132,8 +133,8 @@ fn visit_beside<D: Dictionary, K: PartKeeper, R: Threads + Sync, G: Gate>(
     let ended = AtomicU64::new(0);
     let ended = &ended;
     let front = move || -> Result<Part<K>, AllocError>
-        requires { IsSync R.row × IsSync G.row × IsSend K.row × AllByRecursion (ComesTo (search_of_tree tree.now)) words.items × (vec_len words ≤ 2 ^ 31) × (nodes ≤ MOST_NODES) }
-        ensures visited { IfOk result (λ part. PartVisited K.keeps (beginning (search_of_tree tree.entry.now) (map root_word words.items)) nodes keeper part.keeper part.end) }
+        requires { IsSync R.row × IsSync G.row × IsSend K.row × AllByRecursion (ComesTo (search_of_claim tree.now)) words.items × (vec_len words ≤ 2 ^ 31) × (nodes ≤ MOST_NODES) }
+        ensures visited { IfOk result (λ part. PartVisited K.keeps (beginning (search_of_claim tree.entry.now) (map root_word words.items)) nodes keeper part.keeper part.end) }
         ensures small { IfOk result (λ part. IsSmallEnd nodes part.end) }
         ensures patient { low.entry.patient ≡ true → IfOk result (λ part. IsWholeEnd nodes part.end) }
     {
@@ -143,8 +144,8 @@ fn visit_beside<D: Dictionary, K: PartKeeper, R: Threads + Sync, G: Gate>(
         part
     };
     let back = move || -> Result<Part<K>, AllocError>
-        requires { IsSync R.row × IsSync G.row × IsSend K.row × AllByRecursion (ComesTo (search_of_tree tree.now)) others.items × (vec_len others ≤ 2 ^ 31) × (nodes ≤ MOST_NODES) }
-        ensures visited { IfOk result (λ part. PartVisited K.keeps (beginning (search_of_tree tree.entry.now) (map root_word others.items)) nodes late part.keeper part.end) }
+        requires { IsSync R.row × IsSync G.row × IsSend K.row × AllByRecursion (ComesTo (search_of_claim tree.now)) others.items × (vec_len others ≤ 2 ^ 31) × (nodes ≤ MOST_NODES) }
+        ensures visited { IfOk result (λ part. PartVisited K.keeps (beginning (search_of_claim tree.entry.now) (map root_word others.items)) nodes late part.keeper part.end) }
         ensures small { IfOk result (λ part. IsSmallEnd nodes part.end) }
         ensures patient { high.entry.patient ≡ true → IfOk result (λ part. IsWholeEnd nodes part.end) }
     {
@@ -162,16 +163,16 @@ fn visit_beside<D: Dictionary, K: PartKeeper, R: Threads + Sync, G: Gate>(
 fn visit_root<D: Dictionary, K: PartKeeper, R: Threads + Sync, G: Gate>(
     rt: &R,
     alloc: Global,
-    tree: &PatternTree<'_>,
+    tree: &ClaimTree<'_>,
     gate: &G,
     watch: Watch<'_>,
     root: Root,
     nodes: u64,
     keeper: K,
 ) -> Result<Part<K>, AllocError>
-    requires comes { ComesTo (search_of_tree tree.now) root }
+    requires comes { ComesTo (search_of_claim tree.now) root }
     requires limit { nodes ≤ MOST_NODES }
-    ensures visited { IfOk result (λ part. PartVisited K.keeps (beginning (search_of_tree tree.now) (root_word root ∷ [])) nodes keeper part.keeper part.end) }
+    ensures visited { IfOk result (λ part. PartVisited K.keeps (beginning (search_of_claim tree.now) (root_word root ∷ [])) nodes keeper part.keeper part.end) }
     ensures small { IfOk result (λ part. IsSmallEnd nodes part.end) }
     ensures patient { watch.entry.patient ≡ true → IfOk result (λ part. IsWholeEnd nodes part.end) }
 {
@@ -184,16 +185,16 @@ fn visit_root<D: Dictionary, K: PartKeeper, R: Threads + Sync, G: Gate>(
 fn visit_tree_at<D: Dictionary, K: PartKeeper, R: Threads + Sync, G: Gate>(
     rt: &R,
     alloc: Global,
-    tree: &PatternTree<'_>,
+    tree: &ClaimTree<'_>,
     gate: &G,
     watch: Watch<'_>,
     cursor: Cursor,
     nodes: u64,
     keeper: K,
 ) -> Result<Part<K>, AllocError>
-    requires stands { HasFewLeft (search_of_tree tree.now) nodes cursor }
+    requires stands { HasFewLeft (search_of_claim tree.now) nodes cursor }
     requires limit { nodes ≤ MOST_NODES }
-    ensures visited { IfOk result (λ part. PartVisited K.keeps (beginning (search_of_tree tree.now) (left_at (search_of_tree tree.now) cursor)) nodes keeper part.keeper part.end) }
+    ensures visited { IfOk result (λ part. PartVisited K.keeps (beginning (search_of_claim tree.now) (left_at (search_of_claim tree.now) cursor)) nodes keeper part.keeper part.end) }
     ensures small { IfOk result (λ part. IsSmallEnd nodes part.end) }
     ensures patient { watch.entry.patient ≡ true → IfOk result (λ part. IsWholeEnd nodes part.end) }
 {
@@ -210,7 +211,7 @@ fn visit_tree_at<D: Dictionary, K: PartKeeper, R: Threads + Sync, G: Gate>(
 fn visit_on<D: Dictionary, K: PartKeeper, R: Threads + Sync, G: Gate>(
     rt: &R,
     alloc: Global,
-    tree: &PatternTree<'_>,
+    tree: &ClaimTree<'_>,
     gate: &G,
     watch: Watch<'_>,
     cursor: Cursor,
@@ -219,11 +220,11 @@ fn visit_on<D: Dictionary, K: PartKeeper, R: Threads + Sync, G: Gate>(
     nodes: u64,
     keeper: K,
 ) -> Result<Part<K>, AllocError>
-    requires stands { HasFewLeft (search_of_tree tree.now) nodes cursor }
+    requires stands { HasFewLeft (search_of_claim tree.now) nodes cursor }
     requires limit { nodes ≤ MOST_NODES }
-    requires kept { IsEncoding tree.now.file.now.automaton tree.now.pattern.now kept }
+    requires kept { IsKeptFor tree.now kept }
     requires branch { IsBranch D.tableau D.pivot_of kept.system.rows branch }
-    ensures visited { IfOk result (λ part. PartVisited K.keeps (beginning (search_of_tree tree.now) (left_at (search_of_tree tree.now) cursor)) nodes keeper part.keeper part.end) }
+    ensures visited { IfOk result (λ part. PartVisited K.keeps (beginning (search_of_claim tree.now) (left_at (search_of_claim tree.now) cursor)) nodes keeper part.keeper part.end) }
     ensures small { IfOk result (λ part. IsSmallEnd nodes part.end) }
     ensures patient { watch.entry.patient ≡ true → IfOk result (λ part. IsWholeEnd nodes part.end) }
 {
@@ -231,7 +232,7 @@ fn visit_on<D: Dictionary, K: PartKeeper, R: Threads + Sync, G: Gate>(
     let mut kept = kept;
     let mut branch = branch;
     let mut keeper = keeper;
-    match visit_stretch::<D, PatternTree<'_>, K>(
+    match visit_stretch::<D, ClaimTree<'_>, K>(
         alloc,
         tree,
         watch,
@@ -268,7 +269,7 @@ fn visit_on<D: Dictionary, K: PartKeeper, R: Threads + Sync, G: Gate>(
 fn visit_shared<D: Dictionary, K: PartKeeper, R: Threads + Sync, G: Gate>(
     rt: &R,
     alloc: Global,
-    tree: &PatternTree<'_>,
+    tree: &ClaimTree<'_>,
     gate: &G,
     watch: Watch<'_>,
     cursor: Cursor,
@@ -278,12 +279,12 @@ fn visit_shared<D: Dictionary, K: PartKeeper, R: Threads + Sync, G: Gate>(
     nodes: u64,
     keeper: K,
 ) -> Result<Part<K>, AllocError>
-    requires stands { HasFewLeft (search_of_tree tree.now) nodes cursor }
-    requires later { HasFewLeft (search_of_tree tree.now) nodes later }
+    requires stands { HasFewLeft (search_of_claim tree.now) nodes cursor }
+    requires later { HasFewLeft (search_of_claim tree.now) nodes later }
     requires limit { nodes ≤ MOST_NODES }
-    requires kept { IsEncoding tree.now.file.now.automaton tree.now.pattern.now kept }
+    requires kept { IsKeptFor tree.now kept }
     requires branch { IsBranch D.tableau D.pivot_of kept.system.rows branch }
-    ensures visited { IfOk result (λ part. PartVisited K.keeps (beginning (search_of_tree tree.now) (left_at (search_of_tree tree.now) cursor ++ left_at (search_of_tree tree.now) later)) nodes keeper part.keeper part.end) }
+    ensures visited { IfOk result (λ part. PartVisited K.keeps (beginning (search_of_claim tree.now) (left_at (search_of_claim tree.now) cursor ++ left_at (search_of_claim tree.now) later)) nodes keeper part.keeper part.end) }
     ensures small { IfOk result (λ part. IsSmallEnd nodes part.end) }
     ensures patient { watch.entry.patient ≡ true → IfOk result (λ part. IsWholeEnd nodes part.end) }
 {
@@ -293,8 +294,8 @@ fn visit_shared<D: Dictionary, K: PartKeeper, R: Threads + Sync, G: Gate>(
     let ended = AtomicU64::new(0);
     let ended = &ended;
     let back = move || -> Result<Part<K>, AllocError>
-        requires { IsSync R.row × IsSync G.row × IsSend K.row × HasFewLeft (search_of_tree tree.now) nodes later × (nodes ≤ MOST_NODES) }
-        ensures visited { IfOk result (λ part. PartVisited K.keeps (beginning (search_of_tree tree.entry.now) (left_at (search_of_tree tree.entry.now) later)) nodes late part.keeper part.end) }
+        requires { IsSync R.row × IsSync G.row × IsSend K.row × HasFewLeft (search_of_claim tree.now) nodes later × (nodes ≤ MOST_NODES) }
+        ensures visited { IfOk result (λ part. PartVisited K.keeps (beginning (search_of_claim tree.entry.now) (left_at (search_of_claim tree.entry.now) later)) nodes late part.keeper part.end) }
         ensures small { IfOk result (λ part. IsSmallEnd nodes part.end) }
         ensures patient { high.entry.patient ≡ true → IfOk result (λ part. IsWholeEnd nodes part.end) }
     {
@@ -304,8 +305,8 @@ fn visit_shared<D: Dictionary, K: PartKeeper, R: Threads + Sync, G: Gate>(
         part
     };
     let front = move || -> Result<Part<K>, AllocError>
-        requires { IsSync R.row × IsSync G.row × IsSend K.row × HasFewLeft (search_of_tree tree.now) nodes cursor × (nodes ≤ MOST_NODES) × IsEncoding tree.now.file.now.automaton tree.now.pattern.now kept × IsBranch D.tableau D.pivot_of kept.system.rows branch }
-        ensures visited { IfOk result (λ part. PartVisited K.keeps (beginning (search_of_tree tree.entry.now) (left_at (search_of_tree tree.entry.now) cursor)) nodes keeper part.keeper part.end) }
+        requires { IsSync R.row × IsSync G.row × IsSend K.row × HasFewLeft (search_of_claim tree.now) nodes cursor × (nodes ≤ MOST_NODES) × IsKeptFor tree.now kept × IsBranch D.tableau D.pivot_of kept.system.rows branch }
+        ensures visited { IfOk result (λ part. PartVisited K.keeps (beginning (search_of_claim tree.entry.now) (left_at (search_of_claim tree.entry.now) cursor)) nodes keeper part.keeper part.end) }
         ensures small { IfOk result (λ part. IsSmallEnd nodes part.end) }
         ensures patient { low.entry.patient ≡ true → IfOk result (λ part. IsWholeEnd nodes part.end) }
     {

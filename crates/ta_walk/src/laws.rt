@@ -2,7 +2,7 @@
 #![tactic(auto)]
 
 ghost use Rattle.ta_walk.specs.Answers.{SearchesHaveEnds, WalksHaveEnds, WordsHaveSystems};
-ghost use Rattle.ta_walk.specs.Ends.{EndingsAreDetermined, WalksAreDetermined, FoundWordsAreSolved, RefutedPatternsAreSafe, WholeNodesSolve};
+ghost use Rattle.ta_walk.specs.Ends.{EndingsAreDetermined, WalksAreDetermined, FoundWordsAreSolved, RefutedClaimsHold, WholeNodesSolve};
 ghost use Rattle.ta_walk.specs.Samples.{SampleEndsAreDetermined, SamplesAreReal};
 ghost use Rattle.ta_walk.specs.Splits.{SpentNeedsSplits};
 
@@ -21,10 +21,10 @@ pub fn ends_are_determined()
     ensures { WalksAreDetermined }
 {}
 
-/// A walk that refutes a pattern has a proof of it, whose nodes can be written as lines, and the pattern
-/// is safe.
-pub fn refuted_patterns_are_safe()
-    ensures { RefutedPatternsAreSafe }
+/// The nodes of a claim's whole tree are a proof of it, which can be written in lines, and the claim
+/// holds.
+pub fn refuted_claims_hold()
+    ensures { RefutedClaimsHold }
 {}
 
 /// What a walk finds is a complete word with a solution.

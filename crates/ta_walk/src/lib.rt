@@ -26,7 +26,7 @@ pub use forked::{most_beside, visit, walk, walk_gated};
 pub use gate::{Gate, Idle};
 pub use keeper::{Keeper, Nothing, PartKeeper};
 pub use laws::{
-    endings_are_determined, ends_are_determined, found_words_are_solved, refuted_patterns_are_safe,
+    endings_are_determined, ends_are_determined, found_words_are_solved, refuted_claims_hold,
     sample_ends_are_determined, samples_are_real, searches_have_ends, spent_needs_splits,
     walks_have_ends, whole_nodes_solve,
 };

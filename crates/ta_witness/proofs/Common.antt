@@ -1,7 +1,7 @@
 -- The names that the proofs of this crate cite, passed on from one place. Declares nothing.
 pub use Rattle.std.proofs.Common.{Bool, FitsSigned, IsBitSet, List, None, Option, Some, [], ap, append-nil, append_assoc, arith, cond, drop, drop-cons, eqb, false, get_or, inl, inr, length, length-append, map, not, pos, refl, replicate, reverse, rules, slice_get, subst, suc, sym, take, true, unsigned_abs, zero, ℕ, ℤ, ◌*ℤ◌, ◌*◌, ◌++◌, ◌+◌, ◌<ℤ◌, ◌<◌, ◌^◌, ◌∙◌, ◌∷◌, ◌≡◌, ◌≢◌, ◌≤ℤ◌, ◌≤◌, ◌⊎◌}
-pub use Rattle.std.proofs.lemmas.Bool.{and_parts, cases_Bool, cases_lt, eqb-true, false≢true, not-true, not_from_false, or_parts, or_right, true≢false}
 pub use Rattle.std.proofs.lemmas.Bool.Decides.{eqb_tells, nat_tests}
+pub use Rattle.std.proofs.lemmas.Bool.{and_parts, cases_Bool, cases_lt, eqb-true, false≢true, not-true, not_from_false, or_parts, or_right, true≢false}
 pub use Rattle.std.proofs.lemmas.Int.{ints, to_z-of_z}
 pub use Rattle.std.proofs.lemmas.List.{drop_all, length-map, length-reverse, length-take, map-append, reverse-reverse, take_all, take_more}
 pub use Rattle.std.proofs.lemmas.Option.{get_or_from_slice_get, slice_get_within}
@@ -31,8 +31,8 @@ unfoldable pub use Rattle.ta_encode.specs.System.{sum_of_products, word_rows}
 pub use Rattle.ta_encode.specs.Unknowns.{counts_after, place_coefficient, singles_after, start_locations}
 unfoldable pub use Rattle.ta_encode.specs.Unknowns.{meanings, start_meanings}
 pub use Rattle.ta_encode.specs.declared.encoded.Solution.{Solution}
-pub use Rattle.ta_encode.specs.declared.meaning.Meaning.{Meaning}
 pub use Rattle.ta_encode.specs.declared.meaning.Meaning.TheVariants.{Count, Parameter, Single, Start}
+pub use Rattle.ta_encode.specs.declared.meaning.Meaning.{Meaning}
 pub use Rattle.ta_replay.proofs.PieceLines.{are_short, no_steps, show, some_index}
 pub use Rattle.ta_replay.specs.Pieces.{HasFewSteps, MarksInOrder, OncePerRule, Piece, PiecesHappen, last_lines, piece_lines, pieces_lines, pieces_marks, step_line, steps_count, steps_until}
 pub use Rattle.ta_replay.specs.Shows.{ShowsPattern, unit_steps}
@@ -47,5 +47,5 @@ pub use Rattle.ta_witness.specs.Witness.{EndsPiece, IsSolution, PieceOf, PiecesO
 pub use Rattle.ta_words.proofs.Counts.{in_children, legal_length, legal_weight}
 pub use Rattle.ta_words.specs.Words.{LegalWord, children, follows, has_fallen, has_rise, may_fire}
 unfoldable pub use Rattle.ta_words.specs.Words.{allowed_rules, has_event}
-pub use Rattle.ta_words.specs.declared.element.Element.{Element}
 pub use Rattle.ta_words.specs.declared.element.Element.TheVariants.{Event, Fall, Rise}
+pub use Rattle.ta_words.specs.declared.element.Element.{Element}

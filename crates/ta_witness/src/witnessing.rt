@@ -17,6 +17,7 @@ use ta_base::List;
 use ta_encode::{Meaning, Solution, encode};
 use ta_replay::{Run, RunFault, replay};
 use ta_scope::ScopedFile;
+use ta_words::Task;
 
 /// The run of a solution, which is replayed before it is given: for each element of the word the
 /// arranged steps of its Counts, and then the single step of a Fall, or the mark of an Event.
@@ -46,23 +47,10 @@ fn run_of(alloc: Global, scoped: &ScopedFile, solution: &Solution) -> Result<Run
     ensures shows { IfOk result (λ run. Shows scoped.now.file run) }
     ensures short { IfOk result (λ run. IsShortRun scoped.now.file run) }
 {
-    let file = &scoped.file;
-    let pattern = &file.patterns.as_slice()[solution.pattern as usize];
-    let encoded = encode(
-        alloc,
-        file,
-        solution.pattern,
-        solution.start_mask,
-        &solution.word,
-        &[],
-    )?;
-    run_for(
-        alloc,
-        scoped,
-        pattern,
-        encoded.meanings.as_slice(),
-        solution,
-    )
+    let task = Task::of(&scoped.file, solution.pattern);
+    let encoded = encode(alloc, task, solution.start_mask, &solution.word, &[])?;
+    let meanings = encoded.meanings.as_slice();
+    run_for(alloc, scoped, task.pattern, meanings, solution)
 }
 
 /// The run of a solution, with its pattern and what its unknowns stand for.

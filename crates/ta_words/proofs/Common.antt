@@ -2,10 +2,9 @@
 pub use Rattle.std.proofs.Common.{Bool, List, Some, [], ap, append_assoc, arith, cond, false, get_or, inl, inr, length, length-append, map, not, refl, reverse, slice_get, subst, sym, take, true, ℕ, ◌%◌, ◌&&◌, ◌*◌, ◌++◌, ◌+◌, ◌-◌, ◌<◌, ◌^◌, ◌||◌, ◌↔◌, ◌∙◌, ◌∷◌, ◌≡◌, ◌≤◌, ◌⊎◌}
 pub use Rattle.std.proofs.lemmas.Bool.{and_from, and_parts, eq-eqb, eqb-true, false≢true, not-true, or_left, or_right, true≢false}
 pub use Rattle.std.proofs.lemmas.List.{length-map, length-reverse, map-append}
-pub use Rattle.std.proofs.lemmas.Option.{get_or_from_slice_get, slice_get_cases, slice_get_past, slice_get_read, slice_get_within}
+pub use Rattle.std.proofs.lemmas.Option.{slice_get_past, slice_get_read, slice_get_within}
 pub use Rattle.std.specs.Prelude.{filter, ◌==◌}
 pub use Rattle.ta_automaton.specs.declared.automaton.Automaton.{Automaton}
-pub use Rattle.ta_automaton.specs.declared.file.File.{File}
 pub use Rattle.ta_automaton.specs.declared.pattern.Pattern.{Pattern}
 pub use Rattle.ta_automaton.specs.declared.rule.Rule.{Rule}
 pub use Rattle.ta_base.proofs.Bits.{Told, all_below-at, all_below-from, all_below-same, first_numbers, has_above, has_none, none_told, not_told, one_told, some_bit}
@@ -15,7 +14,6 @@ pub use Rattle.ta_base.proofs.Members.{In-filter, In-left, In-map, In-right, con
 pub use Rattle.ta_base.proofs.Naturals.{count, count_most, count_new, end_of_masks, first_bits_below, in_or_above}
 pub use Rattle.ta_base.proofs.Ranges.{In-numbers, filter_more, in_numbers, length_numbers}
 pub use Rattle.ta_base.specs.Masks.{In, all_below, has_bit, implies, numbers_from}
-pub use Rattle.ta_words.specs.Calls.{OfPattern}
 pub use Rattle.ta_words.specs.Seen.{EventsNamed, IsSeen, NamesBefore}
 pub use Rattle.ta_words.specs.Words.{LegalUnder, LegalWord, is_complete, is_due, is_ready, is_standing, may_fire, may_rise}
 unfoldable pub use Rattle.ta_words.specs.Words.{children, has_event, has_fallen, has_rise}

@@ -1,6 +1,6 @@
 -- a legal word has at most as many elements as there are events and guards
-use Rattle.ta_words.proofs.Common.{◌≡◌, ◌⊎◌, inl, inr, ℕ, ◌+◌, ◌-◌, ◌^◌, ◌<◌, ◌≤◌, List, [], ◌∷◌, ◌++◌, length, map, Bool, true, not, slice_get, Some, arith, sym, ap, refl, subst, reverse, filter, ◌==◌, length-reverse, slice_get_cases, and_parts, eq-eqb, not-true, or_left, or_right, has_bit, implies, numbers_from, In, all_below-at, some_bit, implies-at, In-filter, In-left, In-map, In-right, cond_more, in_append, in_filter, in_map, in_more, count, count_most, count_new, In-numbers, in_numbers, Automaton, Pattern, File, OfPattern, has_event, has_rise, has_fallen, is_complete, is_due, is_ready, is_standing, may_rise, children, LegalWord, LegalUnder, Element, Event, Rise, Fall}
-use Rattle.ta_words.proofs.Lists.{events_named}
+use Rattle.ta_words.proofs.Common.{◌≡◌, ◌⊎◌, inl, inr, ℕ, ◌+◌, ◌-◌, ◌^◌, ◌<◌, ◌≤◌, List, [], ◌∷◌, ◌++◌, length, map, Bool, true, not, arith, sym, ap, refl, subst, reverse, filter, ◌==◌, length-reverse, and_parts, eq-eqb, not-true, or_left, or_right, has_bit, implies, numbers_from, In, all_below-at, some_bit, implies-at, In-filter, In-left, In-map, In-right, cond_more, in_append, in_filter, in_map, in_more, count, count_most, count_new, In-numbers, in_numbers, Automaton, Pattern, has_event, has_rise, has_fallen, is_complete, is_due, is_ready, is_standing, may_rise, children, LegalWord, LegalUnder, Element, Event, Rise, Fall}
+use Rattle.ta_words.specs.declared.task.Task.{Task}
 
 -- a number that passes, among n numbers from k on
 in_passed : (f : ℕ → Element) (test : ℕ → Bool) (k n : ℕ) (e : Element) → In e (map f (filter test (numbers_from k n))) → (x : ℕ) × (e ≡ f x) × (test x ≡ true) × (k ≤ x) × (x < k + n)
@@ -103,13 +103,10 @@ pub legal_length : (a : Automaton) (p : Pattern) (start : ℕ) (past : List Elem
 legal_length a p start past few h =
     omega (arith, legal_weight a p start past h, few, a.shape.limits.rise_limit, a.shape.limits.fall_limit, count_most (has_event past) (length p.events), count_most (has_rise past) (length a.rise), count_most (has_fallen start past) (length a.fall))
 
-pattern_exists : (file : File) (k : ℕ) → k < length file.patterns → (p : Pattern) × (slice_get file.patterns k ≡ Some p)
-pattern_exists file k b = elim ((slice_get_cases file.patterns k).1) [ inl found ↦ (found.0, found.2) | inr past ↦ absurd (let q = past.0 in omega arith) ]
-
 -- there is room for a child of a legal word
-pub room : (file : File) (k start : ℕ) (pairs : List (ℕ × ℕ)) (word listed : List Element) (e : Element) → k < length file.patterns → OfPattern file k (λ p. LegalWord file.automaton p start (reverse word)) → OfPattern file k (λ p. listed ≡ children file.automaton p pairs start (reverse word)) → In e listed → length word < 30
-room file k start pairs word listed e b legal is h =
-    let found = pattern_exists file k b in
-    let p = found.0 in
-    let child : In e (children file.automaton p [] start (reverse word)) = under_none file.automaton p pairs start (reverse word) e (subst (In e) (is p found.1) h) in
-    omega (arith, legal_length file.automaton p start (e ∷ reverse word) (events_named file k p found.1).limit (child, legal p found.1), length-reverse word)
+pub room : (t : Task) (start : ℕ) (pairs : List (ℕ × ℕ)) (word listed : List Element) (e : Element) → LegalWord t.automaton.now t.pattern.now start (reverse word) → listed ≡ children t.automaton.now t.pattern.now pairs start (reverse word) → In e listed → length word < 30
+room t start pairs word listed e legal is h =
+    let a = t.automaton.now in
+    let p = t.pattern.now in
+    let child : In e (children a p [] start (reverse word)) = under_none a p pairs start (reverse word) e (subst (In e) is h) in
+    omega (arith, legal_length a p start (e ∷ reverse word) t.over.events_limit (child, legal), length-reverse word)

@@ -5,4 +5,5 @@ pub mod Pushes
 pub mod Lists
 pub mod Pairs
 pub mod Counts
+pub mod Tasks
 mod Common

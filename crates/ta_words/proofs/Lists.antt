@@ -1,28 +1,16 @@
 -- what follows a word, and how long words and lists of children get
-use Rattle.ta_words.proofs.Common.{◌≡◌, ℕ, ◌+◌, ◌-◌, ◌^◌, ◌<◌, ◌≤◌, List, [], ◌++◌, length, map, Bool, true, false, get_or, slice_get, Some, arith, sym, ap, ◌∙◌, refl, subst, append_assoc, length-append, filter, length-map, slice_get_read, slice_get_within, get_or_from_slice_get, numbers_from, cond_false, cond_true, filter_shorter, length_numbers, Automaton, File, Pattern, OfPattern, EventsNamed, is_complete, is_ready, is_standing, may_rise, children, Element, Event, Rise, Fall}
+use Rattle.ta_words.proofs.Common.{◌≡◌, ℕ, ◌+◌, ◌-◌, ◌^◌, ◌<◌, ◌≤◌, List, [], ◌++◌, length, map, Bool, true, false, arith, sym, ap, ◌∙◌, append_assoc, length-append, filter, length-map, slice_get_within, numbers_from, cond_false, cond_true, filter_shorter, length_numbers, Automaton, Pattern, EventsNamed, is_complete, is_ready, is_standing, may_rise, children, Element, Event, Rise, Fall}
 use Rattle.std.proofs.Math.Nat.{pow-le-pow_right}
 use Rattle.ta_base.proofs.Each.{each_from_at}
-use Rattle.ta_automaton.specs.Patterns.{EventWithin}
-use Rattle.ta_automaton.proofs.Thresholds.{pattern_within}
+use Rattle.ta_automaton.specs.Patterns.{EventWithin, PatternOver}
 
--- the pattern that a call reads is the pattern with its number
-pub pattern_at : (file : File) (items : List Pattern) (k : ℕ) (p : Pattern) → items ≡ file.patterns → k < length file.patterns → p ≡ get_or items k p → slice_get file.patterns k ≡ Some p
-pattern_at file items k p same within is = subst (λ (ps : List Pattern). slice_get ps k ≡ Some p) same (slice_get_read items (length items) k p refl (let e = ap length same in omega arith) is)
-
-pub same_pattern : (file : File) (k : ℕ) (p q : Pattern) → slice_get file.patterns k ≡ Some p → slice_get file.patterns k ≡ Some q → p ≡ q
-same_pattern file k p q at named = sym (get_or_from_slice_get file.patterns k p p at) ∙ get_or_from_slice_get file.patterns k q p named
-
-pub of_pattern : (file : File) (k : ℕ) (p : Pattern) (P : Pattern → Type 0) → slice_get file.patterns k ≡ Some p → P p → OfPattern file k P
-of_pattern file k p P at h = λ q named. subst P (same_pattern file k p q at named) h
-
-pub events_named : (file : File) (k : ℕ) (p : Pattern) → slice_get file.patterns k ≡ Some p → EventsNamed p
-events_named file k p at =
-    let within = pattern_within file k p at in
-    let places = length file.automaton.parameters + length file.automaton.shared + length file.automaton.locations in
+pub events_named : (a : Automaton) (p : Pattern) → PatternOver a p → EventsNamed p
+events_named a p over =
+    let places = length a.parameters + length a.shared + length a.locations in
     record {
-      limit = within.events_limit;
+      limit = over.events_limit;
       after = λ e event here.
-          let before = each_from_at (EventWithin places) 0 p.events e event within.events here in
+          let before = each_from_at (EventWithin places) 0 p.events e event over.events here in
           let below = before.after in
           let inside = slice_get_within p.events e event here in
           let two : 0 < 2 = omega arith in

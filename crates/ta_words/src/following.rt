@@ -4,60 +4,53 @@
 ghost use Rattle.std.specs.Prelude.{ℕ, ◌≡◌, ◌<◌, ◌&&◌, length, not, reverse, slice_get};
 ghost use Rattle.ta_base.specs.Masks.{all_below, has_bit, implies};
 ghost use Rattle.ta_automaton.specs.Shape.{RuleWithin};
-ghost use Rattle.ta_words.specs.Calls.{OfPattern};
 ghost use Rattle.ta_words.specs.Words.{children, has_fallen, has_rise, is_complete, may_fire};
 
 use crate::child_list::Children;
 use crate::element::Element;
 use crate::seen::Seen;
+use crate::task::Task;
 use crate::word::Word;
-use ta_automaton::{Automaton, File, Rule};
+use ta_automaton::{Automaton, Rule};
 use ta_implied::Orders;
 
 /// The elements that may follow a word under pairs of rise guards, in order; a complete word has
 /// none.
-pub fn children(file: &File, pattern: u32, start_mask: u8, orders: &Orders, word: &Word) -> Children
-    requires { pattern < length file.now.patterns }
-    ensures { OfPattern file.now pattern (λ p. result ≡ children file.now.automaton p orders.now start_mask (reverse word.now)) }
+pub fn children(task: Task<'_>, start_mask: u8, orders: &Orders, word: &Word) -> Children
+    ensures { result ≡ children task.entry.automaton.now task.entry.pattern.now orders.now start_mask (reverse word.now) }
 {
-    let pattern = &file.patterns.as_slice()[pattern as usize];
     let seen = Seen::of(start_mask, word.elements());
     let mut children = Children::new();
-    if !seen.is_complete(pattern) {
-        children.push_events(pattern, seen);
-        children.push_rises(&file.automaton, orders, seen);
-        children.push_falls(&file.automaton, seen);
+    if !seen.is_complete(task.pattern) {
+        children.push_events(task.pattern, seen);
+        children.push_rises(task.automaton, orders, seen);
+        children.push_falls(task.automaton, seen);
     }
     children
 }
 
 /// Whether each event of the pattern is in a word.
-pub fn is_complete(file: &File, pattern: u32, word: &Word) -> bool
-    requires { pattern < length file.now.patterns }
-    ensures { OfPattern file.now pattern (λ p. result ≡ is_complete p (reverse word.now)) }
+pub fn is_complete(task: Task<'_>, word: &Word) -> bool
+    ensures { result ≡ is_complete task.entry.pattern.now (reverse word.now) }
 {
-    let pattern = &file.patterns.as_slice()[pattern as usize];
-    Seen::of(0, word.elements()).is_complete(pattern)
+    Seen::of(0, word.elements()).is_complete(task.pattern)
 }
 
 /// The rules that are allowed after a word: bit r for rule r.
-pub fn allowed_rules(file: &File, pattern: u32, start_mask: u8, word: &Word) -> u128
-    requires { pattern < length file.now.patterns }
-    ensures { OfPattern file.now pattern (λ p. (r : ℕ) → has_bit result r ≡ may_fire file.now.automaton p start_mask (reverse word.now) (slice_get file.now.automaton.rules r)) }
+pub fn allowed_rules(task: Task<'_>, start_mask: u8, word: &Word) -> u128
+    ensures { (r : ℕ) → has_bit result r ≡ may_fire task.entry.automaton.now task.entry.pattern.now start_mask (reverse word.now) (slice_get task.entry.automaton.now.rules r) }
 {
-    allowed_after(file, pattern, start_mask, word.elements())
+    allowed_after(task, start_mask, word.elements())
 }
 
 /// The rules that are allowed after some elements: bit r for rule r.
-pub fn allowed_after(file: &File, pattern: u32, start_mask: u8, elements: &[Element]) -> u128
-    requires { pattern < length file.now.patterns }
-    ensures { OfPattern file.now pattern (λ p. (r : ℕ) → has_bit result r ≡ may_fire file.now.automaton p start_mask (reverse elements.now) (slice_get file.now.automaton.rules r)) }
+pub fn allowed_after(task: Task<'_>, start_mask: u8, elements: &[Element]) -> u128
+    ensures { (r : ℕ) → has_bit result r ≡ may_fire task.entry.automaton.now task.entry.pattern.now start_mask (reverse elements.now) (slice_get task.entry.automaton.now.rules r) }
 {
-    let pattern = &file.patterns.as_slice()[pattern as usize];
     let seen = Seen::of(start_mask, elements);
     let mut allowed = 0u128;
-    for (number, rule) in file.automaton.rules.as_slice().iter().enumerate() {
-        if seen.may_fire(&file.automaton, pattern, rule) {
+    for (number, rule) in task.automaton.rules.as_slice().iter().enumerate() {
+        if seen.may_fire(task.automaton, task.pattern, rule) {
             allowed |= 1 << number;
         }
     }

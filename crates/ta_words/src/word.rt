@@ -1,16 +1,15 @@
 //! Words.
 #![tactic(auto)]
 
-ghost use Rattle.std.specs.Prelude.{◌≡◌, ◌≤◌, ◌<◌, ◌++◌, ◌∷◌, ◌↔◌, IsTrue, [], if◌then◌else◌, length as list_length, reverse, take};
-ghost use Rattle.ta_words.specs.Calls.{OfPattern};
+ghost use Rattle.std.specs.Prelude.{◌≡◌, ◌≤◌, ◌++◌, ◌∷◌, ◌↔◌, IsTrue, [], if◌then◌else◌, length as list_length, reverse, take};
 ghost use Rattle.ta_base.specs.Masks.{In};
 ghost use Rattle.ta_words.specs.Words.{LegalWord, children};
 
 use crate::element::Element;
 use crate::following::children;
+use crate::task::Task;
 use arrayvec::ArrayVec;
 use std::marker::Model;
-use ta_automaton::File;
 use ta_base::limits::LONGEST_WORD;
 use ta_implied::Orders;
 
@@ -74,18 +73,16 @@ impl Word {
     /// may.
     pub fn push(
         &mut self,
-        file: &File,
-        pattern: u32,
+        task: Task<'_>,
         start_mask: u8,
         orders: &Orders,
         element: Element,
     ) -> bool
-        requires exists { pattern < list_length file.now.patterns }
-        requires legal { OfPattern file.now pattern (λ p. LegalWord file.now.automaton p start_mask (reverse self.old)) }
-        ensures child { OfPattern file.now pattern (λ p. IsTrue result ↔ In element (children file.now.automaton p orders.now start_mask (reverse self.old))) }
+        requires { LegalWord task.automaton.now task.pattern.now start_mask (reverse self.old) }
+        ensures child { IsTrue result ↔ In element (children task.entry.automaton.now task.entry.pattern.now orders.now start_mask (reverse self.old)) }
         ensures word { self.new ≡ (if result then self.old ++ element ∷ [] else self.old) }
     {
-        let is_child = children(file, pattern, start_mask, orders, self).contains(element);
+        let is_child = children(task, start_mask, orders, self).contains(element);
         if is_child {
             self.elements.push(element);
         }

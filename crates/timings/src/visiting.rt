@@ -1,7 +1,7 @@
 //! What the solving of the systems of a pattern's tree takes, by one thread.
 #![tactic(auto)]
 
-ghost use Rattle.std.specs.Prelude.{◌<◌, ◌≤◌, length};
+ghost use Rattle.std.specs.Prelude.{◌≤◌};
 
 use crate::seconds::Seconds;
 use std::alloc::{AllocError, Global};
@@ -9,10 +9,8 @@ use std::io;
 use std::rt::Clock;
 use std::time::Instant;
 use ta_base::limits::MOST_NODES;
-use ta_cursor::PatternTree;
+use ta_claim::ClaimTree;
 use ta_dense::Dictionary;
-use ta_implied::Orders;
-use ta_scope::ScopedFile;
 use ta_simplex::{Branch, Effort};
 use ta_walk::{Nothing, visit_tree_along};
 
@@ -21,18 +19,14 @@ use ta_walk::{Nothing, visit_tree_along};
 pub(crate) fn print<C: Clock + Print, D: Dictionary>(
     rt: &C,
     alloc: Global,
-    scoped: &ScopedFile,
-    pattern: u32,
-    orders: &Orders,
+    tree: &ClaimTree<'_>,
     nodes: u64,
 ) -> io::Result<()>
-    requires exists { pattern < length scoped.now.file.patterns }
-    requires limit { nodes ≤ MOST_NODES }
+    requires { nodes ≤ MOST_NODES }
 {
-    let tree = PatternTree::new(&scoped.file, pattern, orders);
     let mut branch: Branch<D> = Branch::new(alloc);
     let start = Instant::now(rt)?;
-    let end = visit_tree_along(alloc, &tree, nodes, &mut branch, &mut Nothing {});
+    let end = visit_tree_along(alloc, tree, nodes, &mut branch, &mut Nothing {});
     let taken = Seconds {
         micros: start.elapsed(rt)?.as_micros(),
     };

@@ -9,6 +9,7 @@ use std::thread::Threads;
 use std::time::Instant;
 use std::{fs, io};
 use ta_base::limits::{FILE_BYTES, MOST_NODES};
+use ta_claim::{Claim, ClaimTree};
 use ta_dense::{DenseDictionary, Dictionary, NarrowDictionary};
 use ta_links::LinkedDictionary;
 use ta_meaning::read_file;
@@ -79,8 +80,9 @@ fn time<R: Threads + Sync, C: Clock + Print, D: Dictionary>(
     let Ok(found) = find_orders::<NarrowDictionary>(alloc, scoped) else {
         return println!(rt; "memory ran out");
     };
+    let tree = ClaimTree::new(Claim::Safe, scoped.file(), pattern, &found.orders);
     let start = Instant::now(rt)?;
-    let end = walk::<D, R>(threads, alloc, scoped, pattern, &found.orders, nodes);
+    let end = walk::<D, R>(threads, alloc, &tree, nodes);
     let taken = Seconds {
         micros: start.elapsed(rt)?.as_micros(),
     };
@@ -90,7 +92,7 @@ fn time<R: Threads + Sync, C: Clock + Print, D: Dictionary>(
     let (said, count) = told(&end);
     let rate = taken.rate(count);
     println!(rt; "{said}: {count} nodes in {taken}, {rate} a second")?;
-    visiting::print::<C, D>(rt, alloc, scoped, pattern, &found.orders, nodes)
+    visiting::print::<C, D>(rt, alloc, &tree, nodes)
 }
 
 /// How a walk ended, and how many nodes were visited.

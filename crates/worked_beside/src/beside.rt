@@ -129,16 +129,12 @@ impl Dictionary for Beside {
         self.first.rows()
     }
 
-    fn columns(&self) -> u32 {
-        self.first.columns()
-    }
-
     fn basic(&self, row: u32) -> u32 {
         self.first.basic(row)
     }
 
-    fn non_basic(&self, column: u32) -> u32 {
-        self.first.non_basic(column)
+    fn non_basic_variables(&self) -> &[u32] {
+        self.first.non_basic_variables()
     }
 
     fn denominator(&self, row: u32) -> i128 {
@@ -197,7 +193,7 @@ impl Dictionary for Beside {
         &self,
         alloc: Global,
         longer: &System,
-        kept: &[LinkedPivot],
+        kept: &[Self::Kept],
     ) -> Result<Self, ExtendFault> {
         let made = Vec::from_slice(alloc, &self.made)?;
         let other = after_pivots::<DenseDictionary>(alloc, longer, &made);

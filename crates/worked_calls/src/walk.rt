@@ -3,6 +3,7 @@
 use std::alloc::{AllocError, Global};
 use std::sync::atomic::{AtomicU64, Ordering};
 use std::test::Fail;
+use ta_claim::{Claim, ClaimTree};
 use ta_dense::{
     DenseDictionary, DensePivot, Dictionary, ExtendFault, NarrowDictionary, PivotFault,
 };
@@ -11,7 +12,6 @@ use ta_linear::System;
 use ta_maker::make_family;
 use ta_meaning::read_file;
 use ta_rest::rest_scope;
-use ta_resting::rest_walk;
 use ta_syntax::print_tree;
 use ta_walk::{Gate, WalkEnd, walk, walk_gated};
 
@@ -43,16 +43,12 @@ impl Dictionary for NoRoom {
         self.dense.rows()
     }
 
-    fn columns(&self) -> u32 {
-        self.dense.columns()
-    }
-
     fn basic(&self, row: u32) -> u32 {
         self.dense.basic(row)
     }
 
-    fn non_basic(&self, column: u32) -> u32 {
-        self.dense.non_basic(column)
+    fn non_basic_variables(&self) -> &[u32] {
+        self.dense.non_basic_variables()
     }
 
     fn denominator(&self, row: u32) -> i128 {
@@ -111,19 +107,10 @@ impl Dictionary for NoRoom {
 fn walks_without_room(rt: HostRuntime) -> Result<(), Fail> {
     let scoped = read_file(rt.alloc(), FILE)?;
     assert!(rt; !scoped.file().patterns.as_slice().is_empty());
-    assert!(rt;
-        walk::<NoRoom, HostRuntime>(&rt, rt.alloc(), &scoped, 0, &Orders::new(), 10).is_err()
-    );
-    assert!(rt;
-        walk::<DenseDictionary, HostRuntime>(
-            &rt,
-            rt.alloc(),
-            &scoped,
-            0,
-            &Orders::new(),
-            10
-        ).is_ok()
-    );
+    let orders = Orders::new();
+    let tree = ClaimTree::new(Claim::Safe, scoped.file(), 0, &orders);
+    assert!(rt; walk::<NoRoom, HostRuntime>(&rt, rt.alloc(), &tree, 10).is_err());
+    assert!(rt; walk::<DenseDictionary, HostRuntime>(&rt, rt.alloc(), &tree, 10).is_ok());
     Ok(())
 }
 
@@ -161,12 +148,11 @@ fn halves_meet(rt: HostRuntime) -> Result<(), Fail> {
         vain: AtomicU64::new(0),
     };
     let orders = Orders::new();
+    let tree = ClaimTree::new(Claim::Safe, scoped.file(), 0, &orders);
     let end = walk_gated::<NarrowDictionary, HostRuntime, Meeting>(
         &rt,
         rt.alloc(),
-        &scoped,
-        0,
-        &orders,
+        &tree,
         1_000,
         &gate,
     )?;
@@ -181,7 +167,9 @@ fn words_of_rest_are_walked(rt: HostRuntime) -> Result<(), Fail> {
     let scoped = read_file(rt.alloc(), LEFT)?;
     let rest = rest_scope(rt.alloc(), scoped)?;
     assert!(rt; !rest.ending().file().patterns.as_slice().is_empty());
-    let end = rest_walk::<NarrowDictionary>(rt.alloc(), &rest, 0, 10)?;
+    let orders = Orders::new();
+    let tree = ClaimTree::new(Claim::RestSafe, rest.ending().file(), 0, &orders);
+    let end = walk::<NarrowDictionary, HostRuntime>(&rt, rt.alloc(), &tree, 10)?;
     assert!(rt; matches!(end, WalkEnd::Refuted { count: 2, .. }));
     Ok(())
 }

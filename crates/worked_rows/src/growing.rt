@@ -4,7 +4,7 @@
 ghost use Rattle.std.specs.Prelude.{◌≤◌, None, length};
 
 use crate::files::Files;
-use ta_shelf::{Entry, Log, PutFault, Shelf, ShelfFault};
+use ta_shelf::{Log, PutFault, Shelf, ShelfFault};
 
 /// Files, one of which goes on with spaces behind its text, up to so many bytes. None can be changed.
 #[derive(Drop)]
@@ -61,12 +61,7 @@ impl Shelf for Growing<'_> {
     fn read_at(&mut self, name: &str, at: u64, buf: &mut [u8]) -> Result<usize, ShelfFault> {
         let left = self.length_of(name).saturating_sub(at);
         let answer = Ok(fill(self.files.text(name).as_bytes(), at, left, buf));
-        self.log = self.log.then(&Entry {
-            name,
-            at,
-            buffer: buf,
-            answer,
-        });
+        self.log.add(name, at, buf, answer);
         answer
     }
 

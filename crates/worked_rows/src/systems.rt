@@ -1,9 +1,8 @@
 //! Rows of words: their systems, their children and the rules that they allow.
 #![tactic(auto)]
 
-ghost use Rattle.std.specs.Prelude.{◌<◌, ◌^◌, IfOk, IfSome, length, reverse};
+ghost use Rattle.std.specs.Prelude.{◌<◌, ◌^◌, IfOk, IfSome, reverse};
 ghost use Rattle.ta_dense.specs.Slack.{variables};
-ghost use Rattle.ta_words.specs.Calls.{OfPattern};
 ghost use Rattle.ta_words.specs.Words.{LegalWord};
 
 use crate::forms::{write_number, write_rows};
@@ -13,7 +12,7 @@ use ta_encode::{Bound, Encoded, Meaning, Side, encode, unknown_count};
 use ta_implied::Orders;
 use ta_linear::System;
 use ta_simplex::{End, SolveFault, solve};
-use ta_words::{Element, Word, allowed_rules, children, is_complete};
+use ta_words::{Element, Task, Word, allowed_rules, children, is_complete};
 use worked_beside::{Beside, cells_held};
 
 /// What is said of words that are no word of pattern 0.
@@ -46,14 +45,13 @@ fn element_of(word: &str) -> Option<Element> {
 }
 
 /// The word of these elements, where each is a child of those before it.
-fn word_of(file: &File, start_mask: u8, elements: &[Element]) -> Option<Word>
-    requires { 0 < length file.now.patterns }
-    ensures { IfSome result (λ word. OfPattern file.now 0 (λ p. LegalWord file.now.automaton p start_mask (reverse word))) }
+fn word_of(task: Task<'_>, start_mask: u8, elements: &[Element]) -> Option<Word>
+    ensures { IfSome result (λ word. LegalWord task.entry.automaton.now task.entry.pattern.now start_mask (reverse word)) }
 {
     let orders = Orders::new();
     let mut word = Word::new();
     for element in elements {
-        if !word.push(file, 0, start_mask, &orders, *element) {
+        if !word.push(task, start_mask, &orders, *element) {
             return None;
         }
     }
@@ -70,8 +68,9 @@ pub fn system(
     if file.patterns.as_slice().is_empty() {
         return String::from_str(alloc, NO_WORD);
     }
-    match word_of(file, start_mask, elements) {
-        Some(word) => describe(alloc, &encode(alloc, file, 0, start_mask, &word, &[])?),
+    let task = Task::of(file, 0);
+    match word_of(task, start_mask, elements) {
+        Some(word) => describe(alloc, &encode(alloc, task, start_mask, &word, &[])?),
         None => String::from_str(alloc, NO_WORD),
     }
 }
@@ -88,10 +87,11 @@ pub fn bounded(
     if file.patterns.as_slice().is_empty() {
         return String::from_str(alloc, NO_WORD);
     }
-    let Some(word) = word_of(file, start_mask, elements) else {
+    let task = Task::of(file, 0);
+    let Some(word) = word_of(task, start_mask, elements) else {
         return String::from_str(alloc, NO_WORD);
     };
-    let count = unknown_count(file, 0, start_mask, &word);
+    let count = unknown_count(task, start_mask, &word);
     let greatest = i128::MAX / 2;
     if low.0 >= count
         || high.0 >= count
@@ -114,7 +114,7 @@ pub fn bounded(
             side: Side::High,
         },
     ];
-    describe(alloc, &encode(alloc, file, 0, start_mask, &word, &bounds)?)
+    describe(alloc, &encode(alloc, task, start_mask, &word, &bounds)?)
 }
 
 /// The system of a word, if it has fewer than 100 unknowns and rows.
@@ -129,10 +129,11 @@ fn small_system(
     if file.patterns.as_slice().is_empty() {
         return Ok(None);
     }
-    let Some(word) = word_of(file, start_mask, elements) else {
+    let task = Task::of(file, 0);
+    let Some(word) = word_of(task, start_mask, elements) else {
         return Ok(None);
     };
-    let system = encode(alloc, file, 0, start_mask, &word, &[])?.system;
+    let system = encode(alloc, task, start_mask, &word, &[])?.system;
     if system.unknowns >= 100 || system.row_count() >= 100 {
         return Ok(None);
     }
@@ -227,11 +228,12 @@ pub fn following(
     if file.patterns.as_slice().is_empty() {
         return String::from_str(alloc, NO_WORD);
     }
-    let Some(word) = word_of(file, start_mask, elements) else {
+    let task = Task::of(file, 0);
+    let Some(word) = word_of(task, start_mask, elements) else {
         return String::from_str(alloc, NO_WORD);
     };
     let mut text = String::from_str(alloc, "children")?;
-    for child in children(file, 0, start_mask, &Orders::new(), &word).elements() {
+    for child in children(task, start_mask, &Orders::new(), &word).elements() {
         let (kind, number) = match *child {
             Element::Event(event) => (" e", event),
             Element::Rise(guard) => (" r", guard),
@@ -239,12 +241,8 @@ pub fn following(
         };
         write!(text, "{kind}{number}")?;
     }
-    write!(
-        text,
-        "\nrules {}",
-        allowed_rules(file, 0, start_mask, &word)
-    )?;
-    if is_complete(file, 0, &word) {
+    write!(text, "\nrules {}", allowed_rules(task, start_mask, &word))?;
+    if is_complete(task, &word) {
         text.push_str("\ncomplete")?;
     }
     Ok(text)

@@ -5,6 +5,7 @@ use std::alloc::{AllocError, Global};
 use std::thread::Threads;
 use ta_base::limits::MOST_NODES;
 use ta_cert::{Order, Proof, write_cert};
+use ta_claim::{Claim, ClaimTree};
 use ta_dense::NarrowDictionary;
 use ta_scope::ScopedFile;
 use ta_walk::{PlaceKind, WalkEnd, find_orders, walk};
@@ -22,10 +23,11 @@ pub fn end<R: Threads + Sync>(
         return String::from_str(alloc, "no such walk");
     }
     let found = find_orders::<NarrowDictionary>(alloc, scoped)?;
+    let tree = ClaimTree::new(Claim::Safe, scoped.file(), 0, &found.orders);
     let end = if narrow {
-        walk::<NarrowDictionary, R>(rt, alloc, scoped, 0, &found.orders, nodes)?
+        walk::<NarrowDictionary, R>(rt, alloc, &tree, nodes)?
     } else {
-        walk::<Beside, R>(rt, alloc, scoped, 0, &found.orders, nodes)?
+        walk::<Beside, R>(rt, alloc, &tree, nodes)?
     };
     describe(alloc, found.list.as_slice(), end)
 }
@@ -58,9 +60,9 @@ pub fn solution<R: Threads + Sync>(
         return Ok(text);
     }
     let orders = find_orders::<NarrowDictionary>(alloc, scoped)?.orders;
-    if let WalkEnd::Found { solution, .. } = walk::<NarrowDictionary, R>(
-        rt, alloc, scoped, 0, &orders, MOST_NODES,
-    )? {
+    let tree = ClaimTree::new(Claim::Safe, scoped.file(), 0, &orders);
+    let end = walk::<NarrowDictionary, R>(rt, alloc, &tree, MOST_NODES)?;
+    if let WalkEnd::Found { solution, .. } = end {
         for value in solution.values.as_slice() {
             write!(text, " {value}")?;
         }

@@ -1,5 +1,5 @@
 -- the unknowns and rows of the elements so far
-use Rattle.std.specs.Prelude.{ℕ, ◌≡◌, List, ◌++◌, length, map, slice_get, Some}
+use Rattle.std.specs.Prelude.{ℕ, ◌≡◌, List, ◌++◌, length, map}
 use Rattle.ta_linear.specs.declared.row.Row.{Row}
 use Rattle.ta_linear.specs.declared.row.System.{System}
 use Rattle.ta_automaton.specs.declared.automaton.Automaton.{Automaton}
@@ -12,10 +12,6 @@ use Rattle.ta_encode.specs.Inside.Lines.{AddsRows, AreWritten, IsBehind}
 use Rattle.ta_encode.specs.declared.draft.Draft.{Draft}
 use Rattle.ta_encode.specs.declared.origin.Origin.{Origin}
 
--- the pattern is the file's with this number
-abbrev pub IsNamed : Origin → Type 0
-IsNamed o = slice_get o.file.now.patterns o.number ≡ Some o.pattern.now
-
 -- the unknowns and rows of a word
 pub record IsDraftOf (a : Automaton) (p : Pattern) (start : ℕ) (past : List Element) (unknowns : List Meaning) (rows : List Row) : Type 0 where
   pub unknowns_are : unknowns ≡ meanings a p start past
@@ -23,8 +19,8 @@ pub record IsDraftOf (a : Automaton) (p : Pattern) (start : ℕ) (past : List El
 
 -- a draft of a word
 pub record IsDraft (o : Origin) (past : List Element) (draft : Draft) : Type 0 where
-  pub automaton_is : draft.automaton.now ≡ o.file.now.automaton
-  pub is : IsDraftOf o.file.now.automaton o.pattern.now o.start_mask past draft.meanings.items draft.rows.items
+  pub automaton_is : draft.automaton.now ≡ o.task.automaton.now
+  pub is : IsDraftOf o.task.automaton.now o.task.pattern.now o.start_mask past draft.meanings.items draft.rows.items
 
 -- a draft of a word that begins with what was written before
 pub record Continues (o : Origin) (past : List Element) (before after : Draft) : Type 0 where

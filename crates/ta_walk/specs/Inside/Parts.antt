@@ -4,10 +4,8 @@ use Rattle.std.specs.List.{AllByRecursion}
 use Rattle.ta_base.specs.declared.limits.TheConstants.{MOST_NODES}
 use Rattle.ta_cert.specs.declared.line.Node.{Node}
 use Rattle.ta_encode.specs.Search.{Comes, Pending, Search}
-use Rattle.ta_encode.specs.PatternSearch.{pattern_search}
 use Rattle.ta_cursor.specs.Cursors.{Within, left_at, word_at}
 use Rattle.ta_cursor.specs.declared.cursor.Cursor.{Cursor}
-use Rattle.ta_cursor.specs.declared.pattern_tree.PatternTree.{PatternTree}
 use Rattle.ta_cursor.specs.declared.root.Root.{Root}
 use Rattle.ta_walk.specs.Visit.{Visits}
 use Rattle.ta_walk.specs.Ends.{IsSpent, IsTreeEnd, leaf_count, node_count}
@@ -15,10 +13,6 @@ use Rattle.ta_walk.specs.declared.end.TreeEnd.{TreeEnd}
 use Rattle.ta_walk.specs.declared.end.TreeEnd.TheVariants as tree
 use Rattle.ta_walk.specs.declared.visiting.Stretch.{Stretch}
 use Rattle.ta_walk.specs.declared.visiting.Stretch.TheVariants as stretch
-
--- the search of a pattern's tree
-abbrev pub search_of_tree : PatternTree → Search
-search_of_tree tree = pattern_search tree.file.now.automaton tree.pattern.now tree.orders.now
 
 -- the word with which a tree begins
 abbrev pub root_word : Root → Pending

@@ -3,8 +3,8 @@ use Rattle.ta_claim.proofs.rest_end.end_of.Goals as goal
 
 pub returns : goal.returns
 returns c =
-    let a = c.args.automaton.now in
-    let p = c.args.pattern.now in
+    let a = c.args.task.automaton.now in
+    let p = c.args.task.pattern.now in
     let rises = a.shape.limits.rise_limit in
     let locations = a.shape.limits.locations_limit in
     let empty : Fits w32 p.empty = search rules in

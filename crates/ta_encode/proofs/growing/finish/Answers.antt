@@ -12,8 +12,8 @@ encoded-requires c =
 pub returns-clause-encoding : goal.returns-clause-encoding
 returns-clause-encoding c =
     let o = c.args.origin.now in
-    let a = o.file.now.automaton in
-    let p = o.pattern.now in
+    let a = o.task.automaton.now in
+    let p = o.task.pattern.now in
     let draft = c.push_from.new.draft in
     let rows = c.in_ok-system.field-0.system.rows in
     let marks = c.push_from.new.marks.items in
@@ -26,13 +26,13 @@ returns-clause-encoding c =
 pub returns-clause-system : goal.returns-clause-system
 returns-clause-system c =
     let o = c.args.origin.now in
-    let a = o.file.now.automaton in
+    let a = o.task.automaton.now in
     let past = reverse c.args.elements.now in
     let rows = with_end o past c.args.end c.in_ok-push_from.ensures.drafted c.in_ok-push_end.ensures in
     let told = c.in_ok-system.ensures in
     record {
       unknowns = told.count ∙ ap length rows.0;
-      rows = told.rows_are (word_rows a o.pattern.now o.start_mask past ++ ended_rows a (meanings a o.pattern.now o.start_mask past) c.args.end) rows.1;
+      rows = told.rows_are (word_rows a o.task.pattern.now o.start_mask past ++ ended_rows a (meanings a o.task.pattern.now o.start_mask past) c.args.end) rows.1;
     }
 
 pub returns-clause-same : goal.returns-clause-same

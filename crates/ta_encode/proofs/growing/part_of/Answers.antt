@@ -16,7 +16,7 @@ invariant_of-draft c =
       arith,
       ap length c.cut-marks.ensures.meanings,
       ap length here,
-      meanings_few o.file.now.automaton o.pattern.now e.start_mask (reverse before),
+      meanings_few o.task.automaton.now o.task.pattern.now e.start_mask (reverse before),
       length-reverse before,
       length-take-le shared.result e.elements.items left,
       shared.ensures.right,
@@ -29,7 +29,7 @@ returns-then-shared-len c =
     let o = c.args.origin.now in
     let e = c.args.encoding in
     let shared = c.shared_length-shared in
-    let are = subst (λ (s : ℕ). AreMarks o.file.now.automaton o.pattern.now s e.elements.items e.meanings.items e.system.rows e.marks.items) c.if-was-origin.true c.requires.encoding in
+    let are = subst (λ (s : ℕ). AreMarks o.task.automaton.now o.task.pattern.now s e.elements.items e.meanings.items e.system.rows e.marks.items) c.if-was-origin.true c.requires.encoding in
     let inside : shared.result < length e.marks.items = omega (arith, c.len.ensures, e.marks.ok.0, c.if-shared-len.true) in
     let same = subst (λ (xs : List Element). take shared.result xs ≡ take shared.result c.args.elements.now) c.as_slice.ensures.value shared.ensures.same in
     let rows = subst (λ (rs : List Row). c.cut-marks.result.2.items ≡ take (mark_at e.marks.items shared.result).rows rs) c.into_vec.ensures c.cut-marks.ensures.rows in

@@ -8,8 +8,8 @@ pub loop-number-preserved : goal.loop-number-preserved
 loop-number-preserved c =
     let inv = c.loop-number.invariant in
     let o = c.args.origin.now in
-    let a = o.file.now.automaton in
-    let p = o.pattern.now in
+    let a = o.task.automaton.now in
+    let p = o.task.pattern.now in
     let xs = c.args.elements.now in
     let before = c.loop-number.draft in
     let after = c.push_element.new.self in

@@ -1,14 +1,14 @@
-use Rattle.ta_encode.proofs.Common.{◌≡◌, List, length, refl, arith, sym, ap, ◌∙◌, subst, AreWritten, BoundsWithin, sample_meanings, sample_rows, Meaning}
+use Rattle.ta_encode.proofs.Common.{◌≡◌, List, length, arith, sym, ap, ◌∙◌, subst, AreWritten, BoundsWithin, sample_meanings, sample_rows, Meaning}
 use Rattle.ta_encode.proofs.Samples.{sample_few, sample_written}
 use Rattle.ta_encode.proofs.Smallness.{resilience_small}
 use Rattle.ta_encode.proofs.sample.encode_sample.Goals as goal
 use Rattle.ta_encode.proofs.sample.encode_sample.Goals.{In_ok-push_processes}
 
 written : (c : In_ok-push_processes) → (c.push_processes.new.self.meanings.items ≡ sample_meanings c.args.file.now.automaton) × AreWritten (sample_rows c.args.file.now.automaton) (length c.push_processes.new.self.meanings.items) c.push_processes.new.self.rows.items
-written c = sample_written c.args.file.now.automaton refl c.in_ok-meanings.ensures c.new-rows.ensures.items c.in_ok-push_condition.ensures c.in_ok-push_processes.ensures
+written c = sample_written c.args.file.now.automaton c.of-draft.ensures.automaton (c.of-draft.ensures.meanings ∙ c.in_ok-meanings.ensures) c.of-draft.ensures.rows c.in_ok-push_condition.ensures c.in_ok-push_processes.ensures
 
-pub invariant_of-draft : goal.invariant_of-draft
-invariant_of-draft c =
+pub of-draft-requires : goal.of-draft-requires
+of-draft-requires c =
     let same = ap (λ (ms : List Meaning). length ms) c.in_ok-meanings.ensures in
     let few = sample_few c.args.file.now.automaton in
     record { few = omega arith }

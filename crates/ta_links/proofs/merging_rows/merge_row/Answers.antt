@@ -83,6 +83,9 @@ signed c = to_z_pos w128 c.in-Some-divisor_of_merged.common c.in-Some-divisor_of
 proper : (c : After-head_of-head) → IsProperHead c.head_of-head.result
 proper c = subst IsProperHead (sym (head_is c)) (c.requires.may.proper c.args.at c.requires.may.at)
 
+pub merged_head-requires : goal.merged_head-requires
+merged_head-requires c = (proper (goal.at.merged_head-requires c).After-head_of-head).constant
+
 above : (c : In-Some-divisor_of_merged) → pos 0 <ℤ c.factors-p.result.0 → IsProperHead c.head_of-head.result → pos 0 <ℤ to_z w128 c.in-Some-divisor_of_merged.common
 above c positive head =
     let more = divisor_above c.args.links.now.cells.items c.args.columns c.args.row c.args.at c.args.column c.factors-p.result.0 c.factors-p.result.1 c.head_of-head.result c.head_of-chosen.result c.in-Some-divisor_of_merged.common c.requires.may.column positive head.positive (divisor c) in

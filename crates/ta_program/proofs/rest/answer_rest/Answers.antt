@@ -3,13 +3,13 @@ use Rattle.ta_program.proofs.Resting.{certified_says, plain_says}
 use Rattle.ta_program.proofs.rest.answer_rest.Goals as goal
 
 pub report-requires-clause-all : goal.report-requires-clause-all
-report-requires-clause-all c = subst (λ (vs : List Verdict). length vs ≡ length c.args.rest.now.ending.file.patterns) (sym c.as_slice-2.ensures) c.in-Ok.ensures.all
+report-requires-clause-all g c = subst (λ (vs : List Verdict). length vs ≡ length c.args.rest.now.ending.file.patterns) (sym c.as_slice-2.ensures) c.in-Ok.ensures.all
 
 pub report-requires-clause-fit : goal.report-requires-clause-fit
-report-requires-clause-fit c = subst (AllByRecursion (VerdictFits c.args.rest.now.ending.file)) (sym c.as_slice-2.ensures) c.in-Ok.ensures.fit
+report-requires-clause-fit g c = subst (AllByRecursion (VerdictFits c.args.rest.now.ending.file)) (sym c.as_slice-2.ensures) c.in-Ok.ensures.fit
 
 pub returns-in-None-clause-says : goal.returns-in-None-clause-says
-returns-in-None-clause-says c = λ files file ends.
+returns-in-None-clause-says g c = λ files file ends.
     let rest = c.args.rest.now in
     let budget = c.args.budget.now.nodes in
     let vs = c.in-Ok.judged.verdicts in
@@ -18,7 +18,7 @@ returns-in-None-clause-says c = λ files file ends.
     rw c.in-None.is (plain_says rest file ends budget vs (c.in-Ok.ensures.verdicts file ends) c.number_of-number.result c.in-Ok-report.text number reported files c.writing.result c.writing.ensures.numbered c.writing.ensures.written c.writing.ensures.no_put)
 
 pub returns-clause-says : goal.returns-clause-says
-returns-clause-says c = λ files file ends.
+returns-clause-says g c = λ files file ends.
     let rest = c.args.rest.now in
     let budget = c.args.budget.now.nodes in
     let judged = c.in-Ok.judged in

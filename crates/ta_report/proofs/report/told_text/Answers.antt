@@ -18,11 +18,11 @@ no_verdict rest file (p ∷ ps) [] e = refl
 no_verdict rest file (p ∷ ps) (v ∷ vs) e = cc
 
 pub write_run-requires : goal.write_run-requires
-write_run-requires c = (subst (AllByRecursion (VerdictFits c.args.file.now)) c.in-Some.ensures.steps.1 c.loop-pattern.invariant.0).0
+write_run-requires c = (subst (AllByRecursion (VerdictFits c.args.said.now.file.now)) c.in-Some.ensures.steps.1 c.loop-pattern.invariant.0).0
 
 pub loop-pattern-preserved : goal.loop-pattern-preserved
 loop-pattern-preserved c =
-    let file = c.args.file.now in
+    let file = c.args.said.now.file.now in
     let turn = c.in-Some.ensures.steps in
     let left = subst (AllByRecursion (VerdictFits file)) turn.1 c.loop-pattern.invariant.0 in (
       left.1,
@@ -31,6 +31,6 @@ loop-pattern-preserved c =
 
 pub returns : goal.returns
 returns c =
-    let none : told_lines c.args.rest c.args.file.now (iter_rest (zip_first c.loop-pattern.pattern-iterator)) (iter_rest (zip_second c.loop-pattern.pattern-iterator)) ≡ [] =
-    elim c.in-None.ensures.steps [ inl e ↦ no_pattern c.args.rest c.args.file.now _ _ e.1.0 | inr e ↦ no_verdict c.args.rest c.args.file.now _ _ e.1.0 ] in
+    let none : told_lines c.args.rest c.args.said.now.file.now (iter_rest (zip_first c.loop-pattern.pattern-iterator)) (iter_rest (zip_second c.loop-pattern.pattern-iterator)) ≡ [] =
+    elim c.in-None.ensures.steps [ inl e ↦ no_pattern c.args.rest c.args.said.now.file.now _ _ e.1.0 | inr e ↦ no_verdict c.args.rest c.args.said.now.file.now _ _ e.1.0 ] in
     c.from_string.ensures ∙ sym (append-nil (string_bytes c.loop-pattern.text)) ∙ ap (λ left. string_bytes c.loop-pattern.text ++ left) (sym none) ∙ c.loop-pattern.invariant.1

@@ -4,7 +4,7 @@ use Rattle.ta_rest_verdict.proofs.CertificatesMade.{rest_accepted, rest_made}
 use Rattle.ta_rest_verdict.proofs.judging.judge_rest.Goals as goal
 
 pub returns-clause-certificate : goal.returns-clause-certificate
-returns-clause-certificate c = λ wanted.
+returns-clause-certificate g c = λ wanted.
     let file = c.args.rest.now.ending.file in
     let budget = c.args.nodes in
     let head = head_text [] in
@@ -16,5 +16,5 @@ returns-clause-certificate c = λ wanted.
     rest_made file budget c.from_vec.result has.0 trees (texts_joined c.in_ok-certificate.certificate) text
 
 pub returns-clause-accepted : goal.returns-clause-accepted
-returns-clause-accepted c = λ wanted.
-    rest_accepted c.args.rest.now.ending.file c.args.nodes c.requires.limit c.from_vec.result (texts_joined c.in_ok-certificate.certificate) (returns-clause-certificate c wanted)
+returns-clause-accepted g c = λ wanted.
+    rest_accepted c.args.rest.now.ending.file c.args.nodes c.requires.limit c.from_vec.result (texts_joined c.in_ok-certificate.certificate) (returns-clause-certificate g c wanted)

@@ -3,7 +3,7 @@ use Rattle.ta_rest_verdict.proofs.VerdictsMade.{RestSoFar, rest_all, rest_more}
 use Rattle.ta_rest_verdict.proofs.judging.verdicts_on.Goals as goal
 
 pub loop-pattern-preserved : goal.loop-pattern-preserved
-loop-pattern-preserved c =
+loop-pattern-preserved g c =
     let l = c.loop-pattern in
     let rest = c.args.rest.now in
     let file = rest.ending.file in
@@ -19,7 +19,7 @@ loop-pattern-preserved c =
     }
 
 pub returns-clause-verdicts : goal.returns-clause-verdicts
-returns-clause-verdicts c =
+returns-clause-verdicts g c =
     let l = c.loop-pattern in
     let rest = c.args.rest.now in
     let count = length c.as_slice.result.now in
@@ -27,7 +27,7 @@ returns-clause-verdicts c =
     rest_all rest c.args.nodes count l.verdicts.items (subst (λ (n : ℕ). RestSoFar rest c.args.nodes count n l.verdicts.items) same l.invariant.so_far)
 
 pub returns-clause-trees : goal.returns-clause-trees
-returns-clause-trees c = λ head begun.
+returns-clause-trees g c = λ head begun.
     let l = c.loop-pattern in
     let file = c.args.rest.now.ending.file in
     let count = length c.as_slice.result.now in

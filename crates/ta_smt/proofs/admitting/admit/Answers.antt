@@ -4,13 +4,13 @@ use Rattle.ta_smt.proofs.admitting.admit.Goals as goal
 
 pub returns-then-not-is_complete-clause-fault : goal.returns-then-not-is_complete-clause-fault
 returns-then-not-is_complete-clause-fault c =
-    incomplete_is c.args.scoped.now.file (asked c.args.pattern c.args.start_mask c.args.word.now) c.is_complete.result c.requires.exists c.is_complete.ensures c.if-not-is_complete.true
+    incomplete_is c.args.scoped.now.file (asked c.args.pattern c.args.start_mask c.args.word.now) c.of.result c.is_complete.result c.of.ensures.pattern c.is_complete.ensures c.if-not-is_complete.true
 
 pub returns-in_err-values-clause-fault : goal.returns-in_err-values-clause-fault
 returns-in_err-values-clause-fault c =
     let file = c.args.scoped.now.file in
     let word = asked c.args.pattern c.args.start_mask c.args.word.now in
-    let complete = complete_is file word c.is_complete.result c.requires.exists c.is_complete.ensures c.if-not-is_complete.false in
+    let complete = complete_is file word c.of.result c.is_complete.result c.of.ensures.pattern c.is_complete.ensures c.if-not-is_complete.false in
     let p = err_from_is_err_and c.from_residual.result c.from_residual.ensures.1 in
     rw (p.1, p.2) (line_fault file word c.args.bytes.now c.in_err-values.field-0.0 complete c.in_err-values.ensures.fault)
 
@@ -18,7 +18,7 @@ pub returns-in_err-check_word-clause-fault : goal.returns-in_err-check_word-clau
 returns-in_err-check_word-clause-fault c =
     let file = c.args.scoped.now.file in
     let word = asked c.args.pattern c.args.start_mask c.args.word.now in
-    let complete = complete_is file word c.is_complete.result c.requires.exists c.is_complete.ensures c.if-not-is_complete.false in
+    let complete = complete_is file word c.of.result c.is_complete.result c.of.ensures.pattern c.is_complete.ensures c.if-not-is_complete.false in
     let bad = subst (λ vs. WordFault file word vs c.in_err-check_word.field-0.0) c.as_slice.ensures.value c.in_err-check_word.ensures.fault in
     let p = err_from_is_err_and c.from_residual-in_err-check_word.result c.from_residual-in_err-check_word.ensures.1 in
     rw (p.1, p.2) (word_fault file word c.args.bytes.now c.in_ok-values.values.items c.in_err-check_word.field-0.0 complete c.in_ok-values.ensures.values bad)
@@ -27,7 +27,7 @@ pub run_of-requires-clause-solves : goal.run_of-requires-clause-solves
 run_of-requires-clause-solves c =
     let file = c.args.scoped.now.file in
     let word = asked c.args.pattern c.args.start_mask c.args.word.now in
-    let complete = complete_is file word c.is_complete.result c.requires.exists c.is_complete.ensures c.if-not-is_complete.false in
+    let complete = complete_is file word c.of.result c.is_complete.result c.of.ensures.pattern c.is_complete.ensures c.if-not-is_complete.false in
     let passes = subst (PassesCheck file word) c.as_slice.ensures.value c.in_ok-check_word.ensures.passes in
     solution_from file word c.in_ok-values.values.items complete c.requires.legal c.in_ok-values.ensures.values.numbers passes
 
@@ -35,7 +35,7 @@ pub returns-in_err-run-clause-fault : goal.returns-in_err-run-clause-fault
 returns-in_err-run-clause-fault c =
     let file = c.args.scoped.now.file in
     let word = asked c.args.pattern c.args.start_mask c.args.word.now in
-    let complete = complete_is file word c.is_complete.result c.requires.exists c.is_complete.ensures c.if-not-is_complete.false in
+    let complete = complete_is file word c.of.result c.is_complete.result c.of.ensures.pattern c.is_complete.ensures c.if-not-is_complete.false in
     let passes = subst (PassesCheck file word) c.as_slice.ensures.value c.in_ok-check_word.ensures.passes in
     let solution = solution_from file word c.in_ok-values.values.items complete c.requires.legal c.in_ok-values.ensures.values.numbers passes in
     let p = err_from_is_err_and c.from_residual-in_err-run.result c.from_residual-in_err-run.ensures.1 in
@@ -45,7 +45,7 @@ pub returns-clause-run : goal.returns-clause-run
 returns-clause-run c =
     let file = c.args.scoped.now.file in
     let word = asked c.args.pattern c.args.start_mask c.args.word.now in
-    let complete = complete_is file word c.is_complete.result c.requires.exists c.is_complete.ensures c.if-not-is_complete.false in
+    let complete = complete_is file word c.of.result c.is_complete.result c.of.ensures.pattern c.is_complete.ensures c.if-not-is_complete.false in
     let passes = subst (PassesCheck file word) c.as_slice.ensures.value c.in_ok-check_word.ensures.passes in
     let solution = solution_from file word c.in_ok-values.values.items complete c.requires.legal c.in_ok-values.ensures.values.numbers passes in
     admits file word c.args.bytes.now c.in_ok-values.values.items c.in_ok-run.run' c.in_ok-values.ensures.values passes solution c.in_ok-run.ensures.run

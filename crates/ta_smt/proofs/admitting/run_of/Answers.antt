@@ -1,10 +1,13 @@
 use Rattle.ta_smt.proofs.Common.{subst, FirstStranger}
+use Rattle.ta_words.proofs.Tasks.{of_task}
 use Rattle.ta_smt.proofs.Spelled.{no_stranger}
 use Rattle.ta_smt.proofs.admitting.run_of.Goals as goal
 
 pub unreachable-requires : goal.unreachable-requires
 unreachable-requires c =
-    let a = c.args.scoped.now.file.automaton in
+    let file = c.args.scoped.now.file in
     let s = c.requires.solves in
-    no_stranger a s.pattern c.args.start_mask c.args.word.now c.in_default.field-0 s.solved.legal
-    (subst (λ es. FirstStranger a s.pattern c.args.start_mask es c.in_default.field-0) c.elements.ensures (c.in_default.ensures.stranger s.pattern s.named))
+    let k = c.in_default.field-0 in
+    let first = of_task file c.args.pattern c.of-task.result (λ a p. FirstStranger a p c.args.start_mask c.elements.result.now k) c.of-task.ensures.automaton c.of-task.ensures.pattern c.in_default.ensures.stranger in
+    no_stranger file.automaton s.pattern c.args.start_mask c.args.word.now k s.solved.legal
+    (subst (λ es. FirstStranger file.automaton s.pattern c.args.start_mask es k) c.elements.ensures (first s.pattern s.named))

@@ -1,4 +1,5 @@
-use Rattle.ta_smt.proofs.Common.{◌^◌, length, below_by, beyond_by}
+use Rattle.ta_smt.proofs.Common.{◌^◌, length, reverse, below_by, beyond_by, FirstStranger, LegalWord}
+use Rattle.ta_words.proofs.Tasks.{of_task}
 use Rattle.ta_smt.proofs.WordsNamed.{get_within, no_child, no_start, word_found}
 use Rattle.ta_smt.proofs.named.named_word.Goals as goal
 
@@ -8,8 +9,8 @@ returns-then-not-begins-clause-fault c =
     let named = rw c.as_slice.ensures at c.in-Some.ensures in
     no_start file c.args.name.now c.args.start_mask c.args.elements.now c.in-Some.pattern named (beyond_by c.args.start_mask (2 ^ length file.automaton.fall) c.begins.result c.begins.ensures c.if-not-begins.true)
 
-pub word_of-requires : goal.word_of-requires
-word_of-requires c =
+pub of-requires : goal.of-requires
+of-requires c =
     let named = rw c.as_slice.ensures at c.in-Some.ensures in
     get_within c.args.file.now.patterns c.in-Some.pattern named.0 named.1.at
 
@@ -17,10 +18,12 @@ pub returns-in-Ok-clause-word : goal.returns-in-Ok-clause-word
 returns-in-Ok-clause-word c =
     let file = c.args.file.now in
     let named = rw c.as_slice.ensures at c.in-Some.ensures in
-    word_found file c.args.name.now c.args.start_mask c.args.elements.now c.in-Ok.word c.in-Some.pattern named (below_by c.args.start_mask (2 ^ length file.automaton.fall) c.begins.result c.begins.ensures c.if-not-begins.false) c.in-Ok.ensures.word c.in-Ok.ensures.legal
+    word_found file c.args.name.now c.args.start_mask c.args.elements.now c.in-Ok.word c.in-Some.pattern named (below_by c.args.start_mask (2 ^ length file.automaton.fall) c.begins.result c.begins.ensures c.if-not-begins.false) c.in-Ok.ensures.word
+    (of_task file c.in-Some.pattern c.of.result (λ a p. LegalWord a p c.args.start_mask (reverse c.in-Ok.word)) c.of.ensures.automaton c.of.ensures.pattern c.in-Ok.ensures.legal)
 
 pub returns-in-Err-clause-fault : goal.returns-in-Err-clause-fault
 returns-in-Err-clause-fault c =
     let file = c.args.file.now in
     let named = rw c.as_slice.ensures at c.in-Some.ensures in
-    no_child file c.args.name.now c.args.start_mask c.args.elements.now c.in-Some.pattern c.in-Err.number named (below_by c.args.start_mask (2 ^ length file.automaton.fall) c.begins.result c.begins.ensures c.if-not-begins.false) c.in-Err.ensures.stranger
+    no_child file c.args.name.now c.args.start_mask c.args.elements.now c.in-Some.pattern c.in-Err.number named (below_by c.args.start_mask (2 ^ length file.automaton.fall) c.begins.result c.begins.ensures c.if-not-begins.false)
+    (of_task file c.in-Some.pattern c.of.result (λ a p. FirstStranger a p c.args.start_mask c.args.elements.now c.in-Err.number) c.of.ensures.automaton c.of.ensures.pattern c.in-Err.ensures.stranger)

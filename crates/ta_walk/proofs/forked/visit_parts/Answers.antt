@@ -1,10 +1,10 @@
-use Rattle.ta_walk.proofs.Common.{map, subst, sym, TreeEnd, IsTreeEnd, IsWholeEnd, root_word, search_of_tree}
+use Rattle.ta_walk.proofs.Common.{map, subst, sym, TreeEnd, IsTreeEnd, IsWholeEnd, root_word, search_of_claim}
 use Rattle.ta_walk.proofs.PartsMerged.{whole_visited}
 use Rattle.ta_walk.proofs.forked.visit_parts.Goals as goal
 
 pub returns-clause-ends : goal.returns-clause-ends
 returns-clause-ends g c =
-    let s = search_of_tree c.args.tree.now in
+    let s = search_of_claim c.args.tree.now in
     let keeps = g.K.Keeper.keeps in
     let part = c.in_ok-part.part in
     let whole = c.in-Some.ensures.some in

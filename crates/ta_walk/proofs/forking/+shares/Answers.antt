@@ -1,10 +1,10 @@
-use Rattle.ta_walk.proofs.Common.{◌-◌, sym, subst, left_at, TreeEnd, PartVisited, SharesBudget, beginning, search_of_tree}
+use Rattle.ta_walk.proofs.Common.{◌-◌, sym, subst, left_at, TreeEnd, PartVisited, SharesBudget, beginning, search_of_claim}
 use Rattle.ta_walk.proofs.PartsMerged.{shared_part}
 use Rattle.ta_walk.proofs.forking.+shares.Goals as goal
 
 pub visit_shared-returns-clause-visited : goal.visit_shared-returns-clause-visited
 visit_shared-returns-clause-visited g t c =
-    let s = search_of_tree c.args.tree.now in
+    let s = search_of_claim c.args.tree.now in
     let one = rw c.in_ok-first.was at c.join-second.ensures.second.0 in
     let other = rw c.in_ok-second.was at c.join-second.ensures.first.0 in
     c.merge.ensures.visited s (left_at s c.args.cursor) (left_at s c.args.later) c.args.keeper c.in_ok-late.late one other (c.in_ok-late.ensures.begins, c.in_ok-late.ensures.keeps)
@@ -14,7 +14,7 @@ visit_on-returns-in-Ended-clause-visited g t c = λ first before has. rw c.in-En
 
 pub visit_on-returns-in_ok-part-in-Shared-clause-visited : goal.visit_on-returns-in_ok-part-in-Shared-clause-visited
 visit_on-returns-in_ok-part-in-Shared-clause-visited g t c =
-    let s = search_of_tree c.args.tree.now in
+    let s = search_of_claim c.args.tree.now in
     let keeps = g.K.Keeper.keeps in
     let n = c.args.nodes in
     let count = c.in-Shared.count in

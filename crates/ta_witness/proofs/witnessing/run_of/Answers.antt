@@ -1,4 +1,9 @@
 use Rattle.std.specs.Prelude.{Result, Ok, Err, IfOk}
+use Rattle.ta_witness.proofs.Common.{ap, reverse, subst, ◌∙◌, slice_get_within, Automaton, Pattern, meanings}
+use Rattle.ta_automaton.proofs.Numbered.{of_pattern, same_pattern}
+use Rattle.ta_encode.specs.Laws.{SolvedWord}
+use Rattle.ta_words.proofs.Tasks.{to_task}
+use Rattle.ta_words.specs.Words.{LegalWord}
 use Rattle.ta_witness.proofs.Making.{run_witness, run_fits}
 use Rattle.ta_witness.proofs.Witnesses.{witnesses_show}
 use Rattle.ta_witness.proofs.witnessing.run_of.Goals as goal
@@ -6,6 +11,29 @@ use Rattle.ta_witness.proofs.witnessing.run_of.Goals as goal
 ok_more : {X E : Type 0} (r : Result X E) (P Q : X → Type 0) → ((x : X) → P x → Q x) → IfOk r P → IfOk r Q
 ok_more (Ok x) P Q f h = f x h
 ok_more (Err e) P Q f h = tt
+
+pub of-task-requires : goal.of-task-requires
+of-task-requires c = slice_get_within c.args.scoped.now.file.patterns c.args.solution.now.pattern c.requires.pattern c.requires.named
+
+pub encode-requires-clause-legal : goal.encode-requires-clause-legal
+encode-requires-clause-legal c =
+    let file = c.args.scoped.now.file in
+    let s = c.args.solution.now in
+    to_task file s.pattern c.of-task.result (λ a p. LegalWord a p s.start_mask (reverse s.word)) c.of-task.ensures.automaton c.of-task.ensures.pattern
+    (of_pattern file s.pattern c.requires.pattern (λ p. LegalWord file.automaton p s.start_mask (reverse s.word)) c.requires.named c.requires.solved.legal)
+
+pub run_for-requires : goal.run_for-requires
+run_for-requires c =
+    let file = c.args.scoped.now.file in
+    let s = c.args.solution.now in
+    let t = c.of-task.result in
+    record {
+      named = c.of-task.ensures.pattern;
+      unknowns = c.as_slice-meanings.ensures ∙ c.in_ok-encoded.ensures.meanings ∙ ap (λ (a : Automaton). meanings a t.pattern.now s.start_mask (reverse s.word)) c.of-task.ensures.automaton;
+      values = c.requires.values;
+      are = c.requires.are;
+      solved = subst (λ (p : Pattern). SolvedWord file.automaton p s.start_mask s.word c.requires.values) (same_pattern file s.pattern c.requires.pattern t.pattern.now c.requires.named c.of-task.ensures.pattern) c.requires.solved;
+    }
 
 pub returns-clause-witness : goal.returns-clause-witness
 returns-clause-witness c = ok_more c.run_for.result _ _ (λ run r. run_witness c.args.scoped.now.file _ _ c.args.solution.now run r) c.run_for.ensures

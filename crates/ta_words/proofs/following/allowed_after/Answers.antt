@@ -1,15 +1,14 @@
-use Rattle.ta_words.proofs.Common.{◌≡◌, inl, inr, ℕ, ◌+◌, ◌<◌, List, refl, Bool, length, reverse, slice_get, Some, arith, sym, ap, ◌∙◌, subst, slice_get_read, slice_get_past, has_bit, Told, none_told, not_told, one_told, in_or_above, Rule, may_fire}
-use Rattle.ta_words.proofs.Lists.{pattern_at, of_pattern}
+use Rattle.ta_words.proofs.Common.{◌≡◌, inl, inr, ℕ, ◌+◌, ◌<◌, List, refl, Bool, length, reverse, slice_get, Some, arith, sym, ap, ◌∙◌, subst, slice_get_read, slice_get_past, Told, none_told, not_told, one_told, in_or_above, Rule, may_fire}
 use Rattle.ta_words.proofs.following.allowed_after.Goals as goal
 use Rattle.ta_words.proofs.following.allowed_after.Goals.{then-may_fire, else-may_fire}
 
 pub loop-number-init : goal.loop-number-init
-loop-number-init c = none_told (λ r. may_fire c.args.file.now.automaton c.index-as_slice-pattern.result c.args.start_mask (reverse c.args.elements.now) (slice_get c.args.file.now.automaton.rules r))
+loop-number-init c = none_told (λ r. may_fire c.args.task.automaton.now c.args.task.pattern.now c.args.start_mask (reverse c.args.elements.now) (slice_get c.args.task.automaton.now.rules r))
 
 pub loop-number-preserved : goal.loop-number-preserved
 loop-number-preserved c =
-    let a = c.args.file.now.automaton in
-    let p = c.index-as_slice-pattern.result in
+    let a = c.args.task.automaton.now in
+    let p = c.args.task.pattern.now in
     let start = c.args.start_mask in
     let test : ℕ → Bool = λ r. may_fire a p start (reverse c.args.elements.now) (slice_get a.rules r) in
     let number = c.loop-number.number in
@@ -23,15 +22,11 @@ loop-number-preserved c =
     ]
 
 pub returns : goal.returns
-returns c =
-    let a = c.args.file.now.automaton in
-    let p = c.index-as_slice-pattern.result in
-    let start = c.args.start_mask in
-    let past = reverse c.args.elements.now in
-    let at = pattern_at c.args.file.now c.as_slice.result.now c.args.pattern p c.as_slice.ensures c.requires c.index-as_slice-pattern.is in
+returns c = λ r.
+    let a = c.args.task.automaton.now in
+    let p = c.args.task.pattern.now in
     let all : length a.rules ≡ c.loop-number.number = (let same = ap length c.as_slice-rule-items.ensures in let low = c.loop-number-test.false in let high = c.loop-number.auto.number-end in omega arith) in
-    of_pattern c.args.file.now c.args.pattern p (λ q. (r : ℕ) → has_bit c.loop-number.allowed r ≡ may_fire a q start past (slice_get a.rules r)) at
-    (λ r. elim (in_or_above (length a.rules) r) [
+    elim (in_or_above (length a.rules) r) [
       | inl below ↦ c.loop-number.invariant.below r (omega arith)
-      | inr above ↦ c.loop-number.invariant.above r (omega arith) ∙ sym (ap (may_fire a p start past) (slice_get_past a.rules r above))
-    ])
+      | inr above ↦ c.loop-number.invariant.above r (omega arith) ∙ sym (ap (may_fire a p c.args.start_mask (reverse c.args.elements.now)) (slice_get_past a.rules r above))
+    ]

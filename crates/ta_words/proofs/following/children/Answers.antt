@@ -1,49 +1,44 @@
-use Rattle.ta_words.proofs.Common.{◌≡◌, length, reverse, arith, sym, ap, ◌∙◌, children, is_ready, may_rise, Event, Rise}
-use Rattle.ta_words.proofs.Lists.{pattern_at, of_pattern, events_named, passed_most, children_listed, no_children}
+use Rattle.ta_words.proofs.Common.{length, reverse, arith, sym, ap, ◌∙◌, children, is_ready, may_rise, Event, Rise}
+use Rattle.ta_words.proofs.Lists.{events_named, passed_most, children_listed, no_children}
 use Rattle.ta_words.proofs.following.children.Goals as goal
 
 pub push_events-requires-clause-named : goal.push_events-requires-clause-named
-push_events-requires-clause-named c =
-    events_named c.args.file.now c.args.pattern c.index-as_slice-pattern.result (pattern_at c.args.file.now c.as_slice.result.now c.args.pattern c.index-as_slice-pattern.result c.as_slice.ensures c.requires c.index-as_slice-pattern.is)
+push_events-requires-clause-named c = events_named c.args.task.automaton.now c.args.task.pattern.now c.args.task.over
 
 pub push_rises-requires : goal.push_rises-requires
 push_rises-requires c =
-    let p = c.index-as_slice-pattern.result in
+    let p = c.args.task.pattern.now in
     let past = reverse c.elements.result.now in
-    let named = events_named c.args.file.now c.args.pattern p (pattern_at c.args.file.now c.as_slice.result.now c.args.pattern p c.as_slice.ensures c.requires c.index-as_slice-pattern.is) in
-    omega (arith, ap length c.new-children.ensures, named.limit, passed_most Event (is_ready p past) c.new-children.result c.push_events.new.self 0 (length p.events) (c.push_events.ensures c.args.start_mask past c.of-seen.ensures))
+    omega (arith, ap length c.new-children.ensures, c.args.task.over.events_limit, passed_most Event (is_ready p past) c.new-children.result c.push_events.new.self 0 (length p.events) (c.push_events.ensures c.args.start_mask past c.of-seen.ensures))
 
 pub push_falls-requires : goal.push_falls-requires
 push_falls-requires c =
-    let p = c.index-as_slice-pattern.result in
+    let a = c.args.task.automaton.now in
+    let p = c.args.task.pattern.now in
     let past = reverse c.elements.result.now in
-    let named = events_named c.args.file.now c.args.pattern p (pattern_at c.args.file.now c.as_slice.result.now c.args.pattern p c.as_slice.ensures c.requires c.index-as_slice-pattern.is) in
-    let rises = length c.args.file.now.automaton.rise in
     omega (
       arith,
       ap length c.new-children.ensures,
-      named.limit,
-      c.args.file.now.automaton.shape.limits.rise_limit,
+      c.args.task.over.events_limit,
+      a.shape.limits.rise_limit,
       passed_most Event (is_ready p past) c.new-children.result c.push_events.new.self 0 (length p.events) (c.push_events.ensures c.args.start_mask past c.of-seen.ensures),
-      passed_most Rise (may_rise c.args.orders.now past) c.push_events.new.self c.push_rises.new.self 0 rises (c.push_rises.ensures c.args.start_mask past c.of-seen.ensures),
+      passed_most Rise (may_rise c.args.orders.now past) c.push_events.new.self c.push_rises.new.self 0 (length a.rise) (c.push_rises.ensures c.args.start_mask past c.of-seen.ensures),
     )
 
 pub returns-then-not-is_complete : goal.returns-then-not-is_complete
 returns-then-not-is_complete c =
-    let p = c.index-as_slice-pattern.result in
-    let a = c.args.file.now.automaton in
+    let a = c.args.task.automaton.now in
+    let p = c.args.task.pattern.now in
     let past = reverse c.elements.result.now in
     let start = c.args.start_mask in
-    let at = pattern_at c.args.file.now c.as_slice.result.now c.args.pattern p c.as_slice.ensures c.requires c.index-as_slice-pattern.is in
-    let listed = children_listed a p c.args.orders.now start past c.new-children.result c.push_events.new.self c.push_rises.new.self c.push_falls.new.self (sym (c.is_complete.ensures start past c.of-seen.ensures) ∙ c.if-not-is_complete.true) c.new-children.ensures (c.push_events.ensures start past c.of-seen.ensures) (c.push_rises.ensures start past c.of-seen.ensures) (c.push_falls.ensures start past c.of-seen.ensures) in
-    of_pattern c.args.file.now c.args.pattern p (λ q. c.push_falls.new.self ≡ children a q c.args.orders.now start (reverse c.args.word.now)) at (listed ∙ ap (λ w. children a p c.args.orders.now start (reverse w)) c.elements.ensures)
+    children_listed a p c.args.orders.now start past c.new-children.result c.push_events.new.self c.push_rises.new.self c.push_falls.new.self (sym (c.is_complete.ensures start past c.of-seen.ensures) ∙ c.if-not-is_complete.true) c.new-children.ensures (c.push_events.ensures start past c.of-seen.ensures) (c.push_rises.ensures start past c.of-seen.ensures) (c.push_falls.ensures start past c.of-seen.ensures)
+    ∙ ap (λ w. children a p c.args.orders.now start (reverse w)) c.elements.ensures
 
 pub returns-else-not-is_complete : goal.returns-else-not-is_complete
 returns-else-not-is_complete c =
-    let p = c.index-as_slice-pattern.result in
-    let a = c.args.file.now.automaton in
+    let a = c.args.task.automaton.now in
+    let p = c.args.task.pattern.now in
     let past = reverse c.elements.result.now in
     let start = c.args.start_mask in
-    let at = pattern_at c.args.file.now c.as_slice.result.now c.args.pattern p c.as_slice.ensures c.requires c.index-as_slice-pattern.is in
-    let listed = no_children a p c.args.orders.now start past c.new-children.result (sym (c.is_complete.ensures start past c.of-seen.ensures) ∙ c.if-not-is_complete.false) c.new-children.ensures in
-    of_pattern c.args.file.now c.args.pattern p (λ q. c.new-children.result ≡ children a q c.args.orders.now start (reverse c.args.word.now)) at (listed ∙ ap (λ w. children a p c.args.orders.now start (reverse w)) c.elements.ensures)
+    no_children a p c.args.orders.now start past c.new-children.result (sym (c.is_complete.ensures start past c.of-seen.ensures) ∙ c.if-not-is_complete.false) c.new-children.ensures
+    ∙ ap (λ w. children a p c.args.orders.now start (reverse w)) c.elements.ensures

@@ -4,4 +4,4 @@ use Rattle.worked_rows.proofs.systems.word_of.Goals as goal
 
 pub loop-element-preserved : goal.loop-element-preserved
 loop-element-preserved c =
-    λ p named. rw (c.if-not-push.ensures.word, reverse-append) ((rw c.new-orders.ensures at (c.if-not-push.ensures.child p named)).0 refl, c.loop-element.invariant p named)
+    rw (c.if-not-push.ensures.word, reverse-append) ((rw c.new-orders.ensures at c.if-not-push.ensures.child).0 refl, c.loop-element.invariant)

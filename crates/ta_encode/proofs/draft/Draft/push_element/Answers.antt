@@ -5,18 +5,18 @@ use Rattle.ta_encode.proofs.draft.Draft.push_element.Goals as goal
 use Rattle.ta_encode.proofs.draft.Draft.push_element.Goals.{In_ok-push_firings}
 
 -- the unknowns with the Counts of the element
-counts : (c : In_ok-push_firings) → AddsUnknowns (counts_after c.args.origin.now.file.now.automaton c.args.origin.now.pattern.now c.args.origin.now.start_mask (reverse c.args.before.now)) c.args.self.now c.push_firings.new.self
+counts : (c : In_ok-push_firings) → AddsUnknowns (counts_after c.args.origin.now.task.automaton.now c.args.origin.now.task.pattern.now c.args.origin.now.start_mask (reverse c.args.before.now)) c.args.self.now c.push_firings.new.self
 counts c =
     let o = c.args.origin.now in
-    fired_after false o c.args.before.now c.allowed_after-allowed.result (c.allowed_after-allowed.ensures o.pattern.now c.requires.named) c.requires.drafted.automaton_is c.in_ok-push_firings.ensures
+    fired_after false o c.args.before.now c.allowed_after-allowed.result c.allowed_after-allowed.ensures c.requires.drafted.automaton_is c.in_ok-push_firings.ensures
 
 few : (c : In_ok-push_firings) → length c.push_firings.new.self.meanings.items ≤ 8000
 few c =
     let o = c.args.origin.now in
     let past = reverse c.args.before.now in
     let counted = counts c in
-    let more = counts_after o.file.now.automaton o.pattern.now o.start_mask past in
-    omega (arith, c.requires.few, length-reverse c.args.before.now, draft_few o past c.args.self.now c.requires.drafted, ap length counted.unknowns, length-append c.args.self.now.meanings.items more, counts_few o.file.now.automaton o.pattern.now o.start_mask past)
+    let more = counts_after o.task.automaton.now o.task.pattern.now o.start_mask past in
+    omega (arith, c.requires.few, length-reverse c.args.before.now, draft_few o past c.args.self.now c.requires.drafted, ap length counted.unknowns, length-append c.args.self.now.meanings.items more, counts_few o.task.automaton.now o.task.pattern.now o.start_mask past)
 
 pub push_firings-requires : goal.push_firings-requires
 push_firings-requires c =
@@ -30,7 +30,7 @@ push_firings-requires-in-Fall c =
     record { room = omega arith }
 
 pub push_event-requires : goal.push_event-requires
-push_event-requires c = record { small = events_small c.args.origin.now.file.now c.args.origin.now.number c.args.origin.now.pattern.now c.requires.named }
+push_event-requires c = record { small = events_small c.args.origin.now.task.automaton.now c.args.origin.now.task.pattern.now c.args.origin.now.task.over }
 
 pub returns-in_ok-push_rise-in-Rise : goal.returns-in_ok-push_rise-in-Rise
 returns-in_ok-push_rise-in-Rise c =
@@ -54,8 +54,7 @@ returns-in_ok-push_fallen-in-Fall c =
     let falls = c.in-Fall.falls in
     let counted = counts (goal.at.returns-in_ok-push_fallen-in-Fall c).In_ok-push_firings in
     let falling = c.in_ok-push_falling-in-Fall.ensures in
-    let may = c.allowed_after-allowed.ensures o.pattern.now c.requires.named in
-    let singles = fired_after true o before c.allowed_after-allowed.result may (falling.automaton ∙ counted.automaton ∙ c.requires.drafted.automaton_is) c.in_ok-push_firings-in-Fall.ensures in
+    let singles = fired_after true o before c.allowed_after-allowed.result c.allowed_after-allowed.ensures (falling.automaton ∙ counted.automaton ∙ c.requires.drafted.automaton_is) c.in_ok-push_firings-in-Fall.ensures in
     let stand = fallen_more o.start_mask past c.fallen_after-fallen.result falls c.from.result c.from.ensures c.fallen_after-fallen.ensures in
     subst (λ (e : Element). Continues o (e ∷ past) c.args.self.now c.push_fallen.new.self) (sym c.in-Fall.is)
     (fall_drafted o past falls _ c.len-from.result c.requires.drafted counted singles stand (c.len-from.ensures ∙ c.push_firings.new.self.meanings.ok.0) falling c.in_ok-push_singles-in-Fall.ensures c.in_ok-push_fallen-in-Fall.ensures)

@@ -1,19 +1,19 @@
-use Rattle.std.proofs.Common.{length, refl, arith, ap}
+use Rattle.std.proofs.Common.{length, arith, ap, ◌∙◌}
 use Rattle.ta_encode.proofs.Smallness.{resilience_small}
 use Rattle.ta_encode.proofs.Drafts.{start_drafted, start_few, start_small}
 use Rattle.ta_encode.proofs.draft.Draft.start.Goals as goal
 
-pub invariant_of-draft : goal.invariant_of-draft
-invariant_of-draft c =
+pub of-draft-requires : goal.of-draft-requires
+of-draft-requires c =
     let same = ap length c.in_ok-meanings.ensures in
-    let few = start_few c.args.origin.now.file.now.automaton c.args.origin.now.pattern.now in
+    let few = start_few c.args.origin.now.task.automaton.now c.args.origin.now.task.pattern.now in
     record { few = omega arith }
 
 pub push_condition-requires : goal.push_condition-requires
-push_condition-requires c = record { small = resilience_small c.args.origin.now.file.now.automaton }
+push_condition-requires c = record { small = resilience_small c.args.origin.now.task.automaton.now }
 
 pub push_condition-requires-2 : goal.push_condition-requires-2
-push_condition-requires-2 c = record { small = start_small c.args.origin.now.file.now c.args.origin.now.number c.args.origin.now.pattern.now c.requires.named }
+push_condition-requires-2 c = record { small = start_small c.args.origin.now.task.automaton.now c.args.origin.now.task.pattern.now c.args.origin.now.task.over }
 
 pub returns : goal.returns
-returns c = start_drafted c.args.origin.now refl c.in_ok-meanings.ensures c.new-rows.ensures.items c.in_ok-push_condition.ensures c.in_ok-push_processes.ensures c.in_ok-push_condition-2.ensures c.in_ok-push_start_guards.ensures
+returns c = start_drafted c.args.origin.now c.of-draft.ensures.automaton (c.of-draft.ensures.meanings ∙ c.in_ok-meanings.ensures) c.of-draft.ensures.rows c.in_ok-push_condition.ensures c.in_ok-push_processes.ensures c.in_ok-push_condition-2.ensures c.in_ok-push_start_guards.ensures

@@ -4,4 +4,4 @@ use Rattle.ta_shelf.proofs.std_sink.StdSinkSink.write.Goals as goal
 
 pub returns-in-Ok-clause-adds : goal.returns-in-Ok-clause-adds
 returns-in-Ok-clause-adds g c =
-    ap (λ bytes. Some bytes) (bytes_given-then c.args.self.now.log.calls c.then-self.result.calls _ c.then-self.ensures)
+    ap (λ bytes. Some bytes) (bytes_given-then c.args.self.now.log.calls c.add.new.self.calls _ c.add.ensures)

@@ -1,0 +1,40 @@
+-- the words of a claim, whichever claim it is
+use Rattle.ta_claim.proofs.Common.{◌≡◌, ℕ, ◌≤◌, List, [], length, arith, refl, Automaton, Pattern, Element, LegalWord, is_complete, Comes, Pending, IsSmall}
+use Rattle.ta_linear.specs.declared.row.System.{System}
+use Rattle.ta_automaton.specs.Patterns.{PatternOver}
+use Rattle.ta_encode.specs.Code.{SystemAt}
+use Rattle.ta_encode.specs.PatternSearch.{all_starts}
+use Rattle.ta_encode.specs.Unknowns.{meanings}
+use Rattle.ta_cursor.proofs.RowCounts.{few_rows, few_unknowns, small_of}
+use Rattle.ta_claim.specs.Claims.{search_for}
+use Rattle.ta_claim.specs.declared.claim.Claim.{Claim}
+use Rattle.ta_claim.specs.declared.claim.Claim.TheVariants.{Safe, RestSafe}
+use Rattle.ta_claim.proofs.PatternWords.{comes_legal}
+use Rattle.ta_claim.proofs.RestRows.{rest_comes, rest_few}
+
+-- its search begins with a word for each start set
+pub claim_roots : (claim : Claim) (a : Automaton) (p : Pattern) (pairs : List (ℕ × ℕ)) → (search_for claim a p pairs).roots ≡ all_starts a
+claim_roots Safe a p pairs = refl
+claim_roots RestSafe a p pairs = refl
+
+pub claim_complete : (claim : Claim) (a : Automaton) (p : Pattern) (pairs : List (ℕ × ℕ)) (start : ℕ) (past : List Element) → (search_for claim a p pairs).complete start past ≡ is_complete p past
+claim_complete Safe a p pairs start past = refl
+claim_complete RestSafe a p pairs start past = refl
+
+pub claim_unknowns : (claim : Claim) (a : Automaton) (p : Pattern) (pairs : List (ℕ × ℕ)) (start : ℕ) (past : List Element) → (search_for claim a p pairs).unknowns start past ≡ length (meanings a p start past)
+claim_unknowns Safe a p pairs start past = refl
+claim_unknowns RestSafe a p pairs start past = refl
+
+-- a word to which it comes is legal
+pub claim_legal : (claim : Claim) (a : Automaton) (p : Pattern) (pairs : List (ℕ × ℕ)) (start : ℕ) (past : List Element) → Comes (search_for claim a p pairs) start past → LegalWord a p start past
+claim_legal Safe a p pairs start past c = (comes_legal a p pairs start past c).legal
+claim_legal RestSafe a p pairs start past c = (comes_legal a p [] start past (rest_comes a p start past c)).legal
+
+rows_few : (claim : Claim) (a : Automaton) (p : Pattern) (pairs : List (ℕ × ℕ)) (start : ℕ) (past : List Element) → PatternOver a p → LegalWord a p start past → length ((search_for claim a p pairs).rows start past) ≤ 2640
+rows_few Safe a p pairs start past over legal = omega (arith, few_rows a p start past over legal)
+rows_few RestSafe a p pairs start past over legal = rest_few a p start past over legal
+
+-- its system has few unknowns and rows
+pub claim_small : (claim : Claim) (a : Automaton) (p : Pattern) (pairs : List (ℕ × ℕ)) (w : Pending) (s : System) → PatternOver a p → LegalWord a p w.start w.past → SystemAt (search_for claim a p pairs) w s → IsSmall w.bounds s
+claim_small claim a p pairs w s over legal is =
+    small_of (search_for claim a p pairs) w s (omega (arith, claim_unknowns claim a p pairs w.start w.past, few_unknowns a p w.start w.past over legal)) (rows_few claim a p pairs w.start w.past over legal) is

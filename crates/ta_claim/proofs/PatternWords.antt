@@ -1,0 +1,88 @@
+-- the words of a pattern
+use Rattle.ta_claim.proofs.Common.{◌≡◌, inl, inr, ℕ, zero, suc, ◌+◌, ◌-◌, ◌^◌, ◌<◌, ◌≤◌, List, [], ◌∷◌, ◌++◌, length, map, reverse, slice_get, Some, None, cond, Bool, true, false, arith, sym, ap, ◌∙◌, refl, subst, length-append, lit<, filter, if◌then◌else◌, slice_get-map, slice_get_within, In, numbers_from, numbers_end, slice_numbers, Automaton, Pattern, Element, Event, Rise, Fall, LegalWord, LegalUnder, children, is_complete, is_ready, is_standing, may_rise, under_none, passed_length, Pending, BeginsAtWord, Comes, all_starts, empty_word, pattern_search, IsPushed, PushAnswers}
+use Rattle.std.proofs.Math.Nat.{pow-le-pow_right}
+use Rattle.ta_encode.proofs.Prefixes.{prefix_fewer}
+use Rattle.ta_automaton.specs.Patterns.{PatternOver}
+
+either_most : (b : Bool) (xs : List Element) → length xs ≤ 87 → length (cond b [] xs) ≤ 87
+either_most true xs h = omega arith
+either_most false xs h = h
+
+-- a word has few children
+children_most : (a : Automaton) (p : Pattern) (pairs : List (ℕ × ℕ)) (start : ℕ) (past : List Element) → PatternOver a p → length (children a p pairs start past) ≤ 87
+unfolding children
+children_most a p pairs start past over =
+    let events = map Event (filter (is_ready p past) (numbers_from 0 (length p.events))) in
+    let rises = map Rise (filter (may_rise pairs past) (numbers_from 0 (length a.rise))) in
+    let falls = map Fall (filter (is_standing a start past) (numbers_from 1 (2 ^ length a.fall - 1))) in
+    let two : 0 < 2 = omega arith in
+    let power : 2 ^ length a.fall ≤ 2 ^ 6 = pow-le-pow_right two a.shape.limits.fall_limit in
+    let first = passed_length Event (is_ready p past) 0 (length p.events) in
+    let second = passed_length Rise (may_rise pairs past) 0 (length a.rise) in
+    let third = passed_length Fall (is_standing a start past) 1 (2 ^ length a.fall - 1) in
+    let most : length events ≤ 8 = omega (arith, over.events_limit) in
+    let more : length rises ≤ 16 = omega (arith, a.shape.limits.rise_limit) in
+    let last : length falls ≤ 63 = omega arith in
+    either_most (is_complete p past) (events ++ (rises ++ falls)) (omega (arith, length-append events (rises ++ falls), length-append rises falls))
+
+-- the number of a child is small
+child_below : (a : Automaton) (p : Pattern) (pairs : List (ℕ × ℕ)) (start : ℕ) (past : List Element) (k : ℕ) (e : Element) → PatternOver a p → slice_get (children a p pairs start past) k ≡ Some e → k < 87
+child_below a p pairs start past k e over at = omega (arith, children_most a p pairs start past over, slice_get_within (children a p pairs start past) k e at)
+
+-- the word of a start set, by its number
+pub start_at : (a : Automaton) (number : ℕ) → number < 2 ^ length a.fall → slice_get (all_starts a) number ≡ Some (empty_word number)
+start_at a number h =
+    slice_get-map empty_word (numbers_from 0 (2 ^ length a.fall)) number
+    ∙ rw (slice_numbers 0 (2 ^ length a.fall) number h) (ap (λ (k : ℕ). Some (empty_word k)) (let e : 0 + number ≡ number = omega arith in e))
+
+pub start_none : (a : Automaton) (number : ℕ) → 2 ^ length a.fall ≤ number → slice_get (all_starts a) number ≡ None
+start_none a number h = slice_get-map empty_word (numbers_from 0 (2 ^ length a.fall)) number ∙ rw (numbers_end 0 (2 ^ length a.fall) number h) refl
+
+-- what is known of a word with which the search of a pattern begins
+record IsStart (a : Automaton) (w : Pending) : Type 0 where
+  pub start : w.start < 2 ^ length a.fall
+  pub past : w.past ≡ []
+
+starts_are : (a : Automaton) (k n : ℕ) (w : Pending) → k + n ≤ 2 ^ length a.fall → In w (map empty_word (numbers_from k n)) → IsStart a w
+starts_are a k zero w h is = absurd is
+starts_are a k (suc n) w h (inl same) = record { start = subst (λ (v : Pending). v.start < 2 ^ length a.fall) (sym same) (let below : k < 2 ^ length a.fall = omega arith in below); past = ap (λ (v : Pending). v.past) same }
+starts_are a k (suc n) w h (inr is) = starts_are a (k + 1) n w (omega arith) is
+
+-- a word to which the search of a pattern comes under pairs is legal under them, and legal, and its start set is one of fall guards
+pub record IsLegal (a : Automaton) (p : Pattern) (pairs : List (ℕ × ℕ)) (start : ℕ) (past : List Element) : Type 0 where
+  pub start_is : start < 2 ^ length a.fall
+  pub under : LegalUnder a p pairs start past
+  pub legal : LegalWord a p start past
+
+began : (a : Automaton) (p : Pattern) (pairs : List (ℕ × ℕ)) (start : ℕ) (past : List Element) → BeginsAtWord (pattern_search a p pairs) start past → IsLegal a p pairs start past
+began a p pairs start past b =
+    let is = starts_are a 0 (2 ^ length a.fall) b.0 (omega arith) b.1 in
+    let none : [] ≡ past = sym is.past ∙ b.3 in
+    record {
+      start_is = subst (λ (k : ℕ). k < 2 ^ length a.fall) b.2 is.start;
+      under = subst (LegalUnder a p pairs start) none tt;
+      legal = subst (LegalWord a p start) none tt;
+    }
+
+pub comes_legal : (a : Automaton) (p : Pattern) (pairs : List (ℕ × ℕ)) (start : ℕ) (past : List Element) → Comes (pattern_search a p pairs) start past → IsLegal a p pairs start past
+comes_legal a p pairs start [] c = began a p pairs start [] c
+comes_legal a p pairs start (e ∷ past) (inl b) = began a p pairs start (e ∷ past) b
+comes_legal a p pairs start (e ∷ past) (inr c) = (let before = comes_legal a p pairs start past c.1 in record { start_is = before.start_is; under = (c.0, before.under); legal = (under_none a p pairs start past e c.0, before.legal) })
+
+-- a word that is pushed a child
+pub child_pushed : (a : Automaton) (p : Pattern) (pairs : List (ℕ × ℕ)) (start : ℕ) (old new : List Element) (k : ℕ) (e : Element) (r : Bool) → PatternOver a p
+    → slice_get (children a p pairs start (reverse old)) k ≡ Some e → r ≡ true → new ≡ (if r then old ++ e ∷ [] else old)
+    → PushAnswers (pattern_search a p pairs) start old new k r
+child_pushed a p pairs start old new k e r over at yea word =
+    let s = pattern_search a p pairs in
+    let few = child_below a p pairs start (reverse old) k e over at in
+    let large : 87 < 2 ^ 31 = lit< tt in
+    let longer : new ≡ old ++ e ∷ [] = word ∙ ap (λ (b : Bool). if b then old ++ e ∷ [] else old) yea in
+    let is : IsPushed s start old new k = record {
+      element = e;
+      follows = at;
+      word = longer;
+      more = prefix_fewer a p start (reverse old) (e ∷ []);
+      small = omega arith;
+    } in
+    subst (PushAnswers s start old new k) (sym yea) is

@@ -1,0 +1,27 @@
+use Rattle.ta_claim.proofs.Common.{◌≡◌, ◌<◌, ◌^◌, List, [], length, arith, sym, ap, ◌∙◌, subst, Some, slice_get, lit<, Element, Pending, shifted, word_at}
+use Rattle.ta_encode.specs.PatternSearch.{all_starts}
+use Rattle.ta_claim.proofs.ClaimWords.{claim_roots}
+use Rattle.ta_claim.proofs.PatternWords.{start_at, start_none}
+use Rattle.ta_claim.proofs.claim_words.ClaimTreeTree.root.Goals as goal
+
+pub returns-then-number-as_slice : goal.returns-then-number-as_slice
+returns-then-number-as_slice c =
+    let t = c.args.self.now in
+    let a = t.task.automaton.now in
+    let test = rw c.as_slice.ensures at c.if-number-as_slice.true in
+    let shift = shifted (length a.fall) a.shape.limits.fall_limit in
+    let below : c.args.number < 2 ^ length a.fall = omega arith in
+    let large : 64 < 2 ^ 31 = lit< tt in
+    record {
+      is = ap (λ (ws : List Pending). slice_get ws c.args.number) (claim_roots t.claim a t.task.pattern.now t.orders.now)
+          ∙ subst (λ (es : List Element). slice_get (all_starts a) c.args.number ≡ Some (word_at c.args.number es [])) (sym c.new.ensures) (start_at a c.args.number below);
+      small = omega arith;
+    }
+
+pub returns-else-number-as_slice : goal.returns-else-number-as_slice
+returns-else-number-as_slice c =
+    let t = c.args.self.now in
+    let a = t.task.automaton.now in
+    let test = rw c.as_slice.ensures at c.if-number-as_slice.false in
+    let shift = shifted (length a.fall) a.shape.limits.fall_limit in
+    ap (λ (ws : List Pending). slice_get ws c.args.number) (claim_roots t.claim a t.task.pattern.now t.orders.now) ∙ start_none a c.args.number (omega arith)

@@ -1,9 +1,0 @@
-use Rattle.ta_cursor.proofs.Common.{reverse, LegalWord, of_pattern}
-use Rattle.ta_cursor.proofs.PatternWords.{comes_legal}
-use Rattle.ta_cursor.proofs.patterns.PatternTreeTree.unknown_count.Goals as goal
-
-pub unknown_count-requires-clause-legal : goal.unknown_count-requires-clause-legal
-unknown_count-requires-clause-legal c =
-    let t = c.args.self.now in
-    let past = reverse c.args.word.now in
-    of_pattern t.file.now t.number t.pattern.now (λ p. LegalWord t.file.now.automaton p c.args.start_mask past) t.named (comes_legal t.file.now.automaton t.pattern.now t.orders.now c.args.start_mask past c.requires).legal

@@ -1,0 +1,91 @@
+//! Commands that read FILE and a second file that belongs to it.
+#![tactic(auto)]
+
+ghost use Rattle.std.specs.Prelude.{◌≡◌, map, option_map};
+ghost use Rattle.ta_program.specs.Taken.{names_seen};
+ghost use Rattle.ta_program.specs.Values.{two_names};
+
+use crate::request::Request;
+use crate::values::{TwoNames, two_names};
+use std::alloc::Global;
+use std::marker::PhantomData;
+use std::thread::Threads;
+use ta_shelf::Shelf;
+use ta_shell::{Answer, Command, Refusal};
+
+/// What is done with FILE and a second file that belongs to it.
+pub(crate) trait OfTwoFiles: Drop + Sized {
+    ghost use Rattle.std.specs.Prelude.{◌≡◌, List, ℕ};
+    ghost use Rattle.ta_shelf.specs.Calls.{Grew};
+    ghost use Rattle.ta_shelf.specs.Put.{Told};
+    ghost use Rattle.ta_shell.specs.Commands.{Decides, Meaning, Says};
+    ghost use Rattle.ta_shell.specs.Reading.{ReadCause};
+    ghost use Rattle.ta_program.specs.Asked.{PassesWhere};
+
+    // whether FILE, by its name, is legal in told files
+    ghost legal: { List ℕ → Told → Type 0 };
+
+    // what it says, by the names of FILE and of the second file
+    ghost stated: { List ℕ → List ℕ → Meaning };
+
+    /// Reads FILE, then the second file, and answers.
+    fn judge_files<'a, S: Shelf>(
+        alloc: Global,
+        shelf: &mut S,
+        file: &'a str,
+        other: &'a str,
+    ) -> Result<Answer, Refusal<'a>>
+        ensures says { Grew (Says (stated file.now other.now) (S.files shelf.old) result) (S.calls shelf.old) (S.calls shelf.new) }
+        ensures cause { ReadCause result (S.faults shelf.old) (S.faults shelf.new) }
+        ensures kept { S.files shelf.new ≡ S.files shelf.old };
+
+    /// The laws that told files leave it one answer, and that a legal FILE passes; the call does
+    /// nothing.
+    fn is_determined()
+        ensures decides { (file other : List ℕ) → Decides (stated file other) }
+        ensures passes { (file other : List ℕ) → PassesWhere (legal file) (stated file other) };
+}
+
+/// The names of two files, and what is to be done with them.
+#[derive(Drop)]
+pub(crate) struct TwoFiles<'a, C: OfTwoFiles> {
+    names: TwoNames<'a>,
+    command: PhantomData<C>,
+}
+
+impl<'a, C: OfTwoFiles> Request<'a> for TwoFiles<'a, C> {
+    ghost use Rattle.ta_program.specs.Asked.{ask_where};
+    ghost use Rattle.ta_program.specs.Values.{two_names};
+
+    ghost asked = { λ words. ask_where (λ names. C.legal names.file) (λ names. C.stated names.file names.other) (two_names words) };
+
+    fn read(words: &[&'a str]) -> Option<TwoFiles<'a, C>> {
+        C::is_determined();
+        read_two_files(words)
+    }
+}
+
+impl<'a, C: OfTwoFiles> Command for TwoFiles<'a, C> {
+    ghost meaning = { λ command. C.stated command.names.file.now command.names.other.now };
+
+    fn judge<R: Threads + Sync, S: Shelf>(
+        &self,
+        rt: &R,
+        alloc: Global,
+        shelf: &mut S,
+    ) -> Result<Answer, Refusal<'_>> {
+        let _ = rt;
+        C::judge_files(alloc, shelf, self.names.file, self.names.other)
+    }
+}
+
+/// Reads the words of a command of two files: their names, and no option.
+fn read_two_files<'a, C: OfTwoFiles>(words: &[&'a str]) -> Option<TwoFiles<'a, C>>
+    ensures { option_map (λ command. names_seen command.names) result ≡ two_names (map (λ w. w.now) words.now) }
+{
+    let names = two_names(words)?;
+    Some(TwoFiles {
+        names,
+        command: PhantomData,
+    })
+}

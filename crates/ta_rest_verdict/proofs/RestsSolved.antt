@@ -1,0 +1,37 @@
+-- a whole node of a search of rest solves its word
+use Rattle.ta_rest_verdict.proofs.Common.{[], ◌∷◌, slice_get, sym, ap, ◌∙◌, append-nil, subst, rest_rows, rest_search, left_wait, RestsAreSolved}
+use Rattle.ta_cert.specs.declared.line.Node.TheVariants as node
+use Rattle.ta_encode.specs.System.{AllHold}
+use Rattle.ta_encode.proofs.Moments.{AllHold-left}
+use Rattle.ta_claim.proofs.PatternWords.{comes_legal}
+use Rattle.ta_claim.proofs.RestRows.{rest_comes}
+use Rattle.ta_claim.specs.declared.claim.Claim.TheVariants.{RestSafe}
+use Rattle.ta_walk.proofs.WordsVisited.{left_wait, starts_wait}
+use Rattle.ta_walk.proofs.WordsSolved.{whole_solves}
+
+pub found_solved : RestsAreSolved
+found_solved file number p at budget count solution found =
+    let a = file.automaton in
+    let s = rest_search a p in
+    let w = found.word in
+    let waits = (left_wait s 0 s.roots found.visited.nodes (w ∷ found.visited.words) (starts_wait RestSafe a p []) found.visited.visits).0 in
+    let legal = comes_legal a p [] w.start w.past (rest_comes a p w.start w.past waits.comes) in
+    let whole = found.holds.whole in
+    let solved = whole_solves s w solution.values whole in
+    let rows = AllHold-left solved.0 (rest_rows a p w.start w.past) _ solved.2.rows_hold in
+    record {
+      pattern = p;
+      named = ap (slice_get file.patterns) found.holds.pattern ∙ at;
+      solved = record {
+        start = w.start;
+        is_start = legal.start_is;
+        past = w.past;
+        legal = legal.legal;
+        complete = whole.complete;
+        values = solved.0;
+        solves = record { count = solved.2.count; rows_hold = subst (AllHold solved.0) (sym (append-nil (rest_rows a p w.start w.past))) rows };
+      };
+      start = sym found.holds.start;
+      word = sym found.holds.word;
+      values = solved.1;
+    }

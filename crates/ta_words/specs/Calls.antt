@@ -1,8 +1,0 @@
--- what the calls of this crate say of a file's pattern, by its number
-use Rattle.std.specs.Prelude.{ℕ, ◌≡◌, slice_get, Some}
-use Rattle.ta_automaton.specs.declared.file.File.{File}
-use Rattle.ta_automaton.specs.declared.pattern.Pattern.{Pattern}
-
--- a fact of the pattern with this number
-abbrev pub OfPattern : File → ℕ → (Pattern → Type 0) → Type 0
-OfPattern file k P = (p : Pattern) → slice_get file.patterns k ≡ Some p → P p
